@@ -1,0 +1,50 @@
+ghost use Rattle.std.specs.Prelude.{◌≡◌, ◌↔◌, IfOk, IsTrue};
+
+use crate::no_memory::NoMemory;
+use std::alloc::Global;
+use std::marker::Model;
+
+/// A text. Contracts see the list of its bytes, so two texts that are equal are equal values.
+#[derive(Debug, Drop)]
+pub struct Txt {
+    text: String,
+}
+
+impl Model for Txt {
+    ghost use Rattle.std.specs.Prelude.{List, ℕ, string_bytes, IsUtf8};
+
+    ghost Value = { List ℕ };
+
+    ghost view = { λ t. string_bytes t.text };
+}
+
+impl Txt {
+    /// Holds the same text.
+    pub fn of(alloc: Global, text: &str) -> Result<Txt, NoMemory>
+        ensures { IfOk result (λ t. t ≡ text.now) }
+    {
+        let text = String::from_str(alloc, text)?;
+        Ok(Txt { text })
+    }
+
+    /// Lends the text.
+    pub fn as_str(&self) -> &str
+        ensures { result.now ≡ self.now }
+    {
+        self.text.as_str()
+    }
+
+    /// An equal text.
+    pub fn copy(&self, alloc: Global) -> Result<Txt, NoMemory>
+        ensures { IfOk result (λ t. t ≡ self.now) }
+    {
+        Txt::of(alloc, self.as_str())
+    }
+
+    /// Whether the two texts have the same bytes.
+    pub fn same(&self, other: &Txt) -> bool
+        ensures { IsTrue result ↔ (self.now ≡ other.now) }
+    {
+        self.as_str() == other.as_str()
+    }
+}
