@@ -1,0 +1,53 @@
+ghost use Rattle.std.specs.Prelude.{◌≡◌, ◌↔◌, IfOk, IsTrue};
+
+use crate::no_memory::NoMemory;
+use crate::text::Txt;
+use std::alloc::Global;
+
+/// An exception of a script (`Control.Exception`, `System.Timeout`).
+#[derive(Debug, Drop)]
+pub enum Exn {
+    /// `ErrorCall x`
+    ErrorCall(Txt),
+    ThreadKilled,
+    UserInterrupt,
+    DivideByZero,
+    Overflow,
+    /// The exception that the timeout of this number throws.
+    Timeout(u32),
+    /// A text of more than 65,536 bytes (own).
+    TextLimit,
+}
+
+impl Exn {
+    /// An equal exception.
+    pub fn copy(&self, alloc: Global) -> Result<Exn, NoMemory>
+        ensures { IfOk result (λ e. e ≡ self.now) }
+    {
+        match self {
+            Exn::ErrorCall(text) => Ok(Exn::ErrorCall(text.copy(alloc)?)),
+            Exn::ThreadKilled => Ok(Exn::ThreadKilled),
+            Exn::UserInterrupt => Ok(Exn::UserInterrupt),
+            Exn::DivideByZero => Ok(Exn::DivideByZero),
+            Exn::Overflow => Ok(Exn::Overflow),
+            Exn::Timeout(n) => Ok(Exn::Timeout(*n)),
+            Exn::TextLimit => Ok(Exn::TextLimit),
+        }
+    }
+
+    /// Whether constructor and content are the same.
+    pub fn same(&self, other: &Exn) -> bool
+        ensures { IsTrue result ↔ (self.now ≡ other.now) }
+    {
+        match (self, other) {
+            (Exn::ErrorCall(s), Exn::ErrorCall(t)) => s.same(t),
+            (Exn::ThreadKilled, Exn::ThreadKilled) => true,
+            (Exn::UserInterrupt, Exn::UserInterrupt) => true,
+            (Exn::DivideByZero, Exn::DivideByZero) => true,
+            (Exn::Overflow, Exn::Overflow) => true,
+            (Exn::Timeout(m), Exn::Timeout(n)) => m == n,
+            (Exn::TextLimit, Exn::TextLimit) => true,
+            (_, _) => false,
+        }
+    }
+}
