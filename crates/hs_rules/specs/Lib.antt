@@ -1,3 +1,4 @@
 pub mod Values
 pub mod OneCell
 pub mod Waiting
+pub mod Histories

@@ -1,8 +1,12 @@
 //! The rules of scripts: tokens, grammar, typing, meaning, states, entries and runs, as definitions in `specs/`.
 #![tactic(auto)]
 
+mod entry;
+mod history;
 pub mod symbol;
 mod token;
 pub mod word;
 
+pub use entry::{Entry, LimitKind};
+pub use history::History;
 pub use token::{Tok, Token, Tokens};
