@@ -1,4 +1,5 @@
 ghost use Rattle.std.specs.Prelude.{◌≡◌, ◌↔◌, IfOk, IsTrue};
+ghost use Rattle.hs_base.specs.ExceptionTexts.{text_of};
 
 use crate::no_memory::NoMemory;
 use crate::text::Txt;
@@ -48,6 +49,21 @@ impl Exn {
             (Exn::Timeout(m), Exn::Timeout(n)) => m == n,
             (Exn::TextLimit, Exn::TextLimit) => true,
             (_, _) => false,
+        }
+    }
+
+    /// The text that `show` gives.
+    pub fn text(&self, alloc: Global) -> Result<Txt, NoMemory>
+        ensures { IfOk result (λ t. t ≡ text_of self.now) }
+    {
+        match self {
+            Exn::ErrorCall(text) => text.copy(alloc),
+            Exn::ThreadKilled => Txt::of(alloc, "thread killed"),
+            Exn::UserInterrupt => Txt::of(alloc, "user interrupt"),
+            Exn::DivideByZero => Txt::of(alloc, "divide by zero"),
+            Exn::Overflow => Txt::of(alloc, "arithmetic overflow"),
+            Exn::Timeout(_) => Txt::of(alloc, "<<timeout>>"),
+            Exn::TextLimit => Txt::of(alloc, "text too long"),
         }
     }
 }
