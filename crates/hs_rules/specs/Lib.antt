@@ -2,3 +2,4 @@ pub mod Values
 pub mod OneCell
 pub mod Waiting
 pub mod Histories
+pub mod Tokens

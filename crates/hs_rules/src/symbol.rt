@@ -53,8 +53,32 @@ pub const OPEN_BRACE: u8 = 24;
 /// `}`
 pub const CLOSE_BRACE: u8 = 25;
 
-/// The symbols, in the order of their numbers: those of two characters first.
-pub const TEXTS: [&str; 26] = [
-    "::", "->", "<-", "==", "/=", "<=", ">=", "&&", "||", "++", "=", "<", ">", "+", "-", "*", ":",
-    ";", ",", "@", "(", ")", "[", "]", "{", "}",
+/// The symbols by their characters, in the order of their numbers. A longer one stands before each that begins it.
+pub const TEXTS: [&[char]; 26] = [
+    &[':', ':'],
+    &['-', '>'],
+    &['<', '-'],
+    &['=', '='],
+    &['/', '='],
+    &['<', '='],
+    &['>', '='],
+    &['&', '&'],
+    &['|', '|'],
+    &['+', '+'],
+    &['='],
+    &['<'],
+    &['>'],
+    &['+'],
+    &['-'],
+    &['*'],
+    &[':'],
+    &[';'],
+    &[','],
+    &['@'],
+    &['('],
+    &[')'],
+    &['['],
+    &[']'],
+    &['{'],
+    &['}'],
 ];
