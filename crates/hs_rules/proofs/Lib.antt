@@ -1,2 +1,4 @@
 pub mod Values
 pub mod Histories
+pub mod Equations
+pub mod EquationsOfActions

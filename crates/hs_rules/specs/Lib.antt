@@ -3,3 +3,5 @@ pub mod OneCell
 pub mod Waiting
 pub mod Histories
 pub mod Tokens
+pub mod Programs
+pub mod Trees

@@ -2,6 +2,7 @@
 #![tactic(auto)]
 
 mod entry;
+pub mod forms;
 mod history;
 pub mod symbol;
 mod token;

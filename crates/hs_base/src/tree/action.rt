@@ -102,11 +102,11 @@ pub enum Action {
 #[derive(Drop)]
 pub enum BlockArms {
     /// `Nothing -> A; Just x -> B`
-    Maybe(Block, Name, Block),
+    OfMaybe(Block, Name, Block),
     /// `Left x -> A; Right y -> B`
-    Either(Name, Block, Name, Block),
+    OfEither(Name, Block, Name, Block),
     /// `[] -> A; x : xs -> B`
-    List(Block, Name, Name, Block),
+    OfList(Block, Name, Name, Block),
     /// `(x, y) -> A`
-    Pair(Name, Name, Block),
+    OfPair(Name, Name, Block),
 }

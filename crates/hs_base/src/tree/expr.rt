@@ -152,11 +152,11 @@ pub struct ListLink {
 #[derive(Drop)]
 pub enum ExprArms {
     /// `Nothing -> a; Just x -> b`
-    Maybe(Expr, Name, Expr),
+    OfMaybe(Expr, Name, Expr),
     /// `Left x -> a; Right y -> b`
-    Either(Name, Expr, Name, Expr),
+    OfEither(Name, Expr, Name, Expr),
     /// `[] -> a; x : xs -> b`
-    List(Expr, Name, Name, Expr),
+    OfList(Expr, Name, Name, Expr),
     /// `(x, y) -> a`
-    Pair(Name, Name, Expr),
+    OfPair(Name, Name, Expr),
 }
