@@ -2,3 +2,4 @@ pub mod Values
 pub mod Histories
 pub mod Equations
 pub mod EquationsOfActions
+mod MeaningRows

@@ -5,3 +5,5 @@ pub mod Histories
 pub mod Tokens
 pub mod Programs
 pub mod Trees
+pub mod Meaning
+pub mod Fitting
