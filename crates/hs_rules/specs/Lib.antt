@@ -7,3 +7,7 @@ pub mod Programs
 pub mod Trees
 pub mod Meaning
 pub mod Fitting
+pub mod Grammar
+pub mod GrammarForms
+pub mod GrammarKinds
+pub mod GrammarParts
