@@ -27,3 +27,6 @@ pub use tree::{
     ListLink, Name, Param, Script, Stmt, SumLink, SumOp, Ty, Written,
 };
 pub use value::{Value, Values};
+
+#[cfg(test)]
+mod tests;

@@ -75,7 +75,7 @@ fn copy_values(alloc: Global, from: &Values) -> Result<Values, NoMemory>
 {
     let mut to = Items::new(alloc);
     for item in from.as_slice() {
-        to.push(item.copy(alloc)?)?;
+        to.add(item.copy(alloc)?)?;
     }
     Ok(to)
 }
