@@ -11,3 +11,4 @@ pub mod Grammar
 pub mod GrammarForms
 pub mod GrammarKinds
 pub mod GrammarParts
+pub mod Slots

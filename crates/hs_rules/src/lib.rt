@@ -4,10 +4,12 @@
 mod entry;
 pub mod forms;
 mod history;
+mod node;
 pub mod symbol;
 mod token;
 pub mod word;
 
 pub use entry::{Entry, LimitKind};
 pub use history::History;
+pub use node::{ExprId, Node, NodeLink};
 pub use token::{Tok, Token, Tokens};
