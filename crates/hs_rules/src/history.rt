@@ -47,7 +47,7 @@ impl History {
         let Some(steps) = self.steps.checked_add(cost(entry)) else {
             return Err(NoMemory);
         };
-        self.entries.push(entry)?;
+        self.entries.add(entry)?;
         self.steps = steps;
         Ok(())
     }
