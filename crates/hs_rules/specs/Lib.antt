@@ -12,3 +12,14 @@ pub mod GrammarForms
 pub mod GrammarKinds
 pub mod GrammarParts
 pub mod Slots
+pub mod Core
+pub mod Terms
+pub mod LocalRules
+pub mod TermTrees
+pub mod Expansion
+pub mod Sizes
+pub mod State
+pub mod Primitives
+pub mod Entries
+pub mod Runs
+pub mod Endings

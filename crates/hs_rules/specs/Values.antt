@@ -137,8 +137,11 @@ pub record Binding : Type 0 where
 abbrev pub Env : Type 0
 Env = List Binding
 
+-- a name bound to a value; what nothing reads isn't kept (own)
 abbrev pub with_name : Name → V → Env → Env
-with_name x v env = record { name = x; value = v } ∷ env
+with_name (Written x) v env = record { name = Written x; value = v } ∷ env
+with_name (Added Unread) v env = env
+with_name (Added h) v env = record { name = Added h; value = v } ∷ env
 
 -- the value of a name: the last bound
 abbrev pub value_at : Name → Env → Option V
