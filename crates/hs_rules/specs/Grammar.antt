@@ -3,6 +3,7 @@
 --   `alt p q`              p | q
 --   `many p`               { p }
 --   `optional x p`         [ p ], with x for nothing
+--   `ended f g k l p`      { p k } p [ k ] l, where what is last gives a right value
 --   `within f k part`      an opener of the kind k, and what stands in it up to its end
 -- Productions that begin alike are joined, so that one token decides.
 use Rattle.std.specs.Prelude.{◌≡◌, ◌<◌, ◌⊎◌, ℕ, zero, suc, ℤ, pos, List, [], ◌∷◌, ◌++◌, Option, Some, None}
@@ -40,9 +41,12 @@ use Rattle.hs_base.specs.declared.tree.ty.Written.{Written}
 use Rattle.hs_rules.specs.declared.token.Tok.{Tok}
 use Rattle.hs_rules.specs.declared.token.Tok.TheVariants as tok
 use Rattle.hs_rules.specs.declared.token.Token.{Token}
-use Rattle.hs_rules.specs.GrammarForms.{Rule, give, one, alt, go_on, within, ◌⊛◌, ◌◁◌, at, map, optional, many, until, Item, tokens_of, Spelling, Spelled}
+use Rattle.hs_rules.specs.GrammarForms.{Rule, give, one, alt, go_on, many as repeat, ended, within, ◌⊛◌, ◌◁◌, at, map, optional, Item, tokens_of, Spelling, Spelled}
 use Rattle.hs_rules.specs.GrammarKinds as k
 use Rattle.hs_rules.specs.GrammarParts.{Kind, name as name_kind, int as int_kind, text as text_kind, Part, type_in_parens, type_in_brackets, param_in_parens, block_in_braces, block_if, block_case, block_arms, let_stmt, no_items, two_names, expr_if, expr_case, expr_arms, expr_let, expr_in_parens, items_in_brackets, items_or_none}
+
+abbrev pub many : {A : Type 0} → Rule A → Rule (List A)
+many p = repeat (λ as'. as') p
 
 -- ---- NAME, INT and TEXT
 abbrev pub text_of : Tok → List ℕ
@@ -307,25 +311,18 @@ other_action =
 unfoldable pub action : Rule Action
 action = alt (give a.Call ⊛ name ⊛ many arg) other_action
 
--- Behind an action of a block: "}", so that it is the block's last; or ";", and then it is the last before a "}" and a
--- statement before anything else.
-unfoldable pub stmt_end : Rule (Action → Stmt ⊎ Action)
-stmt_end =
-    alt (map (λ p x. inr x) (at k.close_brace))
-    (give (λ f. f) ◁ k.semicolon ⊛ alt (map (λ p x. inr x) (at k.close_brace)) (give (λ x. inl (s.Do x))))
-
 -- behind a name at which a statement begins
 unfoldable pub after_name : Rule (Name → Stmt ⊎ Action)
 after_name =
-    alt (give (λ y x. inl (s.Bind x y)) ◁ k.left_arrow ⊛ action ◁ k.semicolon)
-    (give (λ as' f x. f (a.Call x as')) ⊛ many arg ⊛ stmt_end)
+    alt (give (λ y x. inl (s.Bind x y)) ◁ k.left_arrow ⊛ action)
+    (give (λ as' x. inr (a.Call x as')) ⊛ many arg)
 
--- a statement with the ";" behind it, or the last action with what ends the block
+-- a statement that is no action, or an action
 unfoldable pub block_item : Rule (Stmt ⊎ Action)
 block_item =
     alt (give (λ x f. f x) ⊛ name ⊛ after_name)
-    (alt (within (λ p x. inl (s.Let x.0 x.1)) k.let' let_stmt ◁ k.semicolon)
-    (give (λ x f. f x) ⊛ other_action ⊛ stmt_end))
+    (alt (within (λ p x. inl (s.Let x.0 x.1)) k.let' let_stmt)
+    (map inr other_action))
 
 -- ---- script = { def }
 -- ---- def    = NAME { "(" NAME "::" type ")" } "::" ( "IO" atype "=" block | type "=" expr ) ";"
@@ -348,7 +345,7 @@ unfoldable pub rule_of : {A : Type 0} → Part A → Rule A
 rule_of type_in_parens = alt (map (λ p. ty.Unit) (at k.close_paren)) (give (λ t f. f t.ty) ⊛ type ⊛ type_end)
 rule_of type_in_brackets = give (λ t. ty.List t.ty) ⊛ type ◁ k.close_bracket
 rule_of param_in_parens = give (λ x t. record { name = x; ty = t }) ⊛ name ◁ k.double_colon ⊛ type ◁ k.close_paren
-rule_of block_in_braces = until (λ ss x. record { stmts = ss; last = x }) block_item
+rule_of block_in_braces = ended (λ ss x. record { stmts = ss; last = x }) s.Do k.semicolon k.close_brace block_item
 rule_of block_if = give (λ c x y. (c, x, y)) ⊛ expr ◁ k.then' ⊛ block ◁ k.else' ⊛ block
 rule_of block_case = give (λ x arms. (x, arms)) ⊛ expr ◁ k.of' ⊛ within (λ p arms. arms) k.open_brace block_arms
 rule_of block_arms = alts block_arm.OfMaybe block_arm.OfEither block_arm.OfList block_arm.OfPair block ◁ k.close_brace
