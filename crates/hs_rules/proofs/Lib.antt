@@ -3,3 +3,4 @@ pub mod Histories
 pub mod Equations
 pub mod EquationsOfActions
 mod MeaningRows
+mod RunRows
