@@ -23,3 +23,8 @@ pub mod Primitives
 pub mod Entries
 pub mod Runs
 pub mod Endings
+pub mod Typing
+pub mod TypingActions
+pub mod TypingFaults
+pub mod TypingSizes
+pub mod TypingScripts

@@ -1,6 +1,7 @@
 //! The rules of scripts: tokens, grammar, typing, meaning, states, entries and runs, as definitions in `specs/`.
 #![tactic(auto)]
 
+mod checked;
 mod entry;
 pub mod forms;
 mod history;
@@ -9,6 +10,7 @@ pub mod symbol;
 mod token;
 pub mod word;
 
+pub use checked::Checked;
 pub use entry::{Entry, LimitKind};
 pub use history::History;
 pub use node::{ExprId, Node, NodeLink};
