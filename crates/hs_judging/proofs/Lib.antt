@@ -1,0 +1,6 @@
+pub mod Laws
+pub mod Expressions
+pub mod Actions
+pub mod Scripts
+pub mod Closed
+pub mod Least

@@ -1,0 +1,124 @@
+-- The function lists the rules that a script breaks.
+use Rattle.std.proofs.Common.{◌≡◌, ℕ, ◌+◌, ◌≤◌, ◌||◌, ◌⊎◌, List, [], ◌∷◌, ◌++◌, length, Bool, true, false, cond, refl, ap, inl, inr, ⊎_elim, arith, ltb}
+use Rattle.std.proofs.lemmas.Bool.{ltb-true, lt-ltb}
+use Rattle.hs_base.specs.declared.tree.expr.Name.{Name}
+use Rattle.hs_base.specs.declared.tree.script.Script.{Script}
+use Rattle.hs_rules.specs.Trees.{T, Wr}
+use Rattle.hs_rules.specs.Programs.{Bd, pure_body, io_body, Fn, script_of}
+use Rattle.hs_rules.specs.Sizes.{body_size}
+use Rattle.hs_rules.specs.Typing.{Fault, large, AllMet, FirstUnmet, is, Bound, Sig, Ctx}
+use Rattle.hs_rules.specs.TypingFaults.{In}
+use Rattle.hs_rules.specs.TypingSizes.{Measured, unmeasured, measured_with, worst_body, param_names, IsLarge}
+use Rattle.hs_rules.specs.TypingScripts.{result_of, params_in, head_faults, twice_faults, sigs_from, BodyHas, BodyBreaks, Ends, DefBreaks, LargeBreaks, AnyBreaks, ScriptBreaks, NothingBroken, IsFirstBroken}
+use Rattle.hs_judging.specs.Judging.{Found, good, lost, part}
+use Rattle.hs_judging.specs.JudgingScripts.{judge_body, none_of, ends, def_found, def_faults, is_far, is_large, large_faults, faults_from, script_faults, NoFaults, IsLeast}
+use Rattle.hs_judging.proofs.Laws.{Agrees, agree_part, agree_good, agree_needing, in_left, in_right, in_cases}
+use Rattle.hs_judging.proofs.Expressions.{agree}
+use Rattle.hs_judging.proofs.Actions.{agree_bl}
+
+agree_body : (c : Ctx) (s : List Bound) (d : Bd) → Agrees (judge_body c s d) (BodyHas c s d) (BodyBreaks c s d)
+agree_body c s (pure_body w e) = agree c s e
+agree_body c s (io_body w a) = agree_bl c s a
+
+none_true : (fs : List Fault) → none_of fs ≡ true → fs ≡ []
+none_true [] h = refl
+none_true (f ∷ fs) h = cc
+
+true_none : (fs : List Fault) → fs ≡ [] → none_of fs ≡ true
+true_none fs h = ap none_of h
+
+-- a list that is empty has no item, and the other way round
+in_none : (fs : List Fault) → none_of fs ≡ true → (f : Fault) → In fs f → ⊥
+in_none [] h f w = w
+in_none (g ∷ fs) h f w = cc
+
+none_in : (fs : List Fault) → ((f : Fault) → In fs f → ⊥) → none_of fs ≡ true
+none_in [] h = refl
+none_in (g ∷ fs) h = absurd (h g (inl refl))
+
+agree_ends : (x : Name) (fs : List Fault) (sound : Bool) (w : Wr) (u : T) → (sound ≡ true → fs ≡ []) → (fs ≡ [] → sound ≡ true)
+    → Agrees (ends x sound w u) (λ t. (fs ≡ []) × (AllMet (is w.ty u ∷ []) × (t ≡ u))) (λ f. (fs ≡ []) × FirstUnmet x.pos (is w.ty u ∷ []) f)
+agree_ends x fs true w u to from =
+    let a = agree_needing x.pos (is w.ty u ∷ []) (good u) (λ t. t ≡ u) (λ f. ⊥) (agree_good u) in
+    record { typed = λ t e. (to refl, a.typed t e); types = λ t h. a.types t h.1; broken = λ f h. (to refl, ⊎_elim (λ k. k) (λ k. absurd k.1) (a.broken f h)); breaks = λ f h. a.breaks f (inl h.1) }
+agree_ends x fs false w u to from = record { typed = λ t e. cc; types = λ t h. let e = from h.0 in cc; broken = λ f h. absurd h; breaks = λ f h. let e = from h.0 in cc }
+
+agree_whole : (c : Ctx) (d : Fn) → Agrees (part (judge_body c (params_in [] d.params) d.body) (ends d.name (none_of (head_faults d)) (result_of d.body)))
+    (λ t. (u : T) × BodyHas c (params_in [] d.params) d.body u × ((head_faults d ≡ []) × (AllMet (is (result_of d.body).ty u ∷ []) × (t ≡ u)))) (λ f. BodyBreaks c (params_in [] d.params) d.body f ⊎ Ends c d f)
+agree_whole c d = agree_part (judge_body c (params_in [] d.params) d.body) _ _ (ends d.name (none_of (head_faults d)) (result_of d.body)) _ _ (agree_body c (params_in [] d.params) d.body)
+    (λ u. agree_ends d.name (head_faults d) (none_of (head_faults d)) (result_of d.body) u (none_true (head_faults d)) (true_none (head_faults d)))
+
+-- where the parameters fit
+fitting : (n : ℕ) (x : Found) (f : Fault) → (In (cond (ltb 64 n) lost x).faults f → (n ≤ 64) × In x.faults f) × ((n ≤ 64) × In x.faults f → In (cond (ltb 64 n) lost x).faults f)
+fitting n x f = elim (ltb 64 n) as (λ b. (ltb 64 n ≡ b) → (In (cond b lost x).faults f → (n ≤ 64) × In x.faults f) × ((n ≤ 64) × In x.faults f → In (cond b lost x).faults f)) [
+  | true ↦ λ w. let lt = ltb-true 64 n w in (λ h. absurd h, λ h. absurd (let le : n ≤ 64 = h.0 in omega arith))
+  | false ↦ λ w. let le : n ≤ 64 = grind arith in (λ h. (le, h), λ h. h.1)
+] refl
+
+pub def_broken : (c : Ctx) (d : Fn) (f : Fault) → In (def_faults c d) f → DefBreaks c d f
+def_broken c d f h = ⊎_elim (λ w. inl w) (λ w. inr (⊎_elim (λ v. inl v) (λ v. let k = (fitting (length d.params) _ f).0 v in inr (k.0, (agree_whole c d).broken f k.1)) (in_cases (head_faults d) (def_found c d).faults f w))) (in_cases (twice_faults c d.name) (head_faults d ++ (def_found c d).faults) f h)
+
+pub def_breaks : (c : Ctx) (d : Fn) (f : Fault) → DefBreaks c d f → In (def_faults c d) f
+def_breaks c d f h = ⊎_elim (λ w. in_left (twice_faults c d.name) _ f w) (λ w. in_right (twice_faults c d.name) _ f (⊎_elim (λ v. in_left (head_faults d) _ f v) (λ v. in_right (head_faults d) _ f ((fitting (length d.params) _ f).1 (v.0, (agree_whole c d).breaks f v.1))) w)) h
+
+or_cases : (a b : Bool) → (a || b) ≡ true → (a ≡ true) ⊎ (b ≡ true)
+or_cases true b h = inl refl
+or_cases false b h = inr h
+
+or_left : (a b : Bool) → a ≡ true → (a || b) ≡ true
+or_left a b h = ap (λ z. z || b) h
+
+or_right : (a b : Bool) → b ≡ true → (a || b) ≡ true
+or_right true b h = refl
+or_right false b h = h
+
+large_is : (gs : List Sig) (m : Measured) (d : Fn) → is_large gs m d ≡ true → IsLarge gs m d
+large_is gs m d h = let x = worst_body gs m.extents (param_names [] d.params) d.body in
+    ⊎_elim (λ k. ⊎_elim (λ j. inl (ltb-true 100000 x.size j)) (λ j. inr (inl (ltb-true 1000 x.height j))) (or_cases (ltb 100000 x.size) (ltb 1000 x.height) k)) (λ k. inr (inr (ltb-true 1000000 (m.total + body_size d.body) k)))
+    (or_cases (is_far x) (ltb 1000000 (m.total + body_size d.body)) h)
+
+is_large_of : (gs : List Sig) (m : Measured) (d : Fn) → IsLarge gs m d → is_large gs m d ≡ true
+is_large_of gs m d h = let x = worst_body gs m.extents (param_names [] d.params) d.body in let n : ℕ = m.total + body_size d.body in
+    ⊎_elim (λ k. or_left (is_far x) (ltb 1000000 n) (or_left (ltb 100000 x.size) (ltb 1000 x.height) (lt-ltb 100000 x.size k)))
+    (λ k. ⊎_elim (λ j. or_left (is_far x) (ltb 1000000 n) (or_right (ltb 100000 x.size) (ltb 1000 x.height) (lt-ltb 1000 x.height j))) (λ j. or_right (is_far x) (ltb 1000000 n) (lt-ltb 1000000 n j)) k) h
+
+in_two : (a b : Bool) (g f : Fault) → In (cond a (cond b (g ∷ []) []) []) f → (a ≡ true) × ((b ≡ true) × (f ≡ g))
+in_two true true g f h = (refl, (refl, ⊎_elim (λ e. e) (λ k. absurd k) h))
+in_two true false g f h = absurd h
+in_two false b g f h = absurd h
+
+two_in : (a b : Bool) (g f : Fault) → a ≡ true → b ≡ true → f ≡ g → In (cond a (cond b (g ∷ []) []) []) f
+two_in true true g f p q e = inl e
+two_in true false g f p q e = cc
+two_in false b g f p q e = cc
+
+pub large_broken : (c : Ctx) (m : Measured) (d : Fn) (f : Fault) → In (large_faults c m d) f → LargeBreaks c m d f
+large_broken c m d f h = let k = in_two (none_of (def_faults c d)) (is_large c.sigs m d) (large d.name.pos) f h in
+    (λ g w. in_none (def_faults c d) k.0 g (def_breaks c d g w), (large_is c.sigs m d k.1.0, k.1.1))
+
+pub large_breaks : (c : Ctx) (m : Measured) (d : Fn) (f : Fault) → LargeBreaks c m d f → In (large_faults c m d) f
+large_breaks c m d f h = two_in (none_of (def_faults c d)) (is_large c.sigs m d) (large d.name.pos) f (none_in (def_faults c d) (λ g w. h.0 g (def_broken c d g w))) (is_large_of c.sigs m d h.1.0) h.1.1
+
+any_broken : (sigs : List Sig) (m : Measured) (k : ℕ) (ds : List Fn) (f : Fault) → In (faults_from sigs m k ds) f → AnyBreaks sigs m k ds f
+any_broken sigs m k [] f h = h
+any_broken sigs m k (d ∷ ds) f h = let c : Ctx = record { sigs = sigs; here = k } in
+    ⊎_elim (λ w. inl (⊎_elim (λ v. inl (def_broken c d f v)) (λ v. inr (large_broken c m d f v)) (in_cases (def_faults c d) (large_faults c m d) f w))) (λ w. inr (any_broken sigs (measured_with sigs m d) (k + 1) ds f w))
+    (in_cases (def_faults c d ++ large_faults c m d) (faults_from sigs (measured_with sigs m d) (k + 1) ds) f h)
+
+any_breaks : (sigs : List Sig) (m : Measured) (k : ℕ) (ds : List Fn) (f : Fault) → AnyBreaks sigs m k ds f → In (faults_from sigs m k ds) f
+any_breaks sigs m k [] f h = h
+any_breaks sigs m k (d ∷ ds) f h = let c : Ctx = record { sigs = sigs; here = k } in
+    ⊎_elim (λ w. in_left (def_faults c d ++ large_faults c m d) _ f (⊎_elim (λ v. in_left (def_faults c d) _ f (def_breaks c d f v)) (λ v. in_right (def_faults c d) _ f (large_breaks c m d f v)) w))
+    (λ w. in_right (def_faults c d ++ large_faults c m d) _ f (any_breaks sigs (measured_with sigs m d) (k + 1) ds f w)) h
+
+pub script_broken : (ds : List Fn) (f : Fault) → In (script_faults ds) f → ScriptBreaks ds f
+script_broken ds f h = any_broken (sigs_from 0 ds) unmeasured 0 ds f h
+
+pub script_breaks : (ds : List Fn) (f : Fault) → ScriptBreaks ds f → In (script_faults ds) f
+script_breaks ds f h = any_breaks (sigs_from 0 ds) unmeasured 0 ds f h
+
+pub nothing_broken : (s : Script) → NoFaults s → NothingBroken (script_of s)
+nothing_broken s h f w = h f (script_breaks (script_of s) f w)
+
+pub first_broken : (s : Script) (f : Fault) → IsLeast s f → IsFirstBroken s f
+first_broken s f h = (script_broken (script_of s) f h.0, λ g w. h.1 g (script_breaks (script_of s) g w))
