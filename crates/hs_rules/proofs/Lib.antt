@@ -4,3 +4,4 @@ pub mod Equations
 pub mod EquationsOfActions
 mod MeaningRows
 mod RunRows
+pub mod PlainRuns

@@ -28,3 +28,4 @@ pub mod TypingActions
 pub mod TypingFaults
 pub mod TypingSizes
 pub mod TypingScripts
+pub mod PlainScripts
