@@ -29,3 +29,4 @@ pub mod TypingFaults
 pub mod TypingSizes
 pub mod TypingScripts
 pub mod PlainScripts
+pub mod Plain

@@ -1,0 +1,9 @@
+use Rattle.std.proofs.Common.{length}
+use Rattle.conc_top.proofs.Lines.{HasRead}
+use Rattle.conc_top.proofs.plain.plain_lines.Given as goal
+
+abbrev pub invariant-loop-text : goal.invariant-loop-text
+invariant-loop-text l = HasRead l.fn.bytes l.lines l.rest
+
+abbrev pub decreases-loop-text : goal.decreases-loop-text
+decreases-loop-text l = length l.rest
