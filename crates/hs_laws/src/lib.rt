@@ -1,0 +1,8 @@
+//! The laws of every run of a script. This crate has no code: each public function with an empty body carries one law as
+//! its contract, so that a caller may use it and a reader find it.
+//!
+//! Its promise: what the contracts say holds of every script and every history that the rules of `hs_rules` allow. The
+//! rules themselves are left to `hs_rules`, and that a program's history is such a run to the crates that keep one.
+#![tactic(auto)]
+
+pub mod terms;
