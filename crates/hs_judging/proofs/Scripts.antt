@@ -1,5 +1,5 @@
 -- The function lists the rules that a script breaks.
-use Rattle.std.proofs.Common.{◌≡◌, ℕ, ◌+◌, ◌≤◌, ◌||◌, ◌⊎◌, List, [], ◌∷◌, ◌++◌, length, Bool, true, false, cond, refl, ap, inl, inr, ⊎_elim, arith, ltb}
+use Rattle.std.proofs.Common.{◌≡◌, ℕ, ◌+◌, ◌||◌, ◌⊎◌, List, [], ◌∷◌, ◌++◌, Bool, true, false, cond, refl, ap, inl, inr, ⊎_elim, ltb}
 use Rattle.std.proofs.lemmas.Bool.{ltb-true, lt-ltb}
 use Rattle.hs_base.specs.declared.tree.expr.Name.{Name}
 use Rattle.hs_base.specs.declared.tree.script.Script.{Script}
@@ -20,13 +20,6 @@ agree_body : (c : Ctx) (s : List Bound) (d : Bd) → Agrees (judge_body c s d) (
 agree_body c s (pure_body w e) = agree c s e
 agree_body c s (io_body w a) = agree_bl c s a
 
-none_true : (fs : List Fault) → none_of fs ≡ true → fs ≡ []
-none_true [] h = refl
-none_true (f ∷ fs) h = cc
-
-true_none : (fs : List Fault) → fs ≡ [] → none_of fs ≡ true
-true_none fs h = ap none_of h
-
 -- a list that is empty has no item, and the other way round
 in_none : (fs : List Fault) → none_of fs ≡ true → (f : Fault) → In fs f → ⊥
 in_none [] h f w = w
@@ -36,30 +29,29 @@ none_in : (fs : List Fault) → ((f : Fault) → In fs f → ⊥) → none_of fs
 none_in [] h = refl
 none_in (g ∷ fs) h = absurd (h g (inl refl))
 
-agree_ends : (x : Name) (fs : List Fault) (sound : Bool) (w : Wr) (u : T) → (sound ≡ true → fs ≡ []) → (fs ≡ [] → sound ≡ true)
-    → Agrees (ends x sound w u) (λ t. (fs ≡ []) × (AllMet (is w.ty u ∷ []) × (t ≡ u))) (λ f. (fs ≡ []) × FirstUnmet x.pos (is w.ty u ∷ []) f)
-agree_ends x fs true w u to from =
+agree_ends : (x : Name) (w : Wr) (u : T) → Agrees (ends x w u) (λ t. AllMet (is w.ty u ∷ []) × (t ≡ u)) (λ f. FirstUnmet x.pos (is w.ty u ∷ []) f)
+agree_ends x w u =
     let a = agree_needing x.pos (is w.ty u ∷ []) (good u) (λ t. t ≡ u) (λ f. ⊥) (agree_good u) in
-    record { typed = λ t e. (to refl, a.typed t e); types = λ t h. a.types t h.1; broken = λ f h. (to refl, ⊎_elim (λ k. k) (λ k. absurd k.1) (a.broken f h)); breaks = λ f h. a.breaks f (inl h.1) }
-agree_ends x fs false w u to from = record { typed = λ t e. cc; types = λ t h. let e = from h.0 in cc; broken = λ f h. absurd h; breaks = λ f h. let e = from h.0 in cc }
+    record { typed = λ t e. a.typed t e; types = λ t h. a.types t h; broken = λ f h. ⊎_elim (λ k. k) (λ k. absurd k.1) (a.broken f h); breaks = λ f h. a.breaks f (inl h) }
 
-agree_whole : (c : Ctx) (d : Fn) → Agrees (part (judge_body c (params_in [] d.params) d.body) (ends d.name (none_of (head_faults d)) (result_of d.body)))
-    (λ t. (u : T) × BodyHas c (params_in [] d.params) d.body u × ((head_faults d ≡ []) × (AllMet (is (result_of d.body).ty u ∷ []) × (t ≡ u)))) (λ f. BodyBreaks c (params_in [] d.params) d.body f ⊎ Ends c d f)
-agree_whole c d = agree_part (judge_body c (params_in [] d.params) d.body) _ _ (ends d.name (none_of (head_faults d)) (result_of d.body)) _ _ (agree_body c (params_in [] d.params) d.body)
-    (λ u. agree_ends d.name (head_faults d) (none_of (head_faults d)) (result_of d.body) u (none_true (head_faults d)) (true_none (head_faults d)))
+agree_whole : (c : Ctx) (d : Fn) → Agrees (part (judge_body c (params_in [] d.params) d.body) (ends d.name (result_of d.body)))
+    (λ t. (u : T) × BodyHas c (params_in [] d.params) d.body u × (AllMet (is (result_of d.body).ty u ∷ []) × (t ≡ u))) (λ f. BodyBreaks c (params_in [] d.params) d.body f ⊎ Ends c d f)
+agree_whole c d = agree_part (judge_body c (params_in [] d.params) d.body) _ _ (ends d.name (result_of d.body)) _ _ (agree_body c (params_in [] d.params) d.body) (λ u. agree_ends d.name (result_of d.body) u)
 
--- where the parameters fit
-fitting : (n : ℕ) (x : Found) (f : Fault) → (In (cond (ltb 64 n) lost x).faults f → (n ≤ 64) × In x.faults f) × ((n ≤ 64) × In x.faults f → In (cond (ltb 64 n) lost x).faults f)
-fitting n x f = elim (ltb 64 n) as (λ b. (ltb 64 n ≡ b) → (In (cond b lost x).faults f → (n ≤ 64) × In x.faults f) × ((n ≤ 64) × In x.faults f → In (cond b lost x).faults f)) [
-  | true ↦ λ w. let lt = ltb-true 64 n w in (λ h. absurd h, λ h. absurd (let le : n ≤ 64 = h.0 in omega arith))
-  | false ↦ λ w. let le : n ≤ 64 = grind arith in (λ h. (le, h), λ h. h.1)
-] refl
+-- where the head is sound
+sound_in : (fs : List Fault) (x : Found) (f : Fault) → In (cond (none_of fs) x lost).faults f → (fs ≡ []) × In x.faults f
+sound_in [] x f h = (refl, h)
+sound_in (g ∷ fs) x f h = absurd h
+
+in_sound : (fs : List Fault) (x : Found) (f : Fault) → (fs ≡ []) × In x.faults f → In (cond (none_of fs) x lost).faults f
+in_sound [] x f h = h.1
+in_sound (g ∷ fs) x f h = let e = h.0 in cc
 
 pub def_broken : (c : Ctx) (d : Fn) (f : Fault) → In (def_faults c d) f → DefBreaks c d f
-def_broken c d f h = ⊎_elim (λ w. inl w) (λ w. inr (⊎_elim (λ v. inl v) (λ v. let k = (fitting (length d.params) _ f).0 v in inr (k.0, (agree_whole c d).broken f k.1)) (in_cases (head_faults d) (def_found c d).faults f w))) (in_cases (twice_faults c d.name) (head_faults d ++ (def_found c d).faults) f h)
+def_broken c d f h = ⊎_elim (λ w. inl w) (λ w. inr (⊎_elim (λ v. inl v) (λ v. let k = sound_in (head_faults d) _ f v in inr (k.0, (agree_whole c d).broken f k.1)) (in_cases (head_faults d) (def_found c d).faults f w))) (in_cases (twice_faults c d.name) (head_faults d ++ (def_found c d).faults) f h)
 
 pub def_breaks : (c : Ctx) (d : Fn) (f : Fault) → DefBreaks c d f → In (def_faults c d) f
-def_breaks c d f h = ⊎_elim (λ w. in_left (twice_faults c d.name) _ f w) (λ w. in_right (twice_faults c d.name) _ f (⊎_elim (λ v. in_left (head_faults d) _ f v) (λ v. in_right (head_faults d) _ f ((fitting (length d.params) _ f).1 (v.0, (agree_whole c d).breaks f v.1))) w)) h
+def_breaks c d f h = ⊎_elim (λ w. in_left (twice_faults c d.name) _ f w) (λ w. in_right (twice_faults c d.name) _ f (⊎_elim (λ v. in_left (head_faults d) _ f v) (λ v. in_right (head_faults d) _ f (in_sound (head_faults d) _ f (v.0, (agree_whole c d).breaks f v.1))) w)) h
 
 or_cases : (a b : Bool) → (a || b) ≡ true → (a ≡ true) ⊎ (b ≡ true)
 or_cases true b h = inl refl

@@ -1,5 +1,5 @@
 -- The typing rules of definitions and scripts as a function.
-use Rattle.std.specs.Prelude.{ℕ, ◌+◌, ◌||◌, List, [], ◌∷◌, ◌++◌, length, Bool, true, false, cond, ltb}
+use Rattle.std.specs.Prelude.{ℕ, ◌+◌, ◌||◌, List, [], ◌∷◌, ◌++◌, Bool, true, false, cond, ltb}
 use Rattle.hs_base.specs.declared.tree.expr.Name.{Name}
 use Rattle.hs_base.specs.declared.tree.script.Script.{Script}
 use Rattle.hs_rules.specs.Trees.{T, Wr}
@@ -20,13 +20,13 @@ abbrev pub none_of : List Fault → Bool
 none_of [] = true
 none_of (f ∷ fs) = false
 
--- the body is to have the declared type, where the head is sound
-abbrev pub ends : Name → Bool → Wr → T → Found
-ends x sound w u = cond sound (needing x.pos (is w.ty u ∷ []) (good u)) lost
+-- the body is to have the declared type
+abbrev pub ends : Name → Wr → T → Found
+ends x w u = needing x.pos (is w.ty u ∷ []) (good u)
 
--- the body, where the parameters fit
+-- the body, where the head is sound
 abbrev pub def_found : Ctx → Fn → Found
-def_found c d = cond (ltb 64 (length d.params)) lost (part (judge_body c (params_in [] d.params) d.body) (ends d.name (none_of (head_faults d)) (result_of d.body)))
+def_found c d = cond (none_of (head_faults d)) (part (judge_body c (params_in [] d.params) d.body) (ends d.name (result_of d.body))) lost
 
 -- Large aside
 abbrev pub def_faults : Ctx → Fn → List Fault

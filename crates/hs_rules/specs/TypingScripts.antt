@@ -1,8 +1,8 @@
 -- The typing rules of definitions and scripts (own).
 --
 -- A body has its definition's declared type, else Mismatch is broken at the definition's name. Of two definitions of one
--- name the later breaks Twice. A definition whose head is broken isn't judged further at its name, and one whose
--- parameters don't fit a scope isn't judged further at all. Large is judged where a definition is otherwise sound.
+-- name the later breaks Twice. Where a definition's head is broken, its body isn't judged; a call elsewhere is judged by
+-- the head as it is written. Large is judged where a definition is otherwise sound.
 use Rattle.std.specs.Prelude.{◌≡◌, ℕ, ◌+◌, ◌≤◌, ◌⊎◌, ◌&&◌, List, [], ◌∷◌, ◌++◌, length, Bool, true, false, cond, Option, Some, None, ltb, codes}
 use Rattle.hs_base.specs.declared.tree.expr.Name.{Name}
 use Rattle.hs_base.specs.declared.tree.script.Script.{Script}
@@ -69,17 +69,13 @@ abbrev pub BodyBreaks : Ctx → List Bound → Bd → Fault → Type 0
 BodyBreaks c s (pure_body w e) f = BreaksIn c s e f
 BodyBreaks c s (io_body w a) f = BlBreaks c s a f
 
--- the body has another type than the declared one, and the head is sound
+-- the body has another type than the declared one
 abbrev pub Ends : Ctx → Fn → Fault → Type 0
-Ends c d f = (u : T) × BodyHas c (params_in [] d.params) d.body u × ((head_faults d ≡ []) × FirstUnmet d.name.pos (is (result_of d.body).ty u ∷ []) f)
-
--- the parameters fit a scope
-abbrev pub Fits : Fn → Type 0
-Fits d = length d.params ≤ 64
+Ends c d f = (u : T) × BodyHas c (params_in [] d.params) d.body u × FirstUnmet d.name.pos (is (result_of d.body).ty u ∷ []) f
 
 -- the rules that a definition breaks, Large aside
 abbrev pub DefBreaks : Ctx → Fn → Fault → Type 0
-DefBreaks c d f = In (twice_faults c d.name) f ⊎ (In (head_faults d) f ⊎ (Fits d × (BodyBreaks c (params_in [] d.params) d.body f ⊎ Ends c d f)))
+DefBreaks c d f = In (twice_faults c d.name) f ⊎ (In (head_faults d) f ⊎ ((head_faults d ≡ []) × (BodyBreaks c (params_in [] d.params) d.body f ⊎ Ends c d f)))
 
 abbrev pub LargeBreaks : Ctx → Measured → Fn → Fault → Type 0
 LargeBreaks c m d f = ((g : Fault) → DefBreaks c d g → ⊥) × (IsLarge c.sigs m d × (f ≡ large d.name.pos))
