@@ -15,3 +15,6 @@ pub use entry::{Entry, LimitKind};
 pub use history::History;
 pub use node::{ExprId, Node, NodeLink};
 pub use token::{Tok, Token, Tokens};
+
+#[cfg(test)]
+mod history_tests;
