@@ -1,1 +1,10 @@
 mod TermTrees
+mod Fine
+mod Lists
+mod Marks
+mod Held
+mod Owes
+mod Steps
+mod Ends
+mod States
+mod Expanded

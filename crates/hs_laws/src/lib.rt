@@ -5,4 +5,5 @@
 //! rules themselves are left to `hs_rules`, and that a program's history is such a run to the crates that keep one.
 #![tactic(auto)]
 
+pub mod brackets;
 pub mod terms;

@@ -18,7 +18,7 @@ use Rattle.hs_rules.specs.Core.{Code}
 use Rattle.hs_rules.specs.Terms.{Operation, Part, Ret, Throw, Do, Performs, Frame, Term, mask_at}
 use Rattle.hs_rules.specs.LocalRules.{locals}
 use Rattle.hs_rules.specs.Waiting.{Reason, Taking, Putting, Throwing, Sleeping, Flying, is_blocked, reason_of, flight_of, flying_to}
-use Rattle.hs_rules.specs.State.{Thread, State, move, resume, answer, answer_all}
+use Rattle.hs_rules.specs.State.{Thread, State, move, resume, answer, resume_all}
 use Rattle.hs_rules.specs.Primitives.{operated, line_feed}
 
 -- ---- Local: k local rules in turn, at least one, of a thread that isn't blocked
@@ -109,7 +109,7 @@ throwers (f ∷ fs) = f.thrower ∷ throwers fs
 -- thread t has finished, with this line on error output, and all that throw at it are answered ()
 abbrev pub closed : ℕ → Thread → List ℕ → State → State
 closed t th line s =
-    answer_all (throwers (flying_to t (flight_of s.blocked))) UnitValue
+    resume_all (throwers (flying_to t (flight_of s.blocked))) (Ret UnitValue)
     (record s { threads = slice_set s.threads t (record { term = th.term; finished = true }); errors = s.errors ++ line })
 
 abbrev pub finish_entry : ℕ → Thread → List Frame → Part → State → Option State

@@ -69,13 +69,21 @@ finally a b =
 abbrev pub release : Core
 release = Perform Release (Read (Added Instance) ∷ [])
 
+-- B; return $y
+abbrev pub bracket_return : Core → Core
+bracket_return b = then b (Return (Read (Added BracketResult)))
+
 -- release $i; B; return $y
 abbrev pub bracket_exit : Core → Core
-bracket_exit b = then release (then b (Return (Read (Added BracketResult))))
+bracket_exit b = then release (bracket_return b)
+
+-- B; throwIO $e
+abbrev pub bracket_rethrow : Core → Core
+bracket_rethrow b = then b (ThrowIo (Read (Added BracketFault)))
 
 -- release $i; B; throwIO $e
 abbrev pub bracket_handler : Core → Core
-bracket_handler b = then release (then b (ThrowIo (Read (Added BracketFault))))
+bracket_handler b = then release (bracket_rethrow b)
 
 -- catch { restore $r C } $e { release $i; B; throwIO $e }
 abbrev pub bracket_guarded : Core → Core → Core

@@ -36,13 +36,14 @@ pub record State : Type 0 where
 
 -- ---- one thread moves
 
-abbrev pub with_term : Term → Option Thread → ℕ → List Thread → List Thread
-with_term u None t ths = ths
-with_term u (Some th) t ths = slice_set ths t (record { term = u; finished = th.finished })
+-- thread t, which is this one, has this term
+abbrev pub with_term : ℕ → Option Thread → Term → List Thread → List Thread
+with_term t None u ths = ths
+with_term t (Some th) u ths = slice_set ths t (record { term = u; finished = th.finished })
 
 -- thread t has this term
 abbrev pub move : ℕ → Term → State → State
-move t u s = record s { threads = with_term u (slice_get s.threads t) t s.threads }
+move t u s = record s { threads = with_term t (slice_get s.threads t) u s.threads }
 
 abbrev pub frames_of : Option Thread → List Frame
 frames_of None = []
@@ -52,7 +53,7 @@ frames_of (Some th) = th.term.frames
 abbrev pub resume : ℕ → Part → State → State
 resume t p s =
     record s {
-      threads = with_term (term p (frames_of (slice_get s.threads t))) (slice_get s.threads t) t s.threads;
+      threads = with_term t (slice_get s.threads t) (term p (frames_of (slice_get s.threads t))) s.threads;
       blocked = leaves t s.blocked;
     }
 
@@ -60,10 +61,10 @@ resume t p s =
 abbrev pub answer : ℕ → V → State → State
 answer t v s = resume t (Ret v) s
 
--- each of these is answered the same, in order
-abbrev pub answer_all : List ℕ → V → State → State
-answer_all [] v s = s
-answer_all (t ∷ ts) v s = answer_all ts v (answer t v s)
+-- the same for each of these threads, in order
+abbrev pub resume_all : List ℕ → Part → State → State
+resume_all [] p s = s
+resume_all (t ∷ ts) p s = resume_all ts p (resume t p s)
 
 -- thread t waits from now on, behind all that wait
 abbrev pub block : ℕ → Reason V → State → State

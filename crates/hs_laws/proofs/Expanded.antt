@@ -1,0 +1,159 @@
+-- Each expansion is a fine action, and what follows for the runs of a script.
+use Rattle.std.proofs.Common.{◌≡◌, ℕ, List, [], ◌∷◌, Option, Some, None, refl, subst, codes}
+use Rattle.hs_rules.specs.declared.entry.Entry.{Entry}
+use Rattle.hs_rules.specs.declared.forms.BareAction.{BareAction}
+use Rattle.hs_rules.specs.declared.forms.BareAction.TheVariants as z
+use Rattle.hs_rules.specs.declared.forms.UnaryAction.{UnaryAction}
+use Rattle.hs_rules.specs.declared.forms.UnaryAction.TheVariants as u
+use Rattle.hs_rules.specs.declared.forms.BinaryAction.{BinaryAction}
+use Rattle.hs_rules.specs.declared.forms.BinaryAction.TheVariants as b
+use Rattle.hs_rules.specs.declared.forms.BlockAction.{BlockAction}
+use Rattle.hs_rules.specs.declared.forms.BlockAction.TheVariants as k
+use Rattle.hs_rules.specs.declared.forms.MaskingAction.{MaskingAction}
+use Rattle.hs_rules.specs.declared.forms.MaskingAction.TheVariants as m
+use Rattle.hs_rules.specs.declared.forms.GuardAction.{GuardAction}
+use Rattle.hs_rules.specs.declared.forms.GuardAction.TheVariants as g
+use Rattle.hs_rules.specs.Programs as tree
+use Rattle.hs_rules.specs.Programs.{Act, Bl, ActArms, Par, Bd, Fn}
+use Rattle.hs_rules.specs.Values.{Name}
+use Rattle.hs_rules.specs.Core.{CoreEx, Core, Code, ActionFunction, action_named}
+use Rattle.hs_rules.specs.Expansion.{in_time, timeout_helper, timeout_end, timed, timeout, bare_core, unary_core, binary_core, scoped_core, masking_core, guard_core, core, block_core, arms_core, with_action, actions_of}
+use Rattle.hs_rules.specs.State.{State, first}
+use Rattle.hs_rules.specs.Entries.{next}
+use Rattle.hs_rules.specs.Runs.{Run, then_next, after_from, code_of, body_of, main_of, begun, IsRun}
+use Rattle.hs_laws.specs.BracketLaw.{Brackets, Owing}
+use Rattle.hs_laws.proofs.Fine.{Fine, fine_return, fine_throw, fine_let, fine_bind, fine_if, fine_maybe, fine_either, fine_list, fine_pair, fine_call, fine_primitive, fine_fork, fine_fork_unmask, fine_catch, fine_mask, fine_mask_hard, fine_restore, fine_bracket, FineCode}
+use Rattle.hs_laws.proofs.Steps.{FineDef, def_fine}
+use Rattle.hs_laws.proofs.States.{Holds, first_holds, run_kept, brackets, owing}
+
+-- ---- the forms
+
+fine_helper : Fine timeout_helper
+fine_helper = fine_fork_unmask (fine_restore (fine_bind tt (fine_primitive tt) (fine_primitive tt)))
+
+fine_end : Fine timeout_end
+fine_end = fine_mask_hard (fine_primitive tt)
+
+fine_in_time : {a : Core} → Fine a → Fine (in_time a)
+fine_in_time f = fine_bind tt f fine_return
+
+fine_timed : {a : Core} → Fine a → Fine (timed a)
+fine_timed f = fine_catch tt (fine_bracket tt fine_helper fine_end (fine_in_time f)) (fine_if fine_return fine_throw)
+
+fine_timeout : {a : Core} (e : CoreEx) → Fine a → Fine (timeout e a)
+fine_timeout e f = fine_let (fine_if (fine_in_time f) (fine_if fine_return (fine_bind tt (fine_primitive tt) (fine_bind tt (fine_primitive tt) (fine_timed f)))))
+
+fine_bare : (w : BareAction) → Fine (bare_core w)
+fine_bare z.MyThreadId = fine_primitive tt
+fine_bare z.ClockMicros = fine_primitive tt
+fine_bare z.GetMaskingState = fine_primitive tt
+
+fine_unary : (w : UnaryAction) (e : CoreEx) → Fine (unary_core w e)
+fine_unary u.Return e = fine_return
+fine_unary u.PutStr e = fine_primitive tt
+fine_unary u.PutStrLn e = fine_primitive tt
+fine_unary u.HPutStrLn e = fine_primitive tt
+fine_unary u.NewMVar e = fine_primitive tt
+fine_unary u.TakeMVar e = fine_primitive tt
+fine_unary u.ReadMVar e = fine_let (fine_mask (fine_bind tt (fine_primitive tt) (fine_bind tt (fine_primitive tt) fine_return)))
+fine_unary u.TryTakeMVar e = fine_primitive tt
+fine_unary u.KillThread e = fine_primitive tt
+fine_unary u.ThreadDelay e = fine_primitive tt
+
+fine_binary : (w : BinaryAction) (e f : CoreEx) → Fine (binary_core w e f)
+fine_binary b.PutMVar e f = fine_primitive tt
+fine_binary b.TryPutMVar e f = fine_primitive tt
+fine_binary b.ThrowTo e f = fine_primitive tt
+
+fine_scoped : (w : BlockAction) {a : Core} → Fine a → Fine (scoped_core w a)
+fine_scoped k.ForkIo f = fine_fork f
+fine_scoped k.MaskOnly f = fine_mask f
+fine_scoped k.UninterruptibleMaskOnly f = fine_mask_hard f
+
+fine_masking : (w : MaskingAction) (r : Name) {a : Core} → Fine a → Fine (masking_core w r a)
+fine_masking m.ForkIoWithUnmask r f = fine_fork_unmask f
+fine_masking m.Mask r f = fine_mask f
+fine_masking m.UninterruptibleMask r f = fine_mask_hard f
+
+fine_guard : (w : GuardAction) {a c : Core} → Fine a → Fine c → Fine (guard_core w a c)
+fine_guard g.OnException f h = fine_catch tt f (fine_bind tt h fine_throw)
+fine_guard g.Finally f h = fine_mask (fine_bind tt (fine_catch tt (fine_restore f) (fine_bind tt h fine_throw)) (fine_bind tt h fine_return))
+
+-- ---- actions and blocks
+
+mutual
+  pub fine_core : (a : Act) → Fine (core a)
+  fine_core (tree.bare w p) = fine_bare w
+  fine_core (tree.unary_act w p e) = fine_unary w _
+  fine_core (tree.binary_act w p e f) = fine_binary w _ _
+  fine_core (tree.throw_io p t e) = fine_throw
+  fine_core (tree.new_empty p t) = fine_primitive tt
+  fine_core (tree.call f es) = fine_call
+  fine_core (tree.choose_act p e a c) = fine_if (fine_block a) (fine_block c)
+  fine_core (tree.case_act p e arms) = fine_arms _ arms
+  fine_core (tree.modify p e x a) =
+      fine_let (fine_mask (fine_bind tt (fine_primitive tt) (fine_bind tt (fine_catch tt (fine_restore (fine_block a)) (fine_bind tt (fine_primitive tt) fine_throw)) (fine_primitive tt))))
+  fine_core (tree.scoped w p a) = fine_scoped w (fine_block a)
+  fine_core (tree.masking w p x a) = fine_masking w _ (fine_block a)
+  fine_core (tree.restore p x a) = fine_restore (fine_block a)
+  fine_core (tree.catch p a x c) = fine_catch tt (fine_block a) (fine_block c)
+  fine_core (tree.guard w p a c) = fine_guard w (fine_block a) (fine_block c)
+  fine_core (tree.bracket p a x c d) = fine_bracket tt (fine_block a) (fine_block c) (fine_block d)
+  fine_core (tree.timeout p e a) = fine_timeout _ (fine_block a)
+
+  pub fine_block : (a : Bl) → Fine (block_core a)
+  fine_block (tree.last a) = fine_core a
+  fine_block (tree.then a c) = fine_bind tt (fine_core a) (fine_block c)
+  fine_block (tree.bind x a c) = fine_bind tt (fine_core a) (fine_block c)
+  fine_block (tree.let_in x e c) = fine_let (fine_block c)
+
+  pub fine_arms : (e : CoreEx) (arms : ActArms) → Fine (arms_core e arms)
+  fine_arms e (tree.maybe_acts a x c) = fine_maybe (fine_block a) (fine_block c)
+  fine_arms e (tree.either_acts x a y c) = fine_either (fine_block a) (fine_block c)
+  fine_arms e (tree.list_acts a x y c) = fine_list (fine_block a) (fine_block c)
+  fine_arms e (tree.pair_acts x y a) = fine_pair (fine_block a)
+
+-- ---- scripts
+
+fine_with : (f : List ℕ) (ps : List Par) (d : Bd) (rest : List ActionFunction) → FineCode rest → FineCode (with_action f ps d rest)
+fine_with f ps (tree.pure_body w e) rest h = h
+fine_with f ps (tree.io_body w a) rest h = (fine_block a, h)
+
+pub fine_actions : (ds : List Fn) → FineCode (actions_of ds)
+fine_actions [] = tt
+fine_actions (d ∷ ds) = fine_with d.name.text d.params d.body (actions_of ds) (fine_actions ds)
+
+fine_body : (o : Option ActionFunction) (main : Core) → FineDef o → body_of o ≡ Some main → Fine main
+fine_body None main f e = absurd (cc e)
+fine_body (Some d) main f e = let same : d.body ≡ main = cc e in subst Fine same f
+
+pub fine_main : (ds : List Fn) (main : Core) → main_of ds ≡ Some main → Fine main
+fine_main ds main e = fine_body (action_named (codes "main") (actions_of ds)) main (def_fine (codes "main") (actions_of ds) (fine_actions ds)) e
+
+-- ---- runs
+
+run_then : (o : Option State) (k : State → Option State) (u : State) → then_next o k ≡ Some u → (m : State) × (o ≡ Some m) × (k m ≡ Some u)
+run_then None k u e = absurd (cc e)
+run_then (Some m) k u e = (m, refl, e)
+
+-- where the entries leave a state, they lead to it one after another
+pub run_of : (code : Code) (s : State) (es : List Entry) (u : State) → after_from code s es ≡ Some u → Run code s es u
+run_of code s [] u e = let same : s ≡ u = cc e in same
+run_of code s (e ∷ es) u h = let k = run_then (next code s e) (λ m. after_from code m es) u h in (k.0, k.1, run_of code k.0 es u k.2)
+
+begun_is : (o : Option Core) (code : Code) (es : List Entry) (u : State) → then_next (begun o) (λ s. after_from code s es) ≡ Some u → (main : Core) × (o ≡ Some main) × (after_from code (first main) es ≡ Some u)
+begun_is None code es u e = absurd (cc e)
+begun_is (Some main) code es u e = (main, refl, e)
+
+-- a run of a script begins with a main
+pub run_from_main : (ds : List Fn) (es : List Entry) (s : State) → IsRun ds es s → (main : Core) × (main_of ds ≡ Some main) × Run (code_of ds) (first main) es s
+run_from_main ds es s r = let k = begun_is (main_of ds) (code_of ds) es s r in (k.0, k.1, run_of (code_of ds) (first k.0) es s k.2)
+
+pub run_holds : (ds : List Fn) (es : List Entry) (s : State) → IsRun ds es s → Holds s
+run_holds ds es s r = let k = run_from_main ds es s r in run_kept (code_of ds) (fine_actions ds) es (first k.0) s k.2 (first_holds k.0 (fine_main ds k.0 k.1))
+
+pub brackets_of : (ds : List Fn) (es : List Entry) (s : State) → IsRun ds es s → Brackets s
+brackets_of ds es s r = brackets s (run_holds ds es s r)
+
+pub owing_of : (ds : List Fn) (es : List Entry) (s : State) → IsRun ds es s → Owing s
+owing_of ds es s r = owing s (run_holds ds es s r)
