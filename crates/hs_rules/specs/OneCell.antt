@@ -62,6 +62,11 @@ module _ {V : Type 0} where
   leaves_line t [] = []
   leaves_line t (p ∷ ps) = cond (p.thread == t) (leaves_line t ps) (p ∷ leaves_line t ps)
 
+  -- whether a thread stands in a line
+  abbrev pub stands_in : ℕ → List (Place V) → Bool
+  stands_in t [] = false
+  stands_in t (p ∷ ps) = cond (p.thread == t) true (stands_in t ps)
+
   -- a thread joins a line at its end
   abbrev pub joins_line : ℕ → Want V → List (Place V) → List (Place V)
   joins_line t w ps = ps ++ record { thread = t; want = w } ∷ []
@@ -85,6 +90,10 @@ module _ {V : Type 0} where
   first_take [] = None
   first_take (p ∷ ps) = cond (takes_it p.want) (Some p.thread) (first_take ps)
 
+  -- a cell as it is made
+  abbrev pub made : Option V → Cell V
+  made o = cell_of o []
+
   -- The content was taken, and these were answered: the first put of the line, if any, moves in and its thread is
   -- answered (); else the cell is empty.
   abbrev pub moves_in : Option (ℕ × V) → List (Place V) → List (Reply V) → After V
@@ -102,7 +111,7 @@ module _ {V : Type 0} where
   -- put: waits on a full cell; else its value goes to the first that waits to take, or stays.
   -- The calls that never wait do the same where they can, and else answer so and change nothing.
   abbrev pub called : Call V → Option V → List (Place V) → After V
-  called (Make t o) c ps = after_of (cell_of o []) (reply_of t Made ∷ [])
+  called (Make t o) c ps = after_of (made o) (reply_of t Made ∷ [])
   called (Take t) None ps = after_of (cell_of None (joins_line t To_take ps)) []
   called (Take t) (Some v) ps = moves_in (first_put ps) ps (reply_of t (Took v) ∷ [])
   called (Put t v) (Some w) ps = after_of (cell_of (Some w) (joins_line t (To_put v) ps)) []

@@ -1,0 +1,4 @@
+pub mod CellLaws
+pub mod Chains
+pub mod Lists
+pub mod Writes

@@ -1,0 +1,143 @@
+-- What one write of a line does to all lines.
+use Rattle.std.proofs.Common.{◌≡◌, ◌≢◌, ℕ, zero, suc, ◌<◌, ◌≤◌, ◌+◌, ◌-◌, List, [], ◌∷◌, ◌++◌, length, map, sum_by, get_or, set, Option, Some, None, refl, ap, sym, subst, ◌∙◌, arith, inl, inr}
+use Rattle.std.proofs.lemmas.Bool.{cases_eq}
+use Rattle.std.proofs.lemmas.List.{get_or-set_same, get_or-set_other, length-set, length-map, get_or-map}
+use Rattle.std.proofs.lemmas.List.Sums.{sum_by-set}
+use Rattle.hs_base.specs.declared.value.Value.{Value}
+use Rattle.hs_rules.specs.OneCell.{Place}
+use Rattle.slab.specs.Slab.{Slab, get, slab_len, Updates}
+use Rattle.mvar_cell.specs.declared.lines.Node.{Node}
+use Rattle.mvar_cell.specs.declared.lines.Ends.{Ends}
+use Rattle.mvar_cell.specs.Lined.{Lined}
+use Rattle.mvar_cell.specs.Nodes.{lined, place, place_of, next_of, places, line_at, IsOn, IsTail, IsChain, IsLine, IsSound}
+use Rattle.mvar_cell.proofs.Lists.{map-set_agree}
+use Rattle.mvar_cell.proofs.Chains.{vacant_is_not_on, on_one, last_is_on, on_is_there, chain_same, chain_shorter, tail_longer, Extends}
+
+pub record After (es : List Ends) (s u : Slab Node) (m : ℕ) (e : Ends) : Type 0 where
+  pub sound : IsSound (set es m e) u
+  pub lines : map (line_at u) (set es m e) ≡ set (map (line_at s) es) m (line_at u e)
+
+-- nodes of other lines are as they were
+abbrev pub OthersStay : Slab Node → Slab Node → ℕ → Type 0
+OthersStay s u m = (j k : ℕ) → k ≢ m → IsOn k (get s j) → get u j ≡ get s j
+
+pub after_write : (es : List Ends) (s u : Slab Node) (m : ℕ) (d e : Ends) → IsSound es s → m < length es → OthersStay s u m → IsLine u m e → e.len + slab_len s ≤ (get_or es m d).len + slab_len u → After es s u m e
+after_write es s u m d e h lt others line fits =
+    let len : Ends → ℕ = λ x. x.len in
+    let counted = sum_by-set len es m e d lt in
+    record {
+      sound = record {
+        chains = λ k b kt.
+            elim (cases_eq k m) [
+              | inl same ↦ subst (λ x. IsLine u x (get_or (set es m e) x b)) (sym same) (subst (IsLine u m) (sym (get_or-set_same es m e b lt)) line)
+              | inr differs ↦ subst (IsLine u k) (sym (get_or-set_other es m k e b differs)) (chain_same s u k _ _ _ (λ j. others j k differs) (h.chains k b (omega (arith, kt, length-set es m e)))).chain
+            ];
+        fits = omega (arith, counted, h.fits, fits);
+      };
+      lines = map-set_agree (line_at u) (line_at s) es m e (λ k b kt differs. (chain_same s u k _ _ _ (λ j. others j k differs) (h.chains k b kt)).places);
+    }
+
+-- a line is no longer than there are nodes
+pub len_within : (es : List Ends) (s : Slab Node) (m : ℕ) (d : Ends) → IsSound es s → m < length es → (get_or es m d).len ≤ slab_len s
+len_within es s m d h lt =
+    let len : Ends → ℕ = λ x. x.len in
+    omega (arith, h.fits, sum_by-set len es m (record { first = 0; last = 0; len = 0 }) d lt)
+
+-- where the place of this line is known, the line of all lines is
+pub line_is : (es : List Ends) (s : Slab Node) (m : ℕ) (e : Ends) → m < length es → e ≡ get_or es m e → get_or (map (line_at s) es) m [] ≡ line_at s e
+line_is es s m e lt is = get_or-map (line_at s) es m e [] lt ∙ ap (line_at s) (sym is)
+
+-- the first place of a line
+pub first_joins : (es : List Ends) (s u : Slab Node) (m : ℕ) (e : Ends) (key : ℕ) (new : Node) → IsSound es s → m < length es → e ≡ get_or es m e → e.len ≡ 0 → get s key ≡ None → Updates s u key (Some new) → new.line ≡ m → slab_len u ≡ slab_len s + 1
+    → After es s u m (record { first = key; last = key; len = 1 })
+first_joins es s u m e key new h lt is empty vacant updates on counted =
+    let none : (get_or es m e).len ≡ 0 = ap (λ (x : Ends). x.len) (sym is) ∙ empty in
+    after_write es s u m e _ h lt
+    (λ j k differs there. updates.others j (λ q. vacant_is_not_on k _ (ap (get s) q ∙ vacant) there))
+    (subst (IsOn m) (sym updates.changed) on, refl)
+    (omega (arith, counted, none))
+
+pub record Joins (es : List Ends) (s u : Slab Node) (m : ℕ) (e : Ends) (key : ℕ) (new : Node) : Type 0 where
+  pub after : After es s u m (record { first = e.first; last = key; len = e.len + 1 })
+  pub line : places u (e.len + 1) e.first ≡ line_at s e ++ place new.thread new.want ∷ []
+
+module _ (es : List Ends) (s : Slab Node) (m : ℕ) (e : Ends) (h : IsSound es s) (lt : m < length es) (is : e ≡ get_or es m e) where
+  pub chain_of : IsChain s m e.len e.first e.last
+  chain_of = subst (λ (x : Ends). IsChain s m x.len x.first x.last) (sym is) (h.chains m e lt)
+
+  pub long_chain_of : (n : ℕ) → e.len ≡ suc n → IsChain s m (suc n) e.first e.last
+  long_chain_of n q = subst (λ x. IsChain s m x e.first e.last) q chain_of
+
+  -- the last place of a line with places stands there
+  pub last_of : (n : ℕ) → e.len ≡ suc n → IsOn m (get s e.last)
+  last_of n q = let c = long_chain_of n q in last_is_on s m n e.first e.last c.0 c.1
+
+  -- the nodes of a longer pool have the last place too
+  pub last_after : (n key : ℕ) (u : Slab Node) (new : Node) → e.len ≡ suc n → get s key ≡ None → Updates s u key (Some new) → (last : Node) × (get s e.last ≡ Some last) × (get u e.last ≡ Some last)
+  last_after n key u new q vacant updates =
+      let on = last_of n q in
+      let there = on_is_there m _ on in
+      (there.0, there.1, updates.others e.last (λ z. vacant_is_not_on m _ (ap (get s) z ∙ vacant) on) ∙ there.1)
+
+  pub later_joins : (s1 u : Slab Node) (n key : ℕ) (new : Node) → e.len ≡ suc n → get s key ≡ None → Updates s s1 key (Some new) → ((x : Node) → get s1 e.last ≡ Some x → Updates s1 u e.last (Some (record x { next = key })))
+      → new.line ≡ m → slab_len u ≡ slab_len s + 1 → Joins es s u m e key new
+  later_joins s1 u n key new q vacant first linked on counted =
+      let c = long_chain_of n q in
+      let last_on = last_of n q in
+      let last = last_after n key s1 new q vacant first in
+      let second = linked last.0 last.2 in
+      let apart : e.last ≢ key = λ z. vacant_is_not_on m _ (ap (get s) z ∙ vacant) last_on in
+      let extends : Extends s u m e.last key last.0 new = record {
+        was = last.1;
+        linked = second.changed;
+        vacant = vacant;
+        added = second.others key (λ z. apart (sym z)) ∙ first.changed;
+        on = on;
+        others = λ j a b. second.others j a ∙ first.others j b;
+      } in
+      let long = tail_longer s u m n e.first e.last key last.0 new extends c.0 c.1 in
+      let more : suc (suc n) ≡ e.len + 1 = omega (arith, q) in
+      let line : IsChain u m (e.len + 1) e.first key = subst (λ x. IsChain u m x e.first key) more (long.on, long.tail) in
+      let size : e.len ≡ (get_or es m e).len = ap (λ (x : Ends). x.len) is in
+      record {
+        after = after_write es s u m e _ h lt
+            (λ j k differs there. second.others j (λ z. differs (on_one k m _ (subst (λ x. IsOn k (get s x)) z there) last_on)) ∙ first.others j (λ z. vacant_is_not_on k _ (ap (get s) z ∙ vacant) there))
+            line (omega (arith, counted, size));
+        line = ap (λ x. places u x e.first) (sym more) ∙ long.places ∙ ap (λ x. places s x e.first ++ place new.thread new.want ∷ []) (sym q);
+      }
+
+  -- the first place of a line leaves it
+  pub first_leaves : (u : Slab Node) (n : ℕ) (node : Node) → e.len ≡ suc n → get s e.first ≡ Some node → Updates s u e.first None → slab_len u + 1 ≡ slab_len s
+      → After es s u m (record { first = node.next; last = e.last; len = n }) × (line_at s e ≡ place node.thread node.want ∷ places u n node.next)
+  first_leaves u n node q was updates counted =
+      let c = long_chain_of n q in
+      let short = chain_shorter s u m n e.first e.last node was updates.others c in
+      let size : e.len ≡ (get_or es m e).len = ap (λ (x : Ends). x.len) is in (
+        after_write es s u m e _ h lt
+            (λ j k differs there. updates.others j (λ z. differs (on_one k m _ (subst (λ x. IsOn k (get s x)) z there) c.0)))
+            short.chain (omega (arith, counted, size, q)),
+        ap (λ x. places s x e.first) q ∙ short.places,
+      )
+
+-- the lines of a pool are those that callers see
+pub within_lines : (es : List Ends) (s : Slab Node) (capacity m : ℕ) (now : Lined) → lined es s capacity ≡ now → m < length now.lines → m < length es
+within_lines es s capacity m now view lt =
+    let x : m < length (map (line_at s) es) = subst (λ (n : Lined). m < length n.lines) (sym view) lt in
+    omega (arith, length-map es (line_at s), x)
+
+-- the written line, as callers see it
+pub written_line : (es : List Ends) (u : Slab Node) (m : ℕ) (e : Ends) → m < length es → get_or (map (line_at u) (set es m e)) m [] ≡ line_at u e
+written_line es u m e lt =
+    get_or-map (line_at u) (set es m e) m e [] (omega (arith, length-set es m e, lt)) ∙ ap (line_at u) (get_or-set_same es m e e lt)
+
+pub After-lines : (es : List Ends) (s u : Slab Node) (m : ℕ) (e : Ends) → m < length es → After es s u m e → map (line_at u) (set es m e) ≡ set (map (line_at s) es) m (get_or (map (line_at u) (set es m e)) m [])
+After-lines es s u m e lt a = a.lines ∙ ap (set (map (line_at s) es) m) (sym (written_line es u m e lt))
+
+pub joined_lines : (es : List Ends) (s u : Slab Node) (m : ℕ) (old e : Ends) (p : Place Value) → m < length es → old ≡ get_or es m old → After es s u m e → line_at u e ≡ line_at s old ++ p ∷ []
+    → map (line_at u) (set es m e) ≡ set (map (line_at s) es) m (get_or (map (line_at s) es) m [] ++ p ∷ [])
+joined_lines es s u m old e p lt is a line =
+    a.lines ∙ ap (set (map (line_at s) es) m) (line ∙ ap (λ ps. ps ++ p ∷ []) (sym (line_is es s m old lt is)))
+
+pub served_line : (es : List Ends) (s u : Slab Node) (m : ℕ) (old e : Ends) (p : Place Value) → m < length es → old ≡ get_or es m old → line_at s old ≡ p ∷ line_at u e
+    → get_or (map (line_at s) es) m [] ≡ p ∷ get_or (map (line_at u) (set es m e)) m []
+served_line es s u m old e p lt is line = line_is es s m old lt is ∙ line ∙ ap (λ ps. p ∷ ps) (sym (written_line es u m e lt))

@@ -1,0 +1,4 @@
+pub mod Calls
+pub mod Lined
+pub mod Mvars
+pub mod Nodes
