@@ -24,6 +24,9 @@ use Rattle.hs_rules.specs.Runs.{Run, then_next, after_from, code_of, body_of, ma
 use Rattle.hs_laws.specs.BracketLaw.{Brackets, Owing}
 use Rattle.hs_laws.proofs.Fine.{Fine, fine_return, fine_throw, fine_let, fine_bind, fine_if, fine_maybe, fine_either, fine_list, fine_pair, fine_call, fine_primitive, fine_fork, fine_fork_unmask, fine_catch, fine_mask, fine_mask_hard, fine_restore, fine_bracket, FineCode}
 use Rattle.hs_laws.proofs.Steps.{FineDef, def_fine}
+use Rattle.hs_rules.specs.declared.entry.Entry.TheVariants as entry
+use Rattle.hs_laws.specs.MaskLaw.{Received}
+use Rattle.hs_laws.proofs.WaitsBegan.{mask_law}
 use Rattle.hs_laws.proofs.States.{Holds, first_holds, run_kept, brackets, owing}
 
 -- ---- the forms
@@ -157,3 +160,9 @@ brackets_of ds es s r = brackets s (run_holds ds es s r)
 
 pub owing_of : (ds : List Fn) (es : List Entry) (s : State) → IsRun ds es s → Owing s
 owing_of ds es s r = owing s (run_holds ds es s r)
+
+-- where a thread receives an exception in a run
+pub received_of : (ds : List Fn) (es : List Entry) (u v : State) (t : ℕ) → IsRun ds es u → next (code_of ds) u (entry.Receive t) ≡ Some v → (main : Core) × (main_of ds ≡ Some main) × Received (code_of ds) (first main) es u t
+received_of ds es u v t r n =
+    let k = run_from_main ds es u r in
+    (k.0, k.1, mask_law (code_of ds) (fine_actions ds) k.0 (fine_main ds k.0 k.1) es u v t k.2 n)

@@ -8,3 +8,4 @@ mod Steps
 mod Ends
 mod States
 mod Expanded
+mod WaitsBegan

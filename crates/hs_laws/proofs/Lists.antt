@@ -1,9 +1,10 @@
 -- Lists by bracket_marked, and what holds of each that waits.
+use Rattle.hs_laws.specs.MaskLaw.{first_flying}
 use Rattle.std.proofs.Common.{◌≡◌, ◌≢◌, ℕ, zero, suc, ◌<◌, ◌==◌, List, [], ◌∷◌, ◌++◌, length, slice_get, slice_set, Bool, true, false, cond, Option, Some, None, refl, sym, ap, ◌∙◌, subst, arith, ◌⊎◌, ⊎_elim}
 use Rattle.hs_base.specs.declared.exn.Exn.{Exn}
 use Rattle.hs_rules.specs.Values.{V}
 use Rattle.hs_rules.specs.OneCell.{To_take, To_put, first_put, first_take}
-use Rattle.hs_rules.specs.Waiting.{Reason, Taking, Putting, Throwing, Sleeping, Waiting, Flying, leaves, is_blocked, reason_of, with_place, line_of, flight_of, flying_to}
+use Rattle.hs_rules.specs.Waiting.{Reason, Taking, Putting, Throwing, Sleeping, Waiting, leaves, is_blocked, reason_of, with_place, line_of, flight_of, flying_to}
 use Rattle.hs_rules.specs.Entries.{throwers}
 use Rattle.std.proofs.lemmas.Bool.Decides.{eqb_tells}
 
@@ -119,11 +120,6 @@ take_at m t (Sleeping due) ws e = e
 pub take_is_first : (m : ℕ) (ws : List (Waiting V)) → first_take (line_of m ws) ≡ only_thread (first_of_kind (takes m) ws)
 take_is_first m [] = refl
 take_is_first m (w ∷ ws) = take_at m w.thread w.reason ws (take_is_first m ws)
-
--- the first exception in flight to a thread, with its thrower
-abbrev pub first_flying : List Flying → Option (ℕ × Exn)
-first_flying [] = None
-first_flying (f ∷ fs) = Some (f.thrower, f.exn)
 
 throw_at_is : (t : ℕ) (w : ℕ) (r : Reason V) (ws : List (Waiting V)) → first_flying (flying_to t (flight_of ws)) ≡ first_of_kind (throws t) ws
     → first_flying (flying_to t (flight_of (record { thread = w; reason = r } ∷ ws))) ≡ first_of_kind (throws t) (record { thread = w; reason = r } ∷ ws)
@@ -312,3 +308,13 @@ pub item_below : {A : Type 0} (xs : List A) (k : ℕ) (x : A) → slice_get xs k
 item_below [] k x h = absurd (cc h)
 item_below (z ∷ xs) zero x h = omega arith
 item_below (z ∷ xs) (suc k) x h = let i = item_below xs k x h in omega arith
+
+-- each waits for the reason that is found
+pub once_reason : (ws : List (Waiting V)) → Once ws → Each (λ u r. reason_of u ws ≡ Some r) ws
+once_reason [] o = tt
+once_reason (w ∷ ws) o = (
+  ⊎_elim (λ e. cond_true (w.thread == w.thread) (Some w.reason) (reason_of w.thread ws) e.0) (λ e. absurd (e.1 refl)) (equal_or w.thread w.thread),
+  each_apart (λ u r. reason_of u ws ≡ Some r) (λ u r. reason_of u (w ∷ ws) ≡ Some r) w.thread ws
+      (λ u r n h. cond_false (w.thread == u) (Some w.reason) (reason_of u ws) (⊎_elim (λ f. absurd (n (sym f.1))) (λ f. f.0) (equal_or w.thread u)) ∙ h)
+      o.0 (once_reason ws o.1),
+)

@@ -19,10 +19,11 @@ use Rattle.hs_rules.specs.Primitives.{on_none, on_one, on_two, as_text, as_numbe
 use Rattle.hs_rules.specs.Entries.{moved, local_entry, at_operation, op_entry, is_throw, is_unmasked, is_interruptible, is_open, is_receptive, received, receive_entry, woken, uncaught_line, throwers, closed, finish_entry, on_thread, next}
 use Rattle.hs_rules.specs.Entries as entries
 use Rattle.hs_rules.specs.Runs.{Run}
+use Rattle.hs_laws.specs.MaskLaw.{first_flying}
 use Rattle.hs_laws.specs.BracketLaw.{mine, Brackets, IsMasked, Owing}
 use Rattle.hs_laws.proofs.Fine.{Fine, FineCode}
 use Rattle.hs_laws.proofs.Held.{FineOp, Below, no_frames, below_mask, Held, held_ret, held_throw, held_do}
-use Rattle.hs_laws.proofs.Lists.{cond_cases, equal_or, item_same, item_other, item_more, Each, each_more, each_left, each_apart, each_changed, Found, first_found, OnReason, reason_found, blocked_found, Once, once_left, once_more, Distinct, Ones, ones_apart, distinct_those, ones_those, first_of_kind, those, takes, puts, throws, throws_at, only_thread, first_flying, put_is_first, take_is_first, throw_is_first, throwers_are}
+use Rattle.hs_laws.proofs.Lists.{cond_cases, equal_or, item_same, item_other, item_more, Each, each_more, each_left, each_apart, each_changed, Found, first_found, OnReason, reason_found, blocked_found, Once, once_left, once_more, Distinct, Ones, ones_apart, distinct_those, ones_those, first_of_kind, those, takes, puts, throws, throws_at, only_thread, put_is_first, take_is_first, throw_is_first, throwers_are}
 use Rattle.hs_laws.proofs.Marks.{Numbered, Proper, numbered_more, mine_acquired, mine_acquired_other, mine_released, mine_released_other, once_acquired, once_released, own_release, all_released, AllBelow, mine_below}
 use Rattle.hs_laws.proofs.Owes.{held_owes, held_here, held_catches}
 use Rattle.hs_laws.proofs.Ends.{below_of_op, instance_kept, release_kept, open_kept, ret_owes_nothing, throw_owes_nothing, fork_fine, fork_unmask_fine}

@@ -1,1 +1,2 @@
 pub mod BracketLaw
+pub mod MaskLaw

@@ -6,4 +6,5 @@
 #![tactic(auto)]
 
 pub mod brackets;
+pub mod masks;
 pub mod terms;
