@@ -1,0 +1,10 @@
+mod Agree
+mod Checks
+mod Complete
+mod Good
+mod KindLists
+mod Levels
+mod Loops
+mod Reading
+mod Spellings
+mod Starts

@@ -1,0 +1,2 @@
+//! The parser of scripts as a function of the tokens.
+#![tactic(auto)]
