@@ -1,19 +1,18 @@
 -- What a rule spells is read, where nothing follows that it would still take.
-use Rattle.std.proofs.Common.{◌≡◌, ℕ, zero, suc, ◌<◌, ◌≤◌, Bool, true, false, List, [], ◌∷◌, ◌++◌, length, Option, Some, None, refl, sym, ap, ◌∙◌, subst, ◌⊎◌, inl, inr, arith, length-append}
+use Rattle.std.proofs.Common.{◌≡◌, ℕ, suc, ◌<◌, Bool, true, false, List, [], ◌∷◌, ◌++◌, length, Option, Some, None, refl, sym, ap, ◌∙◌, subst, ◌⊎◌, inl, inr, arith, length-append}
 use Rattle.hs_rules.specs.declared.token.Token.{Token}
-use Rattle.hs_rules.specs.Grammar.{rule_of, SpelledIn}
 use Rattle.hs_rules.specs.GrammarForms.{Rule, give, one, seq, alt, go_on, many, ended, within, Item, tokens_of, Spelling, Empty, Single, Made, Then, Either, Each, OnLeft, Passed, Last, Spelled}
 use Rattle.hs_rules.specs.GrammarParts.{Kind, kind_of, Part}
 use Rattle.hs_grammar.specs.Parser.{same_kind, either, both, negated, apart, where', may_be_empty, firsts, begins, Why, Out, Done, Stop, Parser, bind, done, choose, take_if, take, on_left, turn, turns, loop, another, after_separator, behind_item, item_step, Inner, read_then, read, enter}
-use Rattle.hs_grammar.proofs.KindLists.{both_true, negated_true, clash, same_of, begins_apart, not_begins, not_begins_contained}
-use Rattle.hs_grammar.proofs.Checks.{after_part, after, fine, fine_part, after_rule}
+use Rattle.hs_grammar.proofs.KindLists.{both_true, negated_true, clash, same_of, begins_apart, not_begins}
+use Rattle.hs_grammar.proofs.Checks.{after_part, after, fine}
 use Rattle.hs_grammar.proofs.Spellings.{Parts, PartsAppend, PartsSub}
 use Rattle.hs_grammar.proofs.Good.{GoodOut, Closes, PartOut, Ends, good}
 use Rattle.hs_grammar.proofs.Reading.{read_seq, read_go_on}
 use Rattle.hs_grammar.proofs.Starts.{Shrinks, Starts, starts}
-use Rattle.hs_grammar.proofs.Loops.{Takes, TakesLeft, loop_eq, another_takes, item_takes}
+use Rattle.hs_grammar.proofs.Loops.{Takes, loop_eq, another_takes, item_takes}
 
-tokens_length : (w : List Item) → length (tokens_of w) ≡ length w
+pub tokens_length : (w : List Item) → length (tokens_of w) ≡ length w
 tokens_length [] = refl
 tokens_length (i ∷ w) = ap suc (tokens_length w)
 

@@ -1,6 +1,5 @@
 -- What a parser's outcome says of the tokens: what was read is spelled, and where the parser stops what was read goes on.
-use Rattle.std.proofs.Common.{◌≡◌, ℕ, zero, suc, ◌+◌, ◌<◌, ◌≤◌, Bool, true, false, List, [], ◌∷◌, ◌++◌, length, Option, Some, None, refl, sym, ap, ◌∙◌, subst, append_assoc, append-nil, ◌⊎◌, inl, inr, arith, ℤ, pos}
-use Rattle.hs_rules.specs.declared.token.Tok.{Tok}
+use Rattle.std.proofs.Common.{◌≡◌, ℕ, zero, suc, ◌<◌, Bool, true, false, List, [], ◌∷◌, ◌++◌, length, Option, Some, None, refl, sym, ap, ◌∙◌, subst, append_assoc, ◌⊎◌, inl, inr, pos}
 use Rattle.hs_rules.specs.declared.token.Tok.TheVariants as tok
 use Rattle.hs_rules.specs.declared.token.Token.{Token}
 use Rattle.hs_rules.specs.Grammar.{Below}
@@ -9,7 +8,7 @@ use Rattle.hs_rules.specs.GrammarParts.{Kind, name, upper, int, text, word, symb
 use Rattle.hs_grammar.specs.Parser.{same_kind, firsts, begins, Why, unexpected, too_deep, Out, Done, Stop, Parser, bind, done, choose, take_if, take, on_left, turn, turns, loop, another, after_separator, behind_item, item_step, Inner, read_then, read}
 use Rattle.hs_grammar.proofs.KindLists.{same_is}
 use Rattle.hs_grammar.proofs.Reading.{take_bind, read_seq, read_go_on}
-use Rattle.hs_grammar.proofs.Spellings.{Appends, appends_empty, appends_single, appends_made, appends_then, appends_either, appends_each, appends_on_left, appends_passed, appends_last, Parts, PartsAppend, appends, Sub, subs, PartsSub, sub_passed, sub_last}
+use Rattle.hs_grammar.proofs.Spellings.{Appends, appends_empty, appends_single, appends_then, appends_passed, appends_last, Parts, PartsAppend, appends, Sub, subs, PartsSub, sub_passed, sub_last}
 
 -- what stands behind the tokens read: at a fault anything, and otherwise an opener that stands in m
 abbrev pub Halt : Why → ℕ → List Item → List Token → Type 0
@@ -57,9 +56,15 @@ module _ {A B : Type 0} (m : ℕ) (S C : Spelling B) (T D : B → Spelling A) (s
   second : (b : B) (w : List Item) (mid ts : List Token) → tokens_of w ++ mid ≡ ts → S b w [] → Below m w → (o : Out A) → GoodOut m (T b) (D b) mid o → GoodOut m (Then S T) (Then C D) ts o
   second b w mid ts e s l (Done a r) g =
       (w ++ g.0, ap (λ z. z ++ r) (tokens_append w g.0) ∙ (append_assoc (tokens_of w) (tokens_of g.0) r ∙ (ap (λ z. tokens_of w ++ z) g.1 ∙ e)), (b, g.0, sa b w [] g.0 s, g.2), below_append m w g.0 l g.3)
-  second b w mid ts e s l (Stop y x) g =
-      (w ++ g.0, g.1, g.2, ap (λ z. z ++ x) (tokens_append w g.0) ∙ (append_assoc (tokens_of w) (tokens_of g.0) x ∙ (ap (λ z. tokens_of w ++ z) g.3 ∙ e)),
-       (b, g.0 ++ g.1, subst (λ v. C b v (g.0 ++ g.1)) (sym (append_assoc w g.0 g.1)) (ca b w [] (g.0 ++ g.1) (sub b w [] s)), g.4), below_append m w g.0 l g.5, g.6)
+  second b w mid ts e s l (Stop y x) g = (
+    w ++ g.0,
+    g.1,
+    g.2,
+    ap (λ z. z ++ x) (tokens_append w g.0) ∙ (append_assoc (tokens_of w) (tokens_of g.0) x ∙ (ap (λ z. tokens_of w ++ z) g.3 ∙ e)),
+    (b, g.0 ++ g.1, subst (λ v. C b v (g.0 ++ g.1)) (sym (append_assoc w g.0 g.1)) (ca b w [] (g.0 ++ g.1) (sub b w [] s)), g.4),
+    below_append m w g.0 l g.5,
+    g.6,
+  )
 
   pub good_bind : ((b : B) → Closes (D b)) → (F : B → Parser A) → ((b : B) (mid : List Token) → GoodOut m (T b) (D b) mid (F b mid)) → (ts : List Token) (o : Out B) → GoodOut m S C ts o → GoodOut m (Then S T) (Then C D) ts (bind o F)
   good_bind cl F f ts (Done b mid) g = second b g.0 mid ts g.1 g.2 g.3 (F b mid) (f b mid)
@@ -309,12 +314,21 @@ module _ (m j : ℕ) (inner : Inner) (X Y : Parts) (xa : PartsAppend X) (ya : Pa
   good_within {A} {B} g k part (t ∷ ts) = by (same_kind (kind_of t.tok) k) refl
     where
       fills : kind_of t.tok ≡ k → (o : Out B) → PartOut m j (X B part) (Y B part) t ts o → GoodOut m (Then (Single (Some j) k) (λ t'. Made (g t'.pos) (X B part))) (Then (Single (Some j) k) (λ t'. Made (g t'.pos) (Y B part))) (t ∷ ts) (bind o (λ b. done (g t.pos b)))
-      fills e (Done b r) (inl h) =
-          (record { token = t; opener = Some j } ∷ h.1.0, ap (λ z. t ∷ z) h.1.1, (t, h.1.0, (e, refl), (b, refl, h.1.2)),
-           (λ i f. let q : j ≡ i = cc f in subst (λ z. z < m) q h.0, h.1.3))
-      fills e (Stop y x) (inl h) =
-          (record { token = t; opener = Some j } ∷ h.1.0, h.1.1, g t.pos h.1.2, ap (λ z. t ∷ z) h.1.3, (t, h.1.0 ++ h.1.1, (e, refl), (h.1.2, refl, h.1.4)),
-           (λ i f. let q : j ≡ i = cc f in subst (λ z. z < m) q h.0, h.1.5), h.1.6)
+      fills e (Done b r) (inl h) = (
+        record { token = t; opener = Some j } ∷ h.1.0,
+        ap (λ z. t ∷ z) h.1.1,
+        (t, h.1.0, (e, refl), (b, refl, h.1.2)),
+        (λ i f. let q : j ≡ i = cc f in subst (λ z. z < m) q h.0, h.1.3),
+      )
+      fills e (Stop y x) (inl h) = (
+        record { token = t; opener = Some j } ∷ h.1.0,
+        h.1.1,
+        g t.pos h.1.2,
+        ap (λ z. t ∷ z) h.1.3,
+        (t, h.1.0 ++ h.1.1, (e, refl), (h.1.2, refl, h.1.4)),
+        (λ i f. let q : j ≡ i = cc f in subst (λ z. z < m) q h.0, h.1.5),
+        h.1.6,
+      )
       fills e o (inr h) =
           let c = part_closes B part in
           subst (λ z. GoodOut m (Then (Single (Some j) k) (λ t'. Made (g t'.pos) (X B part))) (Then (Single (Some j) k) (λ t'. Made (g t'.pos) (Y B part))) (t ∷ ts) (bind z (λ b. done (g t.pos b)))) (sym h.0)
@@ -337,26 +351,26 @@ module _ (m j : ℕ) (inner : Inner) (X Y : Parts) (xa : PartsAppend X) (ya : Pa
   good (seq f p q) e ts =
       subst (GoodOut m (Spelled X j (seq f p q)) (Spelled Y j (seq f p q)) ts) (sym (read_seq inner f p q ts))
       (good_bind m (Spelled X j p) (Spelled Y j p) (λ b. Made (f b) (Spelled X j q)) (λ b. Made (f b) (Spelled Y j q)) (appends X xa j p) (appends Y ya j p) (subs X Y sub j p)
-        (λ b. closes_made (f b) (Spelled Y j q) (shortest q e.1)) (λ b r. bind (read inner q r) (λ c. done (f b c)))
-        (λ b mid. good_made m (f b) (Spelled X j q) (Spelled Y j q) mid (read inner q mid) (good q e.1 mid)) ts (read inner p ts) (good p e.0 ts))
+      (λ b. closes_made (f b) (Spelled Y j q) (shortest q e.1)) (λ b r. bind (read inner q r) (λ c. done (f b c)))
+      (λ b mid. good_made m (f b) (Spelled X j q) (Spelled Y j q) mid (read inner q mid) (good q e.1 mid)) ts (read inner p ts) (good p e.0 ts))
   good (alt p q) e ts =
       good_choose m (begins (firsts p) ts) (Spelled X j p) (Spelled Y j p) (Spelled X j q) (Spelled Y j q) (read inner p) (read inner q) ts (good p e.0 ts) (good q e.1 ts)
   good (go_on f p q) e ts =
       subst (GoodOut m (Spelled X j (go_on f p q)) (Spelled Y j (go_on f p q)) ts) (sym (read_go_on inner f p q ts))
       (good_bind m (Spelled X j p) (Spelled Y j p) (OnLeft (λ b. Made (f b) (Spelled X j q))) (OnLeft (λ b. Made (f b) (Spelled Y j q))) (appends X xa j p) (appends Y ya j p) (subs X Y sub j p)
-        (closes_on_left (λ b. Made (f b) (Spelled Y j q)) (λ b. closes_made (f b) (Spelled Y j q) (shortest q e.1))) (on_left (λ b r. bind (read inner q r) (λ c. done (f b c))) done)
-        (good_on_left (λ b. Made (f b) (Spelled X j q)) (λ b. Made (f b) (Spelled Y j q)) (λ b r. bind (read inner q r) (λ c. done (f b c)))
-          (λ b mid. good_made m (f b) (Spelled X j q) (Spelled Y j q) mid (read inner q mid) (good q e.1 mid))) ts (read inner p ts) (good p e.0 ts))
+      (closes_on_left (λ b. Made (f b) (Spelled Y j q)) (λ b. closes_made (f b) (Spelled Y j q) (shortest q e.1))) (on_left (λ b r. bind (read inner q r) (λ c. done (f b c))) done)
+      (good_on_left (λ b. Made (f b) (Spelled X j q)) (λ b. Made (f b) (Spelled Y j q)) (λ b r. bind (read inner q r) (λ c. done (f b c)))
+      (λ b mid. good_made m (f b) (Spelled X j q) (Spelled Y j q) mid (read inner q mid) (good q e.1 mid))) ts (read inner p ts) (good p e.0 ts))
   good (many f p) e ts =
       good_into m (Made (λ x. f x.0) (LoopS (ManyS (Spelled X j p)))) (Made (λ x. f x.0) (LoopS (ManyS (Spelled Y j p)))) (Spelled X j (many f p)) (Spelled Y j (many f p)) ts (many_of_loop f (Spelled X j p)) (many_of_loop f (Spelled Y j p)) (read inner (many f p) ts)
       (good_made m (λ x. f x.0) (LoopS (ManyS (Spelled X j p))) (LoopS (ManyS (Spelled Y j p))) ts (loop (another (firsts p) (read inner p)) ts)
-        (good_loop m (ManyS (Spelled X j p)) (ManyS (Spelled Y j p)) (appends_many (Spelled X j p) (appends X xa j p)) (appends_many (Spelled Y j p) (appends Y ya j p)) (sub_many (Spelled X j p) (Spelled Y j p) (subs X Y sub j p)) (tt, [], refl)
-          (another (firsts p) (read inner p)) (good_another m (Spelled X j p) (Spelled Y j p) (firsts p) (read inner p) (good p e)) ts))
+      (good_loop m (ManyS (Spelled X j p)) (ManyS (Spelled Y j p)) (appends_many (Spelled X j p) (appends X xa j p)) (appends_many (Spelled Y j p) (appends Y ya j p)) (sub_many (Spelled X j p) (Spelled Y j p) (subs X Y sub j p)) (tt, [], refl)
+      (another (firsts p) (read inner p)) (good_another m (Spelled X j p) (Spelled Y j p) (firsts p) (read inner p) (good p e)) ts))
   good (ended f g sep close p) e ts =
       good_into m (Made (λ x. f x.0 x.1) (LoopS (EndS g sep close (Spelled X j p)))) (Made (λ x. f x.0 x.1) (LoopS (EndS g sep close (Spelled Y j p)))) (Spelled X j (ended f g sep close p)) (Spelled Y j (ended f g sep close p)) ts
       (ended_of_loop f g sep close (Spelled X j p)) (ended_of_loop f g sep close (Spelled Y j p)) (read inner (ended f g sep close p) ts)
       (good_made m (λ x. f x.0 x.1) (LoopS (EndS g sep close (Spelled X j p))) (LoopS (EndS g sep close (Spelled Y j p))) ts (loop (item_step g sep close (read inner p)) ts)
-        (good_loop m (EndS g sep close (Spelled X j p)) (EndS g sep close (Spelled Y j p)) (appends_end g sep close (Spelled X j p) (appends X xa j p)) (appends_end g sep close (Spelled Y j p) (appends Y ya j p)) (sub_end g sep close (Spelled X j p) (Spelled Y j p) (subs X Y sub j p))
-          (closes_end g sep close m (Spelled X j p) (Spelled Y j p) (appends X xa j p) (appends Y ya j p) (subs X Y sub j p) e.0)
-          (item_step g sep close (read inner p)) (good_item_step g sep close m (Spelled X j p) (Spelled Y j p) (appends X xa j p) (appends Y ya j p) (subs X Y sub j p) (read inner p) (good p e.1)) ts))
+      (good_loop m (EndS g sep close (Spelled X j p)) (EndS g sep close (Spelled Y j p)) (appends_end g sep close (Spelled X j p) (appends X xa j p)) (appends_end g sep close (Spelled Y j p) (appends Y ya j p)) (sub_end g sep close (Spelled X j p) (Spelled Y j p) (subs X Y sub j p))
+      (closes_end g sep close m (Spelled X j p) (Spelled Y j p) (appends X xa j p) (appends Y ya j p) (subs X Y sub j p) e.0)
+      (item_step g sep close (read inner p)) (good_item_step g sep close m (Spelled X j p) (Spelled Y j p) (appends X xa j p) (appends Y ya j p) (subs X Y sub j p) (read inner p) (good p e.1)) ts))
   good (within g k part) e ts = good_within g k part ts

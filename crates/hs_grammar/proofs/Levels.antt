@@ -1,16 +1,16 @@
 -- The parts that stand in an opener, by the levels of openers.
-use Rattle.std.proofs.Common.{◌≡◌, ℕ, zero, suc, ◌+◌, ◌<◌, ◌≤◌, Bool, true, false, List, [], ◌∷◌, ◌++◌, length, Option, Some, None, refl, sym, ap, ◌∙◌, subst, ◌⊎◌, inl, inr, arith}
+use Rattle.std.proofs.Common.{◌≡◌, ℕ, zero, suc, ◌+◌, ◌≤◌, Bool, true, false, List, [], ◌++◌, Some, None, refl, ap, ◌⊎◌, inl, inr, arith}
 use Rattle.hs_base.specs.declared.tree.action.Stmt.TheVariants as s
 use Rattle.hs_rules.specs.declared.token.Token.{Token}
 use Rattle.hs_rules.specs.GrammarKinds as k
-use Rattle.hs_rules.specs.Grammar.{rule_of, script, block_item, other_action, SpelledIn}
-use Rattle.hs_rules.specs.GrammarForms.{Rule, give, one, seq, alt, go_on, many, ended, within, Item, tokens_of, Spelling, Empty, Single, Made, Then, Either, OnLeft, Spelled}
+use Rattle.hs_rules.specs.Grammar.{rule_of, block_item, other_action, SpelledIn}
+use Rattle.hs_rules.specs.GrammarForms.{Rule, give, one, seq, alt, go_on, many, ended, within, Spelling, Single, Made, OnLeft, Spelled}
 use Rattle.hs_rules.specs.GrammarParts.{Part, type_in_parens, type_in_brackets, param_in_parens, block_in_braces, block_if, block_case, block_arms, let_stmt, no_items, two_names, expr_if, expr_case, expr_arms, expr_let, expr_in_parens, items_in_brackets, items_or_none}
-use Rattle.hs_grammar.specs.Parser.{either, both, may_be_empty, firsts, Why, too_deep, Out, Done, Stop, Parser, Inner, read_then, read, enter}
+use Rattle.hs_grammar.specs.Parser.{either, Inner, read, enter}
 use Rattle.hs_grammar.proofs.KindLists.{both_true}
-use Rattle.hs_grammar.proofs.Spellings.{Appends, Parts, PartsAppend, appends, Sub, subs, PartsSub}
+use Rattle.hs_grammar.proofs.Spellings.{Parts, PartsAppend, appends, subs, PartsSub}
 use Rattle.hs_grammar.proofs.Good.{GoodOut, Closes, closes_then, closes_single, closes_empty, closes_end, PartOut, Ends, good}
-use Rattle.hs_grammar.proofs.Checks.{plain, can_close, no_part, simple_part, near_part, opened, plain_script, plain_item, close_action}
+use Rattle.hs_grammar.proofs.Checks.{plain, can_close, no_part, simple_part, near_part, opened, plain_item, close_action}
 
 pub parts_append : (n j : ℕ) → PartsAppend (SpelledIn n j)
 parts_append zero j B part = λ a w k z h. absurd h
@@ -164,8 +164,11 @@ more n = suc (suc (suc n))
 pub enter_good : (n j m : ℕ) → j + n ≡ m → (B : Type 0) (part : Part B) (t : Token) (ts : List Token) → PartOut m j (SpelledIn n j B part) (SpelledIn (more n) j B part) t ts (enter n B part t ts)
 unfolding enter
 enter_good zero j m e B part t ts = inr (refl, omega arith)
-enter_good (suc n) j m e B part t ts = inl (omega arith, good m (suc j) (enter n) (SpelledIn n (suc j)) (SpelledIn (more n) (suc j)) (parts_append n (suc j)) (parts_append (more n) (suc j)) (parts_sub n (more n) (suc j) (omega arith)) (enter_good n (suc j) m (omega arith)) (part_closes n (suc j)) (rule_of part)
-    (part_ends m (suc j) (enter n) (SpelledIn n (suc j)) (SpelledIn (more n) (suc j)) (parts_append n (suc j)) (parts_append (more n) (suc j)) (parts_sub n (more n) (suc j) (omega arith)) (enter_good n (suc j) m (omega arith)) (part_closes n (suc j)) part) ts)
+enter_good (suc n) j m e B part t ts = inl (
+  omega arith,
+  good m (suc j) (enter n) (SpelledIn n (suc j)) (SpelledIn (more n) (suc j)) (parts_append n (suc j)) (parts_append (more n) (suc j)) (parts_sub n (more n) (suc j) (omega arith)) (enter_good n (suc j) m (omega arith)) (part_closes n (suc j)) (rule_of part)
+      (part_ends m (suc j) (enter n) (SpelledIn n (suc j)) (SpelledIn (more n) (suc j)) (parts_append n (suc j)) (parts_append (more n) (suc j)) (parts_sub n (more n) (suc j) (omega arith)) (enter_good n (suc j) m (omega arith)) (part_closes n (suc j)) part) ts,
+)
 
 -- a rule at the top, with n levels
 pub rule_good : {A : Type 0} (n : ℕ) (r : Rule A) → plain r ≡ true → (ts : List Token) → GoodOut n (Spelled (SpelledIn n 0) 0 r) (Spelled (SpelledIn (more n) 0) 0 r) ts (read (enter n) r ts)

@@ -1,10 +1,11 @@
-mod Agree
-mod Checks
-mod Complete
-mod Good
-mod KindLists
-mod Levels
-mod Loops
-mod Reading
-mod Spellings
-mod Starts
+pub mod Agree
+pub mod Checks
+pub mod Complete
+pub mod Good
+pub mod KindLists
+pub mod Levels
+pub mod Loops
+pub mod Main
+pub mod Reading
+pub mod Spellings
+pub mod Starts

@@ -1,9 +1,9 @@
 -- A parser with a continuation is the parser, and then the continuation.
-use Rattle.std.proofs.Common.{◌≡◌, ℕ, zero, suc, Bool, true, false, List, [], ◌∷◌, ◌++◌, length, refl, sym, ap, ◌∙◌, subst, ◌⊎◌, inl, inr}
+use Rattle.std.proofs.Common.{◌≡◌, Bool, true, false, List, [], ◌∷◌, refl, sym, ap, ◌∙◌, ◌⊎◌, inl, inr}
 use Rattle.hs_rules.specs.declared.token.Token.{Token}
 use Rattle.hs_rules.specs.GrammarForms.{Rule, give, one, seq, alt, go_on, many, ended, within}
-use Rattle.hs_rules.specs.GrammarParts.{Kind, kind_of, Part}
-use Rattle.hs_grammar.specs.Parser.{same_kind, firsts, begins, Why, unexpected, too_deep, Out, Done, Stop, Parser, bind, done, choose, take_if, take, on_left, turn, turns, loop, another, after_separator, behind_item, item_step, Inner, read_then, read}
+use Rattle.hs_rules.specs.GrammarParts.{Kind, kind_of}
+use Rattle.hs_grammar.specs.Parser.{same_kind, firsts, begins, Out, Done, Stop, Parser, bind, done, choose, take_if, take, on_left, loop, another, item_step, Inner, read_then, read}
 
 pub bind_done : {A : Type 0} (o : Out A) → bind o done ≡ o
 bind_done (Done a r) = refl
@@ -44,7 +44,7 @@ split inner (one k f) κ ts = take_bind k (λ t. done (f t)) κ ts
 split inner (seq {B = B} {C = C} f p q) κ ts =
     split inner p (λ b. read_then inner q (λ c. κ (f b c))) ts
     ∙ bind_same (read_then inner p done ts) (λ b. read_then inner q (λ c. κ (f b c))) (λ b r. bind (read_then inner q (λ c. done (f b c)) r) κ)
-      (λ b r. split inner q (λ c. κ (f b c)) r ∙ (sym (bind_bind (read_then inner q done r) (λ c. done (f b c)) κ) ∙ ap (λ o. bind o κ) (sym (split inner q (λ c. done (f b c)) r))))
+    (λ b r. split inner q (λ c. κ (f b c)) r ∙ (sym (bind_bind (read_then inner q done r) (λ c. done (f b c)) κ) ∙ ap (λ o. bind o κ) (sym (split inner q (λ c. done (f b c)) r))))
     ∙ sym (bind_bind (read_then inner p done ts) (λ b. read_then inner q (λ c. done (f b c))) κ)
     ∙ ap (λ o. bind o κ) (sym (split inner p (λ b. read_then inner q (λ c. done (f b c))) ts))
 split inner (alt p q) κ ts =
@@ -52,7 +52,7 @@ split inner (alt p q) κ ts =
 split inner (go_on {B = B} {C = C} f p q) κ ts =
     split inner p (on_left (λ b. read_then inner q (λ c. κ (f b c))) κ) ts
     ∙ bind_same (read_then inner p done ts) (on_left (λ b. read_then inner q (λ c. κ (f b c))) κ) (λ x r. bind (on_left (λ b. read_then inner q (λ c. done (f b c))) done x r) κ)
-      (elim [ inl b ↦ (λ r. split inner q (λ c. κ (f b c)) r ∙ (sym (bind_bind (read_then inner q done r) (λ c. done (f b c)) κ) ∙ ap (λ o. bind o κ) (sym (split inner q (λ c. done (f b c)) r)))) | inr a ↦ (λ r. refl) ])
+    (elim [ inl b ↦ (λ r. split inner q (λ c. κ (f b c)) r ∙ (sym (bind_bind (read_then inner q done r) (λ c. done (f b c)) κ) ∙ ap (λ o. bind o κ) (sym (split inner q (λ c. done (f b c)) r)))) | inr a ↦ (λ r. refl) ])
     ∙ sym (bind_bind (read_then inner p done ts) (on_left (λ b. read_then inner q (λ c. done (f b c))) done) κ)
     ∙ ap (λ o. bind o κ) (sym (split inner p (on_left (λ b. read_then inner q (λ c. done (f b c))) done) ts))
 split inner (many f p) κ ts = sym (bind_bind (loop (another (firsts p) (read_then inner p done)) ts) (λ x. done (f x.0)) κ)
@@ -73,4 +73,4 @@ unfolding read_then
 read_go_on inner f p q ts =
     split inner p (on_left (λ b. read_then inner q (λ c. done (f b c))) done) ts
     ∙ bind_same (read inner p ts) (on_left (λ b. read_then inner q (λ c. done (f b c))) done) (on_left (λ b r. bind (read inner q r) (λ c. done (f b c))) done)
-      (elim [ inl b ↦ (λ r. split inner q (λ c. done (f b c)) r) | inr a ↦ (λ r. refl) ])
+    (elim [ inl b ↦ (λ r. split inner q (λ c. done (f b c)) r) | inr a ↦ (λ r. refl) ])

@@ -1,8 +1,7 @@
 -- What follows can be taken apart from what a rule spells, and parts may spell more.
-use Rattle.std.proofs.Common.{◌≡◌, ℕ, suc, List, [], ◌∷◌, ◌++◌, Option, Some, None, refl, sym, ap, ◌∙◌, subst, append_assoc, ◌⊎◌, inl, inr}
-use Rattle.hs_rules.specs.declared.token.Token.{Token}
-use Rattle.hs_rules.specs.GrammarForms.{Rule, give, one, seq, alt, go_on, many, ended, within, Item, tokens_of, Spelling, Empty, Single, Made, Then, Either, Each, OnLeft, Passed, Last, Spelled}
-use Rattle.hs_rules.specs.GrammarParts.{Kind, kind_of, Part}
+use Rattle.std.proofs.Common.{ℕ, List, [], ◌∷◌, ◌++◌, Option, Some, None, ap, ◌⊎◌, inl, inr}
+use Rattle.hs_rules.specs.GrammarForms.{Rule, give, one, seq, alt, go_on, many, ended, within, Item, Spelling, Empty, Single, Made, Then, Either, Each, OnLeft, Passed, Last, Spelled}
+use Rattle.hs_rules.specs.GrammarParts.{Kind, Part}
 
 -- ---- something may follow
 abbrev pub Appends : {A : Type 0} → Spelling A → Type 0
@@ -43,9 +42,9 @@ appends_last sep close S s =
     appends_then (λ c. S (inr c)) (λ c. Either (Then (Single None close) (λ t. Empty c)) (Then (Single None sep) (λ t. Then (Single None close) (λ u. Empty c))))
     (λ c. s (inr c))
     (λ c. appends_either (Then (Single None close) (λ t. Empty c)) (Then (Single None sep) (λ t. Then (Single None close) (λ u. Empty c)))
-      (appends_then (Single None close) (λ t. Empty c) (appends_single None close) (λ t. appends_empty c))
-      (appends_then (Single None sep) (λ t. Then (Single None close) (λ u. Empty c)) (appends_single None sep)
-        (λ t. appends_then (Single None close) (λ u. Empty c) (appends_single None close) (λ u. appends_empty c))))
+    (appends_then (Single None close) (λ t. Empty c) (appends_single None close) (λ t. appends_empty c))
+    (appends_then (Single None sep) (λ t. Then (Single None close) (λ u. Empty c)) (appends_single None sep)
+    (λ t. appends_then (Single None close) (λ u. Empty c) (appends_single None close) (λ u. appends_empty c))))
 
 abbrev pub Parts : Type 1
 Parts = (B : Type 0) → Part B → Spelling B

@@ -51,9 +51,9 @@ shrinks_last sep close S s =
     shrinks_then (λ c. S (inr c)) (λ c. Either (Then (Single None close) (λ t. Empty c)) (Then (Single None sep) (λ t. Then (Single None close) (λ u. Empty c))))
     (λ c. s (inr c))
     (λ c. shrinks_either (Then (Single None close) (λ t. Empty c)) (Then (Single None sep) (λ t. Then (Single None close) (λ u. Empty c)))
-      (shrinks_then (Single None close) (λ t. Empty c) (shrinks_single None close) (λ t. shrinks_empty c))
-      (shrinks_then (Single None sep) (λ t. Then (Single None close) (λ u. Empty c)) (shrinks_single None sep)
-        (λ t. shrinks_then (Single None close) (λ u. Empty c) (shrinks_single None close) (λ u. shrinks_empty c))))
+    (shrinks_then (Single None close) (λ t. Empty c) (shrinks_single None close) (λ t. shrinks_empty c))
+    (shrinks_then (Single None sep) (λ t. Then (Single None close) (λ u. Empty c)) (shrinks_single None sep)
+    (λ t. shrinks_then (Single None close) (λ u. Empty c) (shrinks_single None close) (λ u. shrinks_empty c))))
 
 module _ (X : Parts) (x : (B : Type 0) (part : Part B) → Shrinks (X B part)) (j : ℕ) where
   pub shrinks : {A : Type 0} (r : Rule A) → Shrinks (Spelled X j r)
@@ -137,8 +137,8 @@ module _ (X : Parts) (x : (B : Type 0) (part : Part B) → Shrinks (X B part)) (
       at_last c v q s ih =
           go s.1 (ih (inr s.0) s.1 (subst (λ z. Spelled X j p (inr s.0) z s.1) (sym q) s.2))
           (shrinks_either (Then (Single None close) (λ t. Empty s.0)) (Then (Single None sep) (λ t. Then (Single None close) (λ u. Empty s.0)))
-            (shrinks_then (Single None close) (λ t. Empty s.0) (shrinks_single None close) (λ t. shrinks_empty s.0))
-            (shrinks_then (Single None sep) (λ t. Then (Single None close) (λ u. Empty s.0)) (shrinks_single None sep) (λ t. shrinks_then (Single None close) (λ u. Empty s.0) (shrinks_single None close) (λ u. shrinks_empty s.0))) c s.1 k s.3)
+          (shrinks_then (Single None close) (λ t. Empty s.0) (shrinks_single None close) (λ t. shrinks_empty s.0))
+          (shrinks_then (Single None sep) (λ t. Then (Single None close) (λ u. Empty s.0)) (shrinks_single None sep) (λ t. shrinks_then (Single None close) (λ u. Empty s.0) (shrinks_single None close) (λ u. shrinks_empty s.0))) c s.1 k s.3)
 
       by : (bs : List B) → Each (Passed g sep (Spelled X j p)) bs w h.1 → ((b : B ⊎ C) (mid : List Item) → Spelled X j p b w mid → Starts (may_be_empty p) (firsts p) w mid) → Starts (may_be_empty p) (firsts p) w k
       by [] s ih = at_last h.3.0 h.1 s h.3.2 ih
@@ -146,9 +146,12 @@ module _ (X : Parts) (x : (B : Type 0) (part : Part B) → Shrinks (X B part)) (
         where
           rest : length k ≤ length s.1.1
           rest =
-              omega (arith, shrinks_then (Single None sep) (λ t. Empty s.1.0) (shrinks_single None sep) (λ t. shrinks_empty s.1.0) b s.1.1 s.0 s.1.3,
+              omega (
+                arith,
+                shrinks_then (Single None sep) (λ t. Empty s.1.0) (shrinks_single None sep) (λ t. shrinks_empty s.1.0) b s.1.1 s.0 s.1.3,
                 shrinks_each (Passed g sep (Spelled X j p)) (shrinks_passed g sep (Spelled X j p) (shrinks p)) bs s.0 h.1 s.2,
-                shrinks_last sep close (Spelled X j p) (shrinks p) h.3.0 h.1 k h.3.2)
+                shrinks_last sep close (Spelled X j p) (shrinks p) h.3.0 h.1 k h.3.2,
+              )
 
           at_item : Either (λ d. Spelled X j p (inl d)) (Made g (λ c. Spelled X j p (inr c))) s.1.0 w s.1.1 → Starts (may_be_empty p) (firsts p) w k
           at_item (inl u) = go s.1.1 (ih (inl s.1.0) s.1.1 u) rest

@@ -1,11 +1,11 @@
 -- A parser for each rule of the grammar, as a function of the tokens that looks at one token ahead (own).
-use Rattle.std.specs.Prelude.{◌≡◌, ◌⊎◌, ℕ, zero, suc, ◌==◌, Bool, true, false, List, [], ◌∷◌, ◌++◌, length, Option, Some, None}
+use Rattle.std.specs.Prelude.{◌≡◌, ◌⊎◌, ℕ, zero, suc, ◌==◌, Bool, true, false, List, [], ◌∷◌, ◌++◌, length}
 use mathlib.Core.Logic.{inl, inr}
 use Rattle.hs_base.specs.declared.tree.script.Script.{Script}
 use Rattle.hs_rules.specs.declared.token.Token.{Token}
-use Rattle.hs_rules.specs.Grammar.{script, rule_of, or, block_item}
+use Rattle.hs_rules.specs.Grammar.{script, rule_of, SpellsWithin, IsUnexpected, IsTooDeep}
 use Rattle.hs_rules.specs.GrammarForms.{Rule, give, one, seq, alt, go_on, many, ended, within}
-use Rattle.hs_rules.specs.GrammarParts.{Kind, name, upper, int, text, word, symbol, kind_of, Part, type_in_parens, type_in_brackets, param_in_parens, block_in_braces, block_if, block_case, block_arms, let_stmt, no_items, two_names, expr_if, expr_case, expr_arms, expr_let, expr_in_parens, items_in_brackets, items_or_none}
+use Rattle.hs_rules.specs.GrammarParts.{Kind, name, upper, int, text, word, symbol, kind_of, Part}
 
 -- ---- kinds of tokens
 
@@ -173,3 +173,10 @@ at_end x (t ∷ ts) = Stop unexpected (t ∷ ts)
 -- a script, with so many levels of openers
 unfoldable pub whole : ℕ → Parser Script
 whole n ts = bind (read (enter n) script ts) at_end
+
+-- What an outcome says of the tokens, with so many levels of openers.
+abbrev pub Means : ℕ → List Token → Out Script → Type 0
+Means n ts (Done x r) = SpellsWithin n x ts
+Means n ts (Stop unexpected b) = (front : List Token) × (front ++ b ≡ ts) × IsUnexpected n front b
+Means n ts (Stop too_deep b) =
+    (front : List Token) × (t : Token) × (left : List Token) × (b ≡ t ∷ left) × (front ++ b ≡ ts) × IsTooDeep n front t × ((x : Script) → SpellsWithin n x ts → ⊥)

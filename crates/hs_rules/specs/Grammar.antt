@@ -388,9 +388,15 @@ Below m (i ∷ is) = ((j : ℕ) → i.opener ≡ Some j → j < m) × Below m is
 abbrev pub IsViable : List Token → Type 0
 IsViable ts = (x : Script) × (more : List Token) × Spells x (ts ++ more)
 
--- The same, and each opener among the tokens stands in fewer than m.
-abbrev pub IsViableWithin : ℕ → List Token → Type 0
-IsViableWithin m ts = (n : ℕ) × (x : Script) × (front after : List Item) × SpelledBy n x (front ++ after) × (tokens_of front ≡ ts) × Below m front
+-- A script whose tokens begin so has each opener among them in fewer than m.
+abbrev pub IsViableBelow : ℕ → List Token → Type 0
+IsViableBelow m ts = (n : ℕ) × (x : Script) × (front after : List Item) × SpelledBy n x (front ++ after) × (tokens_of front ≡ ts) × Below m front
+
+-- No script is spelled by the tokens read and those left. The tokens read are viable, with each opener in fewer than m; with
+-- the first of those left, if there is one, they are not.
+abbrev pub IsUnexpected : ℕ → List Token → List Token → Type 0
+IsUnexpected m read left =
+    IsViableBelow m read × ((x : Script) → Spells x (read ++ left) → ⊥) × ((t : Token) (ts : List Token) → left ≡ t ∷ ts → IsViable (read ++ t ∷ []) → ⊥)
 
 -- The token behind those read is an opener, the first one that stands in m openers, in a script that goes on from it.
 abbrev pub IsTooDeep : ℕ → List Token → Token → Type 0
