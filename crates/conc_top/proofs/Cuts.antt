@@ -1,10 +1,9 @@
 -- Cutting at the first quote.
-use Rattle.std.proofs.Common.{◌≡◌, ◌++◌, ◌&&◌, ◌==◌, ℕ, Bool, true, false, not, IsTrue, List, [], ◌∷◌, length, refl, ap, sym, subst, ◌∙◌, append_assoc, rules, arith}
-use Rattle.std.specs.Prelude.{All}
+use Rattle.std.proofs.Common.{◌≡◌, ◌++◌, ◌==◌, ℕ, not, IsTrue, List, [], ◌∷◌, refl, ap, sym, subst, ◌∙◌, append_assoc, rules, arith}
 use Rattle.std.proofs.lemmas.List.Elements.{All-head, All-tail, All-cons}
 use Rattle.hs_rules.specs.Plain.{is_blank, is_literal_byte, AreBlanks, Spells, IsPlainText, Quotes}
 use Rattle.conc_top.specs.Reading.{HasNoQuote, is_quoteless, is_token, are_tokens}
-use Rattle.conc_top.proofs.Blanks.{and_left, and_right, not_true}
+use Rattle.conc_top.proofs.Blanks.{and_left, and_right}
 
 abbrev NoQuote : ℕ → Type 0
 NoQuote b = b ≡ 34 → ⊥
@@ -17,7 +16,7 @@ tail_of x y xs ys same = grind (arith, same)
 
 -- Two fronts without a quote, each followed by a quote, are one where the whole is.
 pub cut_once : (front other rest behind : List ℕ) → HasNoQuote front → HasNoQuote other → front ++ 34 ∷ rest ≡ other ++ 34 ∷ behind
-  → (front ≡ other) × (rest ≡ behind)
+    → (front ≡ other) × (rest ≡ behind)
 cut_once [] [] rest behind none clear same = (refl, tail_of 34 34 rest behind same)
 cut_once [] (y ∷ ys) rest behind none clear same = absurd (All-head NoQuote y ys clear (sym (head_of 34 y rest (ys ++ 34 ∷ behind) same)))
 cut_once (x ∷ xs) [] rest behind none clear same = absurd (All-head NoQuote x xs none (head_of x 34 (xs ++ 34 ∷ rest) behind same))
@@ -65,10 +64,10 @@ pub spelled_no_quote : (tokens : List (List ℕ)) (bytes : List ℕ) → IsTrue 
 spelled_no_quote [] bytes are spelled = blanks_no_quote bytes spelled
 spelled_no_quote (token ∷ tokens) bytes are spelled =
     subst_no_quote bytes (spelled.0 ++ token ++ spelled.1) spelled.2
-      (HasNoQuote-append (spelled.0 ++ token) spelled.1
-        (HasNoQuote-append spelled.0 token (blanks_no_quote spelled.0 spelled.3)
-          (token_no_quote token (is_token-quoteless token (and_left (is_token token) (are_tokens tokens) are))))
-        (spelled_no_quote tokens spelled.1 (and_right (is_token token) (are_tokens tokens) are) spelled.4))
+    (HasNoQuote-append (spelled.0 ++ token) spelled.1
+    (HasNoQuote-append spelled.0 token (blanks_no_quote spelled.0 spelled.3)
+    (token_no_quote token (is_token-quoteless token (and_left (is_token token) (are_tokens tokens) are))))
+    (spelled_no_quote tokens spelled.1 (and_right (is_token token) (are_tokens tokens) are) spelled.4))
 
 pub has_quote : (xs ys : List ℕ) → HasNoQuote (xs ++ 34 ∷ ys) → ⊥
 has_quote [] ys none = All-head NoQuote 34 ys none refl
@@ -84,35 +83,35 @@ unquoted tokens text bytes rest none q =
 
 -- what stands in front of the first quote is the gap of each literal that may stand there, and the second quote ends it
 gap_is : (tokens : List (List ℕ)) (text bytes rest front behind : List ℕ) → IsTrue (are_tokens tokens) → HasNoQuote front → bytes ≡ front ++ 34 ∷ behind
-  → (q : Quotes tokens text bytes rest) → (q.gap ≡ front) × (text ++ 34 ∷ rest ≡ behind)
+    → (q : Quotes tokens text bytes rest) → (q.gap ≡ front) × (text ++ 34 ∷ rest ≡ behind)
 gap_is tokens text bytes rest front behind are none cut q =
     cut_once q.gap front (text ++ 34 ∷ rest) behind (spelled_no_quote tokens q.gap are q.spelled) none (sym (quoted q.gap text rest) ∙ sym q.whole ∙ cut)
 
 pub unclosed : (tokens : List (List ℕ)) (text bytes rest front behind : List ℕ) → IsTrue (are_tokens tokens) → HasNoQuote front → bytes ≡ front ++ 34 ∷ behind
-  → HasNoQuote behind → Quotes tokens text bytes rest → ⊥
+    → HasNoQuote behind → Quotes tokens text bytes rest → ⊥
 unclosed tokens text bytes rest front behind are none cut clear q =
     has_quote text rest (subst HasNoQuote (sym (gap_is tokens text bytes rest front behind are none cut q).1) clear)
 
 -- The parts between the first two quotes are those of each literal that may stand there.
 pub are_parts : (tokens : List (List ℕ)) (word bytes more front behind text rest : List ℕ) → IsTrue (are_tokens tokens) → HasNoQuote front
-  → bytes ≡ front ++ 34 ∷ behind → HasNoQuote text → behind ≡ text ++ 34 ∷ rest → (q : Quotes tokens word bytes more) → (q.gap ≡ front) × (word ≡ text) × (more ≡ rest)
+    → bytes ≡ front ++ 34 ∷ behind → HasNoQuote text → behind ≡ text ++ 34 ∷ rest → (q : Quotes tokens word bytes more) → (q.gap ≡ front) × (word ≡ text) × (more ≡ rest)
 are_parts tokens word bytes more front behind text rest are none cut clear cut2 q =
     let first = gap_is tokens word bytes more front behind are none cut q in
     let second = cut_once word text more rest (text_no_quote word q.plain) clear (first.1 ∙ cut2) in
     (first.0, second.0, second.1)
 
 pub not_spelled : (tokens : List (List ℕ)) (word bytes more front behind text rest : List ℕ) → IsTrue (are_tokens tokens) → HasNoQuote front
-  → bytes ≡ front ++ 34 ∷ behind → HasNoQuote text → behind ≡ text ++ 34 ∷ rest → (Spells tokens front → ⊥) → Quotes tokens word bytes more → ⊥
+    → bytes ≡ front ++ 34 ∷ behind → HasNoQuote text → behind ≡ text ++ 34 ∷ rest → (Spells tokens front → ⊥) → Quotes tokens word bytes more → ⊥
 not_spelled tokens word bytes more front behind text rest are none cut clear cut2 other q =
     other (subst (λ gap. Spells tokens gap) (are_parts tokens word bytes more front behind text rest are none cut clear cut2 q).0 q.spelled)
 
 pub not_plain : (tokens : List (List ℕ)) (word bytes more front behind text rest : List ℕ) → IsTrue (are_tokens tokens) → HasNoQuote front
-  → bytes ≡ front ++ 34 ∷ behind → HasNoQuote text → behind ≡ text ++ 34 ∷ rest → (IsPlainText text → ⊥) → Quotes tokens word bytes more → ⊥
+    → bytes ≡ front ++ 34 ∷ behind → HasNoQuote text → behind ≡ text ++ 34 ∷ rest → (IsPlainText text → ⊥) → Quotes tokens word bytes more → ⊥
 not_plain tokens word bytes more front behind text rest are none cut clear cut2 other q =
     other (subst IsPlainText (are_parts tokens word bytes more front behind text rest are none cut clear cut2 q).1 q.plain)
 
 pub quotes : (tokens : List (List ℕ)) (bytes front behind text rest : List ℕ) → bytes ≡ front ++ 34 ∷ behind → behind ≡ text ++ 34 ∷ rest
-  → Spells tokens front → IsPlainText text → Quotes tokens text bytes rest
+    → Spells tokens front → IsPlainText text → Quotes tokens text bytes rest
 quotes tokens bytes front behind text rest cut cut2 spelled plain = record {
   gap = front;
   whole = cut ∙ ap (λ b. front ++ 34 ∷ b) cut2 ∙ sym (quoted front text rest);

@@ -1,1 +1,5 @@
 pub mod Reading
+pub mod Lines
+pub mod Answers
+pub mod Inputs
+pub mod Outcomes

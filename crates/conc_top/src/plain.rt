@@ -37,7 +37,7 @@ pub fn plain_lines(alloc: Global, bytes: &[u8]) -> Result<Option<Items<Items<u8>
 fn add_line(alloc: Global, lines: &mut Items<Items<u8>>, text: &[u8]) -> Result<(), NoMemory>
     ensures { OnOk result (lines.new ≡ lines.old ++ text.now ∷ []) }
 {
-    lines.push(Items::from_slice(alloc, text)?)?;
+    lines.add(Items::from_slice(alloc, text)?)?;
     Ok(())
 }
 
@@ -45,7 +45,7 @@ fn literal_after_heading(bytes: &[u8]) -> Option<(&[u8], &[u8])>
     ensures { MatchOption result
         ((text rest : List ℕ) → Quotes heading text bytes.now rest → ⊥)
         (λ found. Quotes heading found.0.now bytes.now found.1.now
-            × ((text rest : List ℕ) → Quotes heading text bytes.now rest → (text ≡ found.0.now) × (rest ≡ found.1.now))) }
+        × ((text rest : List ℕ) → Quotes heading text bytes.now rest → (text ≡ found.0.now) × (rest ≡ found.1.now))) }
 {
     literal_behind(
         bytes,
@@ -57,7 +57,7 @@ fn literal_between(bytes: &[u8]) -> Option<(&[u8], &[u8])>
     ensures { MatchOption result
         ((text rest : List ℕ) → Quotes between text bytes.now rest → ⊥)
         (λ found. Quotes between found.0.now bytes.now found.1.now
-            × ((text rest : List ℕ) → Quotes between text bytes.now rest → (text ≡ found.0.now) × (rest ≡ found.1.now))) }
+        × ((text rest : List ℕ) → Quotes between text bytes.now rest → (text ≡ found.0.now) × (rest ≡ found.1.now))) }
 {
     literal_behind(bytes, &[b";", b"putStrLn"])
 }
@@ -75,7 +75,7 @@ fn literal_behind<'a>(bytes: &'a [u8], tokens: &[&[u8]]) -> Option<(&'a [u8], &'
     ensures { MatchOption result
         ((text rest : List ℕ) → Quotes (texts tokens.now) text bytes.now rest → ⊥)
         (λ found. Quotes (texts tokens.now) found.0.now bytes.now found.1.now
-            × ((text rest : List ℕ) → Quotes (texts tokens.now) text bytes.now rest → (text ≡ found.0.now) × (rest ≡ found.1.now))) }
+        × ((text rest : List ℕ) → Quotes (texts tokens.now) text bytes.now rest → (text ≡ found.0.now) × (rest ≡ found.1.now))) }
 {
     let Some((gap, behind)) = split_at_quote(bytes) else {
         return None;

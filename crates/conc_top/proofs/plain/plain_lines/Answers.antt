@@ -12,14 +12,15 @@ loop-text-init c =
 pub loop-text-preserved : goal.loop-text-preserved
 loop-text-preserved c =
     went_on c.args.bytes.now c.in-Some-literal_between.text.now c.loop-text.rest.now c.in-Some-literal_between.after.now c.loop-text.lines
-      c.add_line-in-Some-literal_between.new.lines c.loop-text.invariant c.in_ok-add_line-2.ensures c.in-Some-literal_between.ensures
+    c.add_line-in-Some-literal_between.new.lines c.loop-text.invariant c.in_ok-add_line-2.ensures c.in-Some-literal_between.ensures
 
 pub returns-then-is_closing : goal.returns-then-is_closing
-returns-then-is_closing c =
-    (all_read c.args.bytes.now c.loop-text.lines c.loop-text.rest.now c.loop-text.invariant (c.is_closing.ensures.0 c.if-is_closing.true),
-     only_read c.args.bytes.now c.loop-text.lines c.loop-text.rest.now c.loop-text.invariant c.in_default-literal_between.ensures)
+returns-then-is_closing c = (
+  all_read c.args.bytes.now c.loop-text.lines c.loop-text.rest.now c.loop-text.invariant (c.is_closing.ensures.0 c.if-is_closing.true),
+  only_read c.args.bytes.now c.loop-text.lines c.loop-text.rest.now c.loop-text.invariant c.in_default-literal_between.ensures,
+)
 
 pub returns-else-is_closing : goal.returns-else-is_closing
 returns-else-is_closing c =
     not_read c.args.bytes.now c.loop-text.lines c.loop-text.rest.now c.loop-text.invariant c.in_default-literal_between.ensures
-      (λ closes. search (rules, sym c.if-is_closing.false ∙ c.is_closing.ensures.1 closes))
+    (λ closes. search (rules, sym c.if-is_closing.false ∙ c.is_closing.ensures.1 closes))

@@ -1,4 +1,4 @@
-use Rattle.std.proofs.Common.{◌≡◌, IsTrue, [], ap, drop, rules}
+use Rattle.std.proofs.Common.{ap, rules}
 use Rattle.std.proofs.lemmas.List.{drop_all}
 use Rattle.conc_top.specs.Reading.{texts}
 use Rattle.conc_top.proofs.Blanks.{texts-drop, at_next, at_other, at_end}
@@ -17,4 +17,4 @@ loop-token-preserved c =
 pub returns : goal.returns
 returns c =
     at_end _ _ c.args.bytes.now c.loop-token.rest.now c.trim_blanks-2.result.now c.is_empty.result c.loop-token.invariant
-      (ap texts (drop_all c.loop-token.token-index c.args.tokens.now c.loop-token-test.false)) c.trim_blanks-2.ensures c.is_empty.ensures
+    (ap texts (drop_all c.loop-token.token-index c.args.tokens.now c.loop-token-test.false)) c.trim_blanks-2.ensures c.is_empty.ensures

@@ -1,0 +1,38 @@
+//! The program: it hands the words, the standard streams, a clock and a gate to the top call, and ends with its status.
+#![tactic(auto)]
+
+use conc_top::run;
+use hs_io::{OpenGate, StdSink, StdSource, VirtualClock};
+use std::alloc::AllocError;
+use std::env;
+use std::process::ExitCode;
+
+const OUT_OF_MEMORY: u8 = 6;
+
+fn main(rt: HostRuntime) -> ExitCode {
+    let Ok(words) = words_of(&rt) else {
+        return ExitCode::from(OUT_OF_MEMORY);
+    };
+    let mut source = StdSource::new(rt.stdin());
+    let out = StdSink::new(rt.stdout());
+    let err = StdSink::new(rt.stderr());
+    let clock = VirtualClock::new();
+    let done = run(
+        rt.alloc(),
+        &words,
+        &mut source,
+        out,
+        err,
+        clock,
+        &OpenGate,
+    );
+    ExitCode::from(done.status)
+}
+
+// The words after the program's name. Words that are not all text are no good words, as no words are none.
+fn words_of(rt: &HostRuntime) -> Result<Vec<String>, AllocError> {
+    match env::args(rt) {
+        Ok(args) => args.skip(1).collect(rt.alloc()),
+        Err(_) => Ok(Vec::new(rt.alloc())),
+    }
+}

@@ -1,0 +1,30 @@
+-- What reading the source gives.
+use Rattle.std.specs.Prelude.{◌≡◌, ◌<◌, ◌≤◌, ◌+◌, ◌++◌, ℕ, List, [], length, Option, ⊤}
+use Rattle.std.specs.Io.KnownBytes.{Consumes, IsAtEnd}
+use Rattle.hs_io.specs.Causes.{Rose}
+use Rattle.conc_top.specs.Answers.{script_limit}
+use Rattle.conc_top.specs.declared.input.Input.{Input}
+use Rattle.conc_top.specs.declared.input.Input.TheVariants.{Whole, TooLong, Fault, NoMemory}
+use Rattle.conc_top.specs.declared.input.More.{More}
+use Rattle.conc_top.specs.declared.input.More.TheVariants as more
+
+-- all that the source had left, or the first bytes of more than a script may have
+abbrev pub Reads : Input → (before now : Option (List ℕ)) (fault : Type 0) → Type 0
+Reads (Whole bytes) before now fault = (length bytes.items ≤ script_limit) × Consumes before now bytes.items × IsAtEnd now
+Reads TooLong before now fault = (bytes : List ℕ) × (length bytes ≡ script_limit + 1) × Consumes before now bytes
+Reads Fault before now fault = fault
+Reads NoMemory before now fault = ⊤
+
+-- What one read adds to the bytes that were taken: a piece that is not empty and fits, or nothing at the end.
+abbrev pub Adds : More → (most : ℕ) (before now : Option (List ℕ)) (old new : List ℕ) (faults_before faults_now : ℕ) → Type 0
+Adds more.Taken most before now old new faults_before faults_now =
+    (piece : List ℕ) × (new ≡ old ++ piece) × Consumes before now piece × (0 < length piece) × (length piece ≤ most) × (faults_before ≤ faults_now)
+Adds more.End most before now old new faults_before faults_now = (new ≡ old) × Consumes before now [] × IsAtEnd now × (faults_before ≤ faults_now)
+Adds more.Fault most before now old new faults_before faults_now = Rose faults_before faults_now
+Adds more.NoMemory most before now old new faults_before faults_now = ⊤
+
+-- These bytes were taken from a source, at most one more than a script may have, and its count of faults has not fallen.
+pub record HasTaken (before now : Option (List ℕ)) (taken : List ℕ) (faults_before faults_now : ℕ) : Type 0 where
+  pub consumed : Consumes before now taken
+  pub few : length taken ≤ script_limit + 1
+  pub steady : faults_before ≤ faults_now

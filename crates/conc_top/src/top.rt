@@ -1,0 +1,195 @@
+ghost use Rattle.std.specs.Prelude.{◌≡◌, ◌⊎◌, ◌↔◌, ℕ, List, IsTrue, OnErr, OnOk, [], map, string_bytes};
+ghost use Rattle.std.specs.Io.KnownBytes.{Appends};
+ghost use Rattle.hs_io.specs.Causes.{HasCause, Rose};
+ghost use Rattle.hs_io.specs.Outside.{Puts};
+ghost use Rattle.conc_top.specs.declared.ending.Ending.{Ending};
+ghost use Rattle.conc_top.specs.declared.ending.Ending.TheVariants.{Ran, Write};
+ghost use Rattle.conc_top.specs.Answers.{AppendsPart, AreGood, IsDue, IsReadThrough, Keeps, Tells, WasToldNothing};
+ghost use Rattle.conc_top.specs.Lines.{line_of, status_of};
+ghost use Rattle.conc_top.specs.Outcomes.{IsJudged};
+
+use crate::ending::{Done, Ending, Refusal, RunEnd};
+use crate::input::{Input, read_input};
+use crate::plain::plain_lines;
+use crate::play::play;
+use hs_io::{Clock, Failed, Gate, Sink, Source};
+use hs_rules::History;
+use std::alloc::Global;
+
+/// Does all that the program does: reads the words, reads the script from the source, runs it, and tells what it
+/// printed and how it ended.
+///
+/// `words` are the words after the program's name. The output goes to `out` as one piece, and then the line of the ending
+/// to `err` as one piece. An empty piece is not put, and nothing is put after a failed put. Want of memory is the ending
+/// `Memory`, which is free. The gate is not called yet.
+pub fn run<S: Source, O: Sink, E: Sink, K: Clock, G: Gate>(
+    alloc: Global,
+    words: &[String],
+    source: &mut S,
+    out: O,
+    err: E,
+    clock: K,
+    _gate: &G,
+) -> Done<O, E, K>
+    requires out { WasToldNothing (O.told out) }
+    requires err { WasToldNothing (E.told err) }
+    ensures status { result.status ≡ status_of result.ending }
+
+    // The table of answers and their causes. Want of memory alone is free.
+    ensures cause { IsDue (AreGood (map (λ word. string_bytes word) words.now)) (S.left source.old)
+        (Rose (S.faults source.old) (S.faults source.new))
+        (Rose (O.faults out) (O.faults result.out) ⊎ Rose (E.faults err) (E.faults result.err)) result.ending }
+
+    // The answer that the call came to, what it kept and what it told; where a put failed, Write stands in its place.
+    ensures told { (came : Ending) × (output errors : List ℕ)
+        × IsDue (AreGood (map (λ word. string_bytes word) words.now)) (S.left source.old)
+        (Rose (S.faults source.old) (S.faults source.new)) ⊥ came
+        × Keeps (S.left source.old) came result.history output errors (K.last result.clock)
+        × IsReadThrough came (S.left source.old) (S.left source.new)
+        × Tells came result.ending output errors (O.told out) (O.told result.out) (E.told err) (E.told result.err) }
+
+    // The source is not read where the words are not good.
+    ensures unread { ¬ AreGood (map (λ word. string_bytes word) words.now) → source.new ≡ source.old }
+
+    // An empty piece is not put.
+    ensures out_untouched { result.history ≡ [] → result.out ≡ out }
+    ensures err_untouched { result.ending ≡ Ran RunEnd.Done → result.err ≡ err }
+{
+    let outcome = come_to(alloc, words, source);
+    tell(outcome, out, err, clock)
+}
+
+/// What a call comes to before it tells anything.
+#[derive(Drop)]
+struct Outcome {
+    ending: Ending,
+    history: History,
+    output: Vec<u8>,
+}
+
+impl Outcome {
+    // Nothing ran.
+    fn idle(alloc: Global, ending: Ending) -> Outcome
+        ensures ending { result.ending ≡ ending }
+        ensures history { result.history ≡ [] }
+        ensures output { result.output.items ≡ [] }
+    {
+        Outcome {
+            ending,
+            history: History::new(alloc),
+            output: Vec::new(alloc),
+        }
+    }
+}
+
+fn are_good(words: &[String]) -> bool
+    ensures { IsTrue result ↔ AreGood (map (λ word. string_bytes word) words.now) }
+{
+    match words {
+        [word] => word.as_str() == "run",
+        _ => false,
+    }
+}
+
+// What the call comes to.
+fn come_to<S: Source>(alloc: Global, words: &[String], source: &mut S) -> Outcome
+    ensures due { IsDue (AreGood (map (λ word. string_bytes word) words.now)) (S.left source.old)
+        (Rose (S.faults source.old) (S.faults source.new)) ⊥ result.ending }
+    ensures keeps { Keeps (S.left source.old) result.ending result.history result.output.items [] 0 }
+    ensures through { IsReadThrough result.ending (S.left source.old) (S.left source.new) }
+    ensures idle { result.history ≡ [] → result.output.items ≡ [] }
+    ensures unread { ¬ AreGood (map (λ word. string_bytes word) words.now) → source.new ≡ source.old }
+{
+    if !are_good(words) {
+        return Outcome::idle(alloc, Ending::Words);
+    }
+    match read_input(alloc, source) {
+        Input::Whole(bytes) => judge(alloc, &bytes),
+        Input::TooLong => Outcome::idle(alloc, Ending::Refused(Refusal::TooLong)),
+        Input::Fault => Outcome::idle(alloc, Ending::Read),
+        Input::NoMemory => Outcome::idle(alloc, Ending::Memory),
+    }
+}
+
+// Reads the script from the bytes and runs it.
+fn judge(alloc: Global, bytes: &[u8]) -> Outcome
+    ensures { IsJudged result.ending bytes.now result.history result.output.items }
+{
+    let lines = match plain_lines(alloc, bytes) {
+        Ok(Some(lines)) => lines,
+        Ok(None) => return Outcome::idle(alloc, Ending::Refused(Refusal::NotYet)),
+        Err(_) => return Outcome::idle(alloc, Ending::Memory),
+    };
+    match play(alloc, lines.as_slice()) {
+        Ok(played) => Outcome {
+            ending: Ending::Ran(RunEnd::Done),
+            history: played.history,
+            output: played.output,
+        },
+        Err(_) => Outcome::idle(alloc, Ending::Memory),
+    }
+}
+
+// Tells the output and the line of the ending, or as much of it as can be told.
+fn tell<O: Sink, E: Sink, K: Clock>(
+    come: Outcome,
+    mut out: O,
+    mut err: E,
+    clock: K,
+) -> Done<O, E, K>
+    requires { ¬ (come.ending ≡ Write) }
+    ensures status { result.status ≡ status_of result.ending }
+    ensures tells { Tells come.ending result.ending come.output.items [] (O.told out) (O.told result.out) (E.told err) (E.told result.err) }
+    ensures cause { result.ending ≡ Write → Rose (O.faults out) (O.faults result.out) ⊎ Rose (E.faults err) (E.faults result.err) }
+    ensures history { result.history ≡ come.history }
+    ensures clock { result.clock ≡ clock }
+    ensures out_untouched { come.output.items ≡ [] → result.out ≡ out }
+    ensures err_untouched { line_of come.ending ≡ [] → result.err ≡ err }
+{
+    let Outcome {
+        ending,
+        history,
+        output,
+    } = come;
+    let line = ending.line().as_bytes();
+    let ending = match put_both(&mut out, &mut err, &output, line) {
+        Ok(()) => ending,
+        Err(Failed) => Ending::Write,
+    };
+    Done {
+        status: ending.status(),
+        ending,
+        history,
+        out,
+        err,
+        clock,
+    }
+}
+
+// Puts the output and then the line. After a failed put nothing more is put.
+fn put_both<O: Sink, E: Sink>(
+    out: &mut O,
+    err: &mut E,
+    output: &[u8],
+    line: &[u8],
+) -> Result<(), Failed>
+    ensures ok { OnOk result (Appends (O.told out.old) (O.told out.new) output.now × Appends (E.told err.old) (E.told err.new) line.now) }
+    ensures failed { OnErr result (AppendsPart (O.told out.old) (O.told out.new) output.now × AppendsPart (E.told err.old) (E.told err.new) line.now) }
+    ensures cause { OnErr result (Rose (O.faults out.old) (O.faults out.new) ⊎ Rose (E.faults err.old) (E.faults err.new)) }
+    ensures out_untouched { output.now ≡ [] → out.new ≡ out.old }
+    ensures err_untouched { line.now ≡ [] → err.new ≡ err.old }
+{
+    put_piece(out, output)?;
+    put_piece(err, line)
+}
+
+fn put_piece<O: Sink>(sink: &mut O, piece: &[u8]) -> Result<(), Failed>
+    ensures told { Puts (O.told sink.old) (O.told sink.new) result piece.now }
+    ensures cause { HasCause (O.faults sink.old) (O.faults sink.new) result }
+    ensures silent { piece.now ≡ [] → sink.new ≡ sink.old }
+{
+    if piece.is_empty() {
+        return Ok(());
+    }
+    sink.put(piece)
+}
