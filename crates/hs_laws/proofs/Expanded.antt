@@ -21,11 +21,11 @@ use Rattle.hs_rules.specs.Expansion.{in_time, timeout_helper, timeout_end, timed
 use Rattle.hs_rules.specs.State.{State, first}
 use Rattle.hs_rules.specs.Entries.{next}
 use Rattle.hs_rules.specs.Runs.{Run, then_next, after_from, code_of, body_of, main_of, begun, IsRun}
-use Rattle.hs_laws.specs.BracketLaw.{Brackets, Owing}
-use Rattle.hs_laws.proofs.Fine.{Fine, fine_return, fine_throw, fine_let, fine_bind, fine_if, fine_maybe, fine_either, fine_list, fine_pair, fine_call, fine_primitive, fine_fork, fine_fork_unmask, fine_catch, fine_mask, fine_mask_hard, fine_restore, fine_bracket, FineCode}
+use Rattle.hs_rules.specs.BracketLaw.{Brackets}
+use Rattle.hs_rules.specs.BracketPhases.{Owing, Fine, fine_return, fine_throw, fine_let, fine_bind, fine_if, fine_maybe, fine_either, fine_list, fine_pair, fine_call, fine_primitive, fine_fork, fine_fork_unmask, fine_catch, fine_mask, fine_mask_hard, fine_restore, fine_bracket, FineCode}
 use Rattle.hs_laws.proofs.Steps.{FineDef, def_fine}
 use Rattle.hs_rules.specs.declared.entry.Entry.TheVariants as entry
-use Rattle.hs_laws.specs.MaskLaw.{Received}
+use Rattle.hs_rules.specs.MaskLaw.{Received}
 use Rattle.hs_laws.proofs.WaitsBegan.{mask_law}
 use Rattle.hs_laws.proofs.States.{Holds, first_holds, run_kept, brackets, owing}
 

@@ -1,5 +1,4 @@
 mod TermTrees
-mod Fine
 mod Lists
 mod Marks
 mod Held

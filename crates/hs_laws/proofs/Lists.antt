@@ -1,5 +1,5 @@
--- Lists by bracket_marked, and what holds of each that waits.
-use Rattle.hs_laws.specs.MaskLaw.{first_flying}
+-- Lists by number, and what holds of each that waits.
+use Rattle.hs_rules.specs.MaskLaw.{first_flying}
 use Rattle.std.proofs.Common.{◌≡◌, ◌≢◌, ℕ, zero, suc, ◌<◌, ◌==◌, List, [], ◌∷◌, ◌++◌, length, slice_get, slice_set, Bool, true, false, cond, Option, Some, None, refl, sym, ap, ◌∙◌, subst, arith, ◌⊎◌, ⊎_elim}
 use Rattle.hs_base.specs.declared.exn.Exn.{Exn}
 use Rattle.hs_rules.specs.Values.{V}

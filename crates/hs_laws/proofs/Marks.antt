@@ -1,16 +1,10 @@
 -- What the marks of a run look like, and what follows of the counts.
 use Rattle.std.proofs.Common.{◌≡◌, ◌≢◌, ℕ, suc, ◌+◌, ◌<◌, ◌≤◌, ◌==◌, List, [], ◌∷◌, Bool, true, false, cond, refl, sym, ap, ◌∙◌, subst, arith, ⊎_elim}
 use Rattle.hs_rules.specs.State.{Mark, AcquiredBy, ReleasedBy}
-use Rattle.hs_laws.specs.BracketLaw.{without, mine, acquired, acquired_by, released, released_by}
+use Rattle.hs_rules.specs.BracketLaw.{without, mine, acquired, acquired_by, released, released_by, count, Numbered}
 use Rattle.hs_laws.proofs.Lists.{cond_cases, cond_true, cond_false, equal_or}
 
--- each instance below n
-abbrev pub Numbered : ℕ → List Mark → Type 0
-Numbered n [] = Unit {0}
-Numbered n (AcquiredBy i t ∷ ms) = (i < n) × Numbered n ms
-Numbered n (ReleasedBy i t ∷ ms) = (i < n) × Numbered n ms
-
--- Each acquired bracket_marked is above the earlier ones, and each released one was its thread's last.
+-- Each acquired number is above the earlier ones, and each released one was its thread's last.
 abbrev pub Proper : List Mark → Type 0
 Proper [] = Unit {0}
 Proper (AcquiredBy i t ∷ ms) = Numbered i ms × Proper ms
@@ -42,10 +36,6 @@ pub mine_released_other : (t u i : ℕ) (ms : List Mark) → u ≢ t → mine u 
 mine_released_other t u i ms n = ⊎_elim (λ e. absurd (n e.1)) (λ e. cond_false (u == t) (without i (mine u ms)) (mine u ms) e.0) (equal_or u t)
 
 -- ---- counts
-abbrev count : ℕ → List ℕ → ℕ
-count i [] = 0
-count i (j ∷ js) = cond (i == j) (suc (count i js)) (count i js)
-
 never : (i : ℕ) (ms : List Mark) → Numbered i ms → acquired i ms ≡ 0
 never i [] h = refl
 never i (AcquiredBy j u ∷ ms) h = ⊎_elim (λ e. absurd (omega (arith, e.1, h.0))) (λ e. cond_false (i == j) (suc (acquired i ms)) (acquired i ms) e.0 ∙ never i ms h.1) (equal_or i j)
@@ -161,7 +151,7 @@ open_or_released i t (ReleasedBy j u ∷ ms) h =
 pub once_released : (i : ℕ) (ms : List Mark) → Proper ms → released i ms ≤ 1
 once_released i ms h = omega (arith, open_or_released i 0 ms h, once_acquired i ms h)
 
--- ---- open instances are below the next bracket_marked
+-- ---- open instances are below the next number
 abbrev pub AllBelow : ℕ → List ℕ → Type 0
 AllBelow n [] = Unit {0}
 AllBelow n (j ∷ js) = (j < n) × AllBelow n js
@@ -174,3 +164,17 @@ pub mine_below : (n t : ℕ) (ms : List Mark) → Numbered n ms → AllBelow n (
 mine_below n t [] h = tt
 mine_below n t (AcquiredBy i u ∷ ms) h = cond_cases (AllBelow n) (t == u) (i ∷ mine t ms) (mine t ms) (λ e. (h.0, mine_below n t ms h.1)) (λ e. mine_below n t ms h.1)
 mine_below n t (ReleasedBy i u ∷ ms) h = cond_cases (AllBelow n) (t == u) (without i (mine t ms)) (mine t ms) (λ e. below_without n i (mine t ms) (mine_below n t ms h.1)) (λ e. mine_below n t ms h.1)
+
+-- ---- no open instance stands twice
+cond_le : (q p : Bool) (a c : ℕ) → a ≤ c → cond q (cond p (suc a) a) a ≤ cond q (suc c) c
+cond_le false p a c h = h
+cond_le true false a c h = omega arith
+cond_le true true a c h = omega arith
+
+acquired_least : (i t : ℕ) (ms : List Mark) → acquired_by i t ms ≤ acquired i ms
+acquired_least i t [] = omega arith
+acquired_least i t (AcquiredBy j u ∷ ms) = cond_le (i == j) (t == u) (acquired_by i t ms) (acquired i ms) (acquired_least i t ms)
+acquired_least i t (ReleasedBy j u ∷ ms) = acquired_least i t ms
+
+pub open_once : (i t : ℕ) (ms : List Mark) → Proper ms → count i (mine t ms) ≤ 1
+open_once i t ms h = omega (arith, balance i t ms h, acquired_least i t ms, once_acquired i ms h)

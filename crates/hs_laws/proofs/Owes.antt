@@ -1,11 +1,11 @@
--- A held term owes what its facts say, and what owes stands bracket_masked.
+-- A held term owes what its facts say, and what owes stands masked.
 use Rattle.std.proofs.Common.{◌≡◌, ◌≢◌, ℕ, List, [], ◌∷◌, ◌++◌, Option, Some, refl, ap, ◌∙◌}
 use Rattle.hs_rules.specs.Values.{Name, Written, Added, Instance, BracketResult, BracketFault, V, Inst, Env, value_at}
 use Rattle.hs_rules.specs.Core.{Primitive, Release, Core}
 use Rattle.hs_rules.specs.Terms.{Operation, Calls, Forks, ForksUnmask, Part, Frame, mask_at}
-use Rattle.hs_laws.specs.BracketLaw.{instance_of, owed_word, owed_start, owed_bind, owed_catch, owed_do, owed_to, owed_ret, owed_op, owed_here, owed_frames, owed, IsMasked, MaskedCatches}
-use Rattle.hs_laws.proofs.Fine.{IsCommon, IsOrdinary, Fine, fine_return, fine_throw, fine_let, fine_bind, fine_if, fine_maybe, fine_either, fine_list, fine_pair, fine_call, fine_primitive, fine_fork, fine_fork_unmask, fine_catch, fine_mask, fine_mask_hard, fine_restore, fine_bracket}
-use Rattle.hs_laws.proofs.Held.{FineOp, Below, no_frames, below_bind, below_catch, below_mask, below_number, below_guarded, below_throw, below_last, Held, held_ret, held_throw, held_do, held_op, held_masked, held_number, held_acquire, held_acquired, held_instance, held_keep, held_guarded, held_result, held_leave, held_leave_release, held_leave_op, held_handle, held_handle_release, held_handle_op, held_then_throw, held_last, held_thrown, held_passing}
+use Rattle.hs_rules.specs.BracketLaw.{instance_of, owed_word, owed_start, owed_bind, owed_catch, owed_do, owed_to, owed_ret, owed_op, owed_here, owed_frames, owed, IsMasked, MaskedCatches}
+use Rattle.hs_rules.specs.BracketPhases.{IsCommon, IsOrdinary, Fine, fine_return, fine_throw, fine_let, fine_bind, fine_if, fine_maybe, fine_either, fine_list, fine_pair, fine_call, fine_primitive, fine_fork, fine_fork_unmask, fine_catch, fine_mask, fine_mask_hard, fine_restore, fine_bracket}
+use Rattle.hs_rules.specs.BracketPhases.{FineOp, Below, no_frames, below_bind, below_catch, below_mask, below_number, below_guarded, below_throw, below_last, Held, held_ret, held_throw, held_do, held_op, held_masked, held_number, held_acquire, held_acquired, held_instance, held_keep, held_guarded, held_result, held_leave, held_leave_release, held_leave_op, held_handle, held_handle_release, held_handle_op, held_then_throw, held_last, held_thrown, held_passing}
 
 common_catch : (x : Name) (env : Env) → IsCommon x → owed_catch x env ≡ []
 common_catch (Written x) env c = refl
@@ -89,8 +89,8 @@ below_owes (below_catch {x} {b} {env} {fs} c f r) = ap (λ z. z ++ owed_frames f
 below_owes (below_mask r) = below_owes r
 below_owes (below_number c f g m r) = below_owes r
 below_owes (below_guarded {b} {i} {env} {fs} at f m r) = ap (λ z. instance_of z ++ owed_frames fs) at ∙ ap (λ z. i ∷ z) (below_owes r)
-below_owes (below_throw f r) = below_owes r
-below_owes (below_last r) = below_owes r
+below_owes (below_throw f w r) = below_owes r
+below_owes (below_last w r) = below_owes r
 
 pub below_masked : {fs : List Frame} {o : List ℕ} → Below fs o → MaskedCatches fs
 below_masked no_frames = tt
@@ -99,8 +99,8 @@ below_masked (below_catch {x} {b} {env} c f r) = (λ n. absurd (n (common_catch 
 below_masked (below_mask r) = below_masked r
 below_masked (below_number c f g m r) = below_masked r
 below_masked (below_guarded at f m r) = (λ n. m, below_masked r)
-below_masked (below_throw f r) = below_masked r
-below_masked (below_last r) = below_masked r
+below_masked (below_throw f w r) = below_masked r
+below_masked (below_last w r) = below_masked r
 
 -- a value that comes to frames that may get any value
 ret_below : {fs : List Frame} {o : List ℕ} (v : V) → Below fs o → owed_ret v fs ≡ []
@@ -110,8 +110,8 @@ ret_below v (below_catch c f r) = refl
 ret_below v (below_mask r) = refl
 ret_below v (below_number {x} {b} {c} {env} k f g m r) = common_to x v env k
 ret_below v (below_guarded at f m r) = refl
-ret_below v (below_throw f r) = refl
-ret_below v (below_last r) = refl
+ret_below v (below_throw f w r) = refl
+ret_below v (below_last w r) = refl
 
 -- nothing here, and the frames' debts
 none_here : {fs : List Frame} {o : List ℕ} (here : List ℕ) → here ≡ [] → Below fs o → here ++ owed_frames fs ≡ o
@@ -136,13 +136,13 @@ held_owes (held_result {env = env} at f m r) = one_here (value_at (Added Instanc
 held_owes (held_leave {env = env} at f m r) = one_here (value_at (Added Instance) env) at r
 held_owes (held_leave_release {env = env} at f m r) = one_here (value_at (Added Instance) env) at r
 held_owes (held_leave_op {i = i} f m r) = ap (λ z. i ∷ z) (below_owes r)
-held_owes (held_handle {env = env} at f m r) = one_here (value_at (Added Instance) env) at r
-held_owes (held_handle_release {env = env} at f m r) = one_here (value_at (Added Instance) env) at r
-held_owes (held_handle_op {i = i} f m r) = ap (λ z. i ∷ z) (below_owes r)
-held_owes (held_then_throw {b} {b'} {env} f r) = none_here (owed_start b env) (fine_start env f) r
-held_owes (held_last r) = below_owes r
-held_owes (held_thrown r) = below_owes r
-held_owes (held_passing r) = below_owes r
+held_owes (held_handle {env = env} at f m w r) = one_here (value_at (Added Instance) env) at r
+held_owes (held_handle_release {env = env} at f m w r) = one_here (value_at (Added Instance) env) at r
+held_owes (held_handle_op {i = i} f m w r) = ap (λ z. i ∷ z) (below_owes r)
+held_owes (held_then_throw {b} {b'} {env} f w r) = none_here (owed_start b env) (fine_start env f) r
+held_owes (held_last w r) = below_owes r
+held_owes (held_thrown w r) = below_owes r
+held_owes (held_passing w r) = below_owes r
 
 pub held_here : {p : Part} {fs : List Frame} {o : List ℕ} → Held p fs o → owed_here p fs ≢ [] → IsMasked (mask_at fs)
 held_here (held_ret {v} r) n = absurd (n (ret_below v r))
@@ -160,13 +160,13 @@ held_here (held_result at f m r) n = m
 held_here (held_leave at f m r) n = m
 held_here (held_leave_release at f m r) n = m
 held_here (held_leave_op f m r) n = m
-held_here (held_handle at f m r) n = m
-held_here (held_handle_release at f m r) n = m
-held_here (held_handle_op f m r) n = m
-held_here (held_then_throw {b} {b'} {env} f r) n = absurd (n (fine_start env f))
-held_here (held_last r) n = absurd (n refl)
-held_here (held_thrown r) n = absurd (n refl)
-held_here (held_passing r) n = absurd (n refl)
+held_here (held_handle at f m w r) n = m
+held_here (held_handle_release at f m w r) n = m
+held_here (held_handle_op f m w r) n = m
+held_here (held_then_throw {b} {b'} {env} f w r) n = absurd (n (fine_start env f))
+held_here (held_last w r) n = absurd (n refl)
+held_here (held_thrown w r) n = absurd (n refl)
+held_here (held_passing w r) n = absurd (n refl)
 
 pub held_catches : {p : Part} {fs : List Frame} {o : List ℕ} → Held p fs o → MaskedCatches fs
 held_catches (held_ret r) = below_masked r
@@ -184,10 +184,10 @@ held_catches (held_result at f m r) = below_masked r
 held_catches (held_leave at f m r) = below_masked r
 held_catches (held_leave_release at f m r) = below_masked r
 held_catches (held_leave_op f m r) = below_masked r
-held_catches (held_handle at f m r) = below_masked r
-held_catches (held_handle_release at f m r) = below_masked r
-held_catches (held_handle_op f m r) = below_masked r
-held_catches (held_then_throw f r) = below_masked r
-held_catches (held_last r) = below_masked r
-held_catches (held_thrown r) = below_masked r
-held_catches (held_passing r) = below_masked r
+held_catches (held_handle at f m w r) = below_masked r
+held_catches (held_handle_release at f m w r) = below_masked r
+held_catches (held_handle_op f m w r) = below_masked r
+held_catches (held_then_throw f w r) = below_masked r
+held_catches (held_last w r) = below_masked r
+held_catches (held_thrown w r) = below_masked r
+held_catches (held_passing w r) = below_masked r

@@ -1,5 +1,5 @@
 -- Every entry keeps what threads owe.
-use Rattle.std.proofs.Common.{◌≡◌, ◌≢◌, ℕ, zero, suc, ◌<◌, ◌==◌, ℤ, pos, negsuc, List, [], ◌∷◌, ◌++◌, length, slice_get, slice_set, Bool, true, false, cond, not, ◌&&◌, nat_le, Option, Some, None, refl, sym, ap, ◌∙◌, subst, arith, ◌⊎◌, inl, inr, ⊎_elim}
+use Rattle.std.proofs.Common.{◌≡◌, ◌≤◌, ◌≢◌, ℕ, zero, suc, ◌<◌, ◌==◌, ℤ, pos, negsuc, List, [], ◌∷◌, ◌++◌, length, slice_get, slice_set, Bool, true, false, cond, not, ◌&&◌, nat_le, Option, Some, None, refl, sym, ap, ◌∙◌, subst, arith, ◌⊎◌, inl, inr, ⊎_elim}
 use Rattle.hs_base.specs.declared.mask.Mask.{Mask}
 use Rattle.hs_base.specs.declared.mask.Mask.TheVariants.{Unmasked, Masked, Uninterruptible}
 use Rattle.hs_base.specs.declared.exn.Exn.{Exn}
@@ -19,12 +19,12 @@ use Rattle.hs_rules.specs.Primitives.{on_none, on_one, on_two, as_text, as_numbe
 use Rattle.hs_rules.specs.Entries.{moved, local_entry, at_operation, op_entry, is_throw, is_unmasked, is_interruptible, is_open, is_receptive, received, receive_entry, woken, uncaught_line, throwers, closed, finish_entry, on_thread, next}
 use Rattle.hs_rules.specs.Entries as entries
 use Rattle.hs_rules.specs.Runs.{Run}
-use Rattle.hs_laws.specs.MaskLaw.{first_flying}
-use Rattle.hs_laws.specs.BracketLaw.{mine, Brackets, IsMasked, Owing}
-use Rattle.hs_laws.proofs.Fine.{Fine, FineCode}
-use Rattle.hs_laws.proofs.Held.{FineOp, Below, no_frames, below_mask, Held, held_ret, held_throw, held_do}
+use Rattle.hs_rules.specs.MaskLaw.{first_flying}
+use Rattle.hs_rules.specs.BracketLaw.{mine, IsMasked, Brackets, count, Numbered}
+use Rattle.hs_rules.specs.BracketPhases.{Blocks, OpPart, At, Owing, Fine, FineCode}
+use Rattle.hs_rules.specs.BracketPhases.{FineOp, Below, no_frames, below_mask, Held, held_ret, held_throw, held_do}
 use Rattle.hs_laws.proofs.Lists.{cond_cases, equal_or, item_same, item_other, item_more, Each, each_more, each_left, each_apart, each_changed, Found, first_found, OnReason, reason_found, blocked_found, Once, once_left, once_more, Distinct, Ones, ones_apart, distinct_those, ones_those, first_of_kind, those, takes, puts, throws, throws_at, only_thread, put_is_first, take_is_first, throw_is_first, throwers_are}
-use Rattle.hs_laws.proofs.Marks.{Numbered, Proper, numbered_more, mine_acquired, mine_acquired_other, mine_released, mine_released_other, once_acquired, once_released, own_release, all_released, AllBelow, mine_below}
+use Rattle.hs_laws.proofs.Marks.{Proper, numbered_more, mine_acquired, mine_acquired_other, mine_released, mine_released_other, once_acquired, once_released, own_release, all_released, AllBelow, mine_below, open_once}
 use Rattle.hs_laws.proofs.Owes.{held_owes, held_here, held_catches}
 use Rattle.hs_laws.proofs.Ends.{below_of_op, instance_kept, release_kept, open_kept, ret_owes_nothing, throw_owes_nothing, fork_fine, fork_unmask_fine}
 use Rattle.hs_laws.proofs.Steps.{Goes, locals_kept}
@@ -33,24 +33,6 @@ use Rattle.hs_laws.proofs.Steps.{Goes, locals_kept}
 abbrev pub HeldThread : Option Thread → List ℕ → Type 0
 HeldThread None o = o ≡ []
 HeldThread (Some th) o = Held th.term.part th.term.frames o × (th.finished ≡ true → o ≡ [])
-
--- the operation that blocked
-abbrev pub Blocks : Reason V → Operation → Type 0
-Blocks (Taking m) op = op ≡ Calls TakeMVar (val.Cell m ∷ [])
-Blocks (Putting m v) op = op ≡ Calls PutMVar (val.Cell m ∷ v ∷ [])
-Blocks (Throwing u e) op = op ≡ Calls ThrowTo (val.Thread u ∷ Exception e ∷ [])
-Blocks (Sleeping due) op = (n : ℤ) × (op ≡ Calls ThreadDelay (Int n ∷ []))
-
-abbrev pub OpPart : (Operation → Type 0) → Part → Type 0
-OpPart P (Ret v) = ⊥
-OpPart P (Throw e) = ⊥
-OpPart P (Do a env) = ⊥
-OpPart P (Performs op) = P op
-
--- a thread stands at such an operation
-abbrev pub At : (Operation → Type 0) → Option Thread → Type 0
-At P None = ⊥
-At P (Some th) = OpPart P th.term.part
 
 abbrev pub Stopped : Option Thread → Type 0
 Stopped o = At FineOp o
@@ -180,7 +162,7 @@ answer_holds s t v h w = resume_holds s t (Ret v) h (ok_ret v (slice_get s.threa
 throw_holds : (s : State) (t : ℕ) (e : Exn) → Holds s → Stopped (slice_get s.threads t) → Holds (resume t (Throw e) s)
 throw_holds s t e h w = resume_holds s t (Throw e) h (ok_throw e (slice_get s.threads t) (mine t s.marks) (free_in s t h w))
 
--- a thread of another bracket_marked stands as before
+-- a thread of another number stands as before
 pub stopped_still : (s : State) (t u : ℕ) (p : Part) → u ≢ t → Stopped (slice_get s.threads u) → Stopped (slice_get (resume t p s).threads u)
 stopped_still s t u p n w = subst Stopped (sym (other_thread s.threads t u (slice_get s.threads t) (term p (frames_of (slice_get s.threads t))) n)) w
 
@@ -559,4 +541,8 @@ owing s h = record {
   owes = λ t th is. held_owes (thread_held s t th h is);
   here = λ t th is. held_here (thread_held s t th h is);
   catches = λ t th is. held_catches (thread_held s t th h is);
+  once = λ i t th is. subst (λ o. count i o ≤ 1) (sym (held_owes (thread_held s t th h is))) (open_once i t s.marks h.proper);
+  phase = λ t th is. thread_held s t th h is;
+  blocked = λ t r is. let w : OnReason (Waits s.threads t) (Some r) = subst (OnReason (Waits s.threads t)) is (reason_found (Waits s.threads) t s.blocked h.waits) in w.0;
+  numbered = h.numbered;
 }

@@ -8,8 +8,10 @@ use Rattle.hs_rules.specs.Meaning.{values_of_exs}
 use Rattle.hs_rules.specs.Expansion.{release, bracket_exit}
 use Rattle.hs_rules.specs.Terms.{Calls, Part, Throw, Performs, Frame, BindTo, MaskIn, Term, mask_at}
 use Rattle.hs_rules.specs.LocalRules.{on_value, on_values, thrown, chosen, chosen_maybe, chosen_either, chosen_list, chosen_pair, with_params, entered, called, restored, first_step, ret_step, throw_step, on_top, local, on_term, locals}
-use Rattle.hs_laws.proofs.Fine.{Fine, fine_return, fine_throw, fine_let, fine_bind, fine_if, fine_maybe, fine_either, fine_list, fine_pair, fine_call, fine_primitive, fine_fork, fine_fork_unmask, fine_catch, fine_mask, fine_mask_hard, fine_restore, fine_bracket, FineCode}
-use Rattle.hs_laws.proofs.Held.{join_masked, Below, no_frames, below_bind, below_catch, below_mask, below_number, below_guarded, below_throw, below_last, Held, held_ret, held_throw, held_do, held_op, held_masked, held_number, held_acquire, held_acquired, held_instance, held_keep, held_guarded, held_result, held_leave, held_leave_release, held_leave_op, held_handle, held_handle_release, held_handle_op, held_then_throw, held_last, held_thrown, held_passing}
+use Rattle.hs_rules.specs.BracketPhases.{Fine, fine_return, fine_throw, fine_let, fine_bind, fine_if, fine_maybe, fine_either, fine_list, fine_pair, fine_call, fine_primitive, fine_fork, fine_fork_unmask, fine_catch, fine_mask, fine_mask_hard, fine_restore, fine_bracket, FineCode}
+use Rattle.hs_rules.specs.BracketLaw.{IsMasked}
+use Rattle.hs_laws.proofs.Held.{join_masked}
+use Rattle.hs_rules.specs.BracketPhases.{Below, no_frames, below_bind, below_catch, below_mask, below_number, below_guarded, below_throw, below_last, Held, held_ret, held_throw, held_do, held_op, held_masked, held_number, held_acquire, held_acquired, held_instance, held_keep, held_guarded, held_result, held_leave, held_leave_release, held_leave_op, held_handle, held_handle_release, held_handle_op, held_then_throw, held_last, held_thrown, held_passing}
 
 abbrev pub Goes : Option Term → List ℕ → Type 0
 Goes None o = Unit {0}
@@ -107,8 +109,8 @@ ret_kept v (below_catch c f r) = held_ret r
 ret_kept v (below_mask r) = held_ret r
 ret_kept v (below_number c f g m r) = held_number f g m r
 ret_kept v (below_guarded at f m r) = held_result at f m r
-ret_kept v (below_throw f r) = held_then_throw f r
-ret_kept v (below_last r) = held_last r
+ret_kept v (below_throw f w r) = held_then_throw f w r
+ret_kept v (below_last w r) = held_last w r
 
 -- ---- rules 13, 15 and 17
 throw_kept : (e : Exn) {fs : List Frame} {o : List ℕ} → Below fs o → Goes (throw_step e fs) o
@@ -117,16 +119,16 @@ throw_kept e (below_bind c f r) = held_throw r
 throw_kept e (below_catch c f r) = held_do f (below_mask r)
 throw_kept e (below_mask r) = held_throw r
 throw_kept e (below_number c f g m r) = held_throw r
-throw_kept e (below_guarded {b} {i} {env} {fs} at f m r) = held_handle at f (join_masked (mask_at fs)) r
-throw_kept e (below_throw f r) = held_thrown r
-throw_kept e (below_last r) = held_thrown r
+throw_kept e (below_guarded {b} {i} {env} {fs} at f m r) = held_handle at f (join_masked (mask_at fs)) m r
+throw_kept e (below_throw f w r) = held_thrown w r
+throw_kept e (below_last w r) = held_thrown w r
 
 -- the rest of a handler throws
-last_kept : (b' : Core) (env' : Env) (s : Mask) {fs : List Frame} {o : List ℕ} → Below fs o → (r : Outcome) →
+last_kept : (b' : Core) (env' : Env) (s : Mask) {fs : List Frame} {o : List ℕ} → IsMasked (mask_at fs) → Below fs o → (r : Outcome) →
     Goes (on_top (MaskIn s ∷ BindTo (Added BracketResult) (bracket_exit b') env' ∷ fs) (on_value r thrown)) o
-last_kept b' env' s r (Gives v) = throwing_kept (λ e. held_thrown r) v
-last_kept b' env' s r (Throws e) = held_thrown r
-last_kept b' env' s r Stuck = tt
+last_kept b' env' s w r (Gives v) = throwing_kept (λ e. held_thrown w r) v
+last_kept b' env' s w r (Throws e) = held_thrown w r
+last_kept b' env' s w r Stuck = tt
 
 -- release $i, where $i is this instance
 release_step : {i : ℕ} (env : Env) {fs : List Frame} {o : List ℕ} (code : Code) → value_at (Added Instance) env ≡ Some (Inst i) → Held (Performs (Calls Release (Inst i ∷ []))) fs (i ∷ o) →
@@ -150,19 +152,19 @@ local_kept code fc (held_result at f m r) = held_leave at f m r
 local_kept code fc (held_leave at f m r) = held_leave_release at f m r
 local_kept code fc (held_leave_release {env = env} at f m r) = release_step env code at (held_leave_op f m r)
 local_kept code fc (held_leave_op f m r) = tt
-local_kept code fc (held_handle at f m r) = held_handle_release at f m r
-local_kept code fc (held_handle_release {env = env} at f m r) = release_step env code at (held_handle_op f m r)
-local_kept code fc (held_handle_op f m r) = tt
-local_kept code fc (held_then_throw f r) = held_do f (below_last r)
-local_kept code fc (held_last {b'} {env} {env'} {s} r) = last_kept b' env' s r (value_of_core code.functions env (Read (Added BracketFault)))
-local_kept code fc (held_thrown r) = held_passing r
-local_kept code fc (held_passing r) = held_throw r
+local_kept code fc (held_handle at f m w r) = held_handle_release at f m w r
+local_kept code fc (held_handle_release {env = env} at f m w r) = release_step env code at (held_handle_op f m w r)
+local_kept code fc (held_handle_op f m w r) = tt
+local_kept code fc (held_then_throw f w r) = held_do f (below_last w r)
+local_kept code fc (held_last {b'} {env} {env'} {s} w r) = last_kept b' env' s w r (value_of_core code.functions env (Read (Added BracketFault)))
+local_kept code fc (held_thrown w r) = held_passing w r
+local_kept code fc (held_passing w r) = held_throw r
 
 on_term_kept : (u : Option Term) (k : Term → Option Term) {o : List ℕ} → Goes u o → ((t : Term) → Held t.part t.frames o → Goes (k t) o) → Goes (on_term u k) o
 on_term_kept None k h g = tt
 on_term_kept (Some t) k h g = g t h
 
--- any bracket_marked of local rules
+-- any number of local rules
 pub locals_kept : (code : Code) → FineCode code.actions → (k : ℕ) (t : Term) {o : List ℕ} → Held t.part t.frames o → Goes (locals code k t) o
 locals_kept code fc zero t h = h
 locals_kept code fc (suc k) t h = on_term_kept (local code t.part t.frames) (λ u. locals code k u) (local_kept code fc h) (λ u g. locals_kept code fc k u g)

@@ -18,10 +18,11 @@ use Rattle.hs_rules.specs.Primitives.{on_none, on_one, on_two, as_text, as_numbe
 use Rattle.hs_rules.specs.Entries.{moved, local_entry, at_operation, op_entry, is_throw, is_unmasked, is_interruptible, is_open, is_receptive, received, receive_entry, woken, uncaught_line, throwers, closed, finish_entry, on_thread, next}
 use Rattle.hs_rules.specs.Entries as entries
 use Rattle.hs_rules.specs.Runs.{Run}
-use Rattle.hs_laws.specs.MaskLaw.{NoReceive, ThrownBy, Received, first_flying}
-use Rattle.hs_laws.proofs.Fine.{Fine, FineCode}
+use Rattle.hs_rules.specs.MaskLaw.{NoReceive, ThrownBy, Received, first_flying}
+use Rattle.hs_rules.specs.BracketPhases.{Fine, FineCode}
 use Rattle.hs_laws.proofs.Lists.{cond_cases, cond_true, cond_false, equal_or, Each, each_more, each_left, each_changed, Found, first_found, OnReason, reason_found, first_of_kind, throws, throw_is_first, once_reason}
-use Rattle.hs_laws.proofs.States.{Blocks, OpPart, At, Holds, Keeps, next_kept, first_holds}
+use Rattle.hs_rules.specs.BracketPhases.{Blocks, OpPart, At}
+use Rattle.hs_laws.proofs.States.{Holds, Keeps, next_kept, first_holds}
 
 -- ---- `blocked` only loses threads, and gets the one that acts
 module _ (P : ℕ → Reason V → Type 0) where

@@ -1,2 +1,0 @@
-pub mod BracketLaw
-pub mod MaskLaw

@@ -8,7 +8,7 @@ ghost use Rattle.hs_rules.specs.Programs.{Fn};
 ghost use Rattle.hs_rules.specs.State.{State, first};
 ghost use Rattle.hs_rules.specs.Entries.{next};
 ghost use Rattle.hs_rules.specs.Runs.{IsRun, code_of, main_of};
-ghost use Rattle.hs_laws.specs.MaskLaw.{Received};
+ghost use Rattle.hs_rules.specs.MaskLaw.{Received};
 
 /// Wherever a thread of a run receives an exception, it is blocked and not masked uninterruptibly, or it isn't blocked
 /// and not masked; and the exception is the first in flight to it, thrown by a thread that has received none since.

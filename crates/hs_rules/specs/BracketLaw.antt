@@ -1,5 +1,5 @@
 -- What marks say, and the law of brackets.
-use Rattle.std.specs.Prelude.{◌≡◌, ◌≢◌, ℕ, suc, ◌≤◌, ◌==◌, List, [], ◌∷◌, ◌++◌, slice_get, true, cond, Option, Some}
+use Rattle.std.specs.Prelude.{◌≡◌, ◌≢◌, ◌<◌, ℕ, suc, ◌≤◌, ◌==◌, List, [], ◌∷◌, ◌++◌, slice_get, true, cond, Option, Some}
 use Rattle.hs_base.specs.declared.mask.Mask.{Mask}
 use Rattle.hs_base.specs.declared.mask.Mask.TheVariants.{Unmasked, Masked, Uninterruptible}
 use Rattle.hs_rules.specs.Values.{Name, Added, Instance, BracketResult, BracketFault, V, Inst, Env, value_at}
@@ -38,6 +38,19 @@ released_by i t [] = 0
 released_by i t (AcquiredBy j u ∷ ms) = released_by i t ms
 released_by i t (ReleasedBy j u ∷ ms) = cond (i == j) (cond (t == u) (suc (released_by i t ms)) (released_by i t ms)) (released_by i t ms)
 
+-- how often a number stands in a list
+abbrev pub count : ℕ → List ℕ → ℕ
+count i [] = 0
+count i (j ∷ js) = cond (i == j) (suc (count i js)) (count i js)
+
+-- each mark's number is below this one
+abbrev pub Numbered : ℕ → List Mark → Type 0
+Numbered n [] = Unit {0}
+Numbered n (AcquiredBy i t ∷ ms) = (i < n) × Numbered n ms
+Numbered n (ReleasedBy i t ∷ ms) = (i < n) × Numbered n ms
+
+-- Each number is acquired at most once and released at most once, by the thread that acquired it, and exactly once where
+-- that thread has finished.
 pub record Brackets (s : State) : Type 0 where
   pub acquired_once : (i : ℕ) → acquired i s.marks ≤ 1
   pub released_once : (i : ℕ) → released i s.marks ≤ 1
@@ -109,7 +122,7 @@ owed_frames (MaskIn s ∷ fs) = owed_frames fs
 abbrev pub owed : Part → List Frame → List ℕ
 owed p fs = owed_here p fs ++ owed_frames fs
 
--- ---- the fact that every entry keeps
+-- ---- where what owes stands
 abbrev pub IsMasked : Mask → Type 0
 IsMasked Unmasked = ⊥
 IsMasked Masked = Unit {0}
@@ -121,8 +134,3 @@ MaskedCatches [] = Unit {0}
 MaskedCatches (BindTo x b env ∷ fs) = MaskedCatches fs
 MaskedCatches (CatchBy x b env ∷ fs) = (owed_catch x env ≢ [] → IsMasked (mask_at fs)) × MaskedCatches fs
 MaskedCatches (MaskIn s ∷ fs) = MaskedCatches fs
-
-pub record Owing (s : State) : Type 0 where
-  pub owes : (t : ℕ) (th : Thread) → slice_get s.threads t ≡ Some th → owed th.term.part th.term.frames ≡ mine t s.marks
-  pub here : (t : ℕ) (th : Thread) → slice_get s.threads t ≡ Some th → owed_here th.term.part th.term.frames ≢ [] → IsMasked (mask_at th.term.frames)
-  pub catches : (t : ℕ) (th : Thread) → slice_get s.threads t ≡ Some th → MaskedCatches th.term.frames
