@@ -1,11 +1,11 @@
 -- Laws of the calls of one cell alone.
-use Rattle.std.proofs.Common.{◌≡◌, ◌≢◌, ℕ, zero, suc, ◌<◌, ◌==◌, Bool, true, false, not, cond, is_some, List, [], ◌∷◌, ◌++◌, length, Option, Some, None, refl, ap, sym, subst, ◌∙◌, arith, eq-eqb, get_or, set, inl, inr}
+use Rattle.std.proofs.Common.{◌≡◌, ℕ, ◌<◌, ◌==◌, Bool, true, false, not, cond, is_some, List, [], ◌∷◌, ◌++◌, length, Option, Some, None, refl, ap, sym, subst, ◌∙◌, arith, eq-eqb, get_or, set, inl, inr}
 use Rattle.std.proofs.lemmas.Bool.{cases_eq}
-use Rattle.std.proofs.lemmas.List.{set-set, set-get_or, get_or_default, length-set, get_or-set_same, get_or-set_other}
+use Rattle.std.proofs.lemmas.List.{set-get_or, get_or_default, length-set, get_or-set_same, get_or-set_other}
 use Rattle.hs_base.specs.declared.value.Value.{Value}
-use Rattle.hs_rules.specs.OneCell.{Want, To_take, To_put, Place, Cell, Call, Take, Put, Try_take, Try_put, Leave, After, Reply, Answer, Took, Gave, Tried_take, Tried_put, cell_of, after_of, reply_of, call, called, made, stands_in, leaves_line, joins_line, first_put, first_take, moves_in, comes_in, takes_it}
+use Rattle.hs_rules.specs.OneCell.{To_take, To_put, Place, Cell, Call, Take, Put, Try_take, Try_put, Leave, After, Reply, Answer, Took, Gave, Tried_take, Tried_put, cell_of, after_of, reply_of, call, called, stands_in, leaves_line, first_put, first_take, moves_in, comes_in, takes_it}
 use Rattle.mvar_cell.specs.Mvars.{Mvars, AllWait, IsDistinct, IsCell, AreCells}
-use Rattle.mvar_cell.specs.Calls.{cell_at, IsCall, served_put}
+use Rattle.mvar_cell.specs.Calls.{cell_at, IsCall}
 
 -- ---- leaving
 step_false : (b c : Bool) → cond b true c ≡ false → (b ≡ false) × (c ≡ false)
@@ -268,3 +268,53 @@ put_serves t m u v next old new rest full line distinct contents lines =
     is_call (Try_take t) m old new (after_of (cell_of (Some next) rest) (reply_of t (Tried_take (Some v)) ∷ reply_of u Gave ∷ []))
     (call_at (Try_take t) m old (Some v) _ full line ∙ put_served t u v next rest (subst IsDistinct line distinct).0)
     contents lines
+
+-- ---- a thread leaves
+absent_middle : (x : ℕ) (front back : List (Place Value)) (p : Place Value) → stands_in x (front ++ p ∷ back) ≡ false → (p.thread == x ≡ false) × (stands_in x (front ++ back) ≡ false)
+absent_middle x [] back p h = step_false (p.thread == x) (stands_in x back) h
+absent_middle x (q ∷ front) back p h =
+    let s = step_false (q.thread == x) (stands_in x (front ++ p ∷ back)) h in
+    let r = absent_middle x front back p s.1 in
+    (r.0, ap (λ b. cond b true (stands_in x (front ++ back))) s.0 ∙ r.1)
+
+turned : (a b : ℕ) → a == b ≡ false → b == a ≡ false
+turned a b h = grind arith
+
+pub leaves_middle : (front back : List (Place Value)) (p : Place Value) → IsDistinct (front ++ p ∷ back) → leaves_line p.thread (front ++ p ∷ back) ≡ front ++ back
+leaves_middle [] back p d = leaves_first p back d.0
+leaves_middle (q ∷ front) back p d =
+    let other : q.thread == p.thread ≡ false = turned p.thread q.thread (absent_middle q.thread front back p d.0).0 in
+    ap (λ b. cond b (leaves_line p.thread (front ++ p ∷ back)) (q ∷ leaves_line p.thread (front ++ p ∷ back))) other ∙ ap (λ qs. q ∷ qs) (leaves_middle front back p d.1)
+
+waits_middle : (full : Bool) (front back : List (Place Value)) (p : Place Value) → AllWait full (front ++ p ∷ back) → AllWait full (front ++ back)
+waits_middle full [] back p h = h.1
+waits_middle full (q ∷ front) back p h = (h.0, waits_middle full front back p h.1)
+
+distinct_middle : (front back : List (Place Value)) (p : Place Value) → IsDistinct (front ++ p ∷ back) → IsDistinct (front ++ back)
+distinct_middle [] back p d = d.1
+distinct_middle (q ∷ front) back p d = ((absent_middle q.thread front back p d.0).1, distinct_middle front back p d.1)
+
+set_cell : (contents : List (Option Value)) (lines : List (List (Place Value))) (m : ℕ) (line : List (Place Value)) → AreCells contents lines → m < length lines → IsCell (get_or contents m None) line → AreCells contents (set lines m line)
+set_cell contents lines m line h lt here =
+    record {
+      sizes = h.sizes ∙ sym (length-set lines m line);
+      each = λ k kt.
+          elim (cases_eq k m) [
+            | inl same ↦ subst (λ x. IsCell (get_or contents x None) (get_or (set lines m line) x [])) (sym same) (subst (IsCell (get_or contents m None)) (sym (get_or-set_same lines m line [] lt)) here)
+            | inr differs ↦ subst (IsCell (get_or contents k None)) (sym (get_or-set_other lines m k line [] differs)) (h.each k (omega (arith, kt, length-set lines m line)))
+          ];
+    }
+
+pub cells_leave : (contents : List (Option Value)) (lines new : List (List (Place Value))) (m : ℕ) (front back : List (Place Value)) (p : Place Value) → AreCells contents lines → m < length lines → get_or lines m [] ≡ front ++ p ∷ back → new ≡ set lines m (front ++ back) → AreCells contents new
+cells_leave contents lines new m front back p h lt was now =
+    let here = subst (IsCell (get_or contents m None)) was (h.each m lt) in
+    subst (AreCells contents) (sym now) (set_cell contents lines m (front ++ back) h lt (record { waits = waits_middle _ front back p here.waits; distinct = distinct_middle front back p here.distinct }))
+
+pub call_leave : (m : ℕ) (old new : Mvars) (front back : List (Place Value)) (p : Place Value) → get_or old.lines m [] ≡ front ++ p ∷ back → IsDistinct (get_or old.lines m []) → new.contents ≡ old.contents → new.lines ≡ set old.lines m (front ++ back) → IsCall (Leave p.thread) m old new []
+call_leave m old new front back p was distinct contents lines =
+    let gone : leaves_line p.thread (get_or old.lines m []) ≡ front ++ back = ap (leaves_line p.thread) was ∙ leaves_middle front back p (subst IsDistinct was distinct) in
+    record {
+      answers = refl;
+      contents = contents ∙ sym (set-get_or old.contents m None);
+      lines = lines ∙ ap (set old.lines m) (sym gone);
+    }

@@ -1,11 +1,12 @@
 -- What writes of single nodes do to chains.
-use Rattle.std.proofs.Common.{◌≡◌, ◌≢◌, ℕ, zero, suc, ◌<◌, ◌≤◌, List, [], ◌∷◌, ◌++◌, Option, Some, None, refl, ap, sym, subst, ◌∙◌, arith, inl, inr}
-use Rattle.std.proofs.lemmas.Bool.{cases_eq}
+use Rattle.std.proofs.Common.{◌≡◌, ◌≢◌, ℕ, zero, suc, ◌<◌, ◌≤◌, List, [], ◌∷◌, ◌++◌, Option, Some, None, refl, ap, sym, subst, ◌∙◌, arith, inl, inr, ◌+◌, ◌-◌, Bool, true, false, cond, IsSome, eq-eqb}
+use Rattle.std.proofs.lemmas.Bool.{cases_eq, ne_eqb}
 use Rattle.hs_base.specs.declared.value.Value.{Value}
-use Rattle.hs_rules.specs.OneCell.{Place}
+use Rattle.hs_rules.specs.OneCell.{Place, stands_in}
 use Rattle.slab.specs.Slab.{Slab, get}
 use Rattle.mvar_cell.specs.declared.lines.Node.{Node}
-use Rattle.mvar_cell.specs.Nodes.{place, place_of, next_of, places, IsOn, IsTail, IsChain}
+use Rattle.mvar_cell.specs.declared.lines.Ends.{Ends}
+use Rattle.mvar_cell.specs.Nodes.{place, place_of, next_of, places, IsOn, IsTail, IsChain, IsLine, walk, last_after_leaving, behind, Walks, StandsBefore}
 
 -- from a node there is one way to the last
 pub tail_once : (s : Slab Node) (k a b i z : ℕ) → IsTail s k a i z → IsTail s k b i z → a ≡ b
@@ -119,3 +120,149 @@ chain_same s u k zero i z h c = record { chain = tt; places = refl }
 chain_same s u k (suc n) i z h c =
     let r = tail_kept s u k n i z (record { same = λ j d le on t. h j on }) c.0 c.1 in
     record { chain = (subst (IsOn k) (sym (h i c.0)) c.0, r.tail); places = r.places }
+
+-- ---- a node in the middle leaves
+-- node p, and behind it node j, which leaves
+pub record Unlinks (s u : Slab Node) (p j : ℕ) (before gone : Node) : Type 0 where
+  pub was : get s p ≡ Some before
+  pub left : get s j ≡ Some gone
+  pub follows : before.next ≡ j
+  pub linked : get u p ≡ Some (record before { next = gone.next })
+  pub others : (x : ℕ) → x ≢ p → x ≢ j → get u x ≡ get s x
+
+pub record Without (s u : Slab Node) (k n i z p j : ℕ) (gone : Node) : Type 0 where
+  pub on : IsOn k (get u i)
+  pub tail : IsTail u k n i (last_after_leaving p j z)
+  pub front : List (Place Value)
+  pub back : List (Place Value)
+  pub was : places s (suc (suc n)) i ≡ front ++ place gone.thread gone.want ∷ back
+  pub now : places u (suc n) i ≡ front ++ back
+
+-- a walk of no more than m of m + 1 nodes ends before the last
+pub walk_far : (s : Slab Node) (k a m i z : ℕ) → a ≤ m → IsTail s k (suc m) i z → (d : ℕ) × (d ≤ m) × IsTail s k (suc d) (walk s a i) z
+walk_far s k zero m i z le t = (m, omega arith, t)
+walk_far s k (suc a) zero i z le t = let no : ⊥ = omega arith in absurd no
+walk_far s k (suc a) (suc m) i z le t =
+    let r = walk_far s k a m (next_of (get s i)) z (omega arith) t.2 in
+    (r.0, omega (arith, r.1), r.2)
+
+at_last : (p j z : ℕ) → j ≡ z → last_after_leaving p j z ≡ p
+at_last p j z e = ap (λ b. cond b p z) (eq-eqb j z e)
+
+not_last : (p j z : ℕ) → (j ≡ z → ⊥) → last_after_leaving p j z ≡ z
+not_last p j z ne = ap (λ b. cond b p z) (ne_eqb j z ne)
+
+-- neither of the two that change
+is_neither : (i p j z : ℕ) → i ≢ z → i ≢ p → i ≢ last_after_leaving p j z
+is_neither i p j z a b = elim (cases_eq j z) [ inl e ↦ λ q. b (q ∙ at_last p j z e) | inr ne ↦ λ q. a (q ∙ not_last p j z ne) ]
+
+pub tail_without : (s u : Slab Node) (k a m i z p j : ℕ) (before gone : Node) → Unlinks s u p j before gone → p ≡ walk s a i → a ≤ m → IsOn k (get s i) → IsTail s k (suc m) i z → Without s u k m i z p j gone
+tail_without s u k zero zero i z p j before gone h e le on t =
+    let was : get s i ≡ Some before = ap (get s) (sym e) ∙ h.was in
+    let linked : get u i ≡ Some (record before { next = gone.next }) = ap (get u) (sym e) ∙ h.linked in
+    let next : next_of (get s i) ≡ j = ap next_of was ∙ h.follows in
+    record {
+      on = subst (IsOn k) (sym linked) (subst (IsOn k) was on);
+      tail = sym e ∙ sym (at_last p j z (sym next ∙ t.2));
+      front = place before.thread before.want ∷ [];
+      back = [];
+      was = ap (λ o. place_of o ∷ place_of (get s (next_of (get s i))) ∷ []) was ∙ ap (λ x. place before.thread before.want ∷ place_of (get s x) ∷ []) next ∙ ap (λ o. place before.thread before.want ∷ place_of o ∷ []) h.left;
+      now = ap (λ o. place_of o ∷ []) linked;
+    }
+tail_without s u k zero (suc m) i z p j before gone h e le on t =
+    let was : get s i ≡ Some before = ap (get s) (sym e) ∙ h.was in
+    let linked : get u i ≡ Some (record before { next = gone.next }) = ap (get u) (sym e) ∙ h.linked in
+    let next : next_of (get s i) ≡ j = ap next_of was ∙ h.follows in
+    let at_j : IsTail s k (suc m) j z = subst (λ x. IsTail s k (suc m) x z) next t.2 in
+    let far : next_of (get s j) ≡ gone.next = ap next_of h.left in
+    let on2 : IsOn k (get s gone.next) = subst (λ x. IsOn k (get s x)) far at_j.1 in
+    let tail2 : IsTail s k m gone.next z = subst (λ x. IsTail s k m x z) far at_j.2 in
+    let keeps : Keeps s u k m z = record {
+      same = λ x d le2 onx tx.
+          h.others x
+          (λ q. (let w = tail_once s k d (suc (suc m)) i z (subst (λ y. IsTail s k d y z) (q ∙ e) tx) t in let no : ⊥ = omega (arith, w, le2) in no))
+          (λ q. (let w = tail_once s k d (suc m) j z (subst (λ y. IsTail s k d y z) q tx) at_j in let no : ⊥ = omega (arith, w, le2) in no));
+    } in
+    let kept = tail_kept s u k m gone.next z keeps on2 tail2 in
+    let on_u : IsOn k (get u gone.next) = subst (IsOn k) (sym (keeps.same gone.next m (omega arith) on2 tail2)) on2 in
+    record {
+      on = subst (IsOn k) (sym linked) (subst (IsOn k) was on);
+      tail = subst (IsTail u k (suc m) i) (sym (not_last p j z at_j.0)) (subst (λ o. (i ≢ z) × IsOn k (get u (next_of o)) × IsTail u k m (next_of o) z) (sym linked) (t.0, on_u, kept.tail));
+      front = place before.thread before.want ∷ [];
+      back = places s (suc m) gone.next;
+      was = ap (λ o. place_of o ∷ places s (suc (suc m)) (next_of (get s i))) was ∙ ap (λ x. place before.thread before.want ∷ places s (suc (suc m)) x) next ∙ ap (λ o. place before.thread before.want ∷ place_of o ∷ places s (suc m) (next_of o)) h.left;
+      now = ap (λ o. place_of o ∷ places u (suc m) (next_of o)) linked ∙ ap (λ ps. place before.thread before.want ∷ ps) kept.places;
+    }
+tail_without s u k (suc a) zero i z p j before gone h e le on t = let no : ⊥ = omega arith in absurd no
+tail_without s u k (suc a) (suc m) i z p j before gone h e le on t =
+    let le2 : a ≤ m = omega arith in
+    let far = walk_far s k a m (next_of (get s i)) z le2 t.2 in
+    let at_p : IsTail s k (suc far.0) p z = subst (λ x. IsTail s k (suc far.0) x z) (sym e) far.2 in
+    let next : next_of (get s p) ≡ j = ap next_of h.was ∙ h.follows in
+    let at_j : IsTail s k far.0 j z = subst (λ x. IsTail s k far.0 x z) next at_p.2 in
+    let not_p : i ≢ p = λ q. (let w = tail_once s k (suc far.0) (suc (suc m)) i z (subst (λ y. IsTail s k (suc far.0) y z) (sym q) at_p) t in let no : ⊥ = omega (arith, w, far.1) in no) in
+    let not_j : i ≢ j = λ q. (let w = tail_once s k far.0 (suc (suc m)) i z (subst (λ y. IsTail s k far.0 y z) (sym q) at_j) t in let no : ⊥ = omega (arith, w, far.1) in no) in
+    let same : get u i ≡ get s i = h.others i not_p not_j in
+    let r = tail_without s u k a m (next_of (get s i)) z p j before gone h e le2 t.1 t.2 in
+    record {
+      on = subst (IsOn k) (sym same) on;
+      tail = subst (λ o. (i ≢ last_after_leaving p j z) × IsOn k (get u (next_of o)) × IsTail u k m (next_of o) (last_after_leaving p j z)) (sym same) (is_neither i p j z t.0 not_p, r.on, r.tail);
+      front = place_of (get s i) ∷ r.front;
+      back = r.back;
+      was = ap (λ ps. place_of (get s i) ∷ ps) r.was;
+      now = ap (λ o. place_of o ∷ places u (suc m) (next_of o)) same ∙ ap (λ ps. place_of (get s i) ∷ ps) r.now;
+    }
+
+-- ---- a walk
+pub walk_next : (s : Slab Node) (a i : ℕ) → walk s (suc a) i ≡ next_of (get s (walk s a i))
+walk_next s zero i = refl
+walk_next s (suc a) i = walk_next s a (next_of (get s i))
+
+pub walk_on : (s : Slab Node) (k a m i z : ℕ) → a ≤ m → IsOn k (get s i) → IsTail s k m i z → IsOn k (get s (walk s a i))
+walk_on s k zero m i z le on t = on
+walk_on s k (suc a) zero i z le on t = let no : ⊥ = omega arith in absurd no
+walk_on s k (suc a) (suc m) i z le on t = walk_on s k a m (next_of (get s i)) z (omega arith) t.1 t.2
+
+pub walks_first : (s : Slab Node) (k : ℕ) (e : Ends) (t : ℕ) → IsLine s k e → 0 < e.len → stands_in t (behind s e) ≡ true → Walks s e t 1 e.first
+walks_first s k e t h some stands =
+    let q : e.len ≡ suc (e.len - 1) = omega (arith, some) in
+    let c : IsChain s k (suc (e.len - 1)) e.first e.last = subst (λ n. IsChain s k n e.first e.last) q h in
+    record { line = k; is = refl; on = c.0; tail = c.1; stands = stands }
+
+stands_later : (b c : Bool) → cond b true c ≡ true → b ≡ false → c ≡ true
+stands_later true c h e = let no : ⊥ = cc in absurd no
+stands_later false c h e = h
+
+pub walks_step : (s : Slab Node) (e : Ends) (t step at : ℕ) → Walks s e t step at → 1 ≤ step → step < e.len → ((place_of (get s (next_of (get s at)))).thread ≡ t → ⊥) → Walks s e t (step + 1) (next_of (get s at))
+walks_step s e t step at w low lt other =
+    let q : e.len - step ≡ suc (e.len - (step + 1)) = omega (arith, lt) in
+    let tail : IsTail s w.line (suc (e.len - (step + 1))) at e.last = subst (λ n. IsTail s w.line n at e.last) q w.tail in
+    let stands : stands_in t (places s (suc (e.len - (step + 1))) (next_of (get s at))) ≡ true = subst (λ n. stands_in t (places s n (next_of (get s at))) ≡ true) q w.stands in
+    let more : suc (step - 1) ≡ step + 1 - 1 = omega (arith, low) in
+    record {
+      line = w.line;
+      is = ap (λ x. next_of (get s x)) w.is ∙ sym (walk_next s (step - 1) e.first) ∙ ap (λ n. walk s n e.first) more;
+      on = tail.1;
+      tail = tail.2;
+      stands = stands_later _ _ stands (ne_eqb _ t other);
+    }
+
+pub walks_found : (s : Slab Node) (e : Ends) (t step at : ℕ) → Walks s e t step at → 1 ≤ step → step < e.len → (place_of (get s (next_of (get s at)))).thread ≡ t → StandsBefore s e t at
+walks_found s e t step at w low lt same =
+    record { steps = step - 1; within = omega (arith, low, lt); is = w.is; thread = same }
+
+-- the node behind, in a walk that is not done
+pub walks_on : (s : Slab Node) (e : Ends) (t step at : ℕ) (w : Walks s e t step at) → step < e.len → IsOn w.line (get s (next_of (get s at)))
+walks_on s e t step at w lt =
+    let q : e.len - step ≡ suc (e.len - (step + 1)) = omega (arith, lt) in
+    (subst (λ n. IsTail s w.line n at e.last) q w.tail).1
+
+pub is_there : (k : ℕ) (o : Option Node) → IsOn k o → IsSome o
+is_there k None on = absurd on
+is_there k (Some n) on = refl
+
+pub walks_end : (s : Slab Node) (e : Ends) (t step at : ℕ) → Walks s e t step at → e.len ≤ step → ⊥
+walks_end s e t step at w le =
+    let q : e.len - step ≡ 0 = omega (arith, le) in
+    let no : false ≡ true = subst (λ n. stands_in t (places s n (next_of (get s at))) ≡ true) q w.stands in
+    let none : ⊥ = cc in none

@@ -1,5 +1,5 @@
 -- What `Cells` means, and what its answers say in the words of one cell alone.
-use Rattle.std.specs.Prelude.{◌≡◌, ℕ, ◌<◌, Bool, true, false, not, is_some, List, [], ◌∷◌, length, Option, Some, None, slice_index_or, slice_set}
+use Rattle.std.specs.Prelude.{◌≡◌, ℕ, true, false, List, [], ◌∷◌, Option, Some, None, slice_index_or, slice_set}
 use Rattle.hs_base.specs.declared.value.Value.{Value}
 use Rattle.hs_rules.specs.OneCell.{Place, Cell, Call, After, Reply, Gave, Tried_take, Tried_put, cell_of, call, reply_of, stands_in, takes_it}
 use Rattle.hs_rules.specs.OneCell as one

@@ -1,14 +1,14 @@
 -- How nodes of one pool hold lines.
-use Rattle.std.specs.Prelude.{◌≡◌, ◌≢◌, [], ◌∷◌, ℕ, zero, suc, ◌-◌, ◌<◌, ◌≤◌, min, List, length, map, sum_by, slice_index_or, Option, Some, None}
+use Rattle.std.specs.Prelude.{◌≡◌, ◌≢◌, [], ◌∷◌, ℕ, zero, suc, ◌-◌, ◌<◌, ◌≤◌, min, List, length, map, sum_by, slice_index_or, slice_set, Option, Some, None, cond, ◌==◌, true, ◌++◌, ◌+◌}
 use Rattle.hs_base.specs.declared.value.Value.{Value}
-use Rattle.hs_rules.specs.OneCell.{To_take, To_put, Place}
+use Rattle.hs_rules.specs.OneCell.{To_take, To_put, Place, stands_in}
 use Rattle.hs_rules.specs.OneCell as one
 use Rattle.slab.specs.Slab.{Slab, get, slab_len}
 use Rattle.mvar_cell.specs.declared.lines.Want.{Want}
 use Rattle.mvar_cell.specs.declared.lines.Want.TheVariants.{Take, Put}
 use Rattle.mvar_cell.specs.declared.lines.Node.{Node}
 use Rattle.mvar_cell.specs.declared.lines.Ends.{Ends}
-use Rattle.mvar_cell.specs.Lined.{Lined}
+use Rattle.mvar_cell.specs.Lined.{Lined, line_of}
 
 abbrev pub want_of : Want → one.Want Value
 want_of Take = To_take
@@ -61,3 +61,40 @@ pub record IsSound (es : List Ends) (s : Slab Node) : Type 0 where
 abbrev pub lined : List Ends → Slab Node → ℕ → Lined
 lined es s capacity =
     record { lines = map (line_at s) es; spare = min (capacity - length es) (s.capacity - slab_len s) }
+
+-- ---- a place in the middle leaves
+-- the node that stands so many places behind node i
+abbrev pub walk : Slab Node → ℕ → ℕ → ℕ
+walk s zero i = i
+walk s (suc a) i = walk s a (next_of (get s i))
+
+-- the last node once node j has left from behind node p
+abbrev pub last_after_leaving : ℕ → ℕ → ℕ → ℕ
+last_after_leaving p j z = cond (j == z) p z
+
+-- the places behind the first
+abbrev pub behind : Slab Node → Ends → List (Place Value)
+behind s e = places s (e.len - 1) (next_of (get s e.first))
+
+-- node p of this line stands before the place of thread t
+pub record StandsBefore (s : Slab Node) (e : Ends) (t p : ℕ) : Type 0 where
+  pub steps : ℕ
+  pub within : steps + 1 < e.len
+  pub is : p ≡ walk s steps e.first
+  pub thread : (place_of (get s (next_of (get s p)))).thread ≡ t
+
+-- a walk along a line has come to this node, and thread t stands behind it
+pub record Walks (s : Slab Node) (e : Ends) (t step at : ℕ) : Type 0 where
+  pub line : ℕ
+  pub is : at ≡ walk s (step - 1) e.first
+  pub on : IsOn line (get s at)
+  pub tail : IsTail s line (e.len - step) at e.last
+  pub stands : stands_in t (places s (e.len - step) (next_of (get s at))) ≡ true
+
+-- one place of the thread is left out of line m, and all other lines are as they were
+pub record LeavesOne (t m : ℕ) (old new : Lined) : Type 0 where
+  pub front : List (Place Value)
+  pub back : List (Place Value)
+  pub want : Want
+  pub was : line_of old m ≡ front ++ place t want ∷ back
+  pub now : new.lines ≡ slice_set old.lines m (front ++ back)

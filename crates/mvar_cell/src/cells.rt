@@ -1,6 +1,6 @@
-ghost use Rattle.std.specs.Prelude.{◌≡◌, ◌+◌, ◌<◌, ◌≤◌, [], ◌∷◌, ◌++◌, ℕ, length, slice_index_or, slice_set, None, OnOk, false};
+ghost use Rattle.std.specs.Prelude.{◌≡◌, ◌+◌, ◌<◌, ◌≤◌, [], ◌∷◌, ◌++◌, ℕ, length, slice_index_or, slice_set, None, OnOk, true};
 ghost use Rattle.std.specs.Option.{option_copied};
-ghost use Rattle.hs_rules.specs.OneCell.{Take, Put, Try_take, Try_put, Leave, made};
+ghost use Rattle.hs_rules.specs.OneCell.{Take, Put, Try_take, Try_put, Leave, made, stands_in};
 ghost use Rattle.mvar_cell.specs.Calls.{IsCall, StandsNowhere, took_replies, gave_replies, tried_take_replies, tried_put_replies, HandsBack};
 
 use crate::lines::{Lines, Want};
@@ -177,6 +177,16 @@ impl Cells {
             Want::Take => Tried::Served(taker, v),
             Want::Put(_) => unreachable!(),
         }
+    }
+
+    /// The thread, which stands in the line, leaves it. The time grows with its place in that line alone.
+    pub fn drop_waiter(&mut self, m: u32, t: u32)
+        requires exists { m < length self.old.contents }
+        requires stands { stands_in t (slice_index_or self.old.lines m []) ≡ true }
+        ensures call { IsCall (Leave t) m self.old self.new [] }
+        ensures spare { self.old.spare ≤ self.new.spare }
+    {
+        self.lines.leave(m as usize, t);
     }
 
     /// Lends the content.

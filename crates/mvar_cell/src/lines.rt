@@ -1,7 +1,8 @@
-ghost use Rattle.std.specs.Prelude.{◌≡◌, ◌+◌, ◌<◌, ◌≤◌, [], ◌∷◌, ◌++◌, length, slice_set, OnOk, Some, MatchOption};
+ghost use Rattle.std.specs.Prelude.{◌≡◌, ◌+◌, ◌<◌, ◌≤◌, [], ◌∷◌, ◌++◌, length, slice_set, OnOk, Some, MatchOption, ℕ, true};
 ghost use Rattle.slab.specs.Slab.{get, slab_len, ContainsKey, Updates};
 ghost use Rattle.mvar_cell.specs.Lined.{line_of};
-ghost use Rattle.mvar_cell.specs.Nodes.{place};
+ghost use Rattle.mvar_cell.specs.Nodes.{place, IsLine, StandsBefore, LeavesOne, behind, last_after_leaving};
+ghost use Rattle.hs_rules.specs.OneCell.{stands_in};
 ghost use Rattle.mvar_cell.specs.declared.lines.Node.{Node};
 
 use hs_base::Value;
@@ -67,6 +68,31 @@ fn link(nodes: &mut Slab<Node>, key: usize, next: usize)
         Some(node) => node.next = next,
         None => unreachable!(),
     }
+}
+
+/// The node before the one where the thread stands, behind the first.
+fn before(nodes: &Slab<Node>, ends: Ends, thread: u32) -> usize
+    requires chain { (k : ℕ) × IsLine nodes.now k ends }
+    requires some { 0 < ends.len }
+    requires stands { stands_in thread (behind nodes.now ends) ≡ true }
+    ensures { StandsBefore nodes.now ends thread result }
+{
+    let mut at = ends.first;
+    'walk: for _step in 1..ends.len {
+        let next = nodes[at].next;
+        if nodes[next].thread == thread {
+            return at;
+        }
+        at = next;
+    }
+    unreachable!()
+}
+
+/// The last node, once this key has left from behind that one.
+fn last_without(last: usize, key: usize, before: usize) -> usize
+    ensures { result ≡ last_after_leaving before key last }
+{
+    if key == last { before } else { last }
 }
 
 impl Lines {
@@ -164,5 +190,28 @@ impl Lines {
             len: ends.len - 1,
         };
         Some((thread, want))
+    }
+
+    /// The thread leaves the line in which it stands.
+    pub fn leave(&mut self, line: usize, thread: u32)
+        requires within { line < length self.old.lines }
+        requires stands { stands_in thread (line_of self.old line) ≡ true }
+        ensures lines { LeavesOne thread line self.old self.new }
+        ensures spare { self.old.spare ≤ self.new.spare }
+    {
+        let ends = self.ends[line];
+        if self.nodes[ends.first].thread == thread {
+            let _ = self.serve(line);
+            return;
+        }
+        let before = before(&self.nodes, ends, thread);
+        let key = self.nodes[before].next;
+        let next = self.nodes.remove(key).next;
+        link(&mut self.nodes, before, next);
+        self.ends[line] = Ends {
+            first: ends.first,
+            last: last_without(ends.last, key, before),
+            len: ends.len - 1,
+        };
     }
 }

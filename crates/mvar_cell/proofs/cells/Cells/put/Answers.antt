@@ -1,5 +1,5 @@
 -- A put by the put that never waits.
-use Rattle.std.proofs.Common.{◌≡◌, sym, ap, ◌∙◌, refl, not, is_some}
+use Rattle.std.proofs.Common.{sym, ap, not, is_some}
 use Rattle.mvar_cell.proofs.CellLaws.{put_found_full, put_changed_nothing, as_before, cell_within, cells_wait, waits_here, put_blocks, put_done, put_served_taker}
 use Rattle.mvar_cell.proofs.cells.Cells.put.Goals as goal
 

@@ -1,5 +1,5 @@
 -- A take by the take that never waits.
-use Rattle.std.proofs.Common.{◌≡◌, sym, ap, ◌∙◌, refl, not, is_some}
+use Rattle.std.proofs.Common.{sym, ap, not, is_some}
 use Rattle.mvar_cell.proofs.CellLaws.{take_found_none, take_changed_nothing, as_before, cell_within, cells_wait, waits_here, take_blocks, take_by_try}
 use Rattle.mvar_cell.proofs.cells.Cells.take.Goals as goal
 

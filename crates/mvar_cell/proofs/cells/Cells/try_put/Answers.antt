@@ -1,5 +1,5 @@
 -- A put to an empty cell serves the first take.
-use Rattle.std.proofs.Common.{◌≡◌, ◌∷◌, ◌<◌, length, arith, sym, ap, ◌∙◌, refl}
+use Rattle.std.proofs.Common.{◌∷◌, ◌<◌, length, arith, sym, ap, ◌∙◌, refl}
 use Rattle.mvar_cell.specs.Lined.{line_of}
 use Rattle.mvar_cell.specs.Nodes.{place}
 use Rattle.mvar_cell.proofs.CellLaws.{content_at, none_of, take_serves}

@@ -1,5 +1,5 @@
 -- A take of a full cell serves the first put.
-use Rattle.std.proofs.Common.{◌≡◌, ◌∷◌, ◌<◌, length, arith, sym, ap, ◌∙◌, refl}
+use Rattle.std.proofs.Common.{◌∷◌, ◌<◌, length, arith, sym, ap, ◌∙◌}
 use Rattle.std.proofs.lemmas.List.{set-set}
 use Rattle.mvar_cell.specs.Lined.{line_of}
 use Rattle.mvar_cell.specs.Nodes.{place}

@@ -1,7 +1,7 @@
 -- A node is added behind the last of its line.
-use Rattle.std.proofs.Common.{◌≡◌, [], ◌∷◌, ◌++◌, ◌<◌, ◌-◌, suc, length, arith, sym, ap, ◌∙◌, subst, IsSome, Some, refl}
+use Rattle.std.proofs.Common.{◌≡◌, [], ◌∷◌, ◌++◌, ◌-◌, suc, arith, sym, ap, ◌∙◌, subst, IsSome, refl}
 use Rattle.mvar_cell.specs.Nodes.{place, places, place_of}
-use Rattle.mvar_cell.proofs.Writes.{first_joins, later_joins, last_after, len_within, within_lines, line_is, joined_lines}
+use Rattle.mvar_cell.proofs.Writes.{first_joins, later_joins, last_after, len_within, within_lines, joined_lines}
 use Rattle.mvar_cell.proofs.lines.Lines.join.Goals as goal
 
 pub invariant_of-self : goal.invariant_of-self

@@ -1,5 +1,5 @@
 -- The first node leaves its line.
-use Rattle.std.proofs.Common.{◌≡◌, ◌∷◌, ◌<◌, ◌-◌, suc, length, arith, sym, ap, ◌∙◌}
+use Rattle.std.proofs.Common.{◌≡◌, ◌-◌, suc, arith}
 use Rattle.mvar_cell.proofs.Writes.{first_leaves, within_lines, served_line, After-lines}
 use Rattle.mvar_cell.proofs.lines.Lines.serve.Goals as goal
 
