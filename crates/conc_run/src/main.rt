@@ -5,6 +5,7 @@ use conc_top::run;
 use hs_io::{OpenGate, StdSink, StdSource, VirtualClock};
 use std::alloc::AllocError;
 use std::env;
+use std::io::ErrorKind;
 use std::process::ExitCode;
 
 const OUT_OF_MEMORY: u8 = 6;
@@ -17,15 +18,7 @@ fn main(rt: HostRuntime) -> ExitCode {
     let out = StdSink::new(rt.stdout());
     let err = StdSink::new(rt.stderr());
     let clock = VirtualClock::new();
-    let done = run(
-        rt.alloc(),
-        &words,
-        &mut source,
-        out,
-        err,
-        clock,
-        &OpenGate,
-    );
+    let done = run(rt.alloc(), &words, &mut source, out, err, clock, &OpenGate);
     ExitCode::from(done.status)
 }
 
@@ -33,6 +26,9 @@ fn main(rt: HostRuntime) -> ExitCode {
 fn words_of(rt: &HostRuntime) -> Result<Vec<String>, AllocError> {
     match env::args(rt) {
         Ok(args) => args.skip(1).collect(rt.alloc()),
-        Err(_) => Ok(Vec::new(rt.alloc())),
+        Err(error) => match error.kind() {
+            ErrorKind::OutOfMemory => Err(AllocError),
+            _ => Ok(Vec::new(rt.alloc())),
+        },
     }
 }

@@ -1,10 +1,11 @@
 -- What the steps of the top call come to is what it promises.
-use Rattle.std.proofs.Common.{◌≡◌, ◌≤◌, ◌++◌, ◌+◌, ℕ, List, [], ◌∷◌, length, drop, refl, sym, ap, subst, ◌∙◌, append-nil, arith, All}
+use Rattle.std.proofs.Common.{◌≡◌, ◌≤◌, ◌<◌, ◌++◌, ◌+◌, ◌⊎◌, ℕ, List, [], ◌∷◌, length, drop, refl, sym, ap, subst, ◌∙◌, append-nil, arith, rules, All, inl, inr}
 use Rattle.std.specs.Prelude.{Option, Some, None, Result, Ok, Err, OnErr, IfSome}
 use Rattle.std.specs.Io.KnownBytes.{Appends, Consumes, IsAtEnd}
-use Rattle.std.proofs.lemmas.List.{drop_all}
+use Rattle.std.proofs.lemmas.List.{drop_all, length-append}
 use Rattle.std.proofs.lemmas.List.Elements.{All-cons}
-use Rattle.std.proofs.Math.Seq.{take-length, drop-append_seam}
+use Rattle.std.proofs.Math.Seq.{drop-append_seam}
+use Rattle.hs_io.specs.Causes.{HasCause, Rose}
 use Rattle.hs_io.specs.Outside.{Puts}
 use Rattle.hs_base.specs.declared.pos.Pos.{Pos}
 use Rattle.hs_rules.specs.declared.entry.Entry.{Entry}
@@ -14,21 +15,23 @@ use Rattle.hs_rules.specs.Runs.{after}
 use Rattle.hs_rules.proofs.PlainRuns.{IsShort, script_is_plain, plain_runs}
 use Rattle.conc_top.specs.declared.ending.RunEnd.{RunEnd}
 use Rattle.conc_top.specs.declared.ending.RunEnd.TheVariants as end
+use Rattle.conc_top.specs.declared.ending.Refusal.{Refusal}
+use Rattle.conc_top.specs.declared.ending.Refusal.TheVariants.{TooLong, NotYet}
 use Rattle.conc_top.specs.declared.ending.Ending.{Ending}
 use Rattle.conc_top.specs.declared.ending.Ending.TheVariants.{Ran, Accepted, Words, Refused, Read, Memory, Write}
-use Rattle.conc_top.specs.Answers.{script_limit, AppendsPart, Keeps, IsReadThrough, RunsScript, IsIdle}
-use Rattle.conc_top.specs.Outcomes.{IsJudged, WasPlayed}
+use Rattle.conc_top.specs.Answers.{script_limit, Comes, ErrorsFailed, IsDue, IsIdle, IsLeft, Keeps, OutputFailed, RunsScript, Tells}
+use Rattle.conc_top.specs.Outcomes.{IsJudged, IsNotYet, WasPlayed}
 
 -- ---- what is told
 
-part_all : (old new : Option (List ℕ)) (piece : List ℕ) → Appends old new piece → AppendsPart old new piece
-part_all old new piece told = (length piece, subst (λ p. Appends old new p) (sym (take-length piece)) told)
-
--- the output was told whole, and the line was not
-pub second_failed : {F : Type 0} (r : Result Unit F) (out_old out_new err_old err_new : Option (List ℕ)) (output line : List ℕ)
-    → Appends out_old out_new output → Puts err_old err_new r line → OnErr r (AppendsPart out_old out_new output × AppendsPart err_old err_new line)
-second_failed (Ok u) out_old out_new err_old err_new output line told put = tt
-second_failed (Err e) out_old out_new err_old err_new output line told put = (part_all out_old out_new output told, put)
+-- the output was told whole, and the text was not
+pub second_failed : {O E F : Type 0} (out_told : O → Option (List ℕ)) (out_faults : O → ℕ) (err_told : E → Option (List ℕ)) (err_faults : E → ℕ)
+    (r : Result Unit F) (output text : List ℕ) (out out_now : O) (err err_now : E)
+    → Appends (out_told out) (out_told out_now) output → Puts (err_told err) (err_told err_now) r text → HasCause (err_faults err) (err_faults err_now) r
+    → OnErr r (OutputFailed out_told out_faults output out out_now err err_now ⊎ ErrorsFailed out_told err_told err_faults output text out out_now err err_now)
+second_failed out_told out_faults err_told err_faults (Ok u) output text out out_now err err_now told put cause = tt
+second_failed out_told out_faults err_told err_faults (Err e) output text out out_now err err_now told put cause =
+    inr (record { whole = told; cut = put; rose = cause.failed })
 
 -- ---- the source was read through
 
@@ -41,16 +44,6 @@ cut_through : (old new : Option (List ℕ)) (bytes : List ℕ) → length bytes 
 cut_through None new bytes long taken = tt
 cut_through (Some known) None bytes long taken = absurd taken
 cut_through (Some known) (Some left) bytes long taken = some_left known left bytes taken long
-
-pub too_long_through : (e : Ending) (old new : Option (List ℕ)) (bytes : List ℕ) → length bytes ≡ script_limit + 1 → Consumes old new bytes
-    → IsReadThrough e old new
-too_long_through (Ran r) old new bytes long taken = cut_through old new bytes long taken
-too_long_through (Refused r) old new bytes long taken = cut_through old new bytes long taken
-too_long_through Accepted old new bytes long taken = tt
-too_long_through Words old new bytes long taken = tt
-too_long_through Read old new bytes long taken = tt
-too_long_through Memory old new bytes long taken = tt
-too_long_through Write old new bytes long taken = tt
 
 none_left : (known left bytes : List ℕ) → known ≡ bytes ++ left → left ≡ [] → known ≡ bytes
 none_left known left bytes whole empty = whole ∙ ap (λ l. bytes ++ l) empty ∙ append-nil bytes
@@ -65,16 +58,6 @@ end_through : (old new : Option (List ℕ)) (bytes : List ℕ) → length bytes 
 end_through None new bytes short taken end = tt
 end_through (Some known) None bytes short taken end = absurd taken
 end_through (Some known) (Some left) bytes short taken end = all_left known left bytes taken end short
-
-pub whole_through : (e : Ending) (old new : Option (List ℕ)) (bytes : List ℕ) → length bytes ≤ script_limit → Consumes old new bytes → IsAtEnd new
-    → IsReadThrough e old new
-whole_through (Ran r) old new bytes short taken end = end_through old new bytes short taken end
-whole_through (Refused r) old new bytes short taken end = end_through old new bytes short taken end
-whole_through Accepted old new bytes short taken end = tt
-whole_through Words old new bytes short taken end = tt
-whole_through Read old new bytes short taken end = tt
-whole_through Memory old new bytes short taken end = tt
-whole_through Write old new bytes short taken end = tt
 
 -- ---- a plain script ran
 
@@ -101,44 +84,109 @@ script_ran bytes (x ∷ xs) history output plain same printed =
       clock = omega arith;
     }
 
--- ---- what the call came to is kept
+-- ---- what the call came to
 
-subst_played : (bytes known : List ℕ) (r : RunEnd) (history : List Entry) (output : List ℕ) → known ≡ bytes → WasPlayed r bytes history output
-    → RunsScript known history output [] 0
-subst_played bytes known end.Done history output same played =
-    subst (λ b. RunsScript b history output [] 0) (sym same) (script_ran bytes played.0 history output played.1 played.2 played.3)
-subst_played bytes known end.Uncaught history output same played = absurd played
-subst_played bytes known end.Deadlock history output same played = absurd played
-subst_played bytes known end.Fuel history output same played = absurd played
-subst_played bytes known end.Memory history output same played = absurd played
-subst_played bytes known end.Write history output same played = absurd played
-subst_played bytes known (end.Limit kind entry) history output same played = absurd played
-
-played_keeps : (old new : Option (List ℕ)) (bytes lent : List ℕ) (r : RunEnd) (history : List Entry) (output : List ℕ) → Consumes old new bytes → IsAtEnd new
-    → lent ≡ bytes → WasPlayed r lent history output → IfSome old (λ known. RunsScript known history output [] 0)
-played_keeps None new bytes lent r history output taken end same played = tt
-played_keeps (Some known) None bytes lent r history output taken end same played = absurd taken
-played_keeps (Some known) (Some left) bytes lent r history output taken end same played =
-    subst_played lent known r history output (none_left known left bytes taken end ∙ sym same) played
+known_left : (before now : Option (List ℕ)) (taken : List ℕ) → Consumes before now taken → IsAtEnd now → IsLeft before taken
+known_left None now taken consumed end = tt
+known_left (Some known) None taken consumed end = absurd consumed
+known_left (Some known) (Some left) taken consumed end = none_left known left taken consumed end
 
 idle : (history : List Entry) (output : List ℕ) → history ≡ [] → output ≡ [] → IsIdle history output []
 idle history output none nothing = record { no_entry = none; no_output = nothing; no_errors = refl }
 
-pub judged_keeps : (e : Ending) (old new : Option (List ℕ)) (bytes lent : List ℕ) (history : List Entry) (output : List ℕ) → Consumes old new bytes → IsAtEnd new
-    → lent ≡ bytes → IsJudged e lent history output → Keeps old e history output [] 0
-judged_keeps (Ran r) old new bytes lent history output taken end same judged = played_keeps old new bytes lent r history output taken end same judged
-judged_keeps (Refused r) old new bytes lent history output taken end same judged = idle history output judged.1 judged.2
-judged_keeps Memory old new bytes lent history output taken end same judged = idle history output judged.0 judged.1
-judged_keeps Accepted old new bytes lent history output taken end same judged = absurd judged
-judged_keeps Words old new bytes lent history output taken end same judged = absurd judged
-judged_keeps Read old new bytes lent history output taken end same judged = absurd judged
-judged_keeps Write old new bytes lent history output taken end same judged = absurd judged
+played_comes : (good fault : Type 0) (before now : Option (List ℕ)) (taken : List ℕ) (r : RunEnd) (history : List Entry) (output : List ℕ) → good
+    → length taken ≤ script_limit → Consumes before now taken → IsAtEnd now → WasPlayed r taken history output → Comes good fault before now (Ran r) history output [] 0
+played_comes good fault before now taken end.Done history output is_good short consumed end played = record {
+  bytes = taken;
+  left = known_left before now taken consumed end;
+  due = (is_good, (short, played.0, played.1));
+  kept = script_ran taken played.0 history output played.1 played.2 played.3;
+  through = end_through before now taken short consumed end;
+}
+played_comes good fault before now taken end.Uncaught history output is_good short consumed end played = absurd played
+played_comes good fault before now taken end.Deadlock history output is_good short consumed end played = absurd played
+played_comes good fault before now taken end.Fuel history output is_good short consumed end played = absurd played
+played_comes good fault before now taken end.Memory history output is_good short consumed end played = absurd played
+played_comes good fault before now taken end.Write history output is_good short consumed end played = absurd played
+played_comes good fault before now taken (end.Limit kind entry) history output is_good short consumed end played = absurd played
 
--- a later reading is no lower
-later_run : (known : Option (List ℕ)) (history same_history : List Entry) (output errors : List ℕ) (last : ℕ) → same_history ≡ history
-    → IfSome known (λ bytes. RunsScript bytes history output errors 0) → IfSome known (λ bytes. RunsScript bytes same_history output errors last)
-later_run None history same_history output errors last same ran = tt
-later_run (Some bytes) history same_history output errors last same ran =
+refused_comes : (good fault : Type 0) (before now : Option (List ℕ)) (taken : List ℕ) (r : Refusal) (history : List Entry) (output : List ℕ) → good
+    → length taken ≤ script_limit → Consumes before now taken → IsAtEnd now → IsNotYet r taken → history ≡ [] → output ≡ []
+    → Comes good fault before now (Refused r) history output [] 0
+refused_comes good fault before now taken TooLong history output is_good short consumed end other none nothing = absurd other
+refused_comes good fault before now taken NotYet history output is_good short consumed end other none nothing = record {
+  bytes = taken;
+  left = known_left before now taken consumed end;
+  due = (is_good, (short, other));
+  kept = idle history output none nothing;
+  through = end_through before now taken short consumed end;
+}
+
+any_left : (before : Option (List ℕ)) → (bytes : List ℕ) × IsLeft before bytes
+any_left None = ([], tt)
+any_left (Some known) = (known, refl)
+
+pub memory_comes : (good fault : Type 0) (before now : Option (List ℕ)) (e : Ending) (history : List Entry) (output : List ℕ) → good → e ≡ Memory
+    → history ≡ [] → output ≡ [] → Comes good fault before now e history output [] 0
+memory_comes good fault before now e history output is_good is none nothing =
+    subst (λ e. Comes good fault before now e history output [] 0) (sym is)
+    (record { bytes = (any_left before).0; left = (any_left before).1; due = is_good; kept = idle history output none nothing; through = tt })
+
+pub words_come : (good fault : Type 0) (before now : Option (List ℕ)) (e : Ending) (history : List Entry) (output : List ℕ) → ¬ good → e ≡ Words
+    → history ≡ [] → output ≡ [] → Comes good fault before now e history output [] 0
+words_come good fault before now e history output bad is none nothing =
+    subst (λ e. Comes good fault before now e history output [] 0) (sym is)
+    (record { bytes = (any_left before).0; left = (any_left before).1; due = bad; kept = idle history output none nothing; through = tt })
+
+pub fault_comes : (good fault : Type 0) (before now : Option (List ℕ)) (e : Ending) (history : List Entry) (output : List ℕ) → good → fault → e ≡ Read
+    → history ≡ [] → output ≡ [] → Comes good fault before now e history output [] 0
+fault_comes good fault before now e history output is_good rose is none nothing =
+    subst (λ e. Comes good fault before now e history output [] 0) (sym is)
+    (record { bytes = (any_left before).0; left = (any_left before).1; due = (is_good, rose); kept = idle history output none nothing; through = tt })
+
+longer : (known left taken : List ℕ) → known ≡ taken ++ left → length taken ≡ script_limit + 1 → script_limit < length known
+longer known left taken whole long = omega (arith, ap (λ k. length k) whole, length-append taken left, long)
+
+long_left : (before now : Option (List ℕ)) (taken : List ℕ) → length taken ≡ script_limit + 1 → Consumes before now taken
+    → (bytes : List ℕ) × IsLeft before bytes × (script_limit < length bytes)
+long_left None now taken long consumed = (taken, tt, omega (arith, long))
+long_left (Some known) None taken long consumed = absurd consumed
+long_left (Some known) (Some left) taken long consumed = (known, refl, longer known left taken consumed long)
+
+pub too_long_comes : (good fault : Type 0) (before now : Option (List ℕ)) (e : Ending) (history : List Entry) (output taken : List ℕ) → good
+    → length taken ≡ script_limit + 1 → Consumes before now taken → e ≡ Refused TooLong → history ≡ [] → output ≡ [] → Comes good fault before now e history output [] 0
+too_long_comes good fault before now e history output taken is_good long consumed is none nothing =
+    let found = long_left before now taken long consumed in
+    subst (λ e. Comes good fault before now e history output [] 0) (sym is)
+    (record {
+      bytes = found.0;
+      left = found.1;
+      due = (is_good, found.2);
+      kept = idle history output none nothing;
+      through = cut_through before now taken long consumed;
+    })
+
+judged : (good fault : Type 0) (before now : Option (List ℕ)) (taken : List ℕ) (e : Ending) (history : List Entry) (output : List ℕ) → good
+    → length taken ≤ script_limit → Consumes before now taken → IsAtEnd now → IsJudged e taken history output → Comes good fault before now e history output [] 0
+judged good fault before now taken (Ran r) history output is_good short consumed end is = played_comes good fault before now taken r history output is_good short consumed end is
+judged good fault before now taken (Refused r) history output is_good short consumed end is =
+    refused_comes good fault before now taken r history output is_good short consumed end is.0 is.1 is.2
+judged good fault before now taken Memory history output is_good short consumed end is = memory_comes good fault before now Memory history output is_good refl is.0 is.1
+judged good fault before now taken Accepted history output is_good short consumed end is = absurd is
+judged good fault before now taken Words history output is_good short consumed end is = absurd is
+judged good fault before now taken Read history output is_good short consumed end is = absurd is
+judged good fault before now taken Write history output is_good short consumed end is = absurd is
+
+pub judged_comes : (good fault : Type 0) (before now : Option (List ℕ)) (taken lent : List ℕ) (e : Ending) (history : List Entry) (output : List ℕ) → good
+    → length taken ≤ script_limit → Consumes before now taken → IsAtEnd now → lent ≡ taken → IsJudged e lent history output → Comes good fault before now e history output [] 0
+judged_comes good fault before now taken lent e history output is_good short consumed end same is =
+    judged good fault before now taken e history output is_good short consumed end (subst (λ b. IsJudged e b history output) same is)
+
+-- ---- a later reading is no lower
+
+later_run : (bytes : List ℕ) (history same_history : List Entry) (output errors : List ℕ) (last : ℕ) → same_history ≡ history
+    → RunsScript bytes history output errors 0 → RunsScript bytes same_history output errors last
+later_run bytes history same_history output errors last same ran =
     subst (λ h. RunsScript bytes h output errors last) (sym same)
     (record {
       script = ran.script;
@@ -154,12 +202,70 @@ later_run (Some bytes) history same_history output errors last same ran =
 later_idle : (history same_history : List Entry) (output errors : List ℕ) → same_history ≡ history → IsIdle history output errors → IsIdle same_history output errors
 later_idle history same_history output errors same kept = record { no_entry = same ∙ kept.no_entry; no_output = kept.no_output; no_errors = kept.no_errors }
 
-pub keeps_later : (known : Option (List ℕ)) (e : Ending) (history same_history : List Entry) (output errors : List ℕ) (last : ℕ) → same_history ≡ history
-    → Keeps known e history output errors 0 → Keeps known e same_history output errors last
-keeps_later known (Ran r) history same_history output errors last same kept = later_run known history same_history output errors last same kept
-keeps_later known (Refused r) history same_history output errors last same kept = later_idle history same_history output errors same kept
-keeps_later known Memory history same_history output errors last same kept = later_idle history same_history output errors same kept
-keeps_later known Accepted history same_history output errors last same kept = later_idle history same_history output errors same kept
-keeps_later known Words history same_history output errors last same kept = later_idle history same_history output errors same kept
-keeps_later known Read history same_history output errors last same kept = later_idle history same_history output errors same kept
-keeps_later known Write history same_history output errors last same kept = later_idle history same_history output errors same kept
+keeps_later : (bytes : List ℕ) (e : Ending) (history same_history : List Entry) (output errors : List ℕ) (last : ℕ) → same_history ≡ history
+    → Keeps bytes e history output errors 0 → Keeps bytes e same_history output errors last
+keeps_later bytes (Ran r) history same_history output errors last same kept = later_run bytes history same_history output errors last same kept
+keeps_later bytes (Refused r) history same_history output errors last same kept = later_idle history same_history output errors same kept
+keeps_later bytes Memory history same_history output errors last same kept = later_idle history same_history output errors same kept
+keeps_later bytes Accepted history same_history output errors last same kept = later_idle history same_history output errors same kept
+keeps_later bytes Words history same_history output errors last same kept = later_idle history same_history output errors same kept
+keeps_later bytes Read history same_history output errors last same kept = later_idle history same_history output errors same kept
+keeps_later bytes Write history same_history output errors last same kept = later_idle history same_history output errors same kept
+
+pub comes_later : (good fault : Type 0) (before now : Option (List ℕ)) (e : Ending) (history same_history : List Entry) (output errors : List ℕ) (last : ℕ)
+    → same_history ≡ history → Comes good fault before now e history output errors 0 → Comes good fault before now e same_history output errors last
+comes_later good fault before now e history same_history output errors last same comes = record {
+  bytes = comes.bytes;
+  left = comes.left;
+  due = comes.due;
+  kept = keeps_later comes.bytes e history same_history output errors last same comes.kept;
+  through = comes.through;
+}
+
+-- ---- the cause of the answer that was given
+
+due_given : (good fault write_fault : Type 0) (bytes : List ℕ) (e given : Ending) → IsDue good bytes fault ⊥ e → given ≡ e → IsDue good bytes fault write_fault given
+due_given good fault write_fault bytes (Ran r) given due is = subst (λ e. IsDue good bytes fault write_fault e) (sym is) due
+due_given good fault write_fault bytes (Refused r) given due is = subst (λ e. IsDue good bytes fault write_fault e) (sym is) due
+due_given good fault write_fault bytes Memory given due is = subst (λ e. IsDue good bytes fault write_fault e) (sym is) due
+due_given good fault write_fault bytes Accepted given due is = absurd due
+due_given good fault write_fault bytes Words given due is = subst (λ e. IsDue good bytes fault write_fault e) (sym is) due
+due_given good fault write_fault bytes Read given due is = subst (λ e. IsDue good bytes fault write_fault e) (sym is) due
+due_given good fault write_fault bytes Write given due is = absurd due
+
+-- the ending is Write or another
+is_write : (e : Ending) → (e ≡ Write) ⊎ (e ≡ Write → ⊥)
+is_write Write = inl refl
+is_write (Ran r) = inr (λ same. search (rules, same))
+is_write (Refused r) = inr (λ same. search (rules, same))
+is_write Memory = inr (λ same. search (rules, same))
+is_write Accepted = inr (λ same. search (rules, same))
+is_write Words = inr (λ same. search (rules, same))
+is_write Read = inr (λ same. search (rules, same))
+
+rose_of : {O E : Type 0} (out_told : O → Option (List ℕ)) (out_faults : O → ℕ) (err_told : E → Option (List ℕ)) (err_faults : E → ℕ) (output text : List ℕ)
+    (out out_now : O) (err err_now : E)
+    → OutputFailed out_told out_faults output out out_now err err_now ⊎ ErrorsFailed out_told err_told err_faults output text out out_now err err_now
+    → Rose (out_faults out) (out_faults out_now) ⊎ Rose (err_faults err) (err_faults err_now)
+rose_of out_told out_faults err_told err_faults output text out out_now err err_now (inl failed) = inl failed.rose
+rose_of out_told out_faults err_told err_faults output text out out_now err err_now (inr failed) = inr failed.rose
+
+due_write : (good fault write_fault : Type 0) (bytes : List ℕ) (given : Ending) → write_fault → given ≡ Write → IsDue good bytes fault write_fault given
+due_write good fault write_fault bytes given rose is = subst (λ e. IsDue good bytes fault write_fault e) (sym is) rose
+
+caused_by : {O E : Type 0} (good fault : Type 0) (bytes : List ℕ) (out_told : O → Option (List ℕ)) (out_faults : O → ℕ) (err_told : E → Option (List ℕ))
+    (err_faults : E → ℕ) (came given : Ending) (output text : List ℕ) (out out_now : O) (err err_now : E)
+    → (given ≡ Write) ⊎ (given ≡ Write → ⊥) → IsDue good bytes fault ⊥ came
+    → Tells out_told out_faults err_told err_faults came given output text out out_now err err_now
+    → IsDue good bytes fault (Rose (out_faults out) (out_faults out_now) ⊎ Rose (err_faults err) (err_faults err_now)) given
+caused_by good fault bytes out_told out_faults err_told err_faults came given output text out out_now err err_now (inl is) due tells =
+    due_write good fault _ bytes given (rose_of out_told out_faults err_told err_faults output text out out_now err err_now (tells.cut_off is)) is
+caused_by good fault bytes out_told out_faults err_told err_faults came given output text out out_now err err_now (inr other) due tells =
+    due_given good fault _ bytes came given due (tells.whole other).0
+
+pub caused : {O E : Type 0} (good fault : Type 0) (bytes : List ℕ) (out_told : O → Option (List ℕ)) (out_faults : O → ℕ) (err_told : E → Option (List ℕ))
+    (err_faults : E → ℕ) (came given : Ending) (output text : List ℕ) (out out_now : O) (err err_now : E) → IsDue good bytes fault ⊥ came
+    → Tells out_told out_faults err_told err_faults came given output text out out_now err err_now
+    → IsDue good bytes fault (Rose (out_faults out) (out_faults out_now) ⊎ Rose (err_faults err) (err_faults err_now)) given
+caused good fault bytes out_told out_faults err_told err_faults came given output text out out_now err err_now due tells =
+    caused_by good fault bytes out_told out_faults err_told err_faults came given output text out out_now err err_now (is_write given) due tells

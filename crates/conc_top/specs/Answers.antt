@@ -1,6 +1,7 @@
 -- What the top call answers, when, and what it tells (own).
-use Rattle.std.specs.Prelude.{◌≡◌, ◌≤◌, ◌<◌, ℕ, List, [], ◌∷◌, ◌++◌, length, take, drop, ◌+◌, Option, Some, IfSome, codes, ⊤}
+use Rattle.std.specs.Prelude.{◌≡◌, ◌⊎◌, ◌≤◌, ◌<◌, ◌+◌, ℕ, List, [], ◌∷◌, length, take, drop, Option, Some, None, IfSome, codes, ⊤}
 use Rattle.std.specs.Io.KnownBytes.{Appends}
+use Rattle.hs_io.specs.Causes.{Rose}
 use Rattle.hs_rules.specs.declared.entry.Entry.{Entry}
 use Rattle.hs_rules.specs.Programs.{Fn}
 use Rattle.hs_rules.specs.PlainScripts.{PlainScript}
@@ -8,7 +9,6 @@ use Rattle.hs_rules.specs.State.{State}
 use Rattle.hs_rules.specs.Runs.{IsRun}
 use Rattle.hs_rules.specs.Endings.{IsDone}
 use Rattle.hs_rules.specs.Plain.{IsPlain}
-use Rattle.conc_top.specs.Lines.{line_of}
 use Rattle.conc_top.specs.declared.ending.RunEnd.{RunEnd}
 use Rattle.conc_top.specs.declared.ending.RunEnd.TheVariants as end
 use Rattle.conc_top.specs.declared.ending.Refusal.{Refusal}
@@ -44,16 +44,21 @@ MayEnd end.Memory bytes = ⊥
 MayEnd end.Write bytes = ⊥
 MayEnd (end.Limit kind entry) bytes = ⊥
 
--- The cause of each answer, by whether the words are good, the bytes that the source had left where it tells them, and
--- the causes of a read fault and of a write fault. Want of memory is free.
-abbrev pub IsDue : (good : Type 0) (left : Option (List ℕ)) (read_fault write_fault : Type 0) → Ending → Type 0
-IsDue good left read_fault write_fault Words = ¬ good
-IsDue good left read_fault write_fault Read = good × read_fault
-IsDue good left read_fault write_fault (Refused r) = good × IfSome left (λ bytes. IsRefused r bytes)
-IsDue good left read_fault write_fault (Ran r) = good × IfSome left (λ bytes. MayEnd r bytes)
-IsDue good left read_fault write_fault Memory = good
-IsDue good left read_fault write_fault Write = write_fault
-IsDue good left read_fault write_fault Accepted = ⊥
+-- These are the bytes that a source had left, where it tells them.
+abbrev pub IsLeft : Option (List ℕ) → List ℕ → Type 0
+IsLeft None bytes = ⊤
+IsLeft (Some known) bytes = known ≡ bytes
+
+-- The cause of each answer, by whether the words are good, the bytes of the input, and the causes of a read fault and of
+-- a write fault. Want of memory is free.
+abbrev pub IsDue : (good : Type 0) (bytes : List ℕ) (read_fault write_fault : Type 0) → Ending → Type 0
+IsDue good bytes read_fault write_fault Words = ¬ good
+IsDue good bytes read_fault write_fault Read = good × read_fault
+IsDue good bytes read_fault write_fault (Refused r) = good × IsRefused r bytes
+IsDue good bytes read_fault write_fault (Ran r) = good × MayEnd r bytes
+IsDue good bytes read_fault write_fault Memory = good
+IsDue good bytes read_fault write_fault Write = write_fault
+IsDue good bytes read_fault write_fault Accepted = ⊥
 
 -- ---- what is kept and told
 
@@ -75,15 +80,15 @@ pub record IsIdle (history : List Entry) (output errors : List ℕ) : Type 0 whe
   pub no_output : output ≡ []
   pub no_errors : errors ≡ []
 
--- what the answer keeps and has to tell, where the source tells the bytes that it had left: a run, or nothing
-abbrev pub Keeps : Option (List ℕ) → Ending → List Entry → (output errors : List ℕ) → ℕ → Type 0
-Keeps left (Ran r) history output errors last = IfSome left (λ bytes. RunsScript bytes history output errors last)
-Keeps left Accepted history output errors last = IsIdle history output errors
-Keeps left Words history output errors last = IsIdle history output errors
-Keeps left (Refused r) history output errors last = IsIdle history output errors
-Keeps left Read history output errors last = IsIdle history output errors
-Keeps left Memory history output errors last = IsIdle history output errors
-Keeps left Write history output errors last = IsIdle history output errors
+-- what the answer keeps and has to tell: a run, or nothing
+abbrev pub Keeps : List ℕ → Ending → List Entry → (output errors : List ℕ) → ℕ → Type 0
+Keeps bytes (Ran r) history output errors last = RunsScript bytes history output errors last
+Keeps bytes Accepted history output errors last = IsIdle history output errors
+Keeps bytes Words history output errors last = IsIdle history output errors
+Keeps bytes (Refused r) history output errors last = IsIdle history output errors
+Keeps bytes Read history output errors last = IsIdle history output errors
+Keeps bytes Memory history output errors last = IsIdle history output errors
+Keeps bytes Write history output errors last = IsIdle history output errors
 
 -- The source was read to its end, or to the first byte past the limit, before a script was refused or run.
 abbrev pub IsReadThrough : Ending → (before now : Option (List ℕ)) → Type 0
@@ -95,15 +100,39 @@ IsReadThrough Read before now = ⊤
 IsReadThrough Memory before now = ⊤
 IsReadThrough Write before now = ⊤
 
+-- What a call came to, before it told anything: one answer that is due, and what it kept. A write fault is none.
+pub record Comes (good read_fault : Type 0) (before now : Option (List ℕ)) (came : Ending) (history : List Entry) (output errors : List ℕ) (last : ℕ) : Type 0 where
+  -- the bytes of the input
+  pub bytes : List ℕ
+  pub left : IsLeft before bytes
+  pub due : IsDue good bytes read_fault ⊥ came
+  pub kept : Keeps bytes came history output errors last
+  pub through : IsReadThrough came before now
+
 -- the first bytes of the piece were told, as many as it may be
 abbrev pub AppendsPart : Option (List ℕ) → Option (List ℕ) → List ℕ → Type 0
 AppendsPart old new piece = (n : ℕ) × Appends old new (take n piece)
 
--- The call came to one answer. It gave that one and told the output, the error output and the answer's line whole; or
--- a put failed, it answered Write, and each sink was told the first bytes of that.
-pub record Tells (came given : Ending) (output errors : List ℕ) (out_before out_now err_before err_now : Option (List ℕ)) : Type 0 where
-  pub whole : ¬ (given ≡ Write) → (given ≡ came) × Appends out_before out_now output × Appends err_before err_now (errors ++ line_of came)
-  pub cut_off : given ≡ Write → AppendsPart out_before out_now output × AppendsPart err_before err_now (errors ++ line_of came)
+-- A put of the output failed, and nothing more was put.
+pub record OutputFailed {O E : Type 0} (told : O → Option (List ℕ)) (faults : O → ℕ) (output : List ℕ) (out out_now : O) (err err_now : E) : Type 0 where
+  pub cut : AppendsPart (told out) (told out_now) output
+  pub rose : Rose (faults out) (faults out_now)
+  pub no_more : err_now ≡ err
+
+-- The output was told whole, and then a put of what goes to the error sink failed.
+pub record ErrorsFailed {O E : Type 0} (out_told : O → Option (List ℕ)) (told : E → Option (List ℕ)) (faults : E → ℕ) (output line : List ℕ) (out out_now : O) (err err_now : E) : Type 0 where
+  pub whole : Appends (out_told out) (out_told out_now) output
+  pub cut : AppendsPart (told err) (told err_now) line
+  pub rose : Rose (faults err) (faults err_now)
+
+-- What a call told: the output as one piece to the one sink, and then this text as one piece to the other, or as much as
+-- could be told. An empty piece was not put.
+pub record Tells {O E : Type 0} (out_told : O → Option (List ℕ)) (out_faults : O → ℕ) (err_told : E → Option (List ℕ)) (err_faults : E → ℕ)
+    (came given : Ending) (output text : List ℕ) (out out_now : O) (err err_now : E) : Type 0 where
+  pub whole : ¬ (given ≡ Write) → (given ≡ came) × Appends (out_told out) (out_told out_now) output × Appends (err_told err) (err_told err_now) text
+  pub cut_off : given ≡ Write → OutputFailed out_told out_faults output out out_now err err_now ⊎ ErrorsFailed out_told err_told err_faults output text out out_now err err_now
+  pub no_output : output ≡ [] → out_now ≡ out
+  pub no_text : text ≡ [] → err_now ≡ err
 
 -- a sink that tells its bytes was told nothing yet
 abbrev pub WasToldNothing : Option (List ℕ) → Type 0

@@ -1,10 +1,10 @@
-ghost use Rattle.std.specs.Prelude.{◌≡◌, ◌⊎◌, ◌↔◌, ℕ, List, IsTrue, OnErr, OnOk, [], map, string_bytes};
+ghost use Rattle.std.specs.Prelude.{◌≡◌, ◌⊎◌, ◌↔◌, ◌++◌, ℕ, List, IsTrue, OnErr, OnOk, [], map, string_bytes};
 ghost use Rattle.std.specs.Io.KnownBytes.{Appends};
 ghost use Rattle.hs_io.specs.Causes.{HasCause, Rose};
 ghost use Rattle.hs_io.specs.Outside.{Puts};
 ghost use Rattle.conc_top.specs.declared.ending.Ending.{Ending};
-ghost use Rattle.conc_top.specs.declared.ending.Ending.TheVariants.{Ran, Write};
-ghost use Rattle.conc_top.specs.Answers.{AppendsPart, AreGood, IsDue, IsReadThrough, Keeps, Tells, WasToldNothing};
+ghost use Rattle.conc_top.specs.declared.ending.Ending.TheVariants.{Write};
+ghost use Rattle.conc_top.specs.Answers.{AreGood, Comes, ErrorsFailed, IsDue, IsLeft, OutputFailed, Tells, WasToldNothing};
 ghost use Rattle.conc_top.specs.Lines.{line_of, status_of};
 ghost use Rattle.conc_top.specs.Outcomes.{IsJudged};
 
@@ -36,24 +36,22 @@ pub fn run<S: Source, O: Sink, E: Sink, K: Clock, G: Gate>(
     ensures status { result.status ≡ status_of result.ending }
 
     // The table of answers and their causes. Want of memory alone is free.
-    ensures cause { IsDue (AreGood (map (λ word. string_bytes word) words.now)) (S.left source.old)
+    ensures cause { (bytes : List ℕ) × IsLeft (S.left source.old) bytes
+        × IsDue (AreGood (map (λ word. string_bytes word) words.now)) bytes
         (Rose (S.faults source.old) (S.faults source.new))
         (Rose (O.faults out) (O.faults result.out) ⊎ Rose (E.faults err) (E.faults result.err)) result.ending }
 
     // The answer that the call came to, what it kept and what it told; where a put failed, Write stands in its place.
     ensures told { (came : Ending) × (output errors : List ℕ)
-        × IsDue (AreGood (map (λ word. string_bytes word) words.now)) (S.left source.old)
-        (Rose (S.faults source.old) (S.faults source.new)) ⊥ came
-        × Keeps (S.left source.old) came result.history output errors (K.last result.clock)
-        × IsReadThrough came (S.left source.old) (S.left source.new)
-        × Tells came result.ending output errors (O.told out) (O.told result.out) (E.told err) (E.told result.err) }
+        × Comes (AreGood (map (λ word. string_bytes word) words.now)) (Rose (S.faults source.old) (S.faults source.new))
+        (S.left source.old) (S.left source.new) came result.history output errors (K.last result.clock)
+        × Tells O.told O.faults E.told E.faults came result.ending output (errors ++ line_of came) out result.out err result.err }
 
     // The source is not read where the words are not good.
     ensures unread { ¬ AreGood (map (λ word. string_bytes word) words.now) → source.new ≡ source.old }
 
-    // An empty piece is not put.
-    ensures out_untouched { result.history ≡ [] → result.out ≡ out }
-    ensures err_untouched { result.ending ≡ Ran RunEnd.Done → result.err ≡ err }
+    // The clock is handed back as it was.
+    ensures clock { result.clock ≡ clock }
 {
     let outcome = come_to(alloc, words, source);
     tell(outcome, out, err, clock)
@@ -93,11 +91,8 @@ fn are_good(words: &[String]) -> bool
 
 // What the call comes to.
 fn come_to<S: Source>(alloc: Global, words: &[String], source: &mut S) -> Outcome
-    ensures due { IsDue (AreGood (map (λ word. string_bytes word) words.now)) (S.left source.old)
-        (Rose (S.faults source.old) (S.faults source.new)) ⊥ result.ending }
-    ensures keeps { Keeps (S.left source.old) result.ending result.history result.output.items [] 0 }
-    ensures through { IsReadThrough result.ending (S.left source.old) (S.left source.new) }
-    ensures idle { result.history ≡ [] → result.output.items ≡ [] }
+    ensures comes { Comes (AreGood (map (λ word. string_bytes word) words.now)) (Rose (S.faults source.old) (S.faults source.new))
+        (S.left source.old) (S.left source.new) result.ending result.history result.output.items [] 0 }
     ensures unread { ¬ AreGood (map (λ word. string_bytes word) words.now) → source.new ≡ source.old }
 {
     if !are_good(words) {
@@ -139,12 +134,10 @@ fn tell<O: Sink, E: Sink, K: Clock>(
 ) -> Done<O, E, K>
     requires { ¬ (come.ending ≡ Write) }
     ensures status { result.status ≡ status_of result.ending }
-    ensures tells { Tells come.ending result.ending come.output.items [] (O.told out) (O.told result.out) (E.told err) (E.told result.err) }
-    ensures cause { result.ending ≡ Write → Rose (O.faults out) (O.faults result.out) ⊎ Rose (E.faults err) (E.faults result.err) }
+    ensures tells { Tells O.told O.faults E.told E.faults come.ending result.ending come.output.items ([] ++ line_of come.ending)
+        out result.out err result.err }
     ensures history { result.history ≡ come.history }
     ensures clock { result.clock ≡ clock }
-    ensures out_untouched { come.output.items ≡ [] → result.out ≡ out }
-    ensures err_untouched { line_of come.ending ≡ [] → result.err ≡ err }
 {
     let Outcome {
         ending,
@@ -171,16 +164,16 @@ fn put_both<O: Sink, E: Sink>(
     out: &mut O,
     err: &mut E,
     output: &[u8],
-    line: &[u8],
+    text: &[u8],
 ) -> Result<(), Failed>
-    ensures ok { OnOk result (Appends (O.told out.old) (O.told out.new) output.now × Appends (E.told err.old) (E.told err.new) line.now) }
-    ensures failed { OnErr result (AppendsPart (O.told out.old) (O.told out.new) output.now × AppendsPart (E.told err.old) (E.told err.new) line.now) }
-    ensures cause { OnErr result (Rose (O.faults out.old) (O.faults out.new) ⊎ Rose (E.faults err.old) (E.faults err.new)) }
-    ensures out_untouched { output.now ≡ [] → out.new ≡ out.old }
-    ensures err_untouched { line.now ≡ [] → err.new ≡ err.old }
+    ensures ok { OnOk result (Appends (O.told out.old) (O.told out.new) output.now × Appends (E.told err.old) (E.told err.new) text.now) }
+    ensures failed { OnErr result (OutputFailed O.told O.faults output.now out.old out.new err.old err.new
+        ⊎ ErrorsFailed O.told E.told E.faults output.now text.now out.old out.new err.old err.new) }
+    ensures no_output { output.now ≡ [] → out.new ≡ out.old }
+    ensures no_text { text.now ≡ [] → err.new ≡ err.old }
 {
     put_piece(out, output)?;
-    put_piece(err, line)
+    put_piece(err, text)
 }
 
 fn put_piece<O: Sink>(sink: &mut O, piece: &[u8]) -> Result<(), Failed>

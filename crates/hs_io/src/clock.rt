@@ -1,4 +1,4 @@
-ghost use Rattle.std.specs.Prelude.{◌≡◌, ◌≤◌, ℕ, Some, None};
+ghost use Rattle.std.specs.Prelude.{◌≡◌, ◌≤◌, ℕ, Some, None, max};
 ghost use Rattle.std.specs.declared.option.Option.{Option};
 ghost use Rattle.hs_base.specs.declared.clock_choice.ClockChoice.{ClockChoice};
 ghost use Rattle.hs_io.specs.Outside.{Waits};
@@ -57,21 +57,32 @@ impl VirtualClock {
 }
 
 impl Clock for VirtualClock {
+    ghost use Rattle.hs_io.specs.Memory.{choice_of, moment_of};
+
     ghost last = { λ c. c.last };
 
     ghost choice = { λ c. c.choice };
 
     ghost early_waits = { λ _. 0 };
 
-    fn choose(&mut self, wanted: ClockChoice) {
+    fn choose(&mut self, wanted: ClockChoice)
+        ensures chosen { choice_of self.new ≡ Some wanted }
+        ensures same { moment_of self.new ≡ moment_of self.old }
+    {
         self.choice = Some(wanted);
     }
 
-    fn now(&mut self) -> u64 {
+    fn now(&mut self) -> u64
+        ensures reading { result ≡ moment_of self.old }
+        ensures same { self.new ≡ self.old }
+    {
         self.last
     }
 
-    fn wait_until(&mut self, at: u64) {
+    fn wait_until(&mut self, at: u64)
+        ensures last { moment_of self.new ≡ max (moment_of self.old) at }
+        ensures chosen { choice_of self.new ≡ choice_of self.old }
+    {
         self.last = self.last.max(at);
     }
 }
