@@ -4,7 +4,7 @@
 -- "Asynchronous Exceptions in Haskell" and the documentation of `Control.Exception`: `throwTo` blocks its caller until
 -- the target receives the exception, so an exception in flight is a blocked thrower. `Control.Concurrent`: `threadDelay`
 -- suspends its caller for at least so many microseconds.
-use Rattle.std.specs.Prelude.{ℕ, ◌==◌, nat_lt, Bool, true, false, cond, ◌||◌, ◌&&◌, List, [], ◌∷◌, ◌++◌, Option, Some, None}
+use Rattle.std.specs.Prelude.{ℕ, ◌==◌, nat_lt, nat_le, Bool, true, false, cond, ◌||◌, ◌&&◌, List, [], ◌∷◌, ◌++◌, Option, Some, None}
 use Rattle.hs_base.specs.declared.exn.Exn.{Exn}
 use Rattle.hs_rules.specs.OneCell.{Want, To_take, To_put, Place}
 
@@ -90,6 +90,18 @@ module _ {V : Type 0} where
   sleepers_of [] = []
   sleepers_of (w ∷ ws) = with_sleeper w.thread w.reason (sleepers_of ws)
 
+-- ---- lists of items that each have a thread's number
+module _ {A : Type 0} (number : A → ℕ) where
+  -- whether an item has this number
+  abbrev pub has : ℕ → List A → Bool
+  has t [] = false
+  has t (a ∷ as') = cond (number a == t) true (has t as')
+
+  -- all items but those with this number
+  abbrev pub without : ℕ → List A → List A
+  without t [] = []
+  without t (a ∷ as') = cond (number a == t) (without t as') (a ∷ without t as')
+
 -- ---- what a list of exceptions in flight says
 -- the exceptions in flight to a thread, in order of throwing
 abbrev pub flying_to : ℕ → List Flying → List Flying
@@ -98,13 +110,21 @@ flying_to u (f ∷ fs) = cond (f.target == u) (f ∷ flying_to u fs) (flying_to 
 
 -- the exceptions of all other throwers
 abbrev pub withdrawn : ℕ → List Flying → List Flying
-withdrawn t [] = []
-withdrawn t (f ∷ fs) = cond (f.thrower == t) (withdrawn t fs) (f ∷ withdrawn t fs)
+withdrawn t fs = without (λ (f : Flying). f.thrower) t fs
+
+-- whether a thread throws
+abbrev pub is_throwing : ℕ → List Flying → Bool
+is_throwing t fs = has (λ (f : Flying). f.thrower) t fs
 
 -- the exception of a thrower
 abbrev pub thrown_by : ℕ → List Flying → Option Exn
 thrown_by t [] = None
 thrown_by t (f ∷ fs) = cond (f.thrower == t) (Some f.exn) (thrown_by t fs)
+
+-- who throws first, and what
+abbrev pub first_thrown : List Flying → Option (ℕ × Exn)
+first_thrown [] = None
+first_thrown (f ∷ fs) = Some (f.thrower, f.exn)
 
 -- ---- what a list of sleepers says
 -- a sleeper is before another: by due, and of one due by thread
@@ -122,11 +142,19 @@ sorted_sleepers [] = []
 sorted_sleepers (s ∷ ss) = sleeper_added s (sorted_sleepers ss)
 
 -- the sleepers but this thread
-abbrev pub woken : ℕ → List Sleeper → List Sleeper
-woken t [] = []
-woken t (s ∷ ss) = cond (s.thread == t) (woken t ss) (s ∷ woken t ss)
+abbrev pub still_asleep : ℕ → List Sleeper → List Sleeper
+still_asleep t ss = without (λ (s : Sleeper). s.thread) t ss
 
 -- whether a thread sleeps
 abbrev pub is_sleeping : ℕ → List Sleeper → Bool
-is_sleeping t [] = false
-is_sleeping t (s ∷ ss) = cond (s.thread == t) true (is_sleeping t ss)
+is_sleeping t ss = has (λ (s : Sleeper). s.thread) t ss
+
+-- the first of a list whose time has come
+abbrev pub first_awake : ℕ → List Sleeper → Option ℕ
+first_awake now [] = None
+first_awake now (s ∷ ss) = cond (nat_le s.due now) (Some s.thread) (first_awake now ss)
+
+-- when the first of a list may wake
+abbrev pub earliest : List Sleeper → Option ℕ
+earliest [] = None
+earliest (s ∷ ss) = Some s.due

@@ -1,0 +1,14 @@
+//! Exceptions in flight, and sleepers.
+//!
+//! To a contract `Flight` is the list of exceptions in flight, in order of throwing, and `spare`, how many more fit
+//! before `room` is called again. `Sleepers` is the list of sleeping threads, by due and of one due by thread, and its
+//! `spare`.
+//!
+//! The promise: each call is what the one list of blocked threads (`hs_rules`, `Waiting`) says of throwers and of
+//! sleepers; once room was made no call takes memory. Delivering and waking are left to the caller.
+#![tactic(auto)]
+
+mod flight;
+mod thrown;
+
+pub use flight::Flight;
