@@ -27,6 +27,10 @@ use Rattle.hs_laws.proofs.Steps.{FineDef, def_fine}
 use Rattle.hs_rules.specs.declared.entry.Entry.TheVariants as entry
 use Rattle.hs_rules.specs.MaskLaw.{Received}
 use Rattle.hs_laws.proofs.WaitsBegan.{mask_law}
+use Rattle.hs_rules.specs.CellLaw.{KeptCell}
+use Rattle.hs_laws.proofs.CellHistories.{cell_law}
+use Rattle.hs_rules.specs.Values.{V}
+use Rattle.std.proofs.Common.{slice_get}
 use Rattle.hs_laws.proofs.States.{Holds, first_holds, run_kept, brackets, owing}
 
 -- ---- the forms
@@ -166,3 +170,9 @@ pub received_of : (ds : List Fn) (es : List Entry) (u v : State) (t : ℕ) → I
 received_of ds es u v t r n =
     let k = run_from_main ds es u r in
     (k.0, k.1, mask_law (code_of ds) (fine_actions ds) k.0 (fine_main ds k.0 k.1) es u v t k.2 n)
+
+-- each cell of a run
+pub cell_of_run : (ds : List Fn) (es : List Entry) (u : State) (m : ℕ) (c : Option V) → IsRun ds es u → slice_get u.cells m ≡ Some c → (main : Core) × (main_of ds ≡ Some main) × KeptCell (code_of ds) (first main) es u m
+cell_of_run ds es u m c r some =
+    let k = run_from_main ds es u r in
+    (k.0, k.1, cell_law (code_of ds) (fine_actions ds) k.0 (fine_main ds k.0 k.1) es u m c k.2 some)

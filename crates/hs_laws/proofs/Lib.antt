@@ -8,3 +8,6 @@ mod Ends
 mod States
 mod Expanded
 mod WaitsBegan
+mod CellSteps
+mod CellRuns
+mod CellHistories

@@ -6,5 +6,6 @@
 #![tactic(auto)]
 
 pub mod brackets;
+pub mod cells;
 pub mod masks;
 pub mod terms;

@@ -33,3 +33,4 @@ pub mod Plain
 pub mod BracketLaw
 pub mod MaskLaw
 pub mod BracketPhases
+pub mod CellLaw
