@@ -16,8 +16,8 @@ use Rattle.hs_rules.specs.Primitives.{on_none, on_one, on_two, as_text, as_numbe
 use Rattle.hs_rules.specs.Entries.{moved, local_entry, at_operation, op_entry, is_throw, is_unmasked, is_interruptible, is_open, is_receptive, received, receive_entry, woken, uncaught_line, throwers, closed, finish_entry, on_thread, next}
 use Rattle.hs_rules.specs.Entries as entries
 use Rattle.hs_rules.specs.Runs.{Run}
-use Rattle.hs_rules.specs.OneCell.{Want, To_take, To_put, leaves_line, first_put, first_take}
-use Rattle.hs_rules.specs.CellLaw.{Shows, answered, made_with, KeptCell}
+use Rattle.hs_rules.specs.OneCell.{made, Want, To_take, To_put, leaves_line, first_put, first_take}
+use Rattle.hs_rules.specs.CellLaw.{Shows, answered, KeptCell}
 use Rattle.hs_laws.proofs.Lists.{cond_cases, cond_false, equal_or}
 use Rattle.hs_rules.specs.BracketPhases.{Fine, FineCode}
 use Rattle.hs_laws.proofs.States.{Holds, Keeps, next_kept, first_holds}
@@ -245,7 +245,7 @@ prepend code s a u e es m l k = record {
   t = k.t;
   split = ap (λ z. e ∷ z) k.split;
   before = k.before;
-  made = k.made;
+  begun = k.begun;
   run = (a, l, k.run);
   makes = k.makes;
   number = k.number;
@@ -265,15 +265,15 @@ cell_law_from code fc (e ∷ es) s u m c r g none some =
     ⊎_elim
     (λ q. prepend code s a u e es m r.1 (cell_law_from code fc es a u m c r.2 ga q some))
     (λ q.
-    let shows : Shows m a (made_with q.3.0) = record { content = q.3.1; line = q.4 } in
-    let k = cell_run code fc m es a u (made_with q.3.0) r.2 ga shows in
+    let shows : Shows m a (made q.3.0) = record { content = q.3.1; line = q.4 } in
+    let k = cell_run code fc m es a u (made q.3.0) r.2 ga shows in
     record {
       front = [];
       back = es;
       t = q.0;
       split = ap (λ z. z ∷ es) q.1;
       before = s;
-      made = a;
+      begun = a;
       run = refl;
       makes = subst (λ f. next code s f ≡ Some a) q.1 r.1;
       number = q.2;

@@ -22,7 +22,7 @@ use Rattle.hs_rules.specs.OneCell as one
 use Rattle.hs_rules.specs.OneCell.{Want, To_take, To_put, Place, Cell, Call, Make, Take, Put, Try_take, Try_put, Leave, Answer, Made, Took, Gave, Tried_take, Tried_put, Reply, After, cell_of, reply_of, after_of, leaves_line, joins_line, put_of, takes_it, first_put, first_take, comes_in, call}
 use Rattle.hs_rules.specs.CellLaw.{Shows, call_if, with_one, with_two, primitive_call, operation_call, part_call, thread_call, leave_if, leave_call, call_of, after_call, IsAnswered, AnswersCall, FollowsCell, held, put_in, came_in, taken_by, went_out, ins_by, outs_by, ins, outs, cell_after}
 use Rattle.hs_laws.proofs.Lists.{item_append, cond_cases, cond_true, cond_false, equal_or, Each, each_changed, Found, first_found, Once, those, throws, throws_at, throw_is_first, throwers_are, once_reason}
-use Rattle.hs_rules.specs.MaskLaw.{first_flying}
+use Rattle.hs_rules.specs.Waiting.{first_thrown}
 use Rattle.hs_laws.proofs.States.{Holds, Keeps, Waits, Apart, next_kept}
 use Rattle.hs_laws.proofs.CellSteps.{Follows, FollowsSome, take_follows, put_follows, try_take_follows, try_put_follows, Away, Still, StillSome, take_still, try_take_still, put_still, try_put_still, resume_still, block_still, those_still, away_leaves, line_leaves, not_blocked_reason, reason_left}
 use Rattle.hs_rules.specs.BracketPhases.{FineCode}
@@ -190,7 +190,7 @@ module _ (m : ℕ) (s : State) (c : Cell V) (h : Shows m s c) (g : Holds s) wher
   throws_here t (Throwing u x) e q = ⊎_elim (λ f. (x, ap (λ j. Throwing j x) f.1)) (λ f. let z : ◌≡◌ {A = Option Exn} None (Some e) = sym (cond_false (u == t) (Some x) None f.0) ∙ q in absurd (cc z)) (equal_or u t)
   throws_here t (Sleeping d) e q = absurd (cc q)
 
-  hit_done : (t : ℕ) (fs : List Flying) → Found (λ u r. (reason_of u s.blocked ≡ Some r) × ((x : Exn) → r ≡ Throwing t x → u ≢ t)) (throws t) (first_flying fs) → DoneSome m s c (leave_call m t (reason_of t s.blocked)) (received t fs s)
+  hit_done : (t : ℕ) (fs : List Flying) → Found (λ u r. (reason_of u s.blocked ≡ Some r) × ((x : Exn) → r ≡ Throwing t x → u ≢ t)) (throws t) (first_thrown fs) → DoneSome m s c (leave_call m t (reason_of t s.blocked)) (received t fs s)
   hit_done t [] f = tt
   hit_done t (w ∷ ws) f =
       let x = throws_here t f.0 w.exn f.2 in

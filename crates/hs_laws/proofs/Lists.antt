@@ -1,5 +1,5 @@
 -- Lists by number, and what holds of each that waits.
-use Rattle.hs_rules.specs.MaskLaw.{first_flying}
+use Rattle.hs_rules.specs.Waiting.{first_thrown}
 use Rattle.std.proofs.Common.{◌≡◌, ◌≢◌, ℕ, zero, suc, ◌<◌, ◌==◌, List, [], ◌∷◌, ◌++◌, length, slice_get, slice_set, Bool, true, false, cond, Option, Some, None, refl, sym, ap, ◌∙◌, subst, arith, ◌⊎◌, ⊎_elim}
 use Rattle.hs_base.specs.declared.exn.Exn.{Exn}
 use Rattle.hs_rules.specs.Values.{V}
@@ -121,18 +121,18 @@ pub take_is_first : (m : ℕ) (ws : List (Waiting V)) → first_take (line_of m 
 take_is_first m [] = refl
 take_is_first m (w ∷ ws) = take_at m w.thread w.reason ws (take_is_first m ws)
 
-throw_at_is : (t : ℕ) (w : ℕ) (r : Reason V) (ws : List (Waiting V)) → first_flying (flying_to t (flight_of ws)) ≡ first_of_kind (throws t) ws
-    → first_flying (flying_to t (flight_of (record { thread = w; reason = r } ∷ ws))) ≡ first_of_kind (throws t) (record { thread = w; reason = r } ∷ ws)
+throw_at_is : (t : ℕ) (w : ℕ) (r : Reason V) (ws : List (Waiting V)) → first_thrown (flying_to t (flight_of ws)) ≡ first_of_kind (throws t) ws
+    → first_thrown (flying_to t (flight_of (record { thread = w; reason = r } ∷ ws))) ≡ first_of_kind (throws t) (record { thread = w; reason = r } ∷ ws)
 throw_at_is t w (Taking n) ws e = e
 throw_at_is t w (Putting n a) ws e = e
 throw_at_is t w (Throwing u x) ws e = at (u == t)
   where
-    at : (b : Bool) → first_flying (cond b (record { thrower = w; target = u; exn = x } ∷ flying_to t (flight_of ws)) (flying_to t (flight_of ws))) ≡ elim (cond b (Some x) None) [ None ↦ first_of_kind (throws t) ws | Some c ↦ Some (w, c) ]
+    at : (b : Bool) → first_thrown (cond b (record { thrower = w; target = u; exn = x } ∷ flying_to t (flight_of ws)) (flying_to t (flight_of ws))) ≡ elim (cond b (Some x) None) [ None ↦ first_of_kind (throws t) ws | Some c ↦ Some (w, c) ]
     at true = refl
     at false = e
 throw_at_is t w (Sleeping due) ws e = e
 
-pub throw_is_first : (t : ℕ) (ws : List (Waiting V)) → first_flying (flying_to t (flight_of ws)) ≡ first_of_kind (throws t) ws
+pub throw_is_first : (t : ℕ) (ws : List (Waiting V)) → first_thrown (flying_to t (flight_of ws)) ≡ first_of_kind (throws t) ws
 throw_is_first t [] = refl
 throw_is_first t (w ∷ ws) = throw_at_is t w.thread w.reason ws (throw_is_first t ws)
 

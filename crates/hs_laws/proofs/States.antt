@@ -19,7 +19,7 @@ use Rattle.hs_rules.specs.Primitives.{on_none, on_one, on_two, as_text, as_numbe
 use Rattle.hs_rules.specs.Entries.{moved, local_entry, at_operation, op_entry, is_throw, is_unmasked, is_interruptible, is_open, is_receptive, received, receive_entry, woken, uncaught_line, throwers, closed, finish_entry, on_thread, next}
 use Rattle.hs_rules.specs.Entries as entries
 use Rattle.hs_rules.specs.Runs.{Run}
-use Rattle.hs_rules.specs.MaskLaw.{first_flying}
+use Rattle.hs_rules.specs.Waiting.{first_thrown}
 use Rattle.hs_rules.specs.BracketLaw.{mine, IsMasked, Brackets, count, Numbered}
 use Rattle.hs_rules.specs.BracketPhases.{Blocks, OpPart, At, Owing, Fine, FineCode}
 use Rattle.hs_rules.specs.BracketPhases.{FineOp, Below, no_frames, below_mask, Held, held_ret, held_throw, held_do}
@@ -441,7 +441,7 @@ throws_apart t w (Putting m v) e a f = absurd (cc f)
 throws_apart t w (Throwing u x) e a f = cond_cases (λ o. o ≡ Some e → w ≢ t) (u == t) (Some x) None (λ q g same. ⊎_elim (λ k. a (same ∙ sym k.1)) (λ k. let b : true ≡ false = sym q ∙ k.0 in cc b) (equal_or u t)) (λ q g. absurd (cc g)) f
 throws_apart t w (Sleeping d) e a f = absurd (cc f)
 
-pub hit_kept : (s : State) (t : ℕ) (th : Thread) (fs : List Flying) → Holds s → slice_get s.threads t ≡ Some th → is_receptive t th.term s ≡ true → Found (Waits s.threads) (throws t) (first_flying fs)
+pub hit_kept : (s : State) (t : ℕ) (th : Thread) (fs : List Flying) → Holds s → slice_get s.threads t ≡ Some th → is_receptive t th.term s ≡ true → Found (Waits s.threads) (throws t) (first_thrown fs)
     → Keeps (received t fs s)
 hit_kept s t th [] h is at_once f = tt
 hit_kept s t th (w ∷ ws) h is at_once f =

@@ -18,7 +18,9 @@ use Rattle.hs_rules.specs.Primitives.{on_none, on_one, on_two, as_text, as_numbe
 use Rattle.hs_rules.specs.Entries.{moved, local_entry, at_operation, op_entry, is_throw, is_unmasked, is_interruptible, is_open, is_receptive, received, receive_entry, woken, uncaught_line, throwers, closed, finish_entry, on_thread, next}
 use Rattle.hs_rules.specs.Entries as entries
 use Rattle.hs_rules.specs.Runs.{Run}
-use Rattle.hs_rules.specs.MaskLaw.{NoReceive, ThrownBy, Received, first_flying}
+use Rattle.std.proofs.lemmas.Option.{same_Some}
+use Rattle.hs_rules.specs.MaskLaw.{WaitsThrough, ThrownBy, Received}
+use Rattle.hs_rules.specs.Waiting.{first_thrown}
 use Rattle.hs_rules.specs.BracketPhases.{Fine, FineCode}
 use Rattle.hs_laws.proofs.Lists.{cond_cases, cond_true, cond_false, equal_or, Each, each_more, each_left, each_changed, Found, first_found, OnReason, reason_found, first_of_kind, throws, throw_is_first, once_reason}
 use Rattle.hs_rules.specs.BracketPhases.{Blocks, OpPart, At}
@@ -206,25 +208,32 @@ pub record Began (code : Code) (s : State) (es : List Entry) (w : ℕ) (r : Reas
   pub state : State
   pub run : Run code s front state
   pub stood : At (Blocks r) (slice_get state.threads w)
-  pub none : NoReceive w back
+  pub through : (m : State) → next code state (entry.Op w) ≡ Some m → WaitsThrough code m back w r
 
 abbrev From : Code → State → List Entry → ℕ → Reason V → Type 0
-From code s es w r = ((reason_of w s.blocked ≡ Some r) × NoReceive w es) ⊎ Began code s es w r
+From code s es w r = WaitsThrough code s es w r ⊎ Began code s es w r
+
+waits_first : (code : Code) (s : State) (es : List Entry) (w : ℕ) (r : Reason V) → WaitsThrough code s es w r → reason_of w s.blocked ≡ Some r
+waits_first code s [] w r h = h
+waits_first code s (e ∷ es) w r h = h.0
+
+waits_on : (code : Code) (s m : State) (e : Entry) (es : List Entry) (w : ℕ) (r : Reason V) → next code s e ≡ Some m → WaitsThrough code m es w r → (v : State) → next code s e ≡ Some v → WaitsThrough code v es w r
+waits_on code s m e es w r l k v is = let same : m ≡ v = same_Some m v (sym l ∙ is) in subst (λ x. WaitsThrough code x es w r) same k
 
 from_earlier : (code : Code) (s m : State) (e : Entry) (es : List Entry) (w : ℕ) (r : Reason V) → next code s e ≡ Some m → Each (Since s e) m.blocked → From code m es w r → From code s (e ∷ es) w r
 from_earlier code s m e es w r l h (inl k) =
-    let o : OnReason (Since s e w) (Some r) = subst (OnReason (Since s e w)) k.0 (reason_found (Since s e) w m.blocked h) in
+    let o : OnReason (Since s e w) (Some r) = subst (OnReason (Since s e w)) (waits_first code m es w r k) (reason_found (Since s e) w m.blocked h) in
     ⊎_elim
-    (λ a. inl (a.0, (a.1, k.1)))
-    (λ a. inr (record { front = []; back = es; split = ap (λ x. x ∷ es) a.0; state = s; run = refl; stood = a.1; none = k.1 }))
+    (λ a. inl (a.0, a.1, waits_on code s m e es w r l k))
+    (λ a. inr (record { front = []; back = es; split = ap (λ x. x ∷ es) a.0; state = s; run = refl; stood = a.1; through = subst (λ f. (v : State) → next code s f ≡ Some v → WaitsThrough code v es w r) a.0 (waits_on code s m e es w r l k) }))
     o
-from_earlier code s m e es w r l h (inr b) = inr (record { front = e ∷ b.front; back = b.back; split = ap (λ z. e ∷ z) b.split; state = b.state; run = (m, l, b.run); stood = b.stood; none = b.none })
+from_earlier code s m e es w r l h (inr b) = inr (record { front = e ∷ b.front; back = b.back; split = ap (λ z. e ∷ z) b.split; state = b.state; run = (m, l, b.run); stood = b.stood; through = b.through })
 
 next_since : (code : Code) (s m : State) (e : Entry) → Holds s → next code s e ≡ Some m → Each (Since s e) m.blocked
 next_since code s m e g n = subst (EachSome (Since s e)) n (thread_some_each (Since s e) (slice_get s.threads 0) (λ th. entries.entered code s e) (λ th is. entry_since code s e g))
 
 run_from : (code : Code) → FineCode code.actions → (es : List Entry) (s u : State) → Run code s es u → Holds s → Each (From code s es) u.blocked
-run_from code fc [] s u r g = subst (λ v. Each (From code s []) v.blocked) r (each_changed (λ w x. reason_of w s.blocked ≡ Some x) (From code s []) s.blocked (λ w x k. inl (k, tt)) (once_reason s.blocked g.once))
+run_from code fc [] s u r g = subst (λ v. Each (From code s []) v.blocked) r (each_changed (λ w x. reason_of w s.blocked ≡ Some x) (From code s []) s.blocked (λ w x k. inl k) (once_reason s.blocked g.once))
 run_from code fc (e ∷ es) s u r g =
     each_changed (From code r.0 es) (From code s (e ∷ es)) u.blocked (λ w x k. from_earlier code s r.0 e es w x r.1 (next_since code s r.0 e g r.1) k)
     (run_from code fc es r.0 u r.2 (subst Keeps r.1 (next_kept code fc s e g)))
@@ -242,7 +251,7 @@ cond_is : (b : Bool) (x : Option State) (v : State) → cond b x None ≡ Some v
 cond_is true x v e = (refl, e)
 cond_is false x v e = absurd (cc e)
 
-hit_is : (t : ℕ) (fs : List Flying) (u v : State) → received t fs u ≡ Some v → (w : ℕ × Exn) × (first_flying fs ≡ Some w)
+hit_is : (t : ℕ) (fs : List Flying) (u v : State) → received t fs u ≡ Some v → (w : ℕ × Exn) × (first_thrown fs ≡ Some w)
 hit_is t [] u v e = absurd (cc e)
 hit_is t (f ∷ fs) u v e = ((f.thrower, f.exn), refl)
 
@@ -282,7 +291,7 @@ stood_at code s es w t e b = by (slice_get b.state.threads w) refl b.stood
 
     by : (o : Option Thread) → slice_get b.state.threads w ≡ o → At (Blocks (Throwing t e)) o → ThrownBy code s es w t e
     by None q h = absurd h
-    by (Some th) q h = record { front = b.front; back = b.back; split = b.split; state = b.state; run = b.run; thread = th; is = q; part = part_is th.term.part h; none = b.none }
+    by (Some th) q h = record { front = b.front; back = b.back; split = b.split; state = b.state; run = b.run; thread = th; is = q; part = part_is th.term.part h; through = b.through }
 
 pub mask_law : (code : Code) → FineCode code.actions → (main : Core) → Fine main → (es : List Entry) (u v : State) (t : ℕ) → Run code (first main) es u → next code u (entry.Receive t) ≡ Some v → Received code (first main) es u t
 mask_law code fc main fm es u v t r n =
@@ -304,5 +313,5 @@ mask_law code fc main fm es u v t r n =
       w = w.0.0;
       e = w.0.1;
       first = w.1;
-      thrown = ⊎_elim (λ q. absurd (cc q.0)) (λ q. stood_at code (first main) es w.0.0 t w.0.1 q) k;
+      thrown = ⊎_elim (λ q. let z : ◌≡◌ {A = Option (Reason V)} None (Some (Throwing t w.0.1)) = waits_first code (first main) es w.0.0 (Throwing t w.0.1) q in absurd (cc z)) (λ q. stood_at code (first main) es w.0.0 t w.0.1 q) k;
     }

@@ -11,7 +11,7 @@ ghost use Rattle.hs_rules.specs.Runs.{IsRun, code_of, main_of};
 ghost use Rattle.hs_rules.specs.MaskLaw.{Received};
 
 /// Wherever a thread of a run receives an exception, it is blocked and not masked uninterruptibly, or it isn't blocked
-/// and not masked; and the exception is the first in flight to it, thrown by a thread that has received none since.
+/// and not masked; and the exception is the first in flight to it, thrown by a thread that has waited for that since.
 pub fn masks_are_kept()
     ensures { (ds : List Fn) (es : List Entry) (u v : State) (t : ℕ) → IsRun ds es u → next (code_of ds) u (Receive t) ≡ Some v → (main : Core) × (main_of ds ≡ Some main) × Received (code_of ds) (first main) es u t }
 {}

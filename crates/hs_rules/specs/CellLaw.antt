@@ -7,7 +7,7 @@ use Rattle.hs_rules.specs.Values as val
 use Rattle.hs_rules.specs.Values.{V, UnitValue, Truth, Nothing, Just}
 use Rattle.hs_rules.specs.Core.{Primitive, TakeMVar, PutMVar, TryTakeMVar, TryPutMVar, Code}
 use Rattle.hs_rules.specs.Terms.{Operation, Calls, Part, Ret, Performs, term}
-use Rattle.hs_rules.specs.OneCell.{Want, Place, Cell, Call, Make, Take, Put, Try_take, Try_put, Leave, Answer, Made, Took, Gave, Tried_take, Tried_put, Reply, first_put, call}
+use Rattle.hs_rules.specs.OneCell.{Want, Place, Cell, Call, Make, Take, Put, Try_take, Try_put, Leave, Answer, Made, Took, Gave, Tried_take, Tried_put, Reply, first_put, made, call}
 use Rattle.hs_rules.specs.Waiting.{Reason, want_at, line_of, reason_of}
 use Rattle.hs_rules.specs.State.{Thread, State, with_term, frames_of}
 use Rattle.hs_rules.specs.Entries.{next}
@@ -164,10 +164,6 @@ cell_after code m s (e ∷ es) c = elim (next code s e) [ None ↦ c | Some u �
 
 -- ---- the law
 
--- a cell as it is made
-abbrev pub made_with : Option V → Cell V
-made_with o = record { content = o; line = [] }
-
 -- In a run from s to u, cell m was made by an Op of thread t, which was answered the cell; from there on the cell does what
 -- the machine does by the calls of the run; and what came out, followed by the content, is what went in.
 pub record KeptCell (code : Code) (s : State) (es : List Entry) (u : State) (m : ℕ) : Type 0 where
@@ -176,12 +172,12 @@ pub record KeptCell (code : Code) (s : State) (es : List Entry) (u : State) (m :
   pub t : ℕ
   pub split : es ≡ front ++ entry.Op t ∷ back
   pub before : State
-  pub made : State
+  pub begun : State
   pub run : Run code s front before
-  pub makes : next code before (entry.Op t) ≡ Some made
+  pub makes : next code before (entry.Op t) ≡ Some begun
   pub number : m ≡ length before.cells
   pub content : Option V
-  pub maker : made.threads ≡ answered t (val.Cell m) before.threads
-  pub follows : FollowsCell code m made back (made_with content)
-  pub shows : Shows m u (cell_after code m made back (made_with content))
-  pub in_order : outs code m made back (made_with content) ++ held (cell_after code m made back (made_with content)).content ≡ held content ++ ins code m made back (made_with content)
+  pub maker : begun.threads ≡ answered t (val.Cell m) before.threads
+  pub follows : FollowsCell code m begun back (made content)
+  pub shows : Shows m u (cell_after code m begun back (made content))
+  pub in_order : outs code m begun back (made content) ++ held (cell_after code m begun back (made content)).content ≡ held content ++ ins code m begun back (made content)

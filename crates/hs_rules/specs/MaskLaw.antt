@@ -4,24 +4,21 @@ use Rattle.hs_base.specs.declared.mask.Mask.TheVariants.{Unmasked, Uninterruptib
 use Rattle.hs_base.specs.declared.exn.Exn.{Exn}
 use Rattle.hs_rules.specs.declared.entry.Entry.{Entry}
 use Rattle.hs_rules.specs.declared.entry.Entry.TheVariants as entry
-use Rattle.hs_rules.specs.Values.{Exception}
+use Rattle.hs_rules.specs.Values.{V, Exception}
 use Rattle.hs_rules.specs.Values as val
 use Rattle.hs_rules.specs.Core.{ThrowTo, Code}
 use Rattle.hs_rules.specs.Terms.{Calls, Performs, mask_at}
-use Rattle.hs_rules.specs.Waiting.{Flying, is_blocked, flight_of, flying_to}
+use Rattle.hs_rules.specs.Waiting.{Reason, Throwing, Flying, is_blocked, reason_of, flight_of, flying_to, first_thrown}
 use Rattle.hs_rules.specs.State.{Thread, State}
+use Rattle.hs_rules.specs.Entries.{next}
 use Rattle.hs_rules.specs.Runs.{Run}
 
-abbrev pub NoReceive : ℕ → List Entry → Type 0
-NoReceive w [] = Unit {0}
-NoReceive w (e ∷ es) = (e ≢ entry.Receive w) × NoReceive w es
+-- from a state on, and through all these entries, thread w waits for this reason
+abbrev pub WaitsThrough : Code → State → List Entry → ℕ → Reason V → Type 0
+WaitsThrough code s [] w r = reason_of w s.blocked ≡ Some r
+WaitsThrough code s (e ∷ es) w r = (reason_of w s.blocked ≡ Some r) × (e ≢ entry.Receive w) × ((m : State) → next code s e ≡ Some m → WaitsThrough code m es w r)
 
--- the first exception in flight of these, with its thrower
-abbrev pub first_flying : List Flying → Option (ℕ × Exn)
-first_flying [] = None
-first_flying (f ∷ fs) = Some (f.thrower, f.exn)
-
--- an Op of `throwTo t e` by thread w stands in the run, and w received nothing after it
+-- an Op of `throwTo t e` by thread w stands in the run and blocked w, which has waited for it to be received ever since
 pub record ThrownBy (code : Code) (s : State) (es : List Entry) (w t : ℕ) (e : Exn) : Type 0 where
   pub front : List Entry
   pub back : List Entry
@@ -31,15 +28,15 @@ pub record ThrownBy (code : Code) (s : State) (es : List Entry) (w t : ℕ) (e :
   pub thread : Thread
   pub is : slice_get state.threads w ≡ Some thread
   pub part : thread.term.part ≡ Performs (Calls ThrowTo (val.Thread t ∷ Exception e ∷ []))
-  pub none : NoReceive w back
+  pub through : (m : State) → next code state (entry.Op w) ≡ Some m → WaitsThrough code m back w (Throwing t e)
 
 -- At a Receive of thread t in state u: t is blocked and not masked uninterruptibly, or it isn't blocked and not masked;
--- and the exception that it receives is the first in flight to it, and was thrown by a thread that received nothing since.
+-- and the exception that it receives is the first in flight to it, and was thrown by a thread that waits for that ever since.
 pub record Received (code : Code) (s : State) (es : List Entry) (u : State) (t : ℕ) : Type 0 where
   pub thread : Thread
   pub is : slice_get u.threads t ≡ Some thread
   pub open_now : ((is_blocked t u.blocked ≡ true) × (mask_at thread.term.frames ≢ Uninterruptible)) ⊎ ((is_blocked t u.blocked ≡ false) × (mask_at thread.term.frames ≡ Unmasked))
   pub w : ℕ
   pub e : Exn
-  pub first : first_flying (flying_to t (flight_of u.blocked)) ≡ Some (w, e)
+  pub first : first_thrown (flying_to t (flight_of u.blocked)) ≡ Some (w, e)
   pub thrown : ThrownBy code s es w t e
