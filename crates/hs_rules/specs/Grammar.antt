@@ -136,22 +136,30 @@ list_or_empty = within (λ p xs. elim xs [ inl u ↦ inl p | inr as' ↦ inr (e.
 unfoldable pub call : Rule Expr
 call = give e.Call ⊛ name ⊛ many arg
 
-unfoldable pub app : Rule Expr
-app =
-    alt call
-    (alt (with_arg e.Just k.Just)
+unfoldable pub constructed : Rule Expr
+constructed =
+    alt (with_arg e.Just k.Just)
     (alt (give e.Nothing ⊛ at k.Nothing ◁ k.at_sign ⊛ atype)
     (alt (give e.Left ⊛ at k.Left ◁ k.at_sign ⊛ atype ◁ k.at_sign ⊛ atype ⊛ arg)
-    (alt (give e.Right ⊛ at k.Right ◁ k.at_sign ⊛ atype ◁ k.at_sign ⊛ atype ⊛ arg)
-    (alt (go_on (λ p t. e.EmptyList p t) list_or_empty (give (λ t. t) ◁ k.at_sign ⊛ atype))
-    (alt (with_arg e.ErrorCall k.ErrorCall)
+    (give e.Right ⊛ at k.Right ◁ k.at_sign ⊛ atype ◁ k.at_sign ⊛ atype ⊛ arg)))
+
+unfoldable pub computed : Rule Expr
+computed =
+    alt (with_arg e.ErrorCall k.ErrorCall)
     (alt (with_arg e.Not k.not)
     (alt (with_arg e.Fst k.fst)
     (alt (with_arg e.Snd k.snd)
     (alt (with_arg e.Show k.show)
     (alt (with_args e.Div k.div)
-    (alt (with_args e.Mod k.mod')
-    plain_atom))))))))))))
+    (with_args e.Mod k.mod'))))))
+
+unfoldable pub app : Rule Expr
+app =
+    alt call
+    (alt constructed
+    (alt (go_on (λ p t. e.EmptyList p t) list_or_empty (give (λ t. t) ◁ k.at_sign ⊛ atype))
+    (alt computed
+    plain_atom)))
 
 -- a first operand alone is no chain
 abbrev pub or_tree : Expr → List Link → Expr
@@ -271,41 +279,61 @@ unfoldable pub block : Rule Block
 block = within (λ p b. b) k.open_brace block_in_braces
 
 -- ---- action: the forms that begin with a reserved word
-unfoldable pub other_action : Rule Action
-other_action =
+unfoldable pub value_action : Rule Action
+value_action =
     alt (with_arg a.Return k.return)
     (alt (give a.ThrowIo ⊛ at k.throwIO ◁ k.at_sign ⊛ atype ⊛ arg)
-    (alt (within (λ p x. a.If p x.0 x.1 x.2) k.if' block_if)
-    (alt (within (λ p x. a.Case p x.0 x.1) k.case' block_case)
     (alt (with_arg a.PutStr k.putStr)
     (alt (with_arg a.PutStrLn k.putStrLn)
-    (alt (give a.HPutStrLn ⊛ at k.hPutStrLn ◁ k.stderr ⊛ arg)
-    (alt (with_arg a.NewMVar k.newMVar)
+    (give a.HPutStrLn ⊛ at k.hPutStrLn ◁ k.stderr ⊛ arg))))
+
+unfoldable pub cell_action : Rule Action
+cell_action =
+    alt (with_arg a.NewMVar k.newMVar)
     (alt (give a.NewEmptyMVar ⊛ at k.newEmptyMVar ◁ k.at_sign ⊛ atype)
     (alt (with_arg a.TakeMVar k.takeMVar)
     (alt (with_args a.PutMVar k.putMVar)
     (alt (with_arg a.ReadMVar k.readMVar)
     (alt (with_arg a.TryTakeMVar k.tryTakeMVar)
     (alt (with_args a.TryPutMVar k.tryPutMVar)
-    (alt (give a.ModifyMVar ⊛ at k.modifyMVar_ ⊛ arg ⊛ name ⊛ block)
-    (alt (give a.ForkIo ⊛ at k.forkIO ⊛ block)
+    (give a.ModifyMVar ⊛ at k.modifyMVar_ ⊛ arg ⊛ name ⊛ block)))))))
+
+unfoldable pub thread_action : Rule Action
+thread_action =
+    alt (give a.ForkIo ⊛ at k.forkIO ⊛ block)
     (alt (give a.ForkIoWithUnmask ⊛ at k.forkIOWithUnmask ⊛ name ⊛ block)
     (alt (map a.MyThreadId (at k.myThreadId))
     (alt (with_args a.ThrowTo k.throwTo)
     (alt (with_arg a.KillThread k.killThread)
     (alt (with_arg a.ThreadDelay k.threadDelay)
     (alt (map a.ClockMicros (at k.clockMicros))
-    (alt (map a.GetMaskingState (at k.getMaskingState))
-    (alt (give a.Catch ⊛ at k.catch' ⊛ block ⊛ name ⊛ block)
-    (alt (give a.Mask ⊛ at k.mask ⊛ name ⊛ block)
+    (map a.GetMaskingState (at k.getMaskingState))))))))
+
+unfoldable pub mask_action : Rule Action
+mask_action =
+    alt (give a.Mask ⊛ at k.mask ⊛ name ⊛ block)
     (alt (give a.MaskOnly ⊛ at k.mask_ ⊛ block)
     (alt (give a.UninterruptibleMask ⊛ at k.uninterruptibleMask ⊛ name ⊛ block)
     (alt (give a.UninterruptibleMaskOnly ⊛ at k.uninterruptibleMask_ ⊛ block)
-    (alt (give a.Restore ⊛ at k.restore ⊛ name ⊛ block)
+    (give a.Restore ⊛ at k.restore ⊛ name ⊛ block))))
+
+unfoldable pub guard_action : Rule Action
+guard_action =
+    alt (give a.Catch ⊛ at k.catch' ⊛ block ⊛ name ⊛ block)
     (alt (give a.OnException ⊛ at k.onException ⊛ block ⊛ block)
     (alt (give a.Finally ⊛ at k.finally' ⊛ block ⊛ block)
     (alt (give a.Bracket ⊛ at k.bracket ⊛ block ⊛ name ⊛ block ⊛ block)
-    (give a.Timeout ⊛ at k.timeout ⊛ arg ⊛ block))))))))))))))))))))))))))))))))
+    (give a.Timeout ⊛ at k.timeout ⊛ arg ⊛ block))))
+
+unfoldable pub other_action : Rule Action
+other_action =
+    alt value_action
+    (alt (within (λ p x. a.If p x.0 x.1 x.2) k.if' block_if)
+    (alt (within (λ p x. a.Case p x.0 x.1) k.case' block_case)
+    (alt cell_action
+    (alt thread_action
+    (alt mask_action
+    guard_action)))))
 
 -- ---- action = NAME { arg } | the others
 unfoldable pub action : Rule Action
