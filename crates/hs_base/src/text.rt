@@ -1,4 +1,4 @@
-ghost use Rattle.std.specs.Prelude.{◌≡◌, ◌↔◌, IfOk, IsTrue};
+ghost use Rattle.std.specs.Prelude.{◌≡◌, ◌↔◌, IfOk, IsTrue, string_bytes};
 
 use crate::no_memory::NoMemory;
 use std::alloc::Global;
@@ -25,6 +25,13 @@ impl Txt {
     {
         let text = String::from_str(alloc, text)?;
         Ok(Txt { text })
+    }
+
+    /// Keeps the text of a `String`.
+    pub fn from_string(text: String) -> Txt
+        ensures { result ≡ string_bytes text }
+    {
+        Txt { text }
     }
 
     /// Lends the text.
