@@ -86,7 +86,7 @@ fn text_tokens(alloc: Global, text: &str, chars: &[char]) -> Result<Tokens, LexF
             Front::Gap(len) => place = place.past(chars, len),
             Front::Token(len, tok) => {
                 let end = place.past(chars, len);
-                list.push(token(tok, place, end))?;
+                list.add(token(tok, place, end))?;
                 place = end;
             }
             Front::Wrong(flaw, len) => return Err(fault_at(flaw, place.past(chars, len).pos)),

@@ -42,7 +42,7 @@ pieces-smaller c =
 pub pieces-preserved : goal.pieces-preserved
 pieces-preserved c = (
   c.past-end.ensures.place,
-  subst (IsReadTo c.args.chars.now c.past-end.result.at) (ap (λ z. c.pieces.list ++ z ∷ []) (sym c.token.ensures) ∙ sym c.in_ok-push-in-Token.ensures.ok)
+  subst (IsReadTo c.args.chars.now c.past-end.result.at) (ap (λ z. c.pieces.list ++ z ∷ []) (sym c.token.ensures) ∙ sym c.in_ok-add-in-Token.ensures.ok)
       (subst (λ k. IsReadTo c.args.chars.now k (c.pieces.list ++ record { tok = c.in-Token.tok; start = c.pieces.place.byte; end = c.past-end.result.byte; pos = c.pieces.place.pos } ∷ [])) (sym c.past-end.ensures.at)
       (read_token c.args.chars.now c.pieces.place.at c.in-Token.len c.pieces.list c.in-Token.tok c.pieces.place c.past-end.result c.pieces.invariant.1 c.pieces.invariant.0 refl c.past-end.ensures.place c.past-end.ensures.at
       (at_rest c.args.chars.now c.pieces.place.at c.in_ok-len.field-0 (front.Token c.in-Token.len c.in-Token.tok) c.in_ok-len.ensures c.in-Token.is))),
