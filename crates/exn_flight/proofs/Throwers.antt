@@ -1,9 +1,8 @@
 -- Exceptions in flight, by a place in the list.
-use Rattle.std.proofs.Common.{◌≡◌, ℕ, zero, suc, ◌<◌, ◌≤◌, ◌+◌, ◌==◌, Bool, true, false, cond, List, [], ◌∷◌, ◌++◌, length, drop, get_or, remove, Option, Some, None, refl, ap, sym, ◌∙◌, subst, arith, eq-eqb}
+use Rattle.std.proofs.Common.{◌≡◌, ℕ, zero, suc, ◌<◌, ◌+◌, ◌==◌, false, cond, List, [], ◌∷◌, length, drop, get_or, Some, None, refl, ap, ◌∙◌, arith, eq-eqb}
 use Rattle.std.proofs.lemmas.Bool.{ne_eqb}
 use Rattle.std.proofs.lemmas.List.{drop_more}
-use Rattle.hs_base.specs.declared.exn.Exn.{Exn}
-use Rattle.hs_rules.specs.Waiting.{Flying, flying_to, withdrawn, is_throwing, thrown_by, first_thrown, has}
+use Rattle.hs_rules.specs.Waiting.{Flying, flying_to, is_throwing, thrown_by, first_thrown}
 use Rattle.exn_flight.specs.Flights.{AreThrowers}
 use Rattle.exn_flight.proofs.Numbers.{step_false, other_before}
 

@@ -1,5 +1,5 @@
 -- What `Flight` means: the exceptions in flight, in order of throwing, and how many more fit.
-use Rattle.std.specs.Prelude.{◌-◌, ℕ, List, [], ◌∷◌, length, Option, Some, None}
+use Rattle.std.specs.Prelude.{◌-◌, ℕ, List, length, Option, Some, None}
 use Rattle.std.specs.Borrow.{Bor}
 use Rattle.hs_base.specs.declared.exn.Exn.{Exn}
 use Rattle.hs_rules.specs.Waiting.{Flying, withdrawn}

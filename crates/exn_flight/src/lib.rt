@@ -9,6 +9,9 @@
 #![tactic(auto)]
 
 mod flight;
+mod sleepers;
+mod sleeping;
 mod thrown;
 
 pub use flight::Flight;
+pub use sleepers::Sleepers;

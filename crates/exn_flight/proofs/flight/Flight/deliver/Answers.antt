@@ -1,5 +1,5 @@
 -- The exception that is delivered is its thrower's only one.
-use Rattle.std.proofs.Common.{◌≡◌, ◌∙◌, ap, sym, subst, refl}
+use Rattle.std.proofs.Common.{◌∙◌, ap, sym, subst, refl}
 use Rattle.hs_rules.specs.Waiting.{Flying}
 use Rattle.exn_flight.specs.Flights.{AreThrowers, after_delivery}
 use Rattle.exn_flight.proofs.Numbers.{without_at, distinct_without}

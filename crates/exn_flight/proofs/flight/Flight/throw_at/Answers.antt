@@ -1,5 +1,5 @@
 use Rattle.std.proofs.Common.{◌∙◌, ◌++◌, ◌∷◌, [], ap, sym, subst}
-use Rattle.hs_rules.specs.Waiting.{Flying, is_throwing}
+use Rattle.hs_rules.specs.Waiting.{Flying}
 use Rattle.exn_flight.specs.Flights.{AreThrowers}
 use Rattle.exn_flight.proofs.Numbers.{distinct_append}
 use Rattle.exn_flight.proofs.flight.Flight.throw_at.Goals as goal

@@ -1,5 +1,5 @@
 -- A thrower has one exception in flight at most.
-use Rattle.std.proofs.Common.{◌≡◌, ◌∙◌, ap, sym, subst, refl, Some}
+use Rattle.std.proofs.Common.{◌∙◌, ap, sym, subst, Some}
 use Rattle.hs_rules.specs.Waiting.{Flying}
 use Rattle.exn_flight.specs.Flights.{AreThrowers}
 use Rattle.exn_flight.proofs.Numbers.{without_absent, without_at, distinct_without}
