@@ -5,3 +5,4 @@ pub mod EquationsOfActions
 mod MeaningRows
 mod RunRows
 pub mod PlainRuns
+mod WorkedRuns
