@@ -1,9 +1,10 @@
 -- The function agrees with the rules on expressions.
-use Rattle.std.proofs.Common.{◌⊎◌, List, ◌∷◌, inl, inr, ⊎_elim}
+use Rattle.std.proofs.Common.{subst, ap, ◌∙◌, ◌⊎◌, List, ◌∷◌, inl, inr, ⊎_elim}
 use Rattle.hs_base.specs.declared.pos.Pos.{Pos}
 use Rattle.hs_rules.specs.Trees.{T, Ex, lit, name, unary, binary, chain, conses, choose, items, empty, side, given, case, Exs, none, more, Links, end, link, Arms, maybe_arms, either_arms, list_arms, pair_arms}
 use Rattle.hs_rules.specs.Typing.{Fault, type_of_lit, row_unary, row_binary, row_empty, row_side, row_choose, row_items, row_arms, form_of_arms, first_of, second_of, inner_of, Ctx, Bound, bound, meant, count, Gives, Breaks, NotFull, NoRoom, IsWritten, WrittenBreaks, HasType, HaveTypes, LinksHave, ConsesHave, ArmsHave, BreaksIn, BreaksAny, LinksBreak, ConsesBreak, ArmsBreak}
-use Rattle.hs_judging.specs.Judging.{Found, own, written, parts2, unless_full, judge, judges, judge_links, judge_conses, judge_arms}
+use Rattle.hs_judging.specs.Judging.{Found, own, written, parts2, unless_full, after, judge, judges, judge_links, judge_arms}
+use Rattle.hs_judging.proofs.Chains.{judge_conses, links_after, conses_after, conses_are}
 use Rattle.hs_judging.proofs.Laws.{Agrees, Parts, agree_good, agree_part, agree_parts2, agree_parts3, agree_all, agree_called, agree_own, agree_written, agree_room, agree_given, agree_formed, parts_none, parts_more}
 
 -- each operand of a chain
@@ -51,8 +52,8 @@ mutual
   agree c s (name x es) = agree_called x.pos (meant c s x (count es)) (judges c s es) (HaveTypes c s es) (BreaksAny c s es) (agrees c s es)
   agree c s (unary o p a) = agree_part (judge c s a) (HasType c s a) (BreaksIn c s a) (λ u. own p (row_unary o u)) (λ u. Gives (row_unary o u)) (λ u. Breaks p (row_unary o u)) (agree c s a) (λ u. agree_own p (row_unary o u))
   agree c s (binary o p a e) = agree_parts2 (judge c s a) (judge c s e) (HasType c s a) (HasType c s e) (BreaksIn c s a) (BreaksIn c s e) (λ u v. own p (row_binary o u v)) (λ u v. Gives (row_binary o u v)) (λ u v. Breaks p (row_binary o u v)) (agree c s a) (agree c s e) (λ u v. agree_own p (row_binary o u v))
-  agree c s (chain a ks) = agree_links c s ks (agree_operands c s ks) (judge c s a) (HasType c s a) (BreaksIn c s a) (agree c s a)
-  agree c s (conses a ks) = agree_conses c s ks (agree_operands c s ks) (judge c s a) (HasType c s a) (BreaksIn c s a) (agree c s a)
+  agree c s (chain a ks) = subst (λ z. Agrees z (HasType c s (chain a ks)) (BreaksIn c s (chain a ks))) (links_after c s ks (judge c s a)) (agree_links c s ks (agree_operands c s ks) (judge c s a) (HasType c s a) (BreaksIn c s a) (agree c s a))
+  agree c s (conses a ks) = subst (λ z. Agrees z (HasType c s (conses a ks)) (BreaksIn c s (conses a ks))) (conses_after c s ks (judge c s a) ∙ ap (after (judge c s a).faults) (conses_are c s ks (judge c s a).type)) (agree_conses c s ks (agree_operands c s ks) (judge c s a) (HasType c s a) (BreaksIn c s a) (agree c s a))
   agree c s (choose p e a g) = agree_parts3 (judge c s e) (judge c s a) (judge c s g) (HasType c s e) (HasType c s a) (HasType c s g) (BreaksIn c s e) (BreaksIn c s a) (BreaksIn c s g) (λ u v z. own p (row_choose u v z)) (λ u v z. Gives (row_choose u v z)) (λ u v z. Breaks p (row_choose u v z)) (agree c s e) (agree c s a) (agree c s g) (λ u v z. agree_own p (row_choose u v z))
   agree c s (items p es) = agree_all (judges c s es) (HaveTypes c s es) (BreaksAny c s es) (λ ts. own p (row_items ts)) (λ ts. Gives (row_items ts)) (λ ts. Breaks p (row_items ts)) (agrees c s es) (λ ts. agree_own p (row_items ts))
   agree c s (empty o p w) = agree_part (written w) (IsWritten w) (WrittenBreaks w) (λ u. own p (row_empty o u)) (λ u. Gives (row_empty o u)) (λ u. Breaks p (row_empty o u)) (agree_written w) (λ u. agree_own p (row_empty o u))

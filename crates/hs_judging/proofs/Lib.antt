@@ -1,4 +1,5 @@
 pub mod Laws
+pub mod Chains
 pub mod Expressions
 pub mod Actions
 pub mod Scripts

@@ -8,10 +8,10 @@ use Rattle.hs_rules.specs.Programs.{Bd, pure_body, io_body, Fn, script_of}
 use Rattle.hs_rules.specs.Sizes.{body_size}
 use Rattle.hs_rules.specs.Typing.{Fault, large, AllMet, FirstUnmet, is, Bound, Sig, Ctx}
 use Rattle.hs_rules.specs.TypingFaults.{In}
-use Rattle.hs_rules.specs.TypingSizes.{Measured, unmeasured, measured_with, worst_body, param_names, IsLarge}
-use Rattle.hs_rules.specs.TypingScripts.{result_of, params_in, head_faults, twice_faults, sigs_from, BodyHas, BodyBreaks, Ends, DefBreaks, LargeBreaks, AnyBreaks, ScriptBreaks, NothingBroken, IsFirstBroken}
+use Rattle.hs_rules.specs.TypingSizes.{Extent, worst_body, param_names}
+use Rattle.hs_rules.specs.TypingScripts.{result_of, params_in, head_faults, twice_faults, sigs_from, BodyHas, BodyBreaks, Ends, DefBreaks, LargeBreaks, AnyBreaks, ScriptBreaks, NothingBroken, IsFirstBroken, none_of, Measured, unmeasured, measured_with, IsLarge}
 use Rattle.hs_judging.specs.Judging.{Found, good, lost, part}
-use Rattle.hs_judging.specs.JudgingScripts.{judge_body, none_of, ends, def_found, def_faults, is_far, is_large, large_faults, faults_from, script_faults, NoFaults, IsLeast}
+use Rattle.hs_judging.specs.JudgingScripts.{judge_body, ends, def_found, def_faults, is_far, is_large, large_faults, faults_from, script_faults, NoFaults, IsLeast}
 use Rattle.hs_judging.proofs.Laws.{Agrees, agree_part, agree_good, agree_needing, in_left, in_right, in_cases}
 use Rattle.hs_judging.proofs.Expressions.{agree}
 use Rattle.hs_judging.proofs.Actions.{agree_bl}

@@ -141,6 +141,16 @@ join a b = record { faults = a.faults ++ b.faults; types = joined a.type b.types
 abbrev pub not_full : List Bound → Found → Found
 not_full s a = record { faults = a.faults; type = unless (full s) a.type }
 
+-- what stands before a link, where its faults stand elsewhere
+abbrev pub typed : Option T → Found
+typed t = record { faults = []; type = t }
+
+-- the nodes of `:` and `++` over the types of all operands, from the right
+abbrev pub folded : List (Option T) → Links → Found
+folded [] ks = typed None
+folded (x ∷ ts) end = typed x
+folded (x ∷ ts) (link o p e ks) = after (folded ts ks).faults (with2 x (folded ts ks).type (λ u v. own p (row_binary o u v)))
+
 -- ---- expressions
 
 abbrev mutual
@@ -149,8 +159,8 @@ abbrev mutual
   judge c s (name x es) = parts_all (judges c s es) (called x.pos (meant c s x (count es)))
   judge c s (unary o p a) = part (judge c s a) (λ u. own p (row_unary o u))
   judge c s (binary o p a e) = parts2 (judge c s a) (judge c s e) (λ u v. own p (row_binary o u v))
-  judge c s (chain a ks) = judge_links c s (judge c s a) ks
-  judge c s (conses a ks) = judge_conses c s (judge c s a) ks
+  judge c s (chain a ks) = after (judge c s a).faults (judge_links c s (typed (judge c s a).type) ks)
+  judge c s (conses a ks) = after (judge c s a).faults (after (operand_faults c s ks) (folded ((judge c s a).type ∷ operand_types c s ks) ks))
   judge c s (choose p e a g) = parts3 (judge c s e) (judge c s a) (judge c s g) (λ u v z. own p (row_choose u v z))
   judge c s (items p es) = parts_all (judges c s es) (λ us. with_all us (λ ts. own p (row_items ts)))
   judge c s (empty o p w) = part (written w) (λ u. own p (row_empty o u))
@@ -167,9 +177,14 @@ abbrev mutual
   judge_links c s x end = x
   judge_links c s x (link o p e ks) = judge_links c s (parts2 x (judge c s e) (λ u v. own p (row_binary o u v))) ks
 
-  pub judge_conses : Ctx → List Bound → Found → Links → Found
-  judge_conses c s x end = x
-  judge_conses c s x (link o p e ks) = parts2 x (judge_conses c s (judge c s e) ks) (λ u v. own p (row_binary o u v))
+  -- the operands of `:` and `++`
+  pub operand_faults : Ctx → List Bound → Links → List Fault
+  operand_faults c s end = []
+  operand_faults c s (link o p e ks) = (judge c s e).faults ++ operand_faults c s ks
+
+  pub operand_types : Ctx → List Bound → Links → List (Option T)
+  operand_types c s end = []
+  operand_types c s (link o p e ks) = (judge c s e).type ∷ operand_types c s ks
 
   pub judge_arms : Ctx → List Bound → Pos → T → Arms → Found
   judge_arms c s p u (maybe_arms a x e) = parts2 (judge c s a) (unless_full s x (judge c (bound x (inner_of u) ∷ s) e)) (λ v z. own p (row_arms v z))

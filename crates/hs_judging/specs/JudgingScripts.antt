@@ -7,18 +7,14 @@ use Rattle.hs_rules.specs.Programs.{Bd, pure_body, io_body, Fn, script_of}
 use Rattle.hs_rules.specs.Sizes.{body_size}
 use Rattle.hs_rules.specs.Typing.{Fault, large, is, Bound, Sig, Ctx}
 use Rattle.hs_rules.specs.TypingFaults.{In, Precedes}
-use Rattle.hs_rules.specs.TypingSizes.{Extent, Measured, unmeasured, measured_with, worst_body, param_names}
-use Rattle.hs_rules.specs.TypingScripts.{result_of, params_in, head_faults, twice_faults, sigs_from}
+use Rattle.hs_rules.specs.TypingSizes.{Extent, worst_body, param_names}
+use Rattle.hs_rules.specs.TypingScripts.{result_of, params_in, head_faults, twice_faults, sigs_from, none_of, Measured, unmeasured, measured_with}
 use Rattle.hs_judging.specs.Judging.{Found, good, lost, part, needing, judge}
 use Rattle.hs_judging.specs.JudgingActions.{judge_bl}
 
 abbrev pub judge_body : Ctx → List Bound → Bd → Found
 judge_body c s (pure_body w e) = judge c s e
 judge_body c s (io_body w a) = judge_bl c s a
-
-abbrev pub none_of : List Fault → Bool
-none_of [] = true
-none_of (f ∷ fs) = false
 
 -- the body is to have the declared type
 abbrev pub ends : Name → Wr → T → Found

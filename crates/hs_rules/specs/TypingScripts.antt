@@ -3,7 +3,7 @@
 -- A body has its definition's declared type, else Mismatch is broken at the definition's name. Of two definitions of one
 -- name the later breaks Twice. Where a definition's head is broken, its body isn't judged; a call elsewhere is judged by
 -- the head as it is written. Large is judged where a definition is otherwise sound.
-use Rattle.std.specs.Prelude.{◌≡◌, ℕ, ◌+◌, ◌≤◌, ◌⊎◌, ◌&&◌, List, [], ◌∷◌, ◌++◌, length, Bool, true, false, cond, Option, Some, None, ltb, codes}
+use Rattle.std.specs.Prelude.{◌≡◌, ℕ, ◌+◌, ◌<◌, ◌⊎◌, ◌&&◌, List, [], ◌∷◌, ◌++◌, length, Bool, true, false, cond, Option, Some, None, ltb, codes}
 use Rattle.hs_base.specs.declared.tree.expr.Name.{Name}
 use Rattle.hs_base.specs.declared.tree.script.Script.{Script}
 use Rattle.hs_rules.specs.Trees.{T, unit, Wr}
@@ -11,7 +11,8 @@ use Rattle.hs_rules.specs.Programs.{Par, Bd, pure_body, io_body, Fn, script_of}
 use Rattle.hs_rules.specs.Typing.{Fault, twice, scope, wide, large, nodes, is, FirstUnmet, Bound, bound, Sig, Ctx, find, HasType, BreaksIn}
 use Rattle.hs_rules.specs.TypingActions.{BlHas, BlBreaks}
 use Rattle.hs_rules.specs.TypingFaults.{In, Precedes}
-use Rattle.hs_rules.specs.TypingSizes.{Measured, unmeasured, measured_with, IsLarge}
+use Rattle.hs_rules.specs.Sizes.{body_size}
+use Rattle.hs_rules.specs.TypingSizes.{Extent, nil, called_extent, worst_body, param_names}
 
 -- ---- heads
 
@@ -76,6 +77,31 @@ Ends c d f = (u : T) × BodyHas c (params_in [] d.params) d.body u × FirstUnmet
 -- the rules that a definition breaks, Large aside
 abbrev pub DefBreaks : Ctx → Fn → Fault → Type 0
 DefBreaks c d f = In (twice_faults c d.name) f ⊎ (In (head_faults d) f ⊎ ((head_faults d ≡ []) × (BodyBreaks c (params_in [] d.params) d.body f ⊎ Ends c d f)))
+
+-- ---- Large
+
+abbrev pub none_of : List Fault → Bool
+none_of [] = true
+none_of (f ∷ fs) = false
+
+-- what was measured of the definitions before one: how far a call of each unfolds, and their expanded sizes together
+pub record Measured : Type 0 where
+  pub extents : List Extent
+  pub total : ℕ
+
+abbrev pub unmeasured : Measured
+unmeasured = record { extents = []; total = 0 }
+
+-- a definition whose head is broken unfolds to nothing; the script is refused for its head
+abbrev pub fn_extent : List Sig → List Extent → Fn → Extent
+fn_extent gs xs d = cond (none_of (head_faults d)) (called_extent gs xs (param_names [] d.params) d.body) nil
+
+abbrev pub measured_with : List Sig → Measured → Fn → Measured
+measured_with gs m d = record { extents = m.extents ++ fn_extent gs m.extents d ∷ []; total = m.total + body_size d.body }
+
+-- an expression of it unfolds too far, or the expanded sizes up to and with it are too much
+abbrev pub IsLarge : List Sig → Measured → Fn → Type 0
+IsLarge gs m d = let x = worst_body gs m.extents (param_names [] d.params) d.body in (100000 < x.size) ⊎ (1000 < x.height) ⊎ (1000000 < m.total + body_size d.body)
 
 abbrev pub LargeBreaks : Ctx → Measured → Fn → Fault → Type 0
 LargeBreaks c m d f = ((g : Fault) → DefBreaks c d g → ⊥) × (IsLarge c.sigs m d × (f ≡ large d.name.pos))

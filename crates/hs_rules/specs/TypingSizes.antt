@@ -130,20 +130,3 @@ worst_body gs xs s (io_body w a) = worst_bl gs xs s a
 abbrev pub called_extent : List Sig → List Extent → List Bound → Bd → Extent
 called_extent gs xs s (pure_body w e) = extent gs xs s e
 called_extent gs xs s (io_body w a) = nil
-
--- ---- the rule
-
--- what was measured of the definitions before one: how far a call of each unfolds, and their expanded sizes together
-pub record Measured : Type 0 where
-  pub extents : List Extent
-  pub total : ℕ
-
-abbrev pub unmeasured : Measured
-unmeasured = record { extents = []; total = 0 }
-
-abbrev pub measured_with : List Sig → Measured → Fn → Measured
-measured_with gs m d = record { extents = m.extents ++ called_extent gs m.extents (param_names [] d.params) d.body ∷ []; total = m.total + body_size d.body }
-
--- an expression of it unfolds too far, or the expanded sizes up to and with it are too much
-abbrev pub IsLarge : List Sig → Measured → Fn → Type 0
-IsLarge gs m d = let x = worst_body gs m.extents (param_names [] d.params) d.body in (100000 < x.size) ⊎ (1000 < x.height) ⊎ (1000000 < m.total + body_size d.body)
