@@ -26,6 +26,8 @@ use Rattle.hs_rules.specs.BracketPhases.{Owing, Fine, fine_return, fine_throw, f
 use Rattle.hs_laws.proofs.Steps.{FineDef, def_fine}
 use Rattle.hs_rules.specs.declared.entry.Entry.TheVariants as entry
 use Rattle.hs_rules.specs.MaskLaw.{Received}
+use Rattle.hs_rules.specs.Endings.{AllWait, IsQuiet}
+use Rattle.hs_laws.proofs.NothingLegal.{quiet}
 use Rattle.hs_laws.proofs.WaitsBegan.{mask_law}
 use Rattle.hs_rules.specs.CellLaw.{KeptCell}
 use Rattle.hs_laws.proofs.CellHistories.{cell_law}
@@ -176,3 +178,7 @@ pub cell_of_run : (ds : List Fn) (es : List Entry) (u : State) (m : ℕ) (c : Op
 cell_of_run ds es u m c r some =
     let k = run_from_main ds es u r in
     (k.0, k.1, cell_law (code_of ds) (fine_actions ds) k.0 (fine_main ds k.0 k.1) es u m c k.2 some)
+
+-- in a run's state where all wait, nothing but a Tick is legal
+pub quiet_of : (ds : List Fn) (es : List Entry) (s : State) → IsRun ds es s → AllWait s → IsQuiet (code_of ds) s
+quiet_of ds es s r w = quiet (code_of ds) s w (owing_of ds es s r)

@@ -11,3 +11,4 @@ mod WaitsBegan
 mod CellSteps
 mod CellRuns
 mod CellHistories
+mod NothingLegal

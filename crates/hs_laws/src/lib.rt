@@ -8,4 +8,5 @@
 pub mod brackets;
 pub mod cells;
 pub mod masks;
+pub mod quiet;
 pub mod terms;

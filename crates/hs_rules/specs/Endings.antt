@@ -7,9 +7,9 @@ use Rattle.hs_rules.specs.declared.entry.LimitKind.{LimitKind}
 use Rattle.hs_rules.specs.declared.entry.LimitKind.TheVariants.{Threads, Cells, Frames, Output}
 use Rattle.hs_rules.specs.Core.{Code}
 use Rattle.hs_rules.specs.Terms.{Part, Ret, Throw, Do, Performs}
-use Rattle.hs_rules.specs.Waiting.{sleepers_of}
+use Rattle.hs_rules.specs.Waiting.{Sleeping, is_blocked, reason_of, flight_of, flying_to, sleepers_of}
 use Rattle.hs_rules.specs.State.{Thread, State}
-use Rattle.hs_rules.specs.Entries.{next}
+use Rattle.hs_rules.specs.Entries.{is_receptive, next}
 use Rattle.hs_rules.specs.Primitives.{line_feed}
 
 -- ---- endings
@@ -57,6 +57,13 @@ IsQuiet code s = (e : Entry) → ¬ IsTick e → next code s e ≡ None
 -- no entry but a Tick is legal, and nobody sleeps
 abbrev pub IsDeadlock : Code → State → Type 0
 IsDeadlock code s = IsQuiet code s × (sleepers_of s.blocked ≡ [])
+
+-- A test for that which looks at threads alone: every thread that hasn't finished is blocked, none of them can receive an
+-- exception that is in flight to it, and no sleeper may wake yet.
+pub record AllWait (s : State) : Type 0 where
+  pub blocked : (t : ℕ) (th : Thread) → slice_get s.threads t ≡ Some th → th.finished ≡ false → is_blocked t s.blocked ≡ true
+  pub unheard : (t : ℕ) (th : Thread) → slice_get s.threads t ≡ Some th → th.finished ≡ false → is_receptive t th.term s ≡ true → flying_to t (flight_of s.blocked) ≡ []
+  pub asleep : (t due : ℕ) → reason_of t s.blocked ≡ Some (Sleeping due) → s.clock < due
 
 -- The ending of a run that has left this state after so many steps, with so much fuel: the first of the four that holds.
 abbrev pub Ends : RunEnding → Code → State → (steps fuel : ℕ) → Type 0

@@ -1,0 +1,82 @@
+-- Where all wait, nothing but a Tick is legal; and where nothing but a Tick is legal, nobody could receive or wake.
+use Rattle.std.proofs.Common.{◌≡◌, ℕ, zero, suc, ◌<◌, ◌==◌, nat_le, List, [], ◌∷◌, Bool, true, false, cond, Option, Some, None, refl, sym, ap, ◌∙◌, subst, slice_get, ⊎_elim}
+use Rattle.hs_rules.specs.declared.entry.Entry.{Entry}
+use Rattle.hs_rules.specs.declared.entry.Entry.TheVariants as entry
+use Rattle.hs_rules.specs.Values.{V, UnitValue}
+use Rattle.hs_rules.specs.Core.{Code}
+use Rattle.hs_rules.specs.Terms.{Part, Ret, Throw, Do, Performs, Frame, mask_at}
+use Rattle.hs_rules.specs.LocalRules.{locals}
+use Rattle.hs_rules.specs.Waiting.{Reason, Taking, Putting, Throwing, Sleeping, Waiting, is_blocked, reason_of, flight_of, flying_to}
+use Rattle.hs_rules.specs.State.{Thread, State, answer}
+use Rattle.hs_rules.specs.Primitives.{operated}
+use Rattle.hs_rules.specs.Entries.{moved, local_entry, at_operation, op_entry, is_receptive, received, receive_entry, woken, finish_entry, on_thread, next}
+use Rattle.hs_rules.specs.Entries as entries
+use Rattle.hs_rules.specs.Endings.{IsTick, IsQuiet, AllWait}
+use Rattle.hs_rules.specs.BracketPhases.{Blocks, OpPart, At, Owing}
+use Rattle.hs_laws.proofs.Lists.{cond_cases, cond_true, cond_false, equal_or}
+use Rattle.std.proofs.lemmas.Bool.{lt-leb}
+
+-- a test that is false makes no state
+no_state : (b : Bool) (o : Option State) → b ≡ false → cond b o None ≡ None
+no_state b o e = cond_false b o None e
+
+hides : (b : Bool) (o : Option State) → b ≡ true → cond b None o ≡ None
+hides b o e = cond_true b None o e
+
+on_none_thread : (o : Option Thread) (k : Thread → Option State) → ((th : Thread) → o ≡ Some th → th.finished ≡ false → k th ≡ None) → on_thread o k ≡ None
+on_none_thread None k h = refl
+on_none_thread (Some th) k h = cond_cases (λ x. x ≡ None) th.finished None (k th) (λ f. refl) (λ f. h th refl f)
+
+late : (due now : ℕ) → now < due → nat_le due now ≡ false
+late due now h = lt-leb due now h
+
+module _ (code : Code) (s : State) (w : AllWait s) (o : Owing s) where
+  no_local : (t k : ℕ) (th : Thread) → is_blocked t s.blocked ≡ true → local_entry code t k th s ≡ None
+  no_local t zero th b = refl
+  no_local t (suc k) th b = hides (is_blocked t s.blocked) (moved t s (locals code (suc k) th.term)) b
+
+  no_op : (t : ℕ) (th : Thread) → is_blocked t s.blocked ≡ true → op_entry t th s ≡ None
+  no_op t th b = hides (is_blocked t s.blocked) (at_operation th.term.part (λ p. operated t (mask_at th.term.frames) p s)) b
+
+  no_receive : (t : ℕ) (th : Thread) → (is_receptive t th.term s ≡ true → flying_to t (flight_of s.blocked) ≡ []) → receive_entry t th s ≡ None
+  no_receive t th h = cond_cases (λ x. x ≡ None) (is_receptive t th.term s) (received t (flying_to t (flight_of s.blocked)) s) None (λ r. ap (λ fs. received t fs s) (h r)) (λ r. refl)
+
+  no_wake : (t : ℕ) (r : Option (Reason V)) → reason_of t s.blocked ≡ r → woken t r s ≡ None
+  no_wake t None e = refl
+  no_wake t (Some (Taking m)) e = refl
+  no_wake t (Some (Putting m a)) e = refl
+  no_wake t (Some (Throwing u x)) e = refl
+  no_wake t (Some (Sleeping due)) e = no_state (nat_le due s.clock) (Some (answer t UnitValue s)) (late due s.clock (w.asleep t due e))
+
+  no_end : (t : ℕ) (th : Thread) (fs : List Frame) (p : Part) (r : Reason V) → OpPart (Blocks r) p → finish_entry t th fs p s ≡ None
+  no_end t th [] (Ret v) r h = absurd h
+  no_end t th [] (Throw x) r h = absurd h
+  no_end t th [] (Do a env) r h = refl
+  no_end t th [] (Performs op) r h = refl
+  no_end t th (f ∷ fs) p r h = refl
+
+  reason_is : (t : ℕ) (ws : List (Waiting V)) → is_blocked t ws ≡ true → (r : Reason V) × (reason_of t ws ≡ Some r)
+  reason_is t [] b = absurd (cc b)
+  reason_is t (x ∷ ws) b =
+      ⊎_elim
+      (λ e. (x.reason, cond_true (x.thread == t) (Some x.reason) (reason_of t ws) e.0))
+      (λ e.
+      let k = reason_is t ws (sym (cond_false (x.thread == t) true (is_blocked t ws) e.0) ∙ b) in
+      (k.0, cond_false (x.thread == t) (Some x.reason) (reason_of t ws) e.0 ∙ k.1))
+      (equal_or x.thread t)
+
+  no_finish : (t : ℕ) (th : Thread) → slice_get s.threads t ≡ Some th → is_blocked t s.blocked ≡ true → finish_entry t th th.term.frames th.term.part s ≡ None
+  no_finish t th is b =
+      let r = reason_is t s.blocked b in
+      no_end t th th.term.frames th.term.part r.0 (subst (At (Blocks r.0)) is (o.blocked t r.0 r.1))
+
+  no_entry : (e : Entry) → (IsTick e → ⊥) → entries.entered code s e ≡ None
+  no_entry (entry.Local t k) n = on_none_thread (slice_get s.threads t) _ (λ th is f. no_local t k th (w.blocked t th is f))
+  no_entry (entry.Op t) n = on_none_thread (slice_get s.threads t) _ (λ th is f. no_op t th (w.blocked t th is f))
+  no_entry (entry.Receive t) n = on_none_thread (slice_get s.threads t) _ (λ th is f. no_receive t th (w.unheard t th is f))
+  no_entry (entry.Wake t) n = no_wake t (reason_of t s.blocked) refl
+  no_entry (entry.Finish t) n = on_none_thread (slice_get s.threads t) _ (λ th is f. no_finish t th is (w.blocked t th is f))
+  no_entry (entry.Tick at) n = absurd (n tt)
+
+  pub quiet : IsQuiet code s
+  quiet e n = on_none_thread (slice_get s.threads 0) (λ th. entries.entered code s e) (λ th is f. no_entry e n)

@@ -1,0 +1,14 @@
+//! When nothing but time can go on.
+
+ghost use Rattle.std.specs.Prelude.{List};
+ghost use Rattle.hs_rules.specs.declared.entry.Entry.{Entry};
+ghost use Rattle.hs_rules.specs.Programs.{Fn};
+ghost use Rattle.hs_rules.specs.State.{State};
+ghost use Rattle.hs_rules.specs.Runs.{IsRun, code_of};
+ghost use Rattle.hs_rules.specs.Endings.{AllWait, IsQuiet};
+
+/// In the state of a run, where every unfinished thread is blocked, none can receive an exception in flight to it, and no
+/// sleeper may wake yet, no entry but a Tick is legal. So a runner that finds this and no sleeper has found a deadlock.
+pub fn waiting_is_quiet()
+    ensures { (ds : List Fn) (es : List Entry) (s : State) → IsRun ds es s → AllWait s → IsQuiet (code_of ds) s }
+{}
