@@ -1,0 +1,213 @@
+ghost use Rattle.std.specs.Prelude.{◌≡◌, ◌+◌, min};
+ghost use Rattle.hs_rules.specs.Trees.{ex_of, exs_of, arms_of, links_of, sum_links_of, list_links_of};
+ghost use Rattle.hs_rules.specs.Programs.{Bl, act_of, bl_of, stmt_of, act_arms_of, bd_of};
+ghost use Rattle.hs_rules.specs.Sizes.{ex_size, exs_size, links_size, arms_size, body_size};
+ghost use Rattle.hs_judging.specs.Closed.{act_nodes, bl_nodes, act_arm_nodes};
+
+use crate::count::add;
+use hs_base::tree::{
+    Action, Block, BlockArms, Body, Expr, ExprArms, Link, ListLink, Stmt, SumLink,
+};
+use hs_items::Items;
+use hs_rules::forms::BinaryForm;
+
+/// The nodes of an expression.
+#[cycle(nodes)]
+#[tactic(auto, using(hs_rules::proofs::Equations::ex_rules))]
+fn ex_nodes(e: &Expr) -> u32
+    ensures { result ≡ min (ex_size (ex_of e.now)) 1000001 }
+{
+    match e {
+        Expr::Int(_, _) => 1,
+        Expr::Text(_, _) => 1,
+        Expr::Constant(_, _) => 1,
+        Expr::Unit(_) => 1,
+        Expr::Nothing(_, _) => 1,
+        Expr::EmptyList(_, _) => 1,
+        Expr::Negate(_, a) => add(1, ex_nodes(a.get())),
+        Expr::Just(_, a) => add(1, ex_nodes(a.get())),
+        Expr::ErrorCall(_, a) => add(1, ex_nodes(a.get())),
+        Expr::Not(_, a) => add(1, ex_nodes(a.get())),
+        Expr::Fst(_, a) => add(1, ex_nodes(a.get())),
+        Expr::Snd(_, a) => add(1, ex_nodes(a.get())),
+        Expr::Show(_, a) => add(1, ex_nodes(a.get())),
+        Expr::Left(_, _, _, a) => add(1, ex_nodes(a.get())),
+        Expr::Right(_, _, _, a) => add(1, ex_nodes(a.get())),
+        Expr::Compare(a, _, _, b) => add(1, add(ex_nodes(a.get()), ex_nodes(b.get()))),
+        Expr::Div(_, a, b) => add(1, add(ex_nodes(a.get()), ex_nodes(b.get()))),
+        Expr::Mod(_, a, b) => add(1, add(ex_nodes(a.get()), ex_nodes(b.get()))),
+        Expr::Pair(_, a, b) => add(1, add(ex_nodes(a.get()), ex_nodes(b.get()))),
+        Expr::Let(_, _, a, b) => add(1, add(ex_nodes(a.get()), ex_nodes(b.get()))),
+        Expr::If(_, c, a, b) => add(
+            1,
+            add(ex_nodes(c.get()), add(ex_nodes(a.get()), ex_nodes(b.get()))),
+        ),
+        Expr::Or(a, ks) => add(ex_nodes(a.get()), link_nodes(BinaryForm::Or, ks)),
+        Expr::And(a, ks) => add(ex_nodes(a.get()), link_nodes(BinaryForm::And, ks)),
+        Expr::Product(a, ks) => add(ex_nodes(a.get()), link_nodes(BinaryForm::Times, ks)),
+        Expr::Sum(a, ks) => add(ex_nodes(a.get()), sum_link_nodes(ks)),
+        Expr::Cons(a, ks) => add(ex_nodes(a.get()), list_link_nodes(ks)),
+        Expr::Call(_, es) => add(1, exs_nodes(es)),
+        Expr::List(_, es) => add(1, exs_nodes(es)),
+        Expr::Case(_, a, arms) => add(1, add(ex_nodes(a.get()), arm_nodes(arms.get()))),
+    }
+}
+
+#[cycle(nodes)]
+fn exs_nodes(es: &Items<Expr>) -> u32
+    ensures { result ≡ min (exs_size (exs_of es.now)) 1000001 }
+{
+    let mut n = 0;
+    'parts: for e in es.as_slice() {
+        n = add(n, ex_nodes(e));
+    }
+    n
+}
+
+#[cycle(nodes)]
+fn link_nodes(o: BinaryForm, ks: &Items<Link>) -> u32
+    ensures { result ≡ min (links_size (links_of o ks.now)) 1000001 }
+{
+    let mut n = 0;
+    'links: for k in ks.as_slice() {
+        n = add(n, add(1, ex_nodes(&k.operand)));
+    }
+    n
+}
+
+#[cycle(nodes)]
+fn sum_link_nodes(ks: &Items<SumLink>) -> u32
+    ensures { result ≡ min (links_size (sum_links_of ks.now)) 1000001 }
+{
+    let mut n = 0;
+    'links: for k in ks.as_slice() {
+        n = add(n, add(1, ex_nodes(&k.operand)));
+    }
+    n
+}
+
+#[cycle(nodes)]
+fn list_link_nodes(ks: &Items<ListLink>) -> u32
+    ensures { result ≡ min (links_size (list_links_of ks.now)) 1000001 }
+{
+    let mut n = 0;
+    'links: for k in ks.as_slice() {
+        n = add(n, add(1, ex_nodes(&k.operand)));
+    }
+    n
+}
+
+#[cycle(nodes)]
+#[tactic(auto, using(hs_rules::proofs::Equations::arms_rules))]
+fn arm_nodes(arms: &ExprArms) -> u32
+    ensures { result ≡ min (arms_size (arms_of arms.now)) 1000001 }
+{
+    match arms {
+        ExprArms::OfMaybe(a, _, b) => add(ex_nodes(a), ex_nodes(b)),
+        ExprArms::OfEither(_, a, _, b) => add(ex_nodes(a), ex_nodes(b)),
+        ExprArms::OfList(a, _, _, b) => add(ex_nodes(a), ex_nodes(b)),
+        ExprArms::OfPair(_, _, a) => ex_nodes(a),
+    }
+}
+
+/// The nodes of an action's expansion.
+#[cycle(actions)]
+#[tactic(auto, using(hs_rules::proofs::EquationsOfActions::act_rules))]
+fn act_nodes(a: &Action) -> u32
+    ensures { result ≡ min (act_nodes (act_of a.now)) 1000001 }
+{
+    match a {
+        Action::MyThreadId(_) => 1,
+        Action::ClockMicros(_) => 1,
+        Action::GetMaskingState(_) => 1,
+        Action::NewEmptyMVar(_, _) => 1,
+        Action::Return(_, e) => add(1, ex_nodes(e)),
+        Action::ThrowIo(_, _, e) => add(1, ex_nodes(e)),
+        Action::PutStr(_, e) => add(1, ex_nodes(e)),
+        Action::PutStrLn(_, e) => add(1, ex_nodes(e)),
+        Action::HPutStrLn(_, e) => add(1, ex_nodes(e)),
+        Action::NewMVar(_, e) => add(1, ex_nodes(e)),
+        Action::TakeMVar(_, e) => add(1, ex_nodes(e)),
+        Action::ReadMVar(_, e) => add(11, ex_nodes(e)),
+        Action::TryTakeMVar(_, e) => add(1, ex_nodes(e)),
+        Action::KillThread(_, e) => add(2, ex_nodes(e)),
+        Action::ThreadDelay(_, e) => add(1, ex_nodes(e)),
+        Action::PutMVar(_, e, f) => add(1, add(ex_nodes(e), ex_nodes(f))),
+        Action::TryPutMVar(_, e, f) => add(1, add(ex_nodes(e), ex_nodes(f))),
+        Action::ThrowTo(_, e, f) => add(1, add(ex_nodes(e), ex_nodes(f))),
+        Action::Call(_, es) => add(1, exs_nodes(es)),
+        Action::If(_, e, b, d) => add(1, add(ex_nodes(e), add(bl_nodes(b), bl_nodes(d)))),
+        Action::Case(_, e, arms) => add(1, add(ex_nodes(e), act_arm_nodes(arms.get()))),
+        Action::ModifyMVar(_, e, _, b) => add(17, add(ex_nodes(e), bl_nodes(b))),
+        Action::ForkIo(_, b) => add(1, bl_nodes(b)),
+        Action::MaskOnly(_, b) => add(1, bl_nodes(b)),
+        Action::UninterruptibleMaskOnly(_, b) => add(1, bl_nodes(b)),
+        Action::ForkIoWithUnmask(_, _, b) => add(1, bl_nodes(b)),
+        Action::Mask(_, _, b) => add(1, bl_nodes(b)),
+        Action::UninterruptibleMask(_, _, b) => add(1, bl_nodes(b)),
+        Action::Restore(_, _, b) => add(1, bl_nodes(b)),
+        Action::Catch(_, b, _, d) => add(1, add(bl_nodes(b), bl_nodes(d))),
+        Action::OnException(_, b, d) => add(4, add(bl_nodes(b), bl_nodes(d))),
+        Action::Finally(_, b, d) => {
+            let n = bl_nodes(d);
+            add(10, add(bl_nodes(b), add(n, n)))
+        }
+        Action::Bracket(_, b, _, d, h) => {
+            let n = bl_nodes(d);
+            add(19, add(bl_nodes(b), add(add(n, n), bl_nodes(h))))
+        }
+        Action::Timeout(_, e, b) => {
+            let n = bl_nodes(b);
+            add(67, add(ex_nodes(e), add(n, n)))
+        }
+    }
+}
+
+#[cycle(actions)]
+#[tactic(auto, using(hs_rules::proofs::EquationsOfActions::act_arms_rules))]
+fn act_arm_nodes(arms: &BlockArms) -> u32
+    ensures { result ≡ min (act_arm_nodes (act_arms_of arms.now)) 1000001 }
+{
+    match arms {
+        BlockArms::OfMaybe(a, _, b) => add(bl_nodes(a), bl_nodes(b)),
+        BlockArms::OfEither(_, a, _, b) => add(bl_nodes(a), bl_nodes(b)),
+        BlockArms::OfList(a, _, _, b) => add(bl_nodes(a), bl_nodes(b)),
+        BlockArms::OfPair(_, _, a) => bl_nodes(a),
+    }
+}
+
+/// What a statement adds to the block behind it.
+#[cycle(actions)]
+#[tactic(auto, using(hs_rules::proofs::EquationsOfActions::stmt_rules))]
+fn stmt_nodes(st: &Stmt) -> u32
+    ensures { (rest : Bl) → min (bl_nodes (stmt_of st.now rest)) 1000001 ≡ min (result + bl_nodes rest) 1000001 }
+{
+    match st {
+        Stmt::Do(a) => add(1, act_nodes(a)),
+        Stmt::Bind(_, a) => add(1, act_nodes(a)),
+        Stmt::Let(_, e) => add(1, ex_nodes(e)),
+    }
+}
+
+#[cycle(actions)]
+#[tactic(auto, using(hs_rules::proofs::EquationsOfActions::bl_is))]
+fn bl_nodes(b: &Block) -> u32
+    ensures { result ≡ min (bl_nodes (bl_of b.now)) 1000001 }
+{
+    let mut n = 0;
+    'stmts: for st in b.stmts.as_slice() {
+        n = add(n, stmt_nodes(st));
+    }
+    add(n, act_nodes(b.last.get()))
+}
+
+/// The expanded size of a body.
+#[tactic(auto, using(hs_judging::proofs::Closed::body_is))]
+pub fn body_nodes(b: &Body) -> u32
+    ensures { result ≡ min (body_size (bd_of b.now)) 1000001 }
+{
+    match b {
+        Body::Pure(_, e) => ex_nodes(e),
+        Body::Action(_, b) => bl_nodes(b),
+    }
+}
