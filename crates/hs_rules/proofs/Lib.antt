@@ -6,3 +6,4 @@ mod MeaningRows
 mod RunRows
 pub mod PlainRuns
 mod WorkedRuns
+pub mod Arena

@@ -1,0 +1,4 @@
+pub mod Cases
+pub mod Floors
+pub mod Comparisons
+pub mod Steps
