@@ -7,3 +7,4 @@ mod RunRows
 pub mod PlainRuns
 mod WorkedRuns
 pub mod Arena
+pub mod Slotted

@@ -34,3 +34,4 @@ pub mod BracketLaw
 pub mod MaskLaw
 pub mod BracketPhases
 pub mod CellLaw
+pub mod Matching
