@@ -226,7 +226,8 @@ pub after_other : (ts : List Sx) (k : Node) (vs : List V) (v : V) → ((f : Unar
     → ((h i j : ExprId) → k ≡ n.CaseEither h i j → ⊥) → ((h i j : ExprId) → k ≡ n.CaseList h i j → ⊥) → ((h i : ExprId) → k ≡ n.CasePair h i → ⊥) → after ts k vs v ≡ Stuck
 after_other ts (n.Int m) vs v h1 h2 h3 h4 h5 h6 h7 h8 h9 = refl
 after_other ts (n.Text t) vs v h1 h2 h3 h4 h5 h6 h7 h8 h9 = refl
-after_other ts (n.Constant c) vs v h1 h2 h3 h4 h5 h6 h7 h8 h9 = refl
+after_other ts (n.Bool t) vs v h1 h2 h3 h4 h5 h6 h7 h8 h9 = refl
+after_other ts (n.Exn e) vs v h1 h2 h3 h4 h5 h6 h7 h8 h9 = refl
 after_other ts n.Unit vs v h1 h2 h3 h4 h5 h6 h7 h8 h9 = refl
 after_other ts (n.Empty f) vs v h1 h2 h3 h4 h5 h6 h7 h8 h9 = refl
 after_other ts (n.Slot m) vs v h1 h2 h3 h4 h5 h6 h7 h8 h9 = refl

@@ -8,7 +8,7 @@ ghost use Rattle.hs_eval.specs.Evaluation.{outs_of, part_of, slots, after, with_
 
 use crate::forms::{limited, side, unary};
 use crate::found::{Found, FoundAll};
-use crate::leaf::{closed, constant, empty, listed, node_at, off, slot};
+use crate::leaf::{closed, empty, listed, node_at, off, slot};
 use crate::lists::{Parted, id_at, joined, one, operand_ids, split_first};
 use crate::read::as_truth;
 use hs_base::{NoMemory, Value, Values};
@@ -429,7 +429,8 @@ fn step(
     match node {
         Node::Int(m) => Ok(Found::Value(Value::Int(*m))),
         Node::Text(text) => Ok(limited(text.copy(alloc)?)),
-        Node::Constant(c) => Ok(Found::Value(constant(*c))),
+        Node::Bool(t) => Ok(Found::Value(Value::Bool(*t))),
+        Node::Exn(e) => Ok(Found::Value(Value::Exn(e.copy(alloc)?))),
         Node::Unit => Ok(Found::Value(Value::Unit)),
         Node::Empty(form) => Ok(Found::Value(empty(alloc, *form))),
         Node::Slot(k) => slot(alloc, *k, outer, inner),

@@ -3,15 +3,14 @@ ghost use Rattle.std.specs.Prelude.{◌≡◌, ◌++◌, ◌∷◌, [], IfOk, Ma
 ghost use Rattle.std.specs.Option.{option_copied};
 ghost use Rattle.hs_base.specs.declared.value.Value.{Value};
 ghost use Rattle.hs_rules.specs.Values.{value_of, list_of, Gives};
-ghost use Rattle.hs_rules.specs.Meaning.{literal, empty_of, then, then_all, binary_of};
+ghost use Rattle.hs_rules.specs.Meaning.{empty_of, then, then_all, binary_of};
 ghost use Rattle.hs_rules.specs.Slots.{decode, trees, tree_at, s_bad, at_slot};
-ghost use Rattle.hs_rules.specs.Trees.{constant_of};
 ghost use Rattle.hs_eval.specs.Founds.{out_of};
 ghost use Rattle.hs_eval.specs.Evaluation.{outs_of, mirrored, slots};
 
 use crate::binary::binary;
 use crate::found::{Found, FoundAll};
-use hs_base::{Constant, Exn, NoMemory, Value, Values};
+use hs_base::{NoMemory, Value, Values};
 use hs_items::Items;
 use hs_rules::forms::{BinaryForm, EmptyForm};
 use hs_rules::{ExprId, Node};
@@ -23,21 +22,6 @@ pub fn node_at(nodes: &Items<Node>, id: ExprId) -> Option<&Node>
     ensures { MatchOption result (tree_at nodes.now id ≡ s_bad) (λ k. tree_at nodes.now id ≡ decode (take id.0 (trees nodes.now)) k.now) }
 {
     nodes.get(id.0)
-}
-
-/// A constant.
-#[tactic(auto, using(crate::proofs::Cases::value_forms))]
-pub fn constant(constant: Constant) -> Value
-    ensures { Gives (value_of result) ≡ literal (constant_of constant) }
-{
-    match constant {
-        Constant::True => Value::Bool(true),
-        Constant::False => Value::Bool(false),
-        Constant::ThreadKilled => Value::Exn(Exn::ThreadKilled),
-        Constant::UserInterrupt => Value::Exn(Exn::UserInterrupt),
-        Constant::DivideByZero => Value::Exn(Exn::DivideByZero),
-        Constant::Overflow => Value::Exn(Exn::Overflow),
-    }
 }
 
 /// `Nothing` or `[]`

@@ -11,7 +11,7 @@ use Rattle.hs_rules.specs.declared.node.ExprId.{ExprId}
 use Rattle.hs_rules.specs.declared.node.NodeLink.{NodeLink}
 use Rattle.hs_rules.specs.declared.node.Node.{Node}
 use Rattle.hs_rules.specs.declared.node.Node.TheVariants as n
-use Rattle.hs_rules.specs.Trees.{Ex, Exs, Links, Arms, Lit, number, letters, truth, nothing_more, exception, constant_of, lit, name, unary, binary, chain, conses, choose, items, empty, side, given, case, none, more, end, link, maybe_arms, either_arms, list_arms, pair_arms}
+use Rattle.hs_rules.specs.Trees.{Ex, Exs, Links, Arms, Lit, number, letters, truth, nothing_more, exception, lit, name, unary, binary, chain, conses, choose, items, empty, side, given, case, none, more, end, link, maybe_arms, either_arms, list_arms, pair_arms}
 use Rattle.hs_rules.specs.Programs.{Bd, pure_body, io_body, Fn, Par}
 use Rattle.hs_rules.specs.Values.{Name, Written, same_name, V, list_of, Outcome, Gives, Throws, Stuck, Outcomes, AllGive, and_then}
 use Rattle.hs_rules.specs.Meaning.{then, then_all, literal, empty_of, side_of, unary_of, binary_of, linked, on_truth, on_maybe, on_either, on_list, on_pair, texts_of}
@@ -176,7 +176,8 @@ links_in ts (k ∷ ks) = s_link k.form (tree_in ts k.operand) (links_in ts ks)
 abbrev pub decode : List Sx → Node → Sx
 decode ts (n.Int m) = s_literal (number m)
 decode ts (n.Text t) = s_literal (letters t)
-decode ts (n.Constant c) = s_literal (constant_of c)
+decode ts (n.Bool t) = s_literal (truth t)
+decode ts (n.Exn e) = s_literal (exception e)
 decode ts n.Unit = s_literal nothing_more
 decode ts (n.Empty f) = s_empty f
 decode ts (n.Slot k) = s_slot k

@@ -1,7 +1,7 @@
 //! Expressions as numbered nodes.
 
 use crate::forms::{BinaryForm, EmptyForm, SideForm, UnaryForm};
-use hs_base::{Constant, Txt};
+use hs_base::{Exn, Txt};
 use hs_items::Items;
 
 /// The number of an expression's node in its code.
@@ -23,8 +23,10 @@ pub enum Node {
     Int(i64),
     /// a text literal
     Text(Txt),
-    /// `True`, `ThreadKilled` and their like
-    Constant(Constant),
+    /// `True` or `False`
+    Bool(bool),
+    /// `ThreadKilled` and its like
+    Exn(Exn),
     /// `()`
     Unit,
     /// `Nothing` or `[]`
