@@ -16,3 +16,4 @@ pub mod Texts
 pub mod Streams
 pub mod Ends
 pub mod Rights
+pub mod Spans

@@ -1,7 +1,9 @@
 -- What an answer of `lex` says.
-use Rattle.std.specs.Prelude.{◌≡◌, ℕ, List, Option, Some, None, Result, Ok, Err, MatchOption, ⊤}
+use Rattle.std.specs.Prelude.{◌≡◌, ℕ, ◌<◌, ◌≤◌, List, [], ◌∷◌, Option, Some, None, Result, Ok, Err, MatchOption, ⊤, slice_range}
+use Rattle.std.specs.Str.{encode_utf8_all}
+use Rattle.hs_rules.specs.declared.token.Token.{Token}
 use Rattle.hs_rules.specs.declared.token.Tokens.{Tokens}
-use Rattle.hs_rules.specs.Tokens.{Outcome, Lexed, NotUtf8, Faulty, BadChar, OpenText, BigNumber, LexesTo}
+use Rattle.hs_rules.specs.Tokens.{Outcome, Lexed, NotUtf8, Faulty, BadChar, OpenText, BigNumber, Spells, LexesTo}
 use Rattle.hs_lex.specs.declared.fault.LexFault.{LexFault}
 use Rattle.hs_lex.specs.declared.fault.LexFault.TheVariants as fault
 
@@ -21,3 +23,16 @@ IsRight bytes answer = MatchOption (said answer) ⊤ (LexesTo bytes)
 -- What is right of the bytes is what the answer says.
 abbrev pub IsComplete : List ℕ → Result Tokens LexFault → Type 0
 IsComplete bytes answer = (outcome : Outcome) → LexesTo bytes outcome → MatchOption (said answer) ⊤ (λ o. o ≡ outcome)
+
+-- The spans rise from here on: each token has bytes, and begins at the end of the one before it or later.
+abbrev pub AreRising : ℕ → List Token → Type 0
+AreRising from [] = Unit {0}
+AreRising from (t ∷ ts) = (from ≤ t.start) × (t.start < t.end) × AreRising t.end ts
+
+-- The token is spelled by the bytes of the source in its span.
+abbrev pub IsSlice : List ℕ → Token → Type 0
+IsSlice source t = (cs : List ℕ) × Spells cs t.tok × (slice_range source t.start t.end ≡ encode_utf8_all cs)
+
+abbrev pub AreSlices : List ℕ → List Token → Type 0
+AreSlices source [] = Unit {0}
+AreSlices source (t ∷ ts) = IsSlice source t × AreSlices source ts

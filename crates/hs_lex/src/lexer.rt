@@ -1,7 +1,7 @@
 ghost use Rattle.std.specs.Prelude.{◌≡◌, ◌<◌, ◌^◌, ◌-◌, List, ℕ, length, IfOk, Result, Err, Some};
 ghost use Rattle.std.specs.Str.{IsValidUpTo, chars};
 ghost use Rattle.hs_rules.specs.Tokens.{Outcome, Faulty, LexesTo, IsTextOf, IsNoText, position_after};
-ghost use Rattle.hs_lex.specs.Answers.{said, IsRight, IsComplete};
+ghost use Rattle.hs_lex.specs.Answers.{said, IsRight, IsComplete, AreRising, AreSlices};
 ghost use Rattle.hs_lex.specs.Fronts.{fault_of};
 
 use crate::fault::LexFault;
@@ -22,6 +22,8 @@ pub fn lex(alloc: Global, bytes: &[u8]) -> Result<Tokens, LexFault>
     requires { length bytes.now < 2 ^ 32 - 1 }
     ensures right { IsRight bytes.now result }
     ensures complete { IsComplete bytes.now result }
+    ensures spans { IfOk result (λ tokens. AreRising 0 tokens.list) }
+    ensures slices { IfOk result (λ tokens. AreSlices bytes.now tokens.list) }
 {
     match std::str::from_utf8(bytes) {
         Ok(text) => {
