@@ -12,3 +12,4 @@ mod CellSteps
 mod CellRuns
 mod CellHistories
 mod NothingLegal
+mod TypesKept

@@ -35,3 +35,4 @@ pub mod MaskLaw
 pub mod BracketPhases
 pub mod CellLaw
 pub mod Matching
+pub mod TypedMeaning
