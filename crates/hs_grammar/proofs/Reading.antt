@@ -29,7 +29,7 @@ take_if_same : {A : Type 0} (b : Bool) (t : Token) (f g : Token → Parser A) �
 take_if_same true t f g h ts = h t ts
 take_if_same false t f g h ts = refl
 
-take_same : {A : Type 0} (k : Kind) (f g : Token → Parser A) → ((t : Token) (us : List Token) → f t us ≡ g t us) → (ts : List Token) → take k f ts ≡ take k g ts
+pub take_same : {A : Type 0} (k : Kind) (f g : Token → Parser A) → ((t : Token) (us : List Token) → f t us ≡ g t us) → (ts : List Token) → take k f ts ≡ take k g ts
 take_same k f g h [] = refl
 take_same k f g h (t ∷ ts) = take_if_same (same_kind (kind_of t.tok) k) t f g h ts
 

@@ -136,12 +136,18 @@ list_or_empty = within (λ p xs. elim xs [ inl u ↦ inl p | inr as' ↦ inr (e.
 unfoldable pub call : Rule Expr
 call = give e.Call ⊛ name ⊛ many arg
 
+abbrev pub side_form : {A : Type 0} → (Pos → Written → Written → Expr → A) → Kind → Rule A
+side_form f w = give f ⊛ at w ◁ k.at_sign ⊛ atype ◁ k.at_sign ⊛ atype ⊛ arg
+
 unfoldable pub constructed : Rule Expr
 constructed =
     alt (with_arg e.Just k.Just)
     (alt (give e.Nothing ⊛ at k.Nothing ◁ k.at_sign ⊛ atype)
-    (alt (give e.Left ⊛ at k.Left ◁ k.at_sign ⊛ atype ◁ k.at_sign ⊛ atype ⊛ arg)
-    (give e.Right ⊛ at k.Right ◁ k.at_sign ⊛ atype ◁ k.at_sign ⊛ atype ⊛ arg)))
+    (alt (side_form e.Left k.Left)
+    (side_form e.Right k.Right)))
+
+unfoldable pub list_form : Rule Expr
+list_form = go_on (λ p t. e.EmptyList p t) list_or_empty (give (λ t. t) ◁ k.at_sign ⊛ atype)
 
 unfoldable pub computed : Rule Expr
 computed =
@@ -157,7 +163,7 @@ unfoldable pub app : Rule Expr
 app =
     alt call
     (alt constructed
-    (alt (go_on (λ p t. e.EmptyList p t) list_or_empty (give (λ t. t) ◁ k.at_sign ⊛ atype))
+    (alt list_form
     (alt computed
     plain_atom)))
 
@@ -227,8 +233,11 @@ compare_operator =
     (alt (map (λ p. (compare.Greater, p)) (at k.greater))
     (map (λ p. (compare.AtLeast, p)) (at k.greater_equal))))))
 
+unfoldable pub compare_end : Rule (Option (CompareOp × Pos × Expr))
+compare_end = give (λ o x. Some (o.0, o.1, x)) ⊛ compare_operator ⊛ cons
+
 unfoldable pub comparison : Rule Expr
-comparison = give compare_tree ⊛ cons ⊛ optional None (give (λ o x. Some (o.0, o.1, x)) ⊛ compare_operator ⊛ cons)
+comparison = give compare_tree ⊛ cons ⊛ optional None compare_end
 
 unfoldable pub and_link : Rule Link
 and_link = link k.and_and comparison
@@ -264,14 +273,28 @@ items = give (λ x xs. x ∷ xs) ⊛ expr ⊛ many next_item ◁ k.close_bracket
 
 -- ---- alts(X) = ( "Nothing" "->" X ";" "Just" NAME "->" X | "Left" NAME "->" X ";" "Right" NAME "->" X
 -- ----           | "[" "]" "->" X ";" NAME ":" NAME "->" X | "(" NAME "," NAME ")" "->" X ) [ ";" ]
+abbrev pub maybe_arms : {X R : Type 0} → (X → Name → X → R) → Rule X → Rule R
+maybe_arms f x = give f ◁ k.Nothing ◁ k.arrow ⊛ x ◁ k.semicolon ◁ k.Just ⊛ name ◁ k.arrow ⊛ x
+
+abbrev pub either_arms : {X R : Type 0} → (Name → X → Name → X → R) → Rule X → Rule R
+either_arms f x = give f ◁ k.Left ⊛ name ◁ k.arrow ⊛ x ◁ k.semicolon ◁ k.Right ⊛ name ◁ k.arrow ⊛ x
+
+abbrev pub list_arms : {X R : Type 0} → (X → Name → Name → X → R) → Rule X → Rule R
+list_arms f x = give (λ u. f) ⊛ within (λ p u. u) k.open_bracket no_items ◁ k.arrow ⊛ x ◁ k.semicolon ⊛ name ◁ k.colon ⊛ name ◁ k.arrow ⊛ x
+
+abbrev pub pair_arm : {X R : Type 0} → (Name → Name → X → R) → Rule X → Rule R
+pair_arm f x = give (λ names. f names.0 names.1) ⊛ within (λ p names. names) k.open_paren two_names ◁ k.arrow ⊛ x
+
+abbrev pub arms : {X R : Type 0} → (X → Name → X → R) → (Name → X → Name → X → R) → (X → Name → Name → X → R) → (Name → Name → X → R) → Rule X → Rule R
+arms of_maybe of_either of_list of_pair x = alt (maybe_arms of_maybe x) (alt (either_arms of_either x) (alt (list_arms of_list x) (pair_arm of_pair x)))
+
+-- [ ";" ]
+abbrev pub optional_semicolon : Rule (Unit {0})
+optional_semicolon = optional (tt {0}) (map (λ p. tt {0}) (at k.semicolon))
+
 abbrev pub alts : {X R : Type 0} → (X → Name → X → R) → (Name → X → Name → X → R) → (X → Name → Name → X → R) → (Name → Name → X → R) → Rule X → Rule R
 alts of_maybe of_either of_list of_pair x =
-    give (λ arms end. arms)
-    ⊛ alt (give of_maybe ◁ k.Nothing ◁ k.arrow ⊛ x ◁ k.semicolon ◁ k.Just ⊛ name ◁ k.arrow ⊛ x)
-    (alt (give of_either ◁ k.Left ⊛ name ◁ k.arrow ⊛ x ◁ k.semicolon ◁ k.Right ⊛ name ◁ k.arrow ⊛ x)
-    (alt (give (λ u. of_list) ⊛ within (λ p u. u) k.open_bracket no_items ◁ k.arrow ⊛ x ◁ k.semicolon ⊛ name ◁ k.colon ⊛ name ◁ k.arrow ⊛ x)
-    (give (λ names. of_pair names.0 names.1) ⊛ within (λ p names. names) k.open_paren two_names ◁ k.arrow ⊛ x)))
-    ⊛ optional (tt {0}) (map (λ p. tt {0}) (at k.semicolon))
+    give (λ as' end. as') ⊛ arms of_maybe of_either of_list of_pair x ⊛ optional_semicolon
 
 -- ---- block  = "{" { stmt ";" } action [ ";" ] "}"
 -- ---- stmt   = NAME "<-" action | "let" NAME "=" expr | action
@@ -287,6 +310,9 @@ value_action =
     (alt (with_arg a.PutStrLn k.putStrLn)
     (give a.HPutStrLn ⊛ at k.hPutStrLn ◁ k.stderr ⊛ arg))))
 
+unfoldable pub modify_form : Rule Action
+modify_form = give a.ModifyMVar ⊛ at k.modifyMVar_ ⊛ arg ⊛ name ⊛ block
+
 unfoldable pub cell_action : Rule Action
 cell_action =
     alt (with_arg a.NewMVar k.newMVar)
@@ -296,18 +322,22 @@ cell_action =
     (alt (with_arg a.ReadMVar k.readMVar)
     (alt (with_arg a.TryTakeMVar k.tryTakeMVar)
     (alt (with_args a.TryPutMVar k.tryPutMVar)
-    (give a.ModifyMVar ⊛ at k.modifyMVar_ ⊛ arg ⊛ name ⊛ block)))))))
+    modify_form))))))
+
+unfoldable pub other_thread_action : Rule Action
+other_thread_action =
+    alt (map a.MyThreadId (at k.myThreadId))
+    (alt (with_args a.ThrowTo k.throwTo)
+    (alt (with_arg a.KillThread k.killThread)
+    (alt (with_arg a.ThreadDelay k.threadDelay)
+    (alt (map a.ClockMicros (at k.clockMicros))
+    (map a.GetMaskingState (at k.getMaskingState))))))
 
 unfoldable pub thread_action : Rule Action
 thread_action =
     alt (give a.ForkIo ⊛ at k.forkIO ⊛ block)
     (alt (give a.ForkIoWithUnmask ⊛ at k.forkIOWithUnmask ⊛ name ⊛ block)
-    (alt (map a.MyThreadId (at k.myThreadId))
-    (alt (with_args a.ThrowTo k.throwTo)
-    (alt (with_arg a.KillThread k.killThread)
-    (alt (with_arg a.ThreadDelay k.threadDelay)
-    (alt (map a.ClockMicros (at k.clockMicros))
-    (map a.GetMaskingState (at k.getMaskingState))))))))
+    other_thread_action)
 
 unfoldable pub mask_action : Rule Action
 mask_action =
@@ -317,12 +347,15 @@ mask_action =
     (alt (give a.UninterruptibleMaskOnly ⊛ at k.uninterruptibleMask_ ⊛ block)
     (give a.Restore ⊛ at k.restore ⊛ name ⊛ block))))
 
+unfoldable pub bracket_form : Rule Action
+bracket_form = give a.Bracket ⊛ at k.bracket ⊛ block ⊛ name ⊛ block ⊛ block
+
 unfoldable pub guard_action : Rule Action
 guard_action =
     alt (give a.Catch ⊛ at k.catch' ⊛ block ⊛ name ⊛ block)
     (alt (give a.OnException ⊛ at k.onException ⊛ block ⊛ block)
     (alt (give a.Finally ⊛ at k.finally' ⊛ block ⊛ block)
-    (alt (give a.Bracket ⊛ at k.bracket ⊛ block ⊛ name ⊛ block ⊛ block)
+    (alt bracket_form
     (give a.Timeout ⊛ at k.timeout ⊛ arg ⊛ block))))
 
 unfoldable pub other_action : Rule Action
