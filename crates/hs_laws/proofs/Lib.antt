@@ -13,3 +13,4 @@ mod CellRuns
 mod CellHistories
 mod NothingLegal
 mod TypesKept
+mod FunctionsTyped

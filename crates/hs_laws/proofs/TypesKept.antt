@@ -245,7 +245,7 @@ module _ (cells : ℕ → T → Type 0) where
 
   -- ---- scopes and functions
 
-  fits_more : (s : List typing.Bound) (env : Env) (x : Name) (t : T) (v : V) → Fits cells s env → HasV cells t v → Fits cells (typing.bound x t ∷ s) (with_name (Written x.text) v env)
+  pub fits_more : (s : List typing.Bound) (env : Env) (x : Name) (t : T) (v : V) → Fits cells s env → HasV cells t v → Fits cells (typing.bound x t ∷ s) (with_name (Written x.text) v env)
   fits_more s env x t v f h y = by (bytes_eq x.text y) (bytes_eq y x.text) (bytes_eq_sym x.text y)
     where
       by : (p q : Bool) → p ≡ q → HasSort cells (cond p (Some (typing.value t)) (typing.look s y)) (cond q (Some v) (value_at (Written y) env))

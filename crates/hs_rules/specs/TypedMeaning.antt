@@ -1,5 +1,5 @@
 -- When values, environments and pure functions fit the typing rules (own): what meaning keeps.
-use Rattle.std.specs.Prelude.{◌≡◌, ℕ, ltb, List, [], ◌∷◌, Bool, true, false, Option, Some, None}
+use Rattle.std.specs.Prelude.{◌≡◌, ◌+◌, ℕ, ltb, List, [], ◌∷◌, Bool, true, false, Option, Some, None}
 use Rattle.hs_rules.specs.declared.forms.BinaryForm.{BinaryForm}
 use Rattle.hs_rules.specs.declared.forms.BinaryForm.TheVariants as b
 use Rattle.hs_rules.specs.Trees.{T, unit, int, bool, text, thread, exn, pair, maybe, either, list, cell, Ex, Exs, Links, Arms, lit, name, unary, binary, chain, conses, choose, items, empty, side, given, case, none, more, end, link, maybe_arms, either_arms, list_arms, pair_arms}
@@ -7,6 +7,8 @@ use Rattle.hs_rules.specs.Values as val
 use Rattle.hs_rules.specs.Values.{V, UnitValue, Int, Truth, Text, Pair, Nothing, Just, Left, Right, Nil, Cons, Exception, Restore, Env, Written, value_at, Outcome, Gives, Throws, Stuck, Outcomes, AllGive, OneThrows, OneStuck}
 use Rattle.hs_rules.specs.Meaning.{Functions, answer}
 use Rattle.hs_rules.specs.Typing as typing
+use Rattle.hs_rules.specs.TypingScripts.{params_in}
+use Rattle.hs_rules.specs.Programs.{Bd, pure_body, io_body, Fn}
 
 -- ---- values of a type, where cells says which cell is of which type
 abbrev pub of_unit : V → Type 0
@@ -145,3 +147,15 @@ abbrev mutual
 -- a cell is of every `MVar` type: that what it holds has the type is a fact of a state
 abbrev pub any_cell : ℕ → T → Type 0
 any_cell m t = Unit {0}
+
+-- ---- scripts
+
+-- a pure definition has the type of its result, in the scope of its parameters
+abbrev pub BodyTyped : typing.Ctx → Fn → Bd → Type 0
+BodyTyped c d (pure_body w e) = Well e × typing.HasType c (params_in [] d.params) e w.ty
+BodyTyped c d (io_body w a) = Unit {0}
+
+-- so have all from the definition with number k on
+abbrev pub PureTyped : List typing.Sig → ℕ → List Fn → Type 0
+PureTyped sigs k [] = Unit {0}
+PureTyped sigs k (d ∷ ds) = BodyTyped (record { sigs = sigs; here = k }) d d.body × PureTyped sigs (k + 1) ds
