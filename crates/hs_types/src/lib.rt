@@ -1,0 +1,24 @@
+//! The checker of types, piece by piece: types and their widths, scopes, the table of functions, the rows of expressions,
+//! names and calls, and the links of `:` and `++`.
+//!
+//! A contract sees a fault as the broken rule of `hs_rules` that it names, a scope as its list of names with the last one
+//! first, and the table of functions as the list of their heads (`specs/Views`). The one promise: a piece leaves the scope
+//! as its contract says, the type that it gives is the one that `hs_judging` gives, and the kept fault is the least of the
+//! one that was kept and of those that `hs_judging` lists. Going down the trees is left to the code to come.
+#![tactic(auto)]
+
+mod calls;
+mod checker;
+mod conses;
+mod entry;
+mod fault;
+mod first;
+mod funs;
+mod needs;
+mod parts;
+mod rows;
+mod scopes;
+mod table;
+mod widths;
+
+pub use fault::{Form, TypeFault, Want};
