@@ -9,18 +9,26 @@ use Rattle.hs_io.specs.Causes.{HasCause, Rose}
 use Rattle.hs_io.specs.Outside.{Puts}
 use Rattle.hs_base.specs.declared.pos.Pos.{Pos}
 use Rattle.hs_rules.specs.declared.entry.Entry.{Entry}
-use Rattle.hs_rules.specs.Plain.{IsPlain, Follows}
+use Rattle.hs_rules.specs.declared.token.Tok.{Tok}
+use Rattle.hs_rules.specs.declared.token.Tokens.{Tokens}
+use Rattle.hs_rules.specs.Tokens.{HasTokens}
+use Rattle.hs_rules.specs.Plain.{IsPlain, Follows, kinds_of}
 use Rattle.hs_rules.specs.PlainScripts.{script_at, plain_history, lines_of, plain_end}
 use Rattle.hs_rules.specs.Runs.{after}
 use Rattle.hs_rules.proofs.PlainRuns.{IsShort, script_is_plain, plain_runs}
 use Rattle.conc_top.specs.declared.ending.RunEnd.{RunEnd}
 use Rattle.conc_top.specs.declared.ending.RunEnd.TheVariants as end
 use Rattle.conc_top.specs.declared.ending.Refusal.{Refusal}
-use Rattle.conc_top.specs.declared.ending.Refusal.TheVariants.{TooLong, NotYet}
+use Rattle.conc_top.specs.declared.ending.Refusal.TheVariants.{TooLong, Lex, NotYet}
 use Rattle.conc_top.specs.declared.ending.Ending.{Ending}
 use Rattle.conc_top.specs.declared.ending.Ending.TheVariants.{Ran, Accepted, Words, Refused, Read, Memory, Write}
 use Rattle.conc_top.specs.Answers.{script_limit, Comes, ErrorsFailed, IsDue, IsIdle, IsLeft, Keeps, OutputFailed, RunsScript, Tells}
-use Rattle.conc_top.specs.Outcomes.{IsJudged, IsNotYet, WasPlayed}
+use Rattle.conc_top.specs.Answers.{HasLines, IsFirstFault}
+use Rattle.conc_top.specs.Lines.{HasPlace}
+use Rattle.hs_lex.specs.Answers.{IsRight}
+use Rattle.hs_lex.specs.declared.fault.LexFault.{LexFault}
+use Rattle.hs_lex.specs.declared.fault.LexFault.TheVariants as lex
+use Rattle.conc_top.specs.Outcomes.{IsJudged, WasPlayed, WasRefused}
 
 -- ---- what is told
 
@@ -61,21 +69,21 @@ end_through (Some known) (Some left) bytes short taken end = all_left known left
 
 -- ---- a plain script ran
 
-rest_short : (lines : List (List ℕ)) (bytes : List ℕ) → Follows lines bytes → All IsShort lines
+rest_short : (lines : List (List ℕ)) (bytes : List Tok) → Follows lines bytes → All IsShort lines
 rest_short [] bytes follows = search arith
-rest_short (line ∷ lines) bytes follows = All-cons IsShort line lines follows.1.plain.short (rest_short lines follows.0 follows.2)
+rest_short (line ∷ lines) bytes follows = All-cons IsShort line lines follows.1.short (rest_short lines follows.0 follows.2)
 
 start : Pos
 start = record { line = 1; col = 1 }
 
-pub script_ran : (bytes : List ℕ) (lines : List (List ℕ)) (history : List Entry) (output : List ℕ) → IsPlain bytes lines → history ≡ plain_history lines
-    → output ≡ lines_of lines → RunsScript bytes history output [] 0
-script_ran bytes [] history output plain same printed = absurd plain
-script_ran bytes (x ∷ xs) history output plain same printed =
-    let script = script_is_plain start x xs (All-cons IsShort x xs plain.1.plain.short (rest_short xs plain.0 plain.2)) in
+plain_ran : (bytes : List ℕ) (tokens : Tokens) (lines : List (List ℕ)) (history : List Entry) (output : List ℕ) → HasTokens bytes tokens
+    → IsPlain (kinds_of tokens.list) lines → history ≡ plain_history lines → output ≡ lines_of lines → RunsScript bytes history output [] 0
+plain_ran bytes tokens [] history output has plain same printed = absurd plain
+plain_ran bytes tokens (x ∷ xs) history output has plain same printed =
+    let script = script_is_plain start x xs (All-cons IsShort x xs plain.1.short (rest_short xs plain.0 plain.2)) in
     record {
       script = script_at start x xs;
-      spelled = (x ∷ xs, plain, script);
+      spelled = (x ∷ xs, (tokens, has, plain), script);
       state = plain_end (lines_of (x ∷ xs));
       run = ap (λ h. after (script_at start x xs) h) same ∙ plain_runs script;
       done = refl;
@@ -83,6 +91,10 @@ script_ran bytes (x ∷ xs) history output plain same printed =
       errors_is = refl;
       clock = omega arith;
     }
+
+script_ran : (bytes : List ℕ) (lines : List (List ℕ)) (history : List Entry) (output : List ℕ) → HasLines bytes lines → history ≡ plain_history lines
+    → output ≡ lines_of lines → RunsScript bytes history output [] 0
+script_ran bytes lines history output has same printed = plain_ran bytes has.0 lines history output has.1 has.2 same printed
 
 -- ---- what the call came to
 
@@ -111,13 +123,20 @@ played_comes good fault before now taken end.Write history output is_good short 
 played_comes good fault before now taken (end.Limit kind entry) history output is_good short consumed end played = absurd played
 
 refused_comes : (good fault : Type 0) (before now : Option (List ℕ)) (taken : List ℕ) (r : Refusal) (history : List Entry) (output : List ℕ) → good
-    → length taken ≤ script_limit → Consumes before now taken → IsAtEnd now → IsNotYet r taken → history ≡ [] → output ≡ []
+    → length taken ≤ script_limit → Consumes before now taken → IsAtEnd now → WasRefused r taken → history ≡ [] → output ≡ []
     → Comes good fault before now (Refused r) history output [] 0
-refused_comes good fault before now taken TooLong history output is_good short consumed end other none nothing = absurd other
-refused_comes good fault before now taken NotYet history output is_good short consumed end other none nothing = record {
+refused_comes good fault before now taken TooLong history output is_good short consumed end why none nothing = absurd why
+refused_comes good fault before now taken (Lex f) history output is_good short consumed end why none nothing = record {
   bytes = taken;
   left = known_left before now taken consumed end;
-  due = (is_good, (short, other));
+  due = (is_good, (short, why));
+  kept = idle history output none nothing;
+  through = end_through before now taken short consumed end;
+}
+refused_comes good fault before now taken NotYet history output is_good short consumed end why none nothing = record {
+  bytes = taken;
+  left = known_left before now taken consumed end;
+  due = (is_good, (short, why));
   kept = idle history output none nothing;
   through = end_through before now taken short consumed end;
 }
@@ -269,3 +288,29 @@ pub caused : {O E : Type 0} (good fault : Type 0) (bytes : List ℕ) (out_told :
     → IsDue good bytes fault (Rose (out_faults out) (out_faults out_now) ⊎ Rose (err_faults err) (err_faults err_now)) given
 caused good fault bytes out_told out_faults err_told err_faults came given output text out out_now err err_now due tells =
     caused_by good fault bytes out_told out_faults err_told err_faults came given output text out out_now err err_now (is_write given) due tells
+
+-- ---- want of memory in place of a line with a place in it
+
+good_of : (good fault : Type 0) (bytes : List ℕ) (e : Ending) → HasPlace e → IsDue good bytes fault ⊥ e → good
+good_of good fault bytes (Ran r) has due = absurd has
+good_of good fault bytes Accepted has due = absurd has
+good_of good fault bytes Words has due = absurd has
+good_of good fault bytes (Refused r) has due = due.0
+good_of good fault bytes Memory has due = absurd has
+good_of good fault bytes Read has due = absurd has
+good_of good fault bytes Write has due = absurd has
+
+pub given_up : (good fault : Type 0) (before now : Option (List ℕ)) (came e : Ending) (history idle_history : List Entry) (output idle_output errors : List ℕ) (last : ℕ)
+    → Comes good fault before now came history output errors last → HasPlace came → e ≡ Memory → idle_history ≡ [] → idle_output ≡ []
+    → Comes good fault before now e idle_history idle_output [] 0
+given_up good fault before now came e history idle_history output idle_output errors last comes has is none nothing =
+    memory_comes good fault before now e idle_history idle_output (good_of good fault comes.bytes came has comes.due) is none nothing
+
+-- ---- the lexer's answer
+
+pub first_fault : (bytes : List ℕ) (f : LexFault) → (f ≡ lex.NoMemory → ⊥) → IsRight bytes (Err f) → IsFirstFault f bytes
+first_fault bytes (lex.NotUtf8 at) other right = right
+first_fault bytes (lex.BadChar at) other right = right
+first_fault bytes (lex.OpenText at) other right = right
+first_fault bytes (lex.BigNumber at) other right = right
+first_fault bytes lex.NoMemory other right = absurd (other refl)

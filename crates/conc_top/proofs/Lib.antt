@@ -1,4 +1,3 @@
-pub mod Blanks
-pub mod Cuts
+pub mod Strips
 pub mod Lines
 pub mod Answered

@@ -8,11 +8,15 @@ use Rattle.hs_rules.specs.PlainScripts.{PlainScript}
 use Rattle.hs_rules.specs.State.{State}
 use Rattle.hs_rules.specs.Runs.{IsRun}
 use Rattle.hs_rules.specs.Endings.{IsDone}
-use Rattle.hs_rules.specs.Plain.{IsPlain}
+use Rattle.hs_rules.specs.declared.token.Tokens.{Tokens}
+use Rattle.hs_rules.specs.Tokens.{HasTokens, LexesTo, NotUtf8, Faulty, BadChar, OpenText, BigNumber}
+use Rattle.hs_rules.specs.Plain.{IsPlain, kinds_of}
+use Rattle.hs_lex.specs.declared.fault.LexFault.{LexFault}
+use Rattle.hs_lex.specs.declared.fault.LexFault.TheVariants as lex
 use Rattle.conc_top.specs.declared.ending.RunEnd.{RunEnd}
 use Rattle.conc_top.specs.declared.ending.RunEnd.TheVariants as end
 use Rattle.conc_top.specs.declared.ending.Refusal.{Refusal}
-use Rattle.conc_top.specs.declared.ending.Refusal.TheVariants.{TooLong, NotYet}
+use Rattle.conc_top.specs.declared.ending.Refusal.TheVariants.{TooLong, Lex, NotYet}
 use Rattle.conc_top.specs.declared.ending.Ending.{Ending}
 use Rattle.conc_top.specs.declared.ending.Ending.TheVariants.{Ran, Accepted, Words, Refused, Read, Memory, Write}
 
@@ -24,19 +28,36 @@ AreGood words = words ≡ codes "run" ∷ []
 abbrev pub script_limit : ℕ
 script_limit = 1048576
 
+-- These bytes are a plain script with these lines.
+abbrev pub HasLines : List ℕ → List (List ℕ) → Type 0
+HasLines bytes lines = (tokens : Tokens) × HasTokens bytes tokens × IsPlain (kinds_of tokens.list) lines
+
 -- These bytes are this script, which can be run: a plain one.
 abbrev pub IsScript : List ℕ → List Fn → Type 0
-IsScript bytes ds = (lines : List (List ℕ)) × IsPlain bytes lines × PlainScript ds lines
+IsScript bytes ds = (lines : List (List ℕ)) × HasLines bytes lines × PlainScript ds lines
 
 -- ---- when each answer comes
 
+-- the first fault of bytes that have no tokens; want of memory is none
+abbrev pub IsFirstFault : LexFault → List ℕ → Type 0
+IsFirstFault (lex.NotUtf8 at) bytes = LexesTo bytes (NotUtf8 at)
+IsFirstFault (lex.BadChar at) bytes = LexesTo bytes (Faulty BadChar at)
+IsFirstFault (lex.OpenText at) bytes = LexesTo bytes (Faulty OpenText at)
+IsFirstFault (lex.BigNumber at) bytes = LexesTo bytes (Faulty BigNumber at)
+IsFirstFault lex.NoMemory bytes = ⊥
+
+-- the bytes have tokens, and these are no plain script
+abbrev pub IsNotYet : List ℕ → Type 0
+IsNotYet bytes = (tokens : Tokens) × HasTokens bytes tokens × ((lines : List (List ℕ)) → IsPlain (kinds_of tokens.list) lines → ⊥)
+
 abbrev pub IsRefused : Refusal → List ℕ → Type 0
 IsRefused TooLong bytes = script_limit < length bytes
-IsRefused NotYet bytes = (length bytes ≤ script_limit) × ((lines : List (List ℕ)) → IsPlain bytes lines → ⊥)
+IsRefused (Lex fault) bytes = (length bytes ≤ script_limit) × IsFirstFault fault bytes
+IsRefused NotYet bytes = (length bytes ≤ script_limit) × IsNotYet bytes
 
 -- what a run has ended with; a plain script always ends by a value
 abbrev pub MayEnd : RunEnd → List ℕ → Type 0
-MayEnd end.Done bytes = (length bytes ≤ script_limit) × (lines : List (List ℕ)) × IsPlain bytes lines
+MayEnd end.Done bytes = (length bytes ≤ script_limit) × (lines : List (List ℕ)) × HasLines bytes lines
 MayEnd end.Uncaught bytes = ⊥
 MayEnd end.Deadlock bytes = ⊥
 MayEnd end.Fuel bytes = ⊥

@@ -1,11 +1,17 @@
 -- The status of an ending, and its line on the error sink (own).
-use Rattle.std.specs.Prelude.{ℕ, List, [], ◌++◌, codes}
+use Rattle.std.specs.Prelude.{ℕ, List, [], ◌++◌, codes, string_bytes, ⊤}
+use Rattle.std.specs.Fmt.{decimal}
+use Rattle.hs_base.specs.declared.pos.Pos.{Pos}
+use Rattle.hs_lex.specs.declared.fault.LexFault.{LexFault}
+use Rattle.hs_lex.specs.declared.fault.LexFault.TheVariants as lex
 use Rattle.hs_rules.specs.Primitives.{line_feed}
 use Rattle.hs_rules.specs.Endings.{limit_line, memory_line}
 use Rattle.conc_top.specs.declared.ending.RunEnd.{RunEnd}
 use Rattle.conc_top.specs.declared.ending.RunEnd.TheVariants as end
 use Rattle.conc_top.specs.declared.ending.Refusal.{Refusal}
 use Rattle.conc_top.specs.declared.ending.Refusal.TheVariants as refusal
+use Rattle.conc_top.specs.declared.ending.Line.{Line}
+use Rattle.conc_top.specs.declared.ending.Line.TheVariants.{Fixed, Made}
 use Rattle.conc_top.specs.declared.ending.Ending.{Ending}
 use Rattle.conc_top.specs.declared.ending.Ending.TheVariants.{Ran, Accepted, Words, Refused, Read, Memory, Write}
 
@@ -37,8 +43,21 @@ run_line end.Memory = memory_line
 run_line end.Write = []
 run_line (end.Limit kind entry) = limit_line kind
 
+-- refused: KIND at L:C
+abbrev pub placed_line : List ℕ → Pos → List ℕ
+placed_line kind at = codes "refused: " ++ kind ++ codes " at " ++ decimal at.line ++ codes ":" ++ decimal at.col ++ line_feed
+
+abbrev pub lex_line : LexFault → List ℕ
+lex_line (lex.NotUtf8 at) = placed_line (codes "NotUtf8") at
+lex_line (lex.BadChar at) = placed_line (codes "BadChar") at
+lex_line (lex.OpenText at) = placed_line (codes "OpenText") at
+lex_line (lex.BigNumber at) = placed_line (codes "BigNumber") at
+-- this one is no refusal
+lex_line lex.NoMemory = memory_line
+
 abbrev pub refusal_line : Refusal → List ℕ
 refusal_line refusal.TooLong = codes "refused: TooLong" ++ line_feed
+refusal_line (refusal.Lex fault) = lex_line fault
 refusal_line refusal.NotYet = codes "refused: NotYet" ++ line_feed
 
 -- the line that goes to the error sink, or nothing
@@ -50,3 +69,23 @@ line_of (Refused r) = refusal_line r
 line_of Memory = memory_line
 line_of Read = codes "read fault" ++ line_feed
 line_of Write = []
+
+-- the line has a place in it
+abbrev pub RefusesAPlace : Refusal → Type 0
+RefusesAPlace refusal.TooLong = ⊥
+RefusesAPlace (refusal.Lex fault) = ⊤
+RefusesAPlace refusal.NotYet = ⊥
+
+abbrev pub HasPlace : Ending → Type 0
+HasPlace (Ran r) = ⊥
+HasPlace Accepted = ⊥
+HasPlace Words = ⊥
+HasPlace (Refused r) = RefusesAPlace r
+HasPlace Memory = ⊥
+HasPlace Read = ⊥
+HasPlace Write = ⊥
+
+-- the bytes of a line as it is told
+abbrev pub text_of : Line → List ℕ
+text_of (Fixed text) = text.now
+text_of (Made text) = string_bytes text

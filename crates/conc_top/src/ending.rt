@@ -1,7 +1,13 @@
-ghost use Rattle.std.specs.Prelude.{◌≡◌};
-ghost use Rattle.conc_top.specs.Lines.{line_of, refusal_line, run_line, run_status, status_of};
+ghost use Rattle.std.specs.Prelude.{◌≡◌, IfOk, OnErr};
+ghost use Rattle.conc_top.specs.Lines.{HasPlace, line_of, placed_line, refusal_line, RefusesAPlace, run_line, run_status, status_of, text_of};
 
+use hs_base::{NoMemory, Pos};
+use hs_lex::LexFault;
 use hs_rules::{Entry, History, LimitKind};
+use std::alloc::Global;
+
+/// The line of the ending `Memory`.
+pub const OUT_OF_MEMORY: &str = "out of memory\n";
 
 /// How a run ended.
 #[derive(Debug, PartialEq, Eq, Drop)]
@@ -23,16 +29,18 @@ pub enum RunEnd {
 }
 
 /// Why a script is not run.
-#[derive(Debug, PartialEq, Eq, Drop)]
+#[derive(Debug, Drop)]
 pub enum Refusal {
     /// More than 1,048,576 bytes.
     TooLong,
+    /// The bytes have no tokens.
+    Lex(LexFault),
     /// Not a plain script.
     NotYet,
 }
 
 /// How a call of `run` ended.
-#[derive(Debug, PartialEq, Eq, Drop)]
+#[derive(Debug, Drop)]
 pub enum Ending {
     /// A script ran.
     Ran(RunEnd),
@@ -77,17 +85,37 @@ impl Ending {
         }
     }
 
-    /// The line that goes to the error sink, with its line feed, or an empty text.
-    pub fn line(&self) -> &'static str
-        ensures { result.now ≡ line_of self.now }
+    /// The line that goes to the error sink, with its line feed, or an empty text. Only a line with a place in it takes
+    /// memory.
+    pub fn line(&self, alloc: Global) -> Result<Line, NoMemory>
+        ensures line { IfOk result (λ line. text_of line ≡ line_of self.now) }
+        ensures err { OnErr result (HasPlace self.now) }
     {
         match self {
-            Ending::Ran(end) => end.line(),
-            Ending::Accepted | Ending::Write => "",
-            Ending::Words => "words not understood\n",
-            Ending::Refused(refusal) => refusal.line(),
-            Ending::Memory => "out of memory\n",
-            Ending::Read => "read fault\n",
+            Ending::Ran(end) => Ok(Line::Fixed(end.line())),
+            Ending::Accepted | Ending::Write => Ok(Line::Fixed("")),
+            Ending::Words => Ok(Line::Fixed("words not understood\n")),
+            Ending::Refused(refusal) => refusal.line(alloc),
+            Ending::Memory => Ok(Line::Fixed(OUT_OF_MEMORY)),
+            Ending::Read => Ok(Line::Fixed("read fault\n")),
+        }
+    }
+}
+
+/// A line as it is told.
+#[derive(Debug, Drop)]
+pub enum Line {
+    Fixed(&'static str),
+    Made(String),
+}
+
+impl Line {
+    pub fn as_str(&self) -> &str
+        ensures { result.now ≡ text_of self.now }
+    {
+        match self {
+            Line::Fixed(text) => text,
+            Line::Made(text) => text.as_str(),
         }
     }
 }
@@ -124,12 +152,26 @@ impl RunEnd {
 }
 
 impl Refusal {
-    fn line(&self) -> &'static str
-        ensures { result.now ≡ refusal_line self.now }
+    fn line(&self, alloc: Global) -> Result<Line, NoMemory>
+        ensures line { IfOk result (λ line. text_of line ≡ refusal_line self.now) }
+        ensures err { OnErr result (RefusesAPlace self.now) }
     {
         match self {
-            Refusal::TooLong => "refused: TooLong\n",
-            Refusal::NotYet => "refused: NotYet\n",
+            Refusal::TooLong => Ok(Line::Fixed("refused: TooLong\n")),
+            Refusal::NotYet => Ok(Line::Fixed("refused: NotYet\n")),
+            Refusal::Lex(LexFault::NotUtf8(at)) => line_at(alloc, "NotUtf8", *at),
+            Refusal::Lex(LexFault::BadChar(at)) => line_at(alloc, "BadChar", *at),
+            Refusal::Lex(LexFault::OpenText(at)) => line_at(alloc, "OpenText", *at),
+            Refusal::Lex(LexFault::BigNumber(at)) => line_at(alloc, "BigNumber", *at),
+            Refusal::Lex(LexFault::NoMemory) => Ok(Line::Fixed(OUT_OF_MEMORY)),
         }
     }
+}
+
+// refused: KIND at L:C
+fn line_at(alloc: Global, kind: &str, at: Pos) -> Result<Line, NoMemory>
+    ensures { IfOk result (λ line. text_of line ≡ placed_line kind.now at) }
+{
+    let line = format!(in alloc; "refused: {} at {}:{}\n", kind, at.line, at.col)?;
+    Ok(Line::Made(line))
 }

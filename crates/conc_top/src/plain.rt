@@ -1,23 +1,32 @@
-//! The byte-wise reader of plain scripts.
+//! The reader of plain scripts, over their tokens.
 ghost use Rattle.std.specs.Prelude.{◌≡◌, ◌++◌, ◌∷◌, [], ◌↔◌, ◌⊎◌, IsTrue, IfOk, OnOk, MatchOption, List, ℕ};
-ghost use Rattle.hs_rules.specs.Plain.{between, closing, closing_late, heading, is_blank, is_literal_byte, IsPlain, IsPlainText, Quotes, Spells};
-ghost use Rattle.conc_top.specs.Reading.{are_tokens, HasNoQuote, texts, without_blanks};
+ghost use Rattle.hs_rules.specs.declared.token.Tok.{Tok};
+ghost use Rattle.hs_rules.specs.Plain.{between, closing, closing_late, heading, IsPlain, kinds_of, Quotes};
+ghost use Rattle.conc_top.specs.Reading.{tok_of, toks_of};
 
 use hs_base::NoMemory;
 use hs_items::Items;
+use hs_rules::{Tok, Token, symbol, word};
 use std::alloc::Global;
-
-const QUOTE: u8 = b'"';
 
 const LITERAL_LIMIT: usize = 65_536;
 
-/// The texts of the literals of a plain script, in order, or `None` where the bytes are no plain script.
-pub fn plain_lines(alloc: Global, bytes: &[u8]) -> Result<Option<Items<Items<u8>>>, NoMemory>
+/// A token of a plain script that is no literal.
+#[derive(Clone, Copy)]
+enum Fixed {
+    /// The name `main`.
+    Main,
+    Word(u8),
+    Sym(u8),
+}
+
+/// The texts of the literals of a plain script, in order, or `None` where the tokens are no plain script.
+pub fn plain_lines(alloc: Global, tokens: &[Token]) -> Result<Option<Items<Items<u8>>>, NoMemory>
     ensures { IfOk result (λ found. MatchOption found
-        ((lines : List (List ℕ)) → IsPlain bytes.now lines → ⊥)
-        (λ lines. IsPlain bytes.now lines × ((others : List (List ℕ)) → IsPlain bytes.now others → others ≡ lines))) }
+        ((lines : List (List ℕ)) → IsPlain (kinds_of tokens.now) lines → ⊥)
+        (λ lines. IsPlain (kinds_of tokens.now) lines)) }
 {
-    let Some((first, behind)) = literal_after_heading(bytes) else {
+    let Some((first, behind)) = literal_after_heading(tokens) else {
         return Ok(None);
     };
     let mut lines = Items::new(alloc);
@@ -41,118 +50,121 @@ fn add_line(alloc: Global, lines: &mut Items<Items<u8>>, text: &[u8]) -> Result<
     Ok(())
 }
 
-fn literal_after_heading(bytes: &[u8]) -> Option<(&[u8], &[u8])>
+fn literal_after_heading(tokens: &[Token]) -> Option<(&[u8], &[Token])>
     ensures { MatchOption result
-        ((text rest : List ℕ) → Quotes heading text bytes.now rest → ⊥)
-        (λ found. Quotes heading found.0.now bytes.now found.1.now
-        × ((text rest : List ℕ) → Quotes heading text bytes.now rest → (text ≡ found.0.now) × (rest ≡ found.1.now))) }
+        ((text : List ℕ) (rest : List Tok) → Quotes heading text (kinds_of tokens.now) rest → ⊥)
+        (λ found. Quotes heading found.0.now (kinds_of tokens.now) (kinds_of found.1.now)
+        × ((text : List ℕ) (rest : List Tok) → Quotes heading text (kinds_of tokens.now) rest
+        → (text ≡ found.0.now) × (rest ≡ kinds_of found.1.now))) }
 {
     literal_behind(
-        bytes,
-        &[b"main", b"::", b"IO", b"(", b")", b"=", b"{", b"putStrLn"],
+        tokens,
+        &[
+            Fixed::Main,
+            Fixed::Sym(symbol::DOUBLE_COLON),
+            Fixed::Word(word::IO),
+            Fixed::Sym(symbol::OPEN_PAREN),
+            Fixed::Sym(symbol::CLOSE_PAREN),
+            Fixed::Sym(symbol::EQUAL),
+            Fixed::Sym(symbol::OPEN_BRACE),
+            Fixed::Word(word::PUT_STR_LN),
+        ],
     )
 }
 
-fn literal_between(bytes: &[u8]) -> Option<(&[u8], &[u8])>
+fn literal_between(tokens: &[Token]) -> Option<(&[u8], &[Token])>
     ensures { MatchOption result
-        ((text rest : List ℕ) → Quotes between text bytes.now rest → ⊥)
-        (λ found. Quotes between found.0.now bytes.now found.1.now
-        × ((text rest : List ℕ) → Quotes between text bytes.now rest → (text ≡ found.0.now) × (rest ≡ found.1.now))) }
+        ((text : List ℕ) (rest : List Tok) → Quotes between text (kinds_of tokens.now) rest → ⊥)
+        (λ found. Quotes between found.0.now (kinds_of tokens.now) (kinds_of found.1.now)
+        × ((text : List ℕ) (rest : List Tok) → Quotes between text (kinds_of tokens.now) rest
+        → (text ≡ found.0.now) × (rest ≡ kinds_of found.1.now))) }
 {
-    literal_behind(bytes, &[b";", b"putStrLn"])
+    literal_behind(
+        tokens,
+        &[Fixed::Sym(symbol::SEMICOLON), Fixed::Word(word::PUT_STR_LN)],
+    )
 }
 
 // What may stand behind the last literal.
-fn is_closing(bytes: &[u8]) -> bool
-    ensures { IsTrue result ↔ (Spells closing bytes.now ⊎ Spells closing_late bytes.now) }
+fn is_closing(tokens: &[Token]) -> bool
+    ensures { IsTrue result ↔ ((kinds_of tokens.now ≡ closing) ⊎ (kinds_of tokens.now ≡ closing_late)) }
 {
-    spells(bytes, &[b"}", b";"]) || spells(bytes, &[b";", b"}", b";"])
+    let semicolon = Fixed::Sym(symbol::SEMICOLON);
+    let brace = Fixed::Sym(symbol::CLOSE_BRACE);
+    are(tokens, &[brace, semicolon]) || are(tokens, &[semicolon, brace, semicolon])
+}
+
+// Whether these are the tokens.
+fn are(tokens: &[Token], fixed: &[Fixed]) -> bool
+    ensures { IsTrue result ↔ (kinds_of tokens.now ≡ toks_of fixed.now) }
+{
+    match strip(tokens, fixed) {
+        Some(rest) => rest.is_empty(),
+        None => false,
+    }
 }
 
 // The text of the literal behind these tokens, and the rest behind it.
-fn literal_behind<'a>(bytes: &'a [u8], tokens: &[&[u8]]) -> Option<(&'a [u8], &'a [u8])>
-    requires { IsTrue (are_tokens (texts tokens.now)) }
+fn literal_behind<'a>(tokens: &'a [Token], fixed: &[Fixed]) -> Option<(&'a [u8], &'a [Token])>
     ensures { MatchOption result
-        ((text rest : List ℕ) → Quotes (texts tokens.now) text bytes.now rest → ⊥)
-        (λ found. Quotes (texts tokens.now) found.0.now bytes.now found.1.now
-        × ((text rest : List ℕ) → Quotes (texts tokens.now) text bytes.now rest → (text ≡ found.0.now) × (rest ≡ found.1.now))) }
+        ((text : List ℕ) (rest : List Tok) → Quotes (toks_of fixed.now) text (kinds_of tokens.now) rest → ⊥)
+        (λ found. Quotes (toks_of fixed.now) found.0.now (kinds_of tokens.now) (kinds_of found.1.now)
+        × ((text : List ℕ) (rest : List Tok) → Quotes (toks_of fixed.now) text (kinds_of tokens.now) rest
+        → (text ≡ found.0.now) × (rest ≡ kinds_of found.1.now))) }
 {
-    let Some((gap, behind)) = split_at_quote(bytes) else {
+    let Some(behind) = strip(tokens, fixed) else {
         return None;
     };
-    let Some((text, rest)) = split_at_quote(behind) else {
+    let Some((text, rest)) = first_text(behind) else {
         return None;
     };
-    if !spells(gap, tokens) {
-        return None;
-    }
-    if !is_literal(text) {
+    if text.len() > LITERAL_LIMIT {
         return None;
     }
     Some((text, rest))
 }
 
-// Whether the bytes are these tokens, with blanks before, between and after them.
-fn spells(bytes: &[u8], tokens: &[&[u8]]) -> bool
-    requires { IsTrue (are_tokens (texts tokens.now)) }
-    ensures { IsTrue result ↔ Spells (texts tokens.now) bytes.now }
-{
-    let mut rest = bytes;
-    for token in tokens {
-        match strip(trim_blanks(rest), token) {
-            Some(after) => rest = after,
-            None => return false,
-        }
-    }
-    trim_blanks(rest).is_empty()
-}
-
-fn strip<'a>(bytes: &'a [u8], token: &[u8]) -> Option<&'a [u8]>
+// The first token's text where it is a literal, and the tokens behind it.
+fn first_text(tokens: &[Token]) -> Option<(&[u8], &[Token])>
     ensures { MatchOption result
-        ((rest : List ℕ) → bytes.now ≡ token.now ++ rest → ⊥)
-        (λ rest. bytes.now ≡ token.now ++ rest.now) }
+        ((text : List ℕ) (rest : List Tok) → kinds_of tokens.now ≡ Tok.Text text ∷ rest → ⊥)
+        (λ found. kinds_of tokens.now ≡ Tok.Text found.0.now ∷ kinds_of found.1.now) }
 {
-    bytes.strip_prefix(token)
+    let Some((first, rest)) = tokens.split_first() else {
+        return None;
+    };
+    match &first.tok {
+        Tok::Text(text) => Some((text.as_str().as_bytes(), rest)),
+        _ => None,
+    }
 }
 
-fn trim_blanks(bytes: &[u8]) -> &[u8]
-    ensures { result.now ≡ without_blanks bytes.now }
+// What stands behind these tokens.
+fn strip<'a>(tokens: &'a [Token], fixed: &[Fixed]) -> Option<&'a [Token]>
+    ensures { MatchOption result
+        ((rest : List Tok) → kinds_of tokens.now ≡ toks_of fixed.now ++ rest → ⊥)
+        (λ rest. kinds_of tokens.now ≡ toks_of fixed.now ++ kinds_of rest.now) }
 {
-    let mut rest = bytes;
-    while let [byte, after @ ..] = rest {
-        if !is_blank_byte(*byte) {
-            return rest;
+    let mut rest = tokens;
+    for expected in fixed {
+        let Some((first, after)) = rest.split_first() else {
+            return None;
+        };
+        if !is(first, *expected) {
+            return None;
         }
         rest = after;
     }
-    rest
+    Some(rest)
 }
 
-// What stands before the first quote, and what stands behind it.
-fn split_at_quote(bytes: &[u8]) -> Option<(&[u8], &[u8])>
-    ensures { MatchOption result (HasNoQuote bytes.now)
-        (λ parts. HasNoQuote parts.0.now × (bytes.now ≡ parts.0.now ++ 34 ∷ parts.1.now)) }
+fn is(token: &Token, fixed: Fixed) -> bool
+    ensures { IsTrue result ↔ (token.now.tok ≡ tok_of fixed) }
 {
-    match bytes.iter().position(|byte| *byte == QUOTE) {
-        Some(at) => Some((&bytes[..at], &bytes[at + 1..])),
-        None => None,
+    match (&token.tok, fixed) {
+        (Tok::Name(name), Fixed::Main) => name.as_str() == "main",
+        (Tok::Word(number), Fixed::Word(expected)) => *number == expected,
+        (Tok::Sym(number), Fixed::Sym(expected)) => *number == expected,
+        _ => false,
     }
-}
-
-fn is_literal(text: &[u8]) -> bool
-    ensures { IsTrue result ↔ IsPlainText text.now }
-{
-    text.len() <= LITERAL_LIMIT && text.iter().all(|byte| is_letter(*byte))
-}
-
-fn is_letter(byte: u8) -> bool
-    ensures { result ≡ is_literal_byte byte }
-{
-    matches!(byte, b' '..=b'~') && byte != QUOTE && byte != b'\\'
-}
-
-fn is_blank_byte(byte: u8) -> bool
-    ensures { result ≡ is_blank byte }
-{
-    matches!(byte, b' ' | b'\t' | b'\r' | b'\n')
 }

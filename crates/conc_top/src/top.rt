@@ -1,18 +1,19 @@
-ghost use Rattle.std.specs.Prelude.{◌≡◌, ◌⊎◌, ◌↔◌, ◌++◌, ℕ, List, IsTrue, OnErr, OnOk, [], map, string_bytes};
+ghost use Rattle.std.specs.Prelude.{◌≡◌, ◌⊎◌, ◌↔◌, ◌++◌, ◌≤◌, ℕ, List, length, IsTrue, OnErr, OnOk, [], map, string_bytes};
 ghost use Rattle.std.specs.Io.KnownBytes.{Appends};
 ghost use Rattle.hs_io.specs.Causes.{HasCause, Rose};
 ghost use Rattle.hs_io.specs.Outside.{Puts};
 ghost use Rattle.conc_top.specs.declared.ending.Ending.{Ending};
 ghost use Rattle.conc_top.specs.declared.ending.Ending.TheVariants.{Write};
-ghost use Rattle.conc_top.specs.Answers.{AreGood, Comes, ErrorsFailed, IsDue, IsLeft, OutputFailed, Tells, WasToldNothing};
+ghost use Rattle.conc_top.specs.Answers.{AreGood, Comes, ErrorsFailed, IsDue, IsLeft, OutputFailed, script_limit, Tells, WasToldNothing};
 ghost use Rattle.conc_top.specs.Lines.{line_of, status_of};
 ghost use Rattle.conc_top.specs.Outcomes.{IsJudged};
 
-use crate::ending::{Done, Ending, Refusal, RunEnd};
+use crate::ending::{Done, Ending, OUT_OF_MEMORY, Refusal, RunEnd};
 use crate::input::{Input, read_input};
 use crate::plain::plain_lines;
 use crate::play::play;
 use hs_io::{Clock, Failed, Gate, Sink, Source};
+use hs_lex::{LexFault, lex};
 use hs_rules::History;
 use std::alloc::Global;
 
@@ -54,7 +55,16 @@ pub fn run<S: Source, O: Sink, E: Sink, K: Clock, G: Gate>(
     ensures clock { result.clock ≡ clock }
 {
     let outcome = come_to(alloc, words, source);
-    tell(outcome, out, err, clock)
+    match outcome.ending.line(alloc) {
+        Ok(line) => tell(outcome, line.as_str(), out, err, clock),
+        Err(_) => tell(
+            Outcome::idle(alloc, Ending::Memory),
+            OUT_OF_MEMORY,
+            out,
+            err,
+            clock,
+        ),
+    }
 }
 
 /// What a call comes to before it tells anything.
@@ -108,9 +118,15 @@ fn come_to<S: Source>(alloc: Global, words: &[String], source: &mut S) -> Outcom
 
 // Reads the script from the bytes and runs it.
 fn judge(alloc: Global, bytes: &[u8]) -> Outcome
+    requires { length bytes.now ≤ script_limit }
     ensures { IsJudged result.ending bytes.now result.history result.output.items }
 {
-    let lines = match plain_lines(alloc, bytes) {
+    let tokens = match lex(alloc, bytes) {
+        Ok(tokens) => tokens,
+        Err(LexFault::NoMemory) => return Outcome::idle(alloc, Ending::Memory),
+        Err(fault) => return Outcome::idle(alloc, Ending::Refused(Refusal::Lex(fault))),
+    };
+    let lines = match plain_lines(alloc, tokens.list.as_slice()) {
         Ok(Some(lines)) => lines,
         Ok(None) => return Outcome::idle(alloc, Ending::Refused(Refusal::NotYet)),
         Err(_) => return Outcome::idle(alloc, Ending::Memory),
@@ -128,11 +144,13 @@ fn judge(alloc: Global, bytes: &[u8]) -> Outcome
 // Tells the output and the line of the ending, or as much of it as can be told.
 fn tell<O: Sink, E: Sink, K: Clock>(
     come: Outcome,
+    line: &str,
     mut out: O,
     mut err: E,
     clock: K,
 ) -> Done<O, E, K>
-    requires { ¬ (come.ending ≡ Write) }
+    requires answer { ¬ (come.ending ≡ Write) }
+    requires line { line.now ≡ line_of come.ending }
     ensures status { result.status ≡ status_of result.ending }
     ensures tells { Tells O.told O.faults E.told E.faults come.ending result.ending come.output.items ([] ++ line_of come.ending)
         out result.out err result.err }
@@ -144,8 +162,7 @@ fn tell<O: Sink, E: Sink, K: Clock>(
         history,
         output,
     } = come;
-    let line = ending.line().as_bytes();
-    let ending = match put_both(&mut out, &mut err, &output, line) {
+    let ending = match put_both(&mut out, &mut err, &output, line.as_bytes()) {
         Ok(()) => ending,
         Err(Failed) => Ending::Write,
     };

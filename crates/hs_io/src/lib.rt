@@ -23,3 +23,6 @@ pub use mem_source::{MemSource, PlainSource};
 pub use sink::Sink;
 pub use source::Source;
 pub use std_streams::{StdSink, StdSource};
+
+#[cfg(test)]
+mod tests;

@@ -121,8 +121,8 @@ impl Source for PlainSource {
     ghost faults = { λ _. 0 };
 
     fn read(&mut self, into: &mut [u8]) -> Result<usize, Failed> {
-        let count = copy_from(&self.bytes, self.at, into.len(), into);
-        self.at += count;
-        Ok(count)
+        let given = copy_from(&self.bytes, self.at, into.len(), into);
+        self.at += given;
+        Ok(given)
     }
 }

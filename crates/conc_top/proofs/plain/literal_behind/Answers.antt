@@ -1,36 +1,27 @@
-use Rattle.std.proofs.Common.{rules, sym, ◌∙◌}
-use Rattle.conc_top.proofs.Cuts.{unquoted, unclosed, not_spelled, not_plain, quotes, are_parts}
+use Rattle.std.proofs.Common.{◌≡◌, ◌<◌, ◌++◌, ◌∷◌, ℕ, List, length, ap, ◌∙◌, arith}
+use Rattle.hs_rules.specs.declared.token.Tok.{Tok}
+use Rattle.hs_rules.specs.declared.token.Tok.TheVariants as tok
+use Rattle.hs_rules.specs.Plain.{Quotes}
+use Rattle.conc_top.specs.Reading.{toks_of}
+use Rattle.conc_top.proofs.Strips.{no_text, only_text}
 use Rattle.conc_top.proofs.plain.literal_behind.Goals as goal
 
-pub returns-in_default : goal.returns-in_default
-returns-in_default c = λ text rest. unquoted _ text c.args.bytes.now rest c.in_default.ensures
+pub returns-in_default-first_text : goal.returns-in_default-first_text
+returns-in_default-first_text c = λ word more. no_text _ _ _ c.in-Some.ensures c.in_default-first_text.ensures word more
 
-pub returns-in_default-split_at_quote : goal.returns-in_default-split_at_quote
-returns-in_default-split_at_quote c =
-    let cut = c.in-Some.ensures in
-    λ text rest. unclosed _ text c.args.bytes.now rest c.in-Some.gap.now c.in-Some.behind.now c.requires cut.0 cut.1 c.in_default-split_at_quote.ensures
+-- a longer text is none
+too_long : (front tokens behind rest more : List Tok) (text word : List ℕ) → tokens ≡ front ++ behind → behind ≡ tok.Text text ∷ rest → 65536 < length text
+    → Quotes front word tokens more → ⊥
+too_long front tokens behind rest more text word cut stands long q =
+    let same = only_text front tokens behind rest more text word cut stands q.whole in
+    omega (arith, long, q.short, ap (λ t. length t) same.0)
 
-pub returns-then-not-spells : goal.returns-then-not-spells
-returns-then-not-spells c =
-    let cut = c.in-Some.ensures in
-    let cut2 = c.in-Some-split_at_quote.ensures in
-    λ text rest. not_spelled _ text c.args.bytes.now rest c.in-Some.gap.now c.in-Some.behind.now c.in-Some-split_at_quote.text.now c.in-Some-split_at_quote.rest.now c.requires cut.0 cut.1 cut2.0 cut2.1
-    (λ s. search (rules, sym c.if-not-spells.true ∙ c.spells.ensures.1 s))
-
-pub returns-then-not-is_literal : goal.returns-then-not-is_literal
-returns-then-not-is_literal c =
-    let cut = c.in-Some.ensures in
-    let cut2 = c.in-Some-split_at_quote.ensures in
-    λ text rest. not_plain _ text c.args.bytes.now rest c.in-Some.gap.now c.in-Some.behind.now c.in-Some-split_at_quote.text.now c.in-Some-split_at_quote.rest.now c.requires cut.0 cut.1 cut2.0 cut2.1
-    (λ s. search (rules, sym c.if-not-is_literal.true ∙ c.is_literal.ensures.1 s))
+pub returns-then-text-gt-LITERAL_LIMIT : goal.returns-then-text-gt-LITERAL_LIMIT
+returns-then-text-gt-LITERAL_LIMIT c =
+    λ word more. too_long _ _ _ _ more c.in-Some-first_text.text.now word c.in-Some.ensures c.in-Some-first_text.ensures c.if-text-gt-LITERAL_LIMIT.true
 
 pub returns : goal.returns
-returns c =
-    let cut = c.in-Some.ensures in
-    let cut2 = c.in-Some-split_at_quote.ensures in (
-      quotes _ c.args.bytes.now c.in-Some.gap.now c.in-Some.behind.now c.in-Some-split_at_quote.text.now c.in-Some-split_at_quote.rest.now cut.1 cut2.1
-          (c.spells.ensures.0 c.if-not-spells.false) (c.is_literal.ensures.0 c.if-not-is_literal.false),
-      λ text rest q.
-          let same = are_parts _ text c.args.bytes.now rest c.in-Some.gap.now c.in-Some.behind.now c.in-Some-split_at_quote.text.now c.in-Some-split_at_quote.rest.now c.requires cut.0 cut.1 cut2.0 cut2.1 q in
-          (same.1, same.2),
-    )
+returns c = (
+  record { whole = c.in-Some.ensures ∙ ap (λ b. toks_of c.args.fixed.now ++ b) c.in-Some-first_text.ensures; short = c.if-text-gt-LITERAL_LIMIT.false },
+  λ word more q. only_text _ _ _ _ more c.in-Some-first_text.text.now word c.in-Some.ensures c.in-Some-first_text.ensures q.whole,
+)
