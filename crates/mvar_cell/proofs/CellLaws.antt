@@ -1,11 +1,11 @@
 -- Laws of the calls of one cell alone.
-use Rattle.std.proofs.Common.{◌≡◌, ℕ, ◌<◌, ◌==◌, Bool, true, false, not, cond, is_some, List, [], ◌∷◌, ◌++◌, length, Option, Some, None, refl, ap, sym, subst, ◌∙◌, arith, eq-eqb, get_or, set, inl, inr}
+use Rattle.std.proofs.Common.{◌≡◌, ℕ, zero, suc, ◌<◌, ◌==◌, Bool, true, false, not, cond, is_some, List, [], ◌∷◌, ◌++◌, length, Option, Some, None, refl, ap, sym, subst, ◌∙◌, arith, eq-eqb, get_or, set, inl, inr}
 use Rattle.std.proofs.lemmas.Bool.{cases_eq}
 use Rattle.std.proofs.lemmas.List.{set-get_or, get_or_default, length-set, get_or-set_same, get_or-set_other}
 use Rattle.hs_base.specs.declared.value.Value.{Value}
 use Rattle.hs_rules.specs.OneCell.{To_take, To_put, Place, Cell, Call, Take, Put, Try_take, Try_put, Leave, After, Reply, Answer, Took, Gave, Tried_take, Tried_put, cell_of, after_of, reply_of, call, called, stands_in, leaves_line, first_put, first_take, moves_in, comes_in, takes_it}
 use Rattle.mvar_cell.specs.Mvars.{Mvars, AllWait, IsDistinct, IsCell, AreCells}
-use Rattle.mvar_cell.specs.Calls.{cell_at, IsCall}
+use Rattle.mvar_cell.specs.Calls.{stands_among, cell_at, IsCall}
 
 -- ---- leaving
 step_false : (b c : Bool) → cond b true c ≡ false → (b ≡ false) × (c ≡ false)
@@ -318,3 +318,9 @@ call_leave m old new front back p was distinct contents lines =
       contents = contents ∙ sym (set-get_or old.contents m None);
       lines = lines ∙ ap (set old.lines m) (sym gone);
     }
+
+-- ---- who stands in no line
+pub nowhere_at : (t : ℕ) (lines : List (List (Place Value))) (k : ℕ) → stands_among t lines ≡ false → stands_in t (get_or lines k []) ≡ false
+nowhere_at t [] k h = refl
+nowhere_at t (line ∷ lines) zero h = (step_false (stands_in t line) (stands_among t lines) h).0
+nowhere_at t (line ∷ lines) (suc k) h = nowhere_at t lines k (step_false (stands_in t line) (stands_among t lines) h).1

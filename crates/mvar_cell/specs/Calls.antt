@@ -1,7 +1,7 @@
 -- What `Cells` means, and what its answers say in the words of one cell alone.
-use Rattle.std.specs.Prelude.{◌≡◌, ℕ, true, false, List, [], ◌∷◌, Option, Some, None, slice_index_or, slice_set}
+use Rattle.std.specs.Prelude.{◌≡◌, ℕ, Bool, true, false, cond, List, [], ◌∷◌, Option, Some, None, slice_index_or, slice_set}
 use Rattle.hs_base.specs.declared.value.Value.{Value}
-use Rattle.hs_rules.specs.OneCell.{Place, Cell, Call, After, Reply, Gave, Tried_take, Tried_put, cell_of, call, reply_of, stands_in, takes_it}
+use Rattle.hs_rules.specs.OneCell.{Place, Cell, Call, After, Reply, Gave, Tried_take, Tried_put, cell_of, call, reply_of, stands_in}
 use Rattle.hs_rules.specs.OneCell as one
 use Rattle.mvar_cell.specs.Mvars.{Mvars}
 use Rattle.mvar_cell.specs.declared.cells.Took.{Took}
@@ -21,9 +21,14 @@ pub record IsCall (q : Call Value) (m : ℕ) (old new : Mvars) (replies : List (
   pub contents : new.contents ≡ slice_set old.contents m (call q (cell_at m old)).cell.content
   pub lines : new.lines ≡ slice_set old.lines m (call q (cell_at m old)).cell.line
 
+-- whether the thread stands in any line
+abbrev pub stands_among : ℕ → List (List (Place Value)) → Bool
+stands_among t [] = false
+stands_among t (line ∷ lines) = cond (stands_in t line) true (stands_among t lines)
+
 -- the thread stands in no line
 abbrev pub StandsNowhere : ℕ → Mvars → Type 0
-StandsNowhere t cs = (k : ℕ) → stands_in t (slice_index_or cs.lines k []) ≡ false
+StandsNowhere t cs = stands_among t cs.lines ≡ false
 
 -- whom a take of thread t answered
 abbrev pub took_replies : ℕ → Took → List (Reply Value)

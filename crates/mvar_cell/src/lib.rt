@@ -12,3 +12,6 @@ mod cells;
 mod lines;
 
 pub use cells::{Cells, Gave, Took, Tried};
+
+#[cfg(test)]
+mod tests;

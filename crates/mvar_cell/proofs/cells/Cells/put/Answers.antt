@@ -1,6 +1,6 @@
 -- A put by the put that never waits.
 use Rattle.std.proofs.Common.{sym, ap, not, is_some}
-use Rattle.mvar_cell.proofs.CellLaws.{put_found_full, put_changed_nothing, as_before, cell_within, cells_wait, waits_here, put_blocks, put_done, put_served_taker}
+use Rattle.mvar_cell.proofs.CellLaws.{nowhere_at, put_found_full, put_changed_nothing, as_before, cell_within, cells_wait, waits_here, put_blocks, put_done, put_served_taker}
 use Rattle.mvar_cell.proofs.cells.Cells.put.Goals as goal
 
 pub join-requires-clause-within : goal.join-requires-clause-within
@@ -14,7 +14,7 @@ invariant_of-self c =
     let call = c.in-Full.ensures.call c.args.t in
     let full = put_found_full c.args.t _ c.args.v _ _ call in
     let u = as_before _ _ _ _ (put_changed_nothing c.args.t _ c.args.v _ _ call) c.self.view_is in
-    cells_wait _ _ _ _ _ u c.self.invariant c.requires.exists (ap (λ o. not (is_some o)) (sym full.1)) (c.requires.alone c.args.m) c.join.ensures.lines
+    cells_wait _ _ _ _ _ u c.self.invariant c.requires.exists (ap (λ o. not (is_some o)) (sym full.1)) (nowhere_at c.args.t c.args.self.now.lines c.args.m c.requires.alone) c.join.ensures.lines
 
 pub returns-in-Full-clause-call : goal.returns-in-Full-clause-call
 returns-in-Full-clause-call c =
