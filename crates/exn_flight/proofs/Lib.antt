@@ -1,3 +1,4 @@
+pub mod Blocked
 pub mod Numbers
 pub mod Order
 pub mod Throwers

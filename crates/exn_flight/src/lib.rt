@@ -15,3 +15,6 @@ mod thrown;
 
 pub use flight::Flight;
 pub use sleepers::Sleepers;
+
+#[cfg(test)]
+mod tests;

@@ -37,5 +37,39 @@ fn waiters_are_served_in_order(rt: HostRuntime) -> Result<(), Fail> {
     assert_eq!(rt; took(cells.take(0, 2)), (-1, -1));
     assert_eq!(rt; gave(cells.put(0, 3, Value::Int(7))), (1, 7));
     assert_eq!(rt; gave(cells.put(0, 3, Value::Int(8))), (2, 8));
+    assert_eq!(rt; gave(cells.put(0, 3, Value::Int(9))), (0, 0));
+    Ok(())
+}
+
+/// The value that came back, or the thread that was served, or -1 where the cell was empty.
+fn tried(answer: Tried) -> (i64, i64) {
+    match answer {
+        Tried::Full(value) => (int_of(value), -1),
+        Tried::Done => (-1, -1),
+        Tried::Served(taker, value) => (int_of(value), i64::from(taker)),
+    }
+}
+
+#[test]
+fn a_waiting_put_moves_in(rt: HostRuntime) -> Result<(), Fail> {
+    let mut cells = Cells::new(rt.alloc());
+    cells.room(8)?;
+    assert_eq!(rt; cells.fresh(Some(Value::Int(9))), 0);
+    assert_eq!(rt; tried(cells.try_put(0, Value::Int(5))), (5, -1));
+    assert_eq!(rt; gave(cells.put(0, 4, Value::Int(6))), (-1, -1));
+    assert_eq!(rt; took(cells.take(0, 5)), (9, 4));
+    assert!(rt; matches!(cells.content(0), Some(Value::Int(6))));
+    Ok(())
+}
+
+#[test]
+fn a_waiter_leaves(rt: HostRuntime) -> Result<(), Fail> {
+    let mut cells = Cells::new(rt.alloc());
+    cells.room(4)?;
+    assert_eq!(rt; cells.fresh(None), 0);
+    assert_eq!(rt; took(cells.take(0, 1)), (-1, -1));
+    cells.drop_waiter(0, 1);
+    assert_eq!(rt; tried(cells.try_put(0, Value::Int(7))), (-1, -1));
+    assert!(rt; matches!(cells.try_take(0), Some((Value::Int(7), None))));
     Ok(())
 }
