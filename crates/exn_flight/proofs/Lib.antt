@@ -1,4 +1,4 @@
-pub mod Blocked
+pub mod OneList
 pub mod Numbers
 pub mod Order
 pub mod Throwers

@@ -8,6 +8,7 @@
 //! sleepers; once room was made no call takes memory. Delivering and waking are left to the caller.
 #![tactic(auto)]
 
+pub mod blocked;
 mod flight;
 mod sleepers;
 mod sleeping;

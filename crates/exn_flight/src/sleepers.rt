@@ -1,6 +1,6 @@
 ghost use Rattle.std.specs.Prelude.{◌≡◌, ◌+◌, ◌<◌, ◌≤◌, [], false, length, slice_index_or, insert, MatchOption, OnOk};
 ghost use Rattle.hs_rules.specs.Waiting.{Sleeper, sleeper_added, still_asleep, is_sleeping, first_awake, earliest};
-ghost use Rattle.exn_flight.specs.Asleep.{AreAsleep};
+ghost use Rattle.exn_flight.specs.Asleep.{AreAsleep, AreInOrder};
 
 use crate::sleeping::Sleeping;
 use hs_base::NoMemory;
@@ -70,6 +70,7 @@ impl Sleepers {
         requires spare { 1 ≤ self.old.spare }
         requires awake { is_sleeping t self.old.list ≡ false }
         ensures list { self.new.list ≡ sleeper_added (record { thread = t; due = due }) self.old.list }
+        ensures order { AreInOrder self.new.list }
         ensures spare { self.old.spare ≤ self.new.spare + 1 }
     {
         let sleeper = Sleeping::new(t, due);
@@ -84,6 +85,7 @@ impl Sleepers {
     pub fn remove(&mut self, t: u32) -> bool
         ensures answer { result ≡ is_sleeping t self.old.list }
         ensures list { self.new.list ≡ still_asleep t self.old.list }
+        ensures order { AreInOrder self.new.list }
         ensures spare { self.old.spare ≤ self.new.spare }
     {
         let Some(at) = asleep_at(&self.list, t) else {

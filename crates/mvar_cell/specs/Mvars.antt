@@ -27,7 +27,7 @@ pub record AreCells (contents : List (Option Value)) (lines : List (List (Place 
   pub sizes : length contents ≡ length lines
   pub each : (k : ℕ) → k < length lines → IsCell (slice_index_or contents k None) (slice_index_or lines k [])
 
--- cell numbers are below this
+-- these contents and lines, where so many contents fit; cell numbers are below 2 ^ 32
 abbrev pub mvars : List (Option Value) → Lined → ℕ → Mvars
 mvars contents ls capacity =
     record { contents = contents; lines = ls.lines; spare = min (min (capacity - length contents) ls.spare) (2 ^ 32 - length contents) }

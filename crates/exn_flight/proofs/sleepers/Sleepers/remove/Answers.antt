@@ -31,3 +31,11 @@ returns-clause-list c =
     let left = c.in-Some-remove.ensures.items in
     let gone = without_at (λ (s : Sleeper). s.thread) c.args.t ss c.in-Some.at d c.in-Some.ensures.0 (c.in-Some.ensures.1 d) c.self.invariant.distinct in
     rw (← c.self.view_is) (left ∙ sym gone)
+
+pub returns-clause-order : goal.returns-clause-order
+returns-clause-order c =
+    let ss = c.self.inside.list.items in
+    let d : Sleeper = record { thread = 0; due = 0 } in
+    let left = c.in-Some-remove.ensures.items in
+    let gone = without_at (λ (s : Sleeper). s.thread) c.args.t ss c.in-Some.at d c.in-Some.ensures.0 (c.in-Some.ensures.1 d) c.self.invariant.distinct in
+    (subst AreAsleep (gone ∙ sym left) (asleep_without c.args.t ss c.self.invariant)).order

@@ -1,0 +1,9 @@
+use Rattle.hs_rules.specs.Waiting.{Sleeping}
+use Rattle.exn_flight.proofs.OneList.{sleepers_block, sleepers_leave}
+use Rattle.exn_flight.proofs.blocked.sleepers_are_of_the_blocked.Goals as goal
+
+pub returns-clause-sleeps : goal.returns-clause-sleeps
+returns-clause-sleeps c = λ t due ws. sleepers_block t (Sleeping due) ws
+
+pub returns-clause-leaves : goal.returns-clause-leaves
+returns-clause-leaves c = sleepers_leave
