@@ -1,4 +1,5 @@
--- What marks say, and the law of brackets.
+-- What marks say, and the law of brackets: that a resource is released once is what the documentation of
+-- `Control.Exception` promises of `bracket`; that the law is said of every run by marks is this project's own.
 use Rattle.std.specs.Prelude.{◌≡◌, ◌≢◌, ◌<◌, ℕ, suc, ◌≤◌, ◌==◌, List, [], ◌∷◌, ◌++◌, slice_get, true, cond, Option, Some}
 use Rattle.hs_base.specs.declared.mask.Mask.{Mask}
 use Rattle.hs_base.specs.declared.mask.Mask.TheVariants.{Unmasked, Masked, Uninterruptible}

@@ -1,4 +1,4 @@
--- The phases of a bracket: what the active part and the frames of a thread look like, and which brackets it has acquired
+-- The phases of a bracket (own): what the active part and the frames of a thread look like, and which brackets it has acquired
 -- and still has to release.
 use Rattle.std.specs.Prelude.{◌≡◌, ◌≢◌, ◌≤◌, ℕ, ℤ, List, [], ◌∷◌, Option, Some, None, slice_get}
 use Rattle.hs_base.specs.declared.mask.Mask.{Mask}

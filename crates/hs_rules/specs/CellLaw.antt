@@ -1,4 +1,4 @@
--- The law of cells: over a run each cell does what the machine of one cell alone does by the calls of the run, and values
+-- The law of cells (the documentation of `Control.Concurrent.MVar`: first in, first out, single wake-up; said of runs: own): over a run each cell does what the machine of one cell alone does by the calls of the run, and values
 -- come out in the order in which they went in.
 use Rattle.std.specs.Prelude.{◌≡◌, ℕ, ◌==◌, cond, List, [], ◌∷◌, ◌++◌, length, Option, Some, None, slice_get}
 use Rattle.hs_rules.specs.declared.entry.Entry.{Entry}

@@ -1,4 +1,5 @@
--- The law of masks: what is true wherever a thread receives an exception.
+-- The law of masks: what is true wherever a thread receives an exception ("Asynchronous Exceptions in Haskell"; the
+-- documentation of `Control.Exception` on interruptible operations).
 use Rattle.std.specs.Prelude.{◌≡◌, ◌≢◌, ℕ, true, false, List, [], ◌∷◌, ◌++◌, Option, Some, None, ◌⊎◌, slice_get}
 use Rattle.hs_base.specs.declared.mask.Mask.TheVariants.{Unmasked, Uninterruptible}
 use Rattle.hs_base.specs.declared.exn.Exn.{Exn}

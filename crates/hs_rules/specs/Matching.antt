@@ -1,4 +1,4 @@
--- When the values of slots are those of the names of a scope.
+-- When the values of slots are those of the names of a scope (own).
 use Rattle.std.specs.Prelude.{◌≡◌, ℕ, ◌==◌, List, [], ◌∷◌, length, false, cond, Option, Some, None, slice_get}
 use Rattle.hs_rules.specs.Values.{Name, Added, Unread, same_name, V, Env, value_at, Outcome}
 use Rattle.hs_rules.specs.Meaning.{Functions}

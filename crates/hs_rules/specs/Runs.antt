@@ -1,4 +1,4 @@
--- Runs: lists of entries that are legal one after another, from the first state of a script.
+-- Runs (own): lists of entries that are legal one after another, from the first state of a script.
 use Rattle.std.specs.Prelude.{◌≡◌, ℕ, List, [], ◌∷◌, Option, Some, None, codes}
 use Rattle.hs_rules.specs.declared.entry.Entry.{Entry}
 use Rattle.hs_rules.specs.Programs.{Fn}

@@ -1,4 +1,4 @@
--- Expressions with slots in place of names, and nodes that stand for them.
+-- Expressions with slots in place of names, and nodes that stand for them (own).
 --
 -- The slot of a name is how many names stand before it in its scope. A node is read with the trees of the nodes before
 -- it, and a call holds the tree of its function's body, so that the meaning needs no table of functions.
