@@ -2,3 +2,4 @@ pub mod Cases
 pub mod Floors
 pub mod Comparisons
 pub mod Steps
+pub mod Named
