@@ -136,8 +136,12 @@ list_or_empty = within (λ p xs. elim xs [ inl u ↦ inl p | inr as' ↦ inr (e.
 unfoldable pub call : Rule Expr
 call = give e.Call ⊛ name ⊛ many arg
 
+-- `w @t @t`
+unfoldable pub side_types : Kind → Rule (Pos × Written × Written)
+side_types w = give (λ p s t. (p, s, t)) ⊛ at w ◁ k.at_sign ⊛ atype ◁ k.at_sign ⊛ atype
+
 abbrev pub side_form : {A : Type 0} → (Pos → Written → Written → Expr → A) → Kind → Rule A
-side_form f w = give f ⊛ at w ◁ k.at_sign ⊛ atype ◁ k.at_sign ⊛ atype ⊛ arg
+side_form f w = give (λ s x. f s.0 s.1 s.2 x) ⊛ side_types w ⊛ arg
 
 unfoldable pub constructed : Rule Expr
 constructed =
@@ -273,16 +277,29 @@ items = give (λ x xs. x ∷ xs) ⊛ expr ⊛ many next_item ◁ k.close_bracket
 
 -- ---- alts(X) = ( "Nothing" "->" X ";" "Just" NAME "->" X | "Left" NAME "->" X ";" "Right" NAME "->" X
 -- ----           | "[" "]" "->" X ";" NAME ":" NAME "->" X | "(" NAME "," NAME ")" "->" X ) [ ";" ]
-abbrev pub maybe_arms : {X R : Type 0} → (X → Name → X → R) → Rule X → Rule R
-maybe_arms f x = give f ◁ k.Nothing ◁ k.arrow ⊛ x ◁ k.semicolon ◁ k.Just ⊛ name ◁ k.arrow ⊛ x
+-- `w -> x`, `w NAME -> x`, `[ ] -> x` and `NAME : NAME -> x`
+unfoldable pub bare_arm : {X : Type 0} → Kind → Rule X → Rule X
+bare_arm w x = give (λ y. y) ◁ w ◁ k.arrow ⊛ x
 
-abbrev pub either_arms : {X R : Type 0} → (Name → X → Name → X → R) → Rule X → Rule R
-either_arms f x = give f ◁ k.Left ⊛ name ◁ k.arrow ⊛ x ◁ k.semicolon ◁ k.Right ⊛ name ◁ k.arrow ⊛ x
+unfoldable pub named_arm : {X : Type 0} → Kind → Rule X → Rule (Name × X)
+named_arm w x = give (λ y z. (y, z)) ◁ w ⊛ name ◁ k.arrow ⊛ x
 
-abbrev pub list_arms : {X R : Type 0} → (X → Name → Name → X → R) → Rule X → Rule R
-list_arms f x = give (λ u. f) ⊛ within (λ p u. u) k.open_bracket no_items ◁ k.arrow ⊛ x ◁ k.semicolon ⊛ name ◁ k.colon ⊛ name ◁ k.arrow ⊛ x
+unfoldable pub empty_arm : {X : Type 0} → Rule X → Rule X
+empty_arm x = give (λ u y. y) ⊛ within (λ p u. u) k.open_bracket no_items ◁ k.arrow ⊛ x
 
-abbrev pub pair_arm : {X R : Type 0} → (Name → Name → X → R) → Rule X → Rule R
+unfoldable pub cons_arm : {X : Type 0} → Rule X → Rule (Name × Name × X)
+cons_arm x = give (λ y z w. (y, z, w)) ⊛ name ◁ k.colon ⊛ name ◁ k.arrow ⊛ x
+
+unfoldable pub maybe_arms : {X R : Type 0} → (X → Name → X → R) → Rule X → Rule R
+maybe_arms f x = give (λ a b. f a b.0 b.1) ⊛ bare_arm k.Nothing x ◁ k.semicolon ⊛ named_arm k.Just x
+
+unfoldable pub either_arms : {X R : Type 0} → (Name → X → Name → X → R) → Rule X → Rule R
+either_arms f x = give (λ a b. f a.0 a.1 b.0 b.1) ⊛ named_arm k.Left x ◁ k.semicolon ⊛ named_arm k.Right x
+
+unfoldable pub list_arms : {X R : Type 0} → (X → Name → Name → X → R) → Rule X → Rule R
+list_arms f x = give (λ a b. f a b.0 b.1 b.2) ⊛ empty_arm x ◁ k.semicolon ⊛ cons_arm x
+
+unfoldable pub pair_arm : {X R : Type 0} → (Name → Name → X → R) → Rule X → Rule R
 pair_arm f x = give (λ names. f names.0 names.1) ⊛ within (λ p names. names) k.open_paren two_names ◁ k.arrow ⊛ x
 
 abbrev pub arms : {X R : Type 0} → (X → Name → X → R) → (Name → X → Name → X → R) → (X → Name → Name → X → R) → (Name → Name → X → R) → Rule X → Rule R
