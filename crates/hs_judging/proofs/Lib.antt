@@ -5,3 +5,4 @@ pub mod Actions
 pub mod Scripts
 pub mod Closed
 pub mod Least
+pub mod Capped

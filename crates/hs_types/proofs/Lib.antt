@@ -1,3 +1,5 @@
 pub mod Tables
 pub mod Noted
 pub mod Chains
+pub mod Meters
+pub mod ScriptSteps
