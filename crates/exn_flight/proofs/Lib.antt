@@ -2,3 +2,5 @@ pub mod OneList
 pub mod Numbers
 pub mod Order
 pub mod Throwers
+pub mod Sorting
+pub mod SortedLeaving
