@@ -20,3 +20,6 @@ mod read;
 
 pub use found::Found;
 pub use meaning::{eval_node, slots_mean};
+
+#[cfg(test)]
+mod tests;
