@@ -36,3 +36,5 @@ pub mod BracketPhases
 pub mod CellLaw
 pub mod Matching
 pub mod TypedMeaning
+pub mod CodeTrees
+pub mod Codes
