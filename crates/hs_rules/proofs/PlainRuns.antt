@@ -1,8 +1,6 @@
 -- The history of a plain script is a run of it.
-use Rattle.std.proofs.Common.{◌≡◌, ℕ, suc, ◌≤◌, false, cond, List, [], ◌∷◌, ◌++◌, length, All, Option, Some, refl, ap, sym, ◌∙◌, append_assoc, append-nil}
+use Rattle.std.proofs.Common.{◌≡◌, ℕ, suc, ◌≤◌, false, cond, List, [], ◌∷◌, ◌++◌, length, Option, Some, refl, ap, sym, ◌∙◌, append_assoc, append-nil}
 use Rattle.std.proofs.lemmas.Bool.{le-ltb}
-use Rattle.std.proofs.lemmas.List.Elements.{All-head, All-tail}
-use Rattle.hs_base.specs.declared.pos.Pos.{Pos}
 use Rattle.hs_base.specs.declared.exn.Exn.TheVariants as exn
 use Rattle.hs_rules.specs.declared.entry.Entry.TheVariants.{Local, Op, Finish}
 use Rattle.hs_rules.specs.Programs.{Bl, Fn}
@@ -17,7 +15,7 @@ use Rattle.hs_rules.specs.State.{State, first, move}
 use Rattle.hs_rules.specs.Entries.{moved}
 use Rattle.hs_rules.specs.Runs.{then_next, after_from, after, code_of, out, err, output_of, errors_of}
 use Rattle.hs_rules.specs.Endings.{Ends, Done}
-use Rattle.hs_rules.specs.PlainScripts.{puts_line, PlainBlock, plain_last, plain_then, PlainScript, plain_script, bind_steps, later_entries, plain_history, lines_of, plain_end, main_script, script_at, block_at}
+use Rattle.hs_rules.specs.PlainScripts.{puts_line, PlainBlock, plain_last, plain_then, PlainScript, plain_script, bind_steps, later_entries, plain_history, lines_of, plain_end, main_script}
 
 -- a literal of at most 65,536 bytes is its text
 limited_within : (x : List ℕ) → length x ≤ 65536 → limited x ≡ Gives (Text x)
@@ -90,18 +88,6 @@ block_runs code (plain_then {a = a} {b = b} {xs = xs} (puts_line {x = x} h) r) =
 -- the history of a plain script is a run of it, and prints its texts
 pub plain_runs : {ds : List Fn} {xs : List (List ℕ)} → PlainScript ds xs → after ds (plain_history xs) ≡ Some (plain_end (lines_of xs))
 plain_runs (plain_script {p = p} {q = q} {b = b} r) = block_runs (code_of (main_script p q b)) r
-
--- a text of at most 65,536 bytes
-abbrev pub IsShort : List ℕ → Type 0
-IsShort x = length x ≤ 65536
-
--- a plain script of given texts
-pub block_is_plain : (p : Pos) (x : List ℕ) (xs : List (List ℕ)) → All IsShort (x ∷ xs) → PlainBlock (block_at p x xs) (x ∷ xs)
-block_is_plain p x [] h = plain_last (puts_line (All-head IsShort x [] h))
-block_is_plain p x (y ∷ ys) h = plain_then (puts_line (All-head IsShort x (y ∷ ys) h)) (block_is_plain p y ys (All-tail IsShort x (y ∷ ys) h))
-
-pub script_is_plain : (p : Pos) (x : List ℕ) (xs : List (List ℕ)) → All IsShort (x ∷ xs) → PlainScript (script_at p x xs) (x ∷ xs)
-script_is_plain p x xs h = plain_script (block_is_plain p x xs h)
 
 -- what a plain script's history prints, and that its main thread ends by a value
 pub plain_out : {ds : List Fn} {xs : List (List ℕ)} → PlainScript ds xs → out ds (plain_history xs) ≡ lines_of xs

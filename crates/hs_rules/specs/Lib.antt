@@ -29,7 +29,6 @@ pub mod TypingFaults
 pub mod TypingSizes
 pub mod TypingScripts
 pub mod PlainScripts
-pub mod Plain
 pub mod BracketLaw
 pub mod MaskLaw
 pub mod BracketPhases

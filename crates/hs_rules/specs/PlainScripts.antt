@@ -27,17 +27,6 @@ main_script p q b = record { name = record { text = codes "main"; pos = p }; par
 pub data PlainScript : List Fn → List (List ℕ) → Type 0 where
   plain_script : {p q : Pos} {b : Bl} {xs : List (List ℕ)} → PlainBlock b xs → PlainScript (main_script p q b) xs
 
--- the plain script of a first and further texts, with all its parts at one place
-abbrev pub line_at : Pos → List ℕ → Act
-line_at p x = unary_act PutStrLn p (lit p (letters x))
-
-abbrev pub block_at : Pos → List ℕ → List (List ℕ) → Bl
-block_at p x [] = last (line_at p x)
-block_at p x (y ∷ ys) = then (line_at p x) (block_at p y ys)
-
-abbrev pub script_at : Pos → List ℕ → List (List ℕ) → List Fn
-script_at p x xs = main_script p p (block_at p x xs)
-
 -- ---- the history
 
 -- one step into the bind, where more follows
