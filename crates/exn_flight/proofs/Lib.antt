@@ -1,6 +1,12 @@
 pub mod OneList
 pub mod Numbers
 pub mod Order
-pub mod Throwers
 pub mod Sorting
 pub mod SortedLeaving
+pub mod Growing
+pub mod Over
+pub mod Flying
+pub mod Placing
+pub mod Winning
+pub mod Refilling
+pub mod Moving

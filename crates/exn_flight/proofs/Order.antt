@@ -1,9 +1,10 @@
 -- Sleepers in order.
-use Rattle.std.proofs.Common.{◌≡◌, ℕ, zero, suc, ◌<◌, ◌≤◌, ◌==◌, nat_le, true, false, cond, List, [], ◌∷◌, length, get_or, insert, Some, None, refl, ap, sym, ◌∙◌, arith}
-use Rattle.hs_rules.specs.Waiting.{Sleeper, sleeper_before, sleeper_added, still_asleep, is_sleeping, first_awake}
+use Rattle.std.proofs.Common.{◌≡◌, ℕ, ◌<◌, ◌≤◌, ◌==◌, nat_le, Bool, true, false, cond, List, [], ◌∷◌, Option, Some, None, refl, ap, ◌∙◌, arith}
+use Rattle.std.proofs.lemmas.Bool.{lt-leb, le-leb, both_ways}
+use Rattle.hs_rules.specs.Waiting.{Sleeper, sleeper_before, sleeper_added, sorted_sleepers, is_sleeping, first_awake, earliest}
 use Rattle.exn_flight.specs.Numbered.{AreDistinct}
-use Rattle.exn_flight.specs.Asleep.{IsBeforeAll, AreInOrder, AreAsleep}
-use Rattle.exn_flight.proofs.Numbers.{step_false, distinct_without}
+use Rattle.exn_flight.specs.Asleep.{IsBeforeAll, AreInOrder}
+use Rattle.exn_flight.proofs.Numbers.{step_false}
 
 pub before_trans : (a b c : Sleeper) → sleeper_before a b ≡ true → sleeper_before b c ≡ true → sleeper_before a c ≡ true
 before_trans a b c p q = grind arith
@@ -17,29 +18,6 @@ before_due a b p = grind arith
 all_before : (a b : Sleeper) (ss : List Sleeper) → sleeper_before a b ≡ true → IsBeforeAll b ss → IsBeforeAll a ss
 all_before a b [] p h = tt
 all_before a b (s ∷ ss) p h = (before_trans a b s p h.0, all_before a b ss p h.1)
-
--- ---- the place of a new sleeper
-pub added_at : (s : Sleeper) (ss : List Sleeper) (i : ℕ) → i ≤ length ss → ((k : ℕ) (d : Sleeper) → k < i → sleeper_before (get_or ss k d) s ≡ true) → ((k : ℕ) (d : Sleeper) → i ≤ k → k < length ss → sleeper_before (get_or ss k d) s ≡ false)
-    → insert ss i s ≡ sleeper_added s ss
-added_at s [] zero le front back = refl
-added_at s [] (suc i) le front back = let no : ⊥ = omega arith in absurd no
-added_at s (r ∷ rs) zero le front back =
-    ap (λ b. cond b (r ∷ sleeper_added s rs) (s ∷ r ∷ rs)) (sym (back 0 r (omega arith) (omega arith)))
-added_at s (r ∷ rs) (suc i) le front back =
-    ap (λ xs. r ∷ xs) (added_at s rs i (omega arith) (λ k d lt. front (suc k) d (omega arith)) (λ k d low lt. back (suc k) d (omega arith) (omega arith))) ∙ ap (λ b. cond b (r ∷ sleeper_added s rs) (s ∷ r ∷ rs)) (sym (front 0 r (omega arith)))
-
--- the sleepers before one are the first
-before_at : (r s : Sleeper) (ss : List Sleeper) (j : ℕ) (d : Sleeper) → j < length ss → IsBeforeAll r ss → sleeper_before (get_or ss j d) s ≡ true → sleeper_before r s ≡ true
-before_at r s [] j d lt h e = let no : ⊥ = omega arith in absurd no
-before_at r s (x ∷ xs) zero d lt h e = before_trans r x s h.0 e
-before_at r s (x ∷ xs) (suc j) d lt h e = before_at r s xs j d (omega arith) h.1 e
-
-pub parted : (s : Sleeper) (ss : List Sleeper) → AreInOrder ss → (i j : ℕ) (d : Sleeper) → i ≤ j → j < length ss → sleeper_before (get_or ss j d) s ≡ true → sleeper_before (get_or ss i d) s ≡ true
-parted s [] h i j d le lt e = let no : ⊥ = omega arith in absurd no
-parted s (x ∷ xs) h zero zero d le lt e = e
-parted s (x ∷ xs) h zero (suc j) d le lt e = before_at x s xs j d (omega arith) h.0 e
-parted s (x ∷ xs) h (suc i) zero d le lt e = let no : ⊥ = omega arith in absurd no
-parted s (x ∷ xs) h (suc i) (suc j) d le lt e = parted s xs h.1 i j d (omega arith) (omega arith) e
 
 -- ---- a new sleeper
 all_added : (r s : Sleeper) (ss : List Sleeper) → sleeper_before r s ≡ true → IsBeforeAll r ss → IsBeforeAll r (sleeper_added s ss)
@@ -67,37 +45,37 @@ has_added n s (x ∷ xs) h e =
       | false ↦ ap (λ b. cond b true (cond (x.thread == n) true (is_sleeping n xs))) e ∙ h
     ]
 
-turned : (a b : ℕ) → a == b ≡ false → b == a ≡ false
-turned a b h = grind arith
+-- ---- put in order one by one
+pub has_sorted : (n : ℕ) (ss : List Sleeper) → is_sleeping n ss ≡ false → is_sleeping n (sorted_sleepers ss) ≡ false
+has_sorted n [] h = refl
+has_sorted n (s ∷ ss) h =
+    let w = step_false (s.thread == n) (is_sleeping n ss) h in
+    has_added n s (sorted_sleepers ss) (has_sorted n ss w.1) w.0
 
-distinct_added : (s : Sleeper) (ss : List Sleeper) → is_sleeping s.thread ss ≡ false → AreDistinct (λ (x : Sleeper). x.thread) ss → AreDistinct (λ (x : Sleeper). x.thread) (sleeper_added s ss)
-distinct_added s [] alone d = (refl, tt)
-distinct_added s (x ∷ xs) alone d =
-    let w = step_false (x.thread == s.thread) (is_sleeping s.thread xs) alone in
-    let rest = distinct_added s xs w.1 d.1 in
-    let other : is_sleeping x.thread (sleeper_added s xs) ≡ false = has_added x.thread s xs d.0 (turned x.thread s.thread w.0) in
-    elim (sleeper_before x s) as (λ b. AreDistinct (λ (y : Sleeper). y.thread) (cond b (x ∷ sleeper_added s xs) (s ∷ x ∷ xs))) [ true ↦ (other, rest) | false ↦ (alone, d) ]
+has_taken : (n : ℕ) (s : Sleeper) (ss : List Sleeper) → is_sleeping n (sleeper_added s ss) ≡ false → (s.thread == n ≡ false) × (is_sleeping n ss ≡ false)
+has_taken n s [] h = ((step_false (s.thread == n) false h).0, refl)
+has_taken n s (x ∷ xs) h =
+    elim (sleeper_before x s) as (λ b. is_sleeping n (cond b (x ∷ sleeper_added s xs) (s ∷ x ∷ xs)) ≡ false → (s.thread == n ≡ false) × (is_sleeping n (x ∷ xs) ≡ false)) [
+      | true ↦ λ g. (let w = step_false (x.thread == n) (is_sleeping n (sleeper_added s xs)) g in let r = has_taken n s xs w.1 in (r.0, ap (λ b. cond b true (is_sleeping n xs)) w.0 ∙ r.1))
+      | false ↦ λ g. step_false (s.thread == n) (is_sleeping n (x ∷ xs)) g
+    ] h
 
-pub asleep_added : (s : Sleeper) (ss : List Sleeper) → is_sleeping s.thread ss ≡ false → AreAsleep ss → AreAsleep (sleeper_added s ss)
-asleep_added s ss alone h =
-    record { order = order_added s ss alone h.order; distinct = distinct_added s ss alone h.distinct }
+pub has_unsorted : (n : ℕ) (ss : List Sleeper) → is_sleeping n (sorted_sleepers ss) ≡ false → is_sleeping n ss ≡ false
+has_unsorted n [] h = refl
+has_unsorted n (s ∷ ss) h =
+    let w = has_taken n s (sorted_sleepers ss) h in
+    ap (λ b. cond b true (is_sleeping n ss)) w.0 ∙ has_unsorted n ss w.1
 
--- ---- a sleeper that wakes
-all_without : (r : Sleeper) (t : ℕ) (ss : List Sleeper) → IsBeforeAll r ss → IsBeforeAll r (still_asleep t ss)
-all_without r t [] h = tt
-all_without r t (x ∷ xs) h =
-    let rest = all_without r t xs h.1 in
-    elim (x.thread == t) as (λ b. IsBeforeAll r (cond b (still_asleep t xs) (x ∷ still_asleep t xs))) [ true ↦ rest | false ↦ (h.0, rest) ]
+has_both : (n : ℕ) (ss : List Sleeper) (b : Bool) → is_sleeping n (sorted_sleepers ss) ≡ b → is_sleeping n ss ≡ true → b ≡ true
+has_both n ss true e h = refl
+has_both n ss false e h = absurd (both_ways (is_sleeping n ss) (has_unsorted n ss e) h)
 
-order_without : (t : ℕ) (ss : List Sleeper) → AreInOrder ss → AreInOrder (still_asleep t ss)
-order_without t [] h = tt
-order_without t (x ∷ xs) h =
-    let rest = order_without t xs h.1 in
-    elim (x.thread == t) as (λ b. AreInOrder (cond b (still_asleep t xs) (x ∷ still_asleep t xs))) [ true ↦ rest | false ↦ (all_without x t xs h.0, rest) ]
+pub still_sorted : (n : ℕ) (ss : List Sleeper) → is_sleeping n ss ≡ true → is_sleeping n (sorted_sleepers ss) ≡ true
+still_sorted n ss h = has_both n ss (is_sleeping n (sorted_sleepers ss)) refl h
 
-pub asleep_without : (t : ℕ) (ss : List Sleeper) → AreAsleep ss → AreAsleep (still_asleep t ss)
-asleep_without t ss h =
-    record { order = order_without t ss h.order; distinct = distinct_without (λ (x : Sleeper). x.thread) t ss h.distinct }
+pub sorted_in_order : (ss : List Sleeper) → AreDistinct (λ (s : Sleeper). s.thread) ss → AreInOrder (sorted_sleepers ss)
+sorted_in_order [] d = tt
+sorted_in_order (s ∷ ss) d = order_added s (sorted_sleepers ss) (has_sorted s.thread ss d.0) (sorted_in_order ss d.1)
 
 -- ---- the first due
 none_awake_behind : (now : ℕ) (s : Sleeper) (ss : List Sleeper) → now < s.due → IsBeforeAll s ss → first_awake now ss ≡ None
@@ -106,8 +84,34 @@ none_awake_behind now s (r ∷ rs) lt h =
     let late : nat_le r.due now ≡ false = grind (arith, before_due s r h.0) in
     ap (λ b. cond b (Some r.thread) (first_awake now rs)) late ∙ none_awake_behind now s rs lt h.1
 
-pub none_awake : (now : ℕ) (ss : List Sleeper) (d : Sleeper) → now < (get_or ss 0 d).due → AreInOrder ss → first_awake now ss ≡ None
-none_awake now [] d lt h = refl
-none_awake now (s ∷ ss) d lt h =
-    let late : nat_le s.due now ≡ false = grind arith in
-    ap (λ b. cond b (Some s.thread) (first_awake now ss)) late ∙ none_awake_behind now s ss lt h.0
+-- the first of a list
+abbrev pub head : List Sleeper → Option Sleeper
+head [] = None
+head (s ∷ ss) = Some s
+
+pub none_awake : (now : ℕ) (ss : List Sleeper) (s : Sleeper) → head ss ≡ Some s → now < s.due → AreInOrder ss → first_awake now ss ≡ None
+none_awake now [] s e lt h = refl
+none_awake now (r ∷ rs) s e lt h =
+    let same : r ≡ s = cc in
+    let due : r.due ≡ s.due = ap (λ (x : Sleeper). x.due) same in
+    let late : nat_le r.due now ≡ false = lt-leb r.due now (omega (arith, lt, due)) in
+    ap (λ b. cond b (Some r.thread) (first_awake now rs)) late ∙ none_awake_behind now r rs (omega (arith, lt, due)) h.0
+
+pub one_awake : (now : ℕ) (ss : List Sleeper) (s : Sleeper) → head ss ≡ Some s → s.due ≤ now → first_awake now ss ≡ Some s.thread
+one_awake now [] s e le = let no : ⊥ = cc in absurd no
+one_awake now (r ∷ rs) s e le =
+    let same : r ≡ s = cc in
+    let due : r.due ≡ s.due = ap (λ (x : Sleeper). x.due) same in
+    ap (λ b. cond b (Some r.thread) (first_awake now rs)) (le-leb r.due now (omega (arith, le, due))) ∙ ap (λ (x : Sleeper). Some x.thread) same
+
+pub none_asleep : (now : ℕ) (ss : List Sleeper) → head ss ≡ None → first_awake now ss ≡ None
+none_asleep now [] e = refl
+none_asleep now (r ∷ rs) e = let no : ⊥ = cc in absurd no
+
+pub earliest_head : (ss : List Sleeper) (s : Sleeper) → head ss ≡ Some s → earliest ss ≡ Some s.due
+earliest_head [] s e = let no : ⊥ = cc in absurd no
+earliest_head (r ∷ rs) s e = let same : r ≡ s = cc in ap (λ (x : Sleeper). Some x.due) same
+
+pub earliest_none : (ss : List Sleeper) → head ss ≡ None → earliest ss ≡ None
+earliest_none [] e = refl
+earliest_none (r ∷ rs) e = let no : ⊥ = cc in absurd no

@@ -1,5 +1,5 @@
 -- A sleeper that leaves a sorted list leaves the rest sorted.
-use Rattle.std.proofs.Common.{◌≡◌, ℕ, ◌==◌, Bool, true, false, cond, List, [], ◌∷◌, refl, ap, sym, ◌∙◌, arith}
+use Rattle.std.proofs.Common.{◌≡◌, ℕ, ◌==◌, true, false, cond, List, [], ◌∷◌, refl, ap, sym, ◌∙◌, arith}
 use Rattle.hs_rules.specs.Waiting.{Sleeper, Waiting, leaves, sleepers_of, sleeper_before, sleeper_added, sorted_sleepers, still_asleep}
 use Rattle.exn_flight.proofs.OneList.{sleepers_leave}
 
@@ -73,7 +73,7 @@ other_leaves t s (q ∷ qs) e h =
       | false ↦ λ f. ap (λ b. cond b (still_asleep t (q ∷ qs)) (s ∷ still_asleep t (q ∷ qs))) e ∙ sym (added_first s (still_asleep t (q ∷ qs)) (none_left t s (q ∷ qs) (f, none_before q s qs f h.0)))
     ] refl
 
-sorted_leaves : (t : ℕ) (ss : List Sleeper) → sorted_sleepers (still_asleep t ss) ≡ still_asleep t (sorted_sleepers ss)
+pub sorted_leaves : (t : ℕ) (ss : List Sleeper) → sorted_sleepers (still_asleep t ss) ≡ still_asleep t (sorted_sleepers ss)
 sorted_leaves t [] = refl
 sorted_leaves t (s ∷ ss) =
     let rest = sorted_leaves t ss in

@@ -1,14 +1,13 @@
 -- What `Sleepers` means: the sleepers by due, and of one due by thread, and how many more fit.
-use Rattle.std.specs.Prelude.{◌≡◌, ◌-◌, ℕ, true, List, [], ◌∷◌, length}
+use Rattle.std.specs.Prelude.{◌≡◌, ◌-◌, ◌≤◌, ℕ, true, List, [], ◌∷◌, length, slice_index_or, Option, Some, None}
 use Rattle.hs_rules.specs.Waiting.{Sleeper, sleeper_before}
-use Rattle.exn_flight.specs.Numbered.{AreDistinct}
 
 pub record Asleep : Type 0 where
   pub list : List Sleeper
   pub spare : ℕ
 
 abbrev pub asleep : List Sleeper → ℕ → Asleep
-asleep ss capacity = record { list = ss; spare = capacity - length ss }
+asleep ss spare = record { list = ss; spare = spare }
 
 -- the sleeper is before all of these
 abbrev pub IsBeforeAll : Sleeper → List Sleeper → Type 0
@@ -19,7 +18,25 @@ abbrev pub AreInOrder : List Sleeper → Type 0
 AreInOrder [] = Unit {0}
 AreInOrder (s ∷ ss) = IsBeforeAll s ss × AreInOrder ss
 
--- in order, and no thread twice
-pub record AreAsleep (ss : List Sleeper) : Type 0 where
-  pub order : AreInOrder ss
-  pub distinct : AreDistinct (λ (s : Sleeper). s.thread) ss
+-- ---- sleepers by place
+abbrev pub with_sleeper : Option Sleeper → List Sleeper → List Sleeper
+with_sleeper None ss = ss
+with_sleeper (Some s) ss = s ∷ ss
+
+-- who is at some place
+abbrev pub sleepers_at : List (Option Sleeper) → List Sleeper
+sleepers_at [] = []
+sleepers_at (o ∷ os) = with_sleeper o (sleepers_at os)
+
+-- the thread is at this place
+pub record IsAt (os : List (Option Sleeper)) (t k : ℕ) : Type 0 where
+  pub sleeper : Sleeper
+  pub is : slice_index_or os k None ≡ Some sleeper
+  pub thread : sleeper.thread ≡ t
+
+-- The table has each sleeper's place, and at the last places, so many, is nobody.
+pub record ArePlaced (os : List (Option Sleeper)) (free : ℕ) (places : ℕ → Option ℕ) : Type 0 where
+  pub within : free ≤ length os
+  pub vacant : (k : ℕ) → length os - free ≤ k → slice_index_or os k None ≡ None
+  pub place : (t k : ℕ) → places t ≡ Some k → IsAt os t k
+  pub sleeper : (k : ℕ) (s : Sleeper) → slice_index_or os k None ≡ Some s → places s.thread ≡ Some k

@@ -1,5 +1,5 @@
 -- What `Flight` means: the exceptions in flight, in order of throwing, and how many more fit.
-use Rattle.std.specs.Prelude.{◌-◌, ℕ, List, length, Option, Some, None}
+use Rattle.std.specs.Prelude.{ℕ, List, Option, Some, None}
 use Rattle.std.specs.Borrow.{Bor}
 use Rattle.hs_base.specs.declared.exn.Exn.{Exn}
 use Rattle.hs_rules.specs.Waiting.{Flying, withdrawn}
@@ -10,7 +10,7 @@ pub record InFlight : Type 0 where
   pub spare : ℕ
 
 abbrev pub in_flight : List Flying → ℕ → InFlight
-in_flight fs capacity = record { list = fs; spare = capacity - length fs }
+in_flight fs spare = record { list = fs; spare = spare }
 
 -- no thread throws twice
 abbrev pub AreThrowers : List Flying → Type 0

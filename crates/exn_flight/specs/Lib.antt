@@ -1,3 +1,6 @@
 pub mod Asleep
 pub mod Flights
 pub mod Numbered
+pub mod Tables
+pub mod Throwing
+pub mod Tournaments

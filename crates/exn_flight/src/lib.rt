@@ -6,13 +6,18 @@
 //!
 //! The promise: each call is what the one list of blocked threads (`hs_rules`, `Waiting`) says of throwers and of
 //! sleepers; once room was made no call takes memory. Delivering and waking are left to the caller.
+//!
+//! A throw that is over, and a place that a sleeper left, stay until `room` finds too little room: it then moves what is
+//! left to twice as many places.
 #![tactic(auto)]
 
 pub mod blocked;
 mod flight;
 mod sleepers;
 mod sleeping;
-mod thrown;
+mod table;
+mod throws;
+mod tournament;
 
 pub use flight::Flight;
 pub use sleepers::Sleepers;

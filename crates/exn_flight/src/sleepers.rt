@@ -1,49 +1,47 @@
-ghost use Rattle.std.specs.Prelude.{◌≡◌, ◌+◌, ◌<◌, ◌≤◌, [], false, length, slice_index_or, insert, MatchOption, OnOk};
-ghost use Rattle.hs_rules.specs.Waiting.{Sleeper, sleeper_added, still_asleep, is_sleeping, first_awake, earliest};
-ghost use Rattle.exn_flight.specs.Asleep.{AreAsleep, AreInOrder};
+ghost use Rattle.std.specs.Prelude.{◌≡◌, ◌+◌, ◌^◌, ◌<◌, ◌≤◌, [], false, length, IfOk, OnOk};
+ghost use Rattle.hs_rules.specs.Waiting.{sleeper_added, still_asleep, is_sleeping, first_awake, earliest};
+ghost use Rattle.std.specs.Option.{option_copied};
+ghost use Rattle.exn_flight.specs.Asleep.{AreInOrder, with_sleeper};
 
 use crate::sleeping::Sleeping;
+use crate::table::{THREADS, Table, clear, place_of, put};
+use crate::tournament::Tournament;
 use hs_base::NoMemory;
-use std::alloc::Global;
-use std::collections::VecDeque;
+use std::alloc::{AllocError, Global};
+use std::collections::HashMap;
 use std::marker::Model;
 
 /// Sleeping threads, by due and of one due by thread.
 #[derive(Drop)]
 pub struct Sleepers {
-    list: VecDeque<Sleeping>,
+    /// The sleepers in order of adding. A place that is left stays so until `room` is made.
+    tournament: Tournament,
+    /// So many places, the last, were never taken.
+    free: usize,
+    places: Table,
 }
 
 impl Model for Sleepers {
-    ghost use Rattle.std.specs.VecDeque.{deque_capacity};
-    ghost use Rattle.exn_flight.specs.Asleep.{Asleep, asleep, AreAsleep};
+    ghost use Rattle.std.specs.Prelude.{min, nat_eq};
+    ghost use Rattle.std.specs.HashMap.{get, spare};
+    ghost use Rattle.hs_rules.specs.Waiting.{sorted_sleepers};
+    ghost use Rattle.exn_flight.specs.Asleep.{Asleep, asleep, sleepers_at, ArePlaced};
 
     ghost Value = { Asleep };
 
-    ghost view = { λ a. asleep a.list.items (deque_capacity a.list) };
+    ghost view = { λ a. asleep (sorted_sleepers (sleepers_at a.tournament)) (min a.free (spare a.places)) };
 
-    ghost invariant = { λ a. AreAsleep a.list.items };
+    ghost invariant = { λ a. ArePlaced a.tournament a.free (get nat_eq a.places) };
 }
 
-/// Where the thread stands.
-fn asleep_at(list: &VecDeque<Sleeping>, thread: u32) -> Option<usize>
-    ensures { MatchOption result (is_sleeping thread list.now.items ≡ false) (λ i. (i < length list.now.items) × ((d : Sleeper) → (slice_index_or list.now.items i d).thread ≡ thread)) }
+/// 1 where there is one.
+fn count(sleeper: Option<&Sleeping>) -> usize
+    ensures { result ≡ length (with_sleeper (option_copied sleeper.entry) []) }
 {
-    for at in 0..list.len() {
-        if list[at].thread() == thread {
-            return Some(at);
-        }
+    match sleeper {
+        Some(_) => 1,
+        None => 0,
     }
-    None
-}
-
-/// Where a sleeper that isn't there yet belongs.
-fn place_of(list: &VecDeque<Sleeping>, sleeper: &Sleeping) -> usize
-    requires { AreAsleep list.now.items }
-    ensures within { result ≤ length list.now.items }
-    ensures place { insert list.now.items result sleeper.now ≡ sleeper_added sleeper.now list.now.items }
-{
-    list.partition_point(|other| other.is_before(sleeper))
 }
 
 impl Sleepers {
@@ -51,8 +49,60 @@ impl Sleepers {
         ensures { result.list ≡ [] }
     {
         Sleepers {
-            list: VecDeque::new(alloc),
+            tournament: Tournament::new(alloc),
+            free: 0,
+            places: HashMap::new(alloc),
         }
+    }
+
+    fn with_room(alloc: Global, n: usize) -> Result<Sleepers, AllocError>
+        requires { n + n < 2 ^ 64 }
+        ensures list { IfOk result (λ a. a.list ≡ []) }
+        ensures spare { IfOk result (λ a. n ≤ a.spare) }
+    {
+        let tournament = Tournament::with_places(alloc, n)?;
+        let places = HashMap::with_capacity(alloc, n)?;
+        Ok(Sleepers {
+            tournament,
+            free: n,
+            places,
+        })
+    }
+
+    fn spare(&self) -> usize
+        ensures { result ≡ self.now.spare }
+    {
+        let places = self.places.capacity() - self.places.len();
+        self.free.min(places)
+    }
+
+    /// How many threads sleep.
+    fn len(&self) -> usize
+        ensures len { result ≡ length self.now.list }
+        ensures small { result < 2 ^ 62 }
+    {
+        let mut asleep = 0;
+        for place in 0..self.tournament.len() {
+            asleep += count(self.tournament.at(place));
+        }
+        asleep
+    }
+
+    /// The same sleepers where `n` more fit, with so much room that moves are few.
+    fn roomier(&self, n: usize) -> Result<Sleepers, AllocError>
+        requires { n < 2 ^ 32 }
+        ensures list { IfOk result (λ a. a.list ≡ self.now.list) }
+        ensures ok { IfOk result (λ a. n ≤ a.spare) }
+    {
+        let len = self.len();
+        let more = len.clamp(8, THREADS) + 2 * n;
+        let mut roomier = Sleepers::with_room(self.tournament.allocator(), len + more)?;
+        for place in 0..self.tournament.len() {
+            if let Some(sleeper) = self.tournament.at(place) {
+                roomier.add(sleeper.thread(), sleeper.due());
+            }
+        }
+        Ok(roomier)
     }
 
     /// Makes `spare` at least `n`.
@@ -61,7 +111,10 @@ impl Sleepers {
         ensures kept { self.old.spare ≤ self.new.spare }
         ensures ok { OnOk result (n ≤ self.new.spare) }
     {
-        self.list.reserve(n as usize)?;
+        let n = n as usize;
+        if self.spare() < n {
+            *self = self.roomier(n)?;
+        }
         Ok(())
     }
 
@@ -73,12 +126,12 @@ impl Sleepers {
         ensures order { AreInOrder self.new.list }
         ensures spare { self.old.spare ≤ self.new.spare + 1 }
     {
+        let places = self.tournament.len();
+        let place = places - self.free;
         let sleeper = Sleeping::new(t, due);
-        let at = place_of(&self.list, &sleeper);
-        match self.list.insert(at, sleeper) {
-            Ok(()) => {}
-            Err(_) => unreachable!(),
-        }
+        self.tournament.set(place, Some(sleeper));
+        self.free -= 1;
+        put(&mut self.places, t, place);
     }
 
     /// The thread sleeps no more; false where it didn't sleep.
@@ -88,20 +141,19 @@ impl Sleepers {
         ensures order { AreInOrder self.new.list }
         ensures spare { self.old.spare ≤ self.new.spare }
     {
-        let Some(at) = asleep_at(&self.list, t) else {
+        let Some(place) = place_of(&self.places, t) else {
             return false;
         };
-        match self.list.remove(at) {
-            Some(_) => true,
-            None => unreachable!(),
-        }
+        self.tournament.set(place, None);
+        clear(&mut self.places, t);
+        true
     }
 
     /// The first sleeper whose due is at most `now`.
     pub fn due(&self, now: u64) -> Option<u32>
         ensures { result ≡ first_awake now self.now.list }
     {
-        let first = self.list.front()?;
+        let first = self.tournament.first()?;
         if first.due() <= now {
             Some(first.thread())
         } else {
@@ -113,7 +165,7 @@ impl Sleepers {
     pub fn first_due(&self) -> Option<u64>
         ensures { result ≡ earliest self.now.list }
     {
-        let first = self.list.front()?;
+        let first = self.tournament.first()?;
         Some(first.due())
     }
 }

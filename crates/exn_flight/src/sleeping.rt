@@ -25,6 +25,15 @@ impl Sleeping {
         Sleeping { thread, due }
     }
 
+    pub fn copied(&self) -> Sleeping
+        ensures { result ≡ self.now }
+    {
+        Sleeping {
+            thread: self.thread,
+            due: self.due,
+        }
+    }
+
     pub fn thread(&self) -> u32
         ensures { result ≡ self.now.thread }
     {

@@ -1,36 +1,30 @@
--- A thrower has one exception in flight at most.
-use Rattle.std.proofs.Common.{◌∙◌, ap, sym, subst, Some}
-use Rattle.hs_rules.specs.Waiting.{Flying}
-use Rattle.exn_flight.specs.Flights.{AreThrowers}
-use Rattle.exn_flight.proofs.Numbers.{without_absent, without_at, distinct_without}
-use Rattle.exn_flight.proofs.Throwers.{thrown_absent, thrown_at}
+-- A thrower has one exception in flight at most, and the table has its place.
+use Rattle.std.proofs.Common.{◌∙◌, nat_eq, sym, ap}
+use Rattle.std.specs.HashMap.{get}
+use Rattle.hs_rules.specs.Waiting.{Flying, thrown_by, is_throwing}
+use Rattle.exn_flight.proofs.Numbers.{without_absent}
+use Rattle.exn_flight.proofs.Flying.{none_by, only_at, thrown_none, thrown_live, throwing_none}
 use Rattle.exn_flight.proofs.flight.Flight.withdraw.Goals as goal
 
-pub returns-in_err-at-clause-answer : goal.returns-in_err-at-clause-answer
-returns-in_err-at-clause-answer c =
-    rw (← c.self.view_is) (c.from_residual.ensures ∙ sym (thrown_absent c.args.thrower c.self.inside.list.items c.in_err-at.ensures))
+pub returns-in_err-place-clause-answer : goal.returns-in_err-place-clause-answer
+returns-in_err-place-clause-answer c =
+    let ts = c.self.inside.throws.list.items in
+    let list = ap (λ x. x.list) c.self.view_is in
+    let none = none_by ts (get nat_eq c.self.inside.throws.throwers) c.args.thrower c.self.invariant.at (sym c.place_of.ensures ∙ c.in_err-place.was) in
+    c.from_residual.ensures ∙ sym (thrown_none ts c.args.thrower none) ∙ ap (thrown_by c.args.thrower) list
 
-pub returns-in_err-at-clause-list : goal.returns-in_err-at-clause-list
-returns-in_err-at-clause-list c =
-    rw (← c.self.view_is) (sym (without_absent (λ (f : Flying). f.thrower) c.args.thrower c.self.inside.list.items c.in_err-at.ensures))
-
-pub invariant_of-self-2 : goal.invariant_of-self-2
-invariant_of-self-2 c =
-    let fs = c.self.inside.list.items in
-    let d = c.in_ok-thrown.thrown in
-    let gone = without_at (λ (f : Flying). f.thrower) c.args.thrower fs c.in_ok-at.at d c.in_ok-at.ensures.0 (c.in_ok-at.ensures.1 d) c.self.invariant in
-    subst AreThrowers (gone ∙ sym c.in_ok-thrown.ensures.items) (distinct_without (λ (f : Flying). f.thrower) c.args.thrower fs c.self.invariant)
+pub returns-in_err-place-clause-list : goal.returns-in_err-place-clause-list
+returns-in_err-place-clause-list c =
+    let ts = c.self.inside.throws.list.items in
+    let list = ap (λ x. x.list) c.self.view_is in
+    let none = none_by ts (get nat_eq c.self.inside.throws.throwers) c.args.thrower c.self.invariant.at (sym c.place_of.ensures ∙ c.in_err-place.was) in
+    sym (without_absent (λ (f : Flying). f.thrower) c.args.thrower c.args.self.now.list (ap (is_throwing c.args.thrower) (sym list) ∙ throwing_none ts c.args.thrower none))
 
 pub returns-clause-answer : goal.returns-clause-answer
 returns-clause-answer c =
-    let fs = c.self.inside.list.items in
-    let d = c.in_ok-thrown.thrown in
-    let found = thrown_at c.args.thrower fs c.in_ok-at.at d c.in_ok-at.ensures.0 (c.in_ok-at.ensures.1 d) c.self.invariant in
-    rw (← c.self.view_is) (ap (λ w. Some w.1) c.into_parts-e.ensures ∙ ap (λ (f : Flying). Some f.exn) c.in_ok-thrown.ensures.value ∙ sym found)
-
-pub returns-clause-list : goal.returns-clause-list
-returns-clause-list c =
-    let fs = c.self.inside.list.items in
-    let d = c.in_ok-thrown.thrown in
-    let gone = without_at (λ (f : Flying). f.thrower) c.args.thrower fs c.in_ok-at.at d c.in_ok-at.ensures.0 (c.in_ok-at.ensures.1 d) c.self.invariant in
-    rw (← c.self.view_is) (c.in_ok-thrown.ensures.items ∙ sym gone)
+    let ts = c.self.inside.throws.list.items in
+    let list = ap (λ x. x.list) c.self.view_is in
+    let here = sym c.place_of.ensures ∙ c.in_ok-place.was in
+    let at = c.self.invariant.at.place c.args.thrower c.in_ok-place.place here in
+    let only = only_at ts (get nat_eq c.self.inside.throws.throwers) c.args.thrower c.in_ok-place.place c.self.invariant.at here in
+    c.leave-e.ensures.answer ∙ sym (thrown_live ts c.args.thrower c.in_ok-place.place at.0 at.1 only) ∙ ap (thrown_by c.args.thrower) list
