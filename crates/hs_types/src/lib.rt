@@ -5,25 +5,25 @@
 //! first, the table of functions as the list of their heads (`specs/Views`), and an extent as the lesser of the one that
 //! `hs_rules` defines and of 1,000,001 (`specs/Measuring`). The one promise: a piece leaves the scope as its contract
 //! says, the type that it gives is the one that `hs_judging` gives, and the kept fault is the least of the one that was
-//! kept and of those that `hs_judging` lists. Going down the trees of a script is left to the code to come.
+//! kept and of those that `hs_judging` lists. The modules are public for the crate that goes down the trees of a script.
 #![tactic(auto)]
 
-mod act_rows;
+pub mod act_rows;
 mod calls;
-mod checker;
+pub mod checker;
 mod conses;
-mod entry;
+pub mod entry;
 mod fault;
-mod first;
-mod funs;
-mod heads;
-mod meter;
+pub mod first;
+pub mod funs;
+pub mod heads;
+pub mod meter;
 mod meter_acts;
 mod needs;
-mod parts;
+pub mod parts;
 mod rows;
 mod scopes;
-mod table;
-mod widths;
+pub mod table;
+pub mod widths;
 
 pub use fault::{Form, TypeFault, Want};
