@@ -7,23 +7,25 @@ use Rattle.std.proofs.lemmas.List.Elements.{All-cons}
 use Rattle.std.proofs.Math.Seq.{drop-append_seam}
 use Rattle.hs_io.specs.Causes.{HasCause, Rose}
 use Rattle.hs_io.specs.Outside.{Puts}
-use Rattle.hs_base.specs.declared.pos.Pos.{Pos}
 use Rattle.hs_rules.specs.declared.entry.Entry.{Entry}
-use Rattle.hs_rules.specs.declared.token.Tok.{Tok}
 use Rattle.hs_rules.specs.declared.token.Tokens.{Tokens}
 use Rattle.hs_rules.specs.Tokens.{HasTokens}
-use Rattle.hs_rules.specs.Plain.{IsPlain, Follows, kinds_of}
-use Rattle.hs_rules.specs.PlainScripts.{script_at, plain_history, lines_of, plain_end}
+use Rattle.hs_base.specs.declared.tree.script.Script.{Script}
+use Rattle.hs_rules.specs.Programs.{Fn, script_of}
+use Rattle.hs_rules.specs.PlainScripts.{PlainScript, plain_history, lines_of, plain_end}
 use Rattle.hs_rules.specs.Runs.{after}
-use Rattle.hs_rules.proofs.PlainRuns.{IsShort, script_is_plain, plain_runs}
+use Rattle.hs_rules.proofs.PlainRuns.{plain_runs}
 use Rattle.conc_top.specs.declared.ending.RunEnd.{RunEnd}
 use Rattle.conc_top.specs.declared.ending.RunEnd.TheVariants as end
 use Rattle.conc_top.specs.declared.ending.Refusal.{Refusal}
-use Rattle.conc_top.specs.declared.ending.Refusal.TheVariants.{TooLong, Lex, NotYet}
+use Rattle.conc_top.specs.declared.ending.Refusal.TheVariants.{TooLong, Lex, Parse, NotYet}
 use Rattle.conc_top.specs.declared.ending.Ending.{Ending}
 use Rattle.conc_top.specs.declared.ending.Ending.TheVariants.{Ran, Accepted, Words, Refused, Read, Memory, Write}
 use Rattle.conc_top.specs.Answers.{script_limit, Comes, ErrorsFailed, IsDue, IsIdle, IsLeft, Keeps, OutputFailed, RunsScript, Tells}
-use Rattle.conc_top.specs.Answers.{HasLines, IsFirstFault}
+use Rattle.conc_top.specs.Answers.{HasLines, IsFirstFault, IsMisspelled, IsSpelled}
+use Rattle.hs_parse.specs.Parsed.{Parsed}
+use Rattle.hs_parse.specs.declared.fault.ParseFault.{ParseFault}
+use Rattle.hs_parse.specs.declared.fault.ParseFault.TheVariants as parse
 use Rattle.conc_top.specs.Lines.{HasPlace}
 use Rattle.hs_lex.specs.Answers.{IsRight}
 use Rattle.hs_lex.specs.declared.fault.LexFault.{LexFault}
@@ -69,32 +71,22 @@ end_through (Some known) (Some left) bytes short taken end = all_left known left
 
 -- ---- a plain script ran
 
-rest_short : (lines : List (List ℕ)) (bytes : List Tok) → Follows lines bytes → All IsShort lines
-rest_short [] bytes follows = search arith
-rest_short (line ∷ lines) bytes follows = All-cons IsShort line lines follows.1.short (rest_short lines follows.0 follows.2)
-
-start : Pos
-start = record { line = 1; col = 1 }
-
-plain_ran : (bytes : List ℕ) (tokens : Tokens) (lines : List (List ℕ)) (history : List Entry) (output : List ℕ) → HasTokens bytes tokens
-    → IsPlain (kinds_of tokens.list) lines → history ≡ plain_history lines → output ≡ lines_of lines → RunsScript bytes history output [] 0
-plain_ran bytes tokens [] history output has plain same printed = absurd plain
-plain_ran bytes tokens (x ∷ xs) history output has plain same printed =
-    let script = script_is_plain start x xs (All-cons IsShort x xs plain.1.short (rest_short xs plain.0 plain.2)) in
-    record {
-      script = script_at start x xs;
-      spelled = (x ∷ xs, (tokens, has, plain), script);
-      state = plain_end (lines_of (x ∷ xs));
-      run = ap (λ h. after (script_at start x xs) h) same ∙ plain_runs script;
-      done = refl;
-      output_is = printed;
-      errors_is = refl;
-      clock = omega arith;
-    }
+plain_ran : (bytes : List ℕ) (s : Script) (ds : List Fn) (lines : List (List ℕ)) (history : List Entry) (output : List ℕ) → IsSpelled bytes s → ds ≡ script_of s
+    → PlainScript ds lines → history ≡ plain_history lines → output ≡ lines_of lines → RunsScript bytes history output [] 0
+plain_ran bytes s ds lines history output spelled is plain same printed = record {
+  script = ds;
+  spelled = (s, spelled, is, lines, plain);
+  state = plain_end (lines_of lines);
+  run = ap (λ h. after ds h) same ∙ plain_runs plain;
+  done = refl;
+  output_is = printed;
+  errors_is = refl;
+  clock = omega arith;
+}
 
 script_ran : (bytes : List ℕ) (lines : List (List ℕ)) (history : List Entry) (output : List ℕ) → HasLines bytes lines → history ≡ plain_history lines
     → output ≡ lines_of lines → RunsScript bytes history output [] 0
-script_ran bytes lines history output has same printed = plain_ran bytes has.0 lines history output has.1 has.2 same printed
+script_ran bytes lines history output has same printed = plain_ran bytes has.0 (script_of has.0) lines history output has.1 refl has.2 same printed
 
 -- ---- what the call came to
 
@@ -127,6 +119,13 @@ refused_comes : (good fault : Type 0) (before now : Option (List ℕ)) (taken : 
     → Comes good fault before now (Refused r) history output [] 0
 refused_comes good fault before now taken TooLong history output is_good short consumed end why none nothing = absurd why
 refused_comes good fault before now taken (Lex f) history output is_good short consumed end why none nothing = record {
+  bytes = taken;
+  left = known_left before now taken consumed end;
+  due = (is_good, (short, why));
+  kept = idle history output none nothing;
+  through = end_through before now taken short consumed end;
+}
+refused_comes good fault before now taken (Parse f) history output is_good short consumed end why none nothing = record {
   bytes = taken;
   left = known_left before now taken consumed end;
   due = (is_good, (short, why));
@@ -314,3 +313,10 @@ first_fault bytes (lex.BadChar at) other right = right
 first_fault bytes (lex.OpenText at) other right = right
 first_fault bytes (lex.BigNumber at) other right = right
 first_fault bytes lex.NoMemory other right = absurd (other refl)
+
+-- ---- the parser's answer
+
+pub misspelled : (bytes : List ℕ) (tokens : Tokens) (f : ParseFault) → (f ≡ parse.NoMemory → ⊥) → HasTokens bytes tokens → Parsed tokens (Err f) → IsMisspelled f bytes
+misspelled bytes tokens (parse.Unexpected at) other has parsed = (tokens, has, parsed)
+misspelled bytes tokens (parse.Deep at) other has parsed = (tokens, has, parsed)
+misspelled bytes tokens parse.NoMemory other has parsed = absurd (other refl)

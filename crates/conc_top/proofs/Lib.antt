@@ -1,3 +1,2 @@
-pub mod Strips
-pub mod Lines
+pub mod PlainTrees
 pub mod Answered

@@ -1,22 +1,26 @@
 -- What the top call answers, when, and what it tells (own).
-use Rattle.std.specs.Prelude.{◌≡◌, ◌⊎◌, ◌≤◌, ◌<◌, ◌+◌, ℕ, List, [], ◌∷◌, length, take, drop, Option, Some, None, IfSome, codes, ⊤}
+use Rattle.std.specs.Prelude.{◌≡◌, ◌⊎◌, Result, Err, ◌≤◌, ◌<◌, ◌+◌, ℕ, List, [], ◌∷◌, length, take, drop, Option, Some, None, IfSome, codes, ⊤}
 use Rattle.std.specs.Io.KnownBytes.{Appends}
 use Rattle.hs_io.specs.Causes.{Rose}
 use Rattle.hs_rules.specs.declared.entry.Entry.{Entry}
-use Rattle.hs_rules.specs.Programs.{Fn}
+use Rattle.hs_base.specs.declared.tree.script.Script.{Script}
+use Rattle.hs_rules.specs.Grammar.{SpellsWithin}
+use Rattle.hs_rules.specs.Programs.{Fn, script_of}
 use Rattle.hs_rules.specs.PlainScripts.{PlainScript}
 use Rattle.hs_rules.specs.State.{State}
 use Rattle.hs_rules.specs.Runs.{IsRun}
 use Rattle.hs_rules.specs.Endings.{IsDone}
 use Rattle.hs_rules.specs.declared.token.Tokens.{Tokens}
 use Rattle.hs_rules.specs.Tokens.{HasTokens, LexesTo, NotUtf8, Faulty, BadChar, OpenText, BigNumber}
-use Rattle.hs_rules.specs.Plain.{IsPlain, kinds_of}
 use Rattle.hs_lex.specs.declared.fault.LexFault.{LexFault}
 use Rattle.hs_lex.specs.declared.fault.LexFault.TheVariants as lex
+use Rattle.hs_parse.specs.Parsed.{Parsed}
+use Rattle.hs_parse.specs.declared.fault.ParseFault.{ParseFault}
+use Rattle.hs_parse.specs.declared.fault.ParseFault.TheVariants as parse
 use Rattle.conc_top.specs.declared.ending.RunEnd.{RunEnd}
 use Rattle.conc_top.specs.declared.ending.RunEnd.TheVariants as end
 use Rattle.conc_top.specs.declared.ending.Refusal.{Refusal}
-use Rattle.conc_top.specs.declared.ending.Refusal.TheVariants.{TooLong, Lex, NotYet}
+use Rattle.conc_top.specs.declared.ending.Refusal.TheVariants.{TooLong, Lex, Parse, NotYet}
 use Rattle.conc_top.specs.declared.ending.Ending.{Ending}
 use Rattle.conc_top.specs.declared.ending.Ending.TheVariants.{Ran, Accepted, Words, Refused, Read, Memory, Write}
 
@@ -28,13 +32,21 @@ AreGood words = words ≡ codes "run" ∷ []
 abbrev pub script_limit : ℕ
 script_limit = 1048576
 
+-- How many openers may nest.
+abbrev pub depth_limit : ℕ
+depth_limit = 200
+
+-- The tokens of these bytes spell this script.
+abbrev pub IsSpelled : List ℕ → Script → Type 0
+IsSpelled bytes s = (tokens : Tokens) × HasTokens bytes tokens × SpellsWithin depth_limit s tokens.list
+
 -- These bytes are a plain script with these lines.
 abbrev pub HasLines : List ℕ → List (List ℕ) → Type 0
-HasLines bytes lines = (tokens : Tokens) × HasTokens bytes tokens × IsPlain (kinds_of tokens.list) lines
+HasLines bytes lines = (s : Script) × IsSpelled bytes s × PlainScript (script_of s) lines
 
 -- These bytes are this script, which can be run: a plain one.
 abbrev pub IsScript : List ℕ → List Fn → Type 0
-IsScript bytes ds = (lines : List (List ℕ)) × HasLines bytes lines × PlainScript ds lines
+IsScript bytes ds = (s : Script) × IsSpelled bytes s × (ds ≡ script_of s) × (lines : List (List ℕ)) × PlainScript ds lines
 
 -- ---- when each answer comes
 
@@ -46,13 +58,24 @@ IsFirstFault (lex.OpenText at) bytes = LexesTo bytes (Faulty OpenText at)
 IsFirstFault (lex.BigNumber at) bytes = LexesTo bytes (Faulty BigNumber at)
 IsFirstFault lex.NoMemory bytes = ⊥
 
--- the bytes have tokens, and these are no plain script
+-- the fault of tokens that spell no script; want of memory is none
+abbrev pub IsParseFault : ParseFault → Tokens → Type 0
+IsParseFault (parse.Unexpected at) tokens = Parsed tokens (Err (parse.Unexpected at))
+IsParseFault (parse.Deep at) tokens = Parsed tokens (Err (parse.Deep at))
+IsParseFault parse.NoMemory tokens = ⊥
+
+-- the bytes have tokens, and these spell no script
+abbrev pub IsMisspelled : ParseFault → List ℕ → Type 0
+IsMisspelled fault bytes = (tokens : Tokens) × HasTokens bytes tokens × IsParseFault fault tokens
+
+-- the bytes are a script, and no plain one
 abbrev pub IsNotYet : List ℕ → Type 0
-IsNotYet bytes = (tokens : Tokens) × HasTokens bytes tokens × ((lines : List (List ℕ)) → IsPlain (kinds_of tokens.list) lines → ⊥)
+IsNotYet bytes = (s : Script) × IsSpelled bytes s × ((lines : List (List ℕ)) → PlainScript (script_of s) lines → ⊥)
 
 abbrev pub IsRefused : Refusal → List ℕ → Type 0
 IsRefused TooLong bytes = script_limit < length bytes
 IsRefused (Lex fault) bytes = (length bytes ≤ script_limit) × IsFirstFault fault bytes
+IsRefused (Parse fault) bytes = (length bytes ≤ script_limit) × IsMisspelled fault bytes
 IsRefused NotYet bytes = (length bytes ≤ script_limit) × IsNotYet bytes
 
 -- what a run has ended with; a plain script always ends by a value

@@ -4,6 +4,8 @@ use Rattle.std.specs.Fmt.{decimal}
 use Rattle.hs_base.specs.declared.pos.Pos.{Pos}
 use Rattle.hs_lex.specs.declared.fault.LexFault.{LexFault}
 use Rattle.hs_lex.specs.declared.fault.LexFault.TheVariants as lex
+use Rattle.hs_parse.specs.declared.fault.ParseFault.{ParseFault}
+use Rattle.hs_parse.specs.declared.fault.ParseFault.TheVariants as parse
 use Rattle.hs_rules.specs.Primitives.{line_feed}
 use Rattle.hs_rules.specs.Endings.{limit_line, memory_line}
 use Rattle.conc_top.specs.declared.ending.RunEnd.{RunEnd}
@@ -55,9 +57,16 @@ lex_line (lex.BigNumber at) = placed_line (codes "BigNumber") at
 -- this one is no refusal
 lex_line lex.NoMemory = memory_line
 
+abbrev pub parse_line : ParseFault → List ℕ
+parse_line (parse.Unexpected at) = placed_line (codes "Unexpected") at
+parse_line (parse.Deep at) = placed_line (codes "Deep") at
+-- this one is no refusal
+parse_line parse.NoMemory = memory_line
+
 abbrev pub refusal_line : Refusal → List ℕ
 refusal_line refusal.TooLong = codes "refused: TooLong" ++ line_feed
 refusal_line (refusal.Lex fault) = lex_line fault
+refusal_line (refusal.Parse fault) = parse_line fault
 refusal_line refusal.NotYet = codes "refused: NotYet" ++ line_feed
 
 -- the line that goes to the error sink, or nothing
@@ -74,6 +83,7 @@ line_of Write = []
 abbrev pub RefusesAPlace : Refusal → Type 0
 RefusesAPlace refusal.TooLong = ⊥
 RefusesAPlace (refusal.Lex fault) = ⊤
+RefusesAPlace (refusal.Parse fault) = ⊤
 RefusesAPlace refusal.NotYet = ⊥
 
 abbrev pub HasPlace : Ending → Type 0

@@ -1,12 +1,12 @@
 -- What the steps of the top call come to.
 use Rattle.std.specs.Prelude.{◌≡◌, ℕ, List, []}
 use Rattle.hs_rules.specs.declared.entry.Entry.{Entry}
-use Rattle.conc_top.specs.Answers.{HasLines, IsFirstFault, IsNotYet}
+use Rattle.conc_top.specs.Answers.{HasLines, IsFirstFault, IsMisspelled, IsNotYet}
 use Rattle.hs_rules.specs.PlainScripts.{lines_of, plain_history}
 use Rattle.conc_top.specs.declared.ending.RunEnd.{RunEnd}
 use Rattle.conc_top.specs.declared.ending.RunEnd.TheVariants as end
 use Rattle.conc_top.specs.declared.ending.Refusal.{Refusal}
-use Rattle.conc_top.specs.declared.ending.Refusal.TheVariants.{TooLong, Lex, NotYet}
+use Rattle.conc_top.specs.declared.ending.Refusal.TheVariants.{TooLong, Lex, Parse, NotYet}
 use Rattle.conc_top.specs.declared.ending.Ending.{Ending}
 use Rattle.conc_top.specs.declared.ending.Ending.TheVariants.{Ran, Accepted, Words, Refused, Read, Memory, Write}
 
@@ -18,6 +18,7 @@ WasPlayed _ bytes history output = ⊥
 abbrev pub WasRefused : Refusal → List ℕ → Type 0
 WasRefused TooLong bytes = ⊥
 WasRefused (Lex fault) bytes = IsFirstFault fault bytes
+WasRefused (Parse fault) bytes = IsMisspelled fault bytes
 WasRefused NotYet bytes = IsNotYet bytes
 
 -- what is made of the bytes of a script

@@ -1,16 +1,14 @@
--- What the steps of the reader of plain scripts answer.
-use Rattle.std.specs.Prelude.{List, [], ◌∷◌, codes}
-use Rattle.hs_rules.specs.declared.token.Tok.{Tok}
-use Rattle.hs_rules.specs.declared.token.Tok.TheVariants as tok
-use Rattle.conc_top.specs.declared.plain.Fixed.{Fixed}
-use Rattle.conc_top.specs.declared.plain.Fixed.TheVariants.{Main, Word, Sym}
+-- What the reader of plain scripts looks for.
+use Rattle.std.specs.Prelude.{◌≡◌, [], codes}
+use Rattle.hs_base.specs.declared.pos.Pos.{Pos}
+use Rattle.hs_base.specs.declared.tree.script.Def.{Def}
+use Rattle.hs_rules.specs.Trees.{unit}
+use Rattle.hs_rules.specs.Programs.{Bl, io_body, Fn}
 
--- the token that a fixed token is
-abbrev pub tok_of : Fixed → Tok
-tok_of Main = tok.Name (codes "main")
-tok_of (Word number) = tok.Word number
-tok_of (Sym number) = tok.Sym number
+-- main :: IO () = B
+abbrev pub main_fn : Pos → Pos → Bl → Fn
+main_fn p q b = record { name = record { text = codes "main"; pos = p }; params = []; body = io_body (record { ty = unit; pos = q }) b }
 
-abbrev pub toks_of : List Fixed → List Tok
-toks_of [] = []
-toks_of (fixed ∷ more) = tok_of fixed ∷ toks_of more
+-- the definition is called `main` and has no parameters
+abbrev pub HasHeadOfMain : Def → Type 0
+HasHeadOfMain d = (d.name.text ≡ codes "main") × (d.params ≡ [])

@@ -3,6 +3,7 @@ ghost use Rattle.conc_top.specs.Lines.{HasPlace, line_of, placed_line, refusal_l
 
 use hs_base::{NoMemory, Pos};
 use hs_lex::LexFault;
+use hs_parse::ParseFault;
 use hs_rules::{Entry, History, LimitKind};
 use std::alloc::Global;
 
@@ -35,6 +36,8 @@ pub enum Refusal {
     TooLong,
     /// The bytes have no tokens.
     Lex(LexFault),
+    /// The tokens are no script.
+    Parse(ParseFault),
     /// Not a plain script.
     NotYet,
 }
@@ -164,6 +167,9 @@ impl Refusal {
             Refusal::Lex(LexFault::OpenText(at)) => line_at(alloc, "OpenText", *at),
             Refusal::Lex(LexFault::BigNumber(at)) => line_at(alloc, "BigNumber", *at),
             Refusal::Lex(LexFault::NoMemory) => Ok(Line::Fixed(OUT_OF_MEMORY)),
+            Refusal::Parse(ParseFault::Unexpected(at)) => line_at(alloc, "Unexpected", *at),
+            Refusal::Parse(ParseFault::Deep(at)) => line_at(alloc, "Deep", *at),
+            Refusal::Parse(ParseFault::NoMemory) => Ok(Line::Fixed(OUT_OF_MEMORY)),
         }
     }
 }

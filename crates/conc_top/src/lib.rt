@@ -6,7 +6,8 @@
 //! source had, from its first state to its end, and the sinks were told exactly what that run printed and the line of the
 //! ending. Which bytes a real stream gives or takes is left to `hs_io`, and what a run is to `hs_rules`.
 //!
-//! Only plain scripts run yet (`hs_rules/specs/Plain`): a script has to have tokens (`hs_lex`), and `plain` reads the lines from them.
+//! Only plain scripts run yet (`hs_rules/specs/PlainScripts`): the bytes have to have tokens (`hs_lex`) that spell a script
+//! (`hs_parse`), and `plain` reads the lines from its tree.
 #![tactic(auto)]
 
 mod ending;

@@ -1,46 +1,86 @@
-//! The reader of plain scripts, over their tokens.
-ghost use Rattle.std.specs.Prelude.{◌≡◌, ◌++◌, ◌∷◌, [], ◌↔◌, ◌⊎◌, IsTrue, IfOk, OnOk, MatchOption, List, ℕ};
-ghost use Rattle.hs_rules.specs.declared.token.Tok.{Tok};
-ghost use Rattle.hs_rules.specs.Plain.{between, closing, closing_late, heading, IsPlain, kinds_of, Quotes};
-ghost use Rattle.conc_top.specs.Reading.{tok_of, toks_of};
+//! The reader of plain scripts, over their trees.
+ghost use Rattle.std.specs.Prelude.{◌≡◌, ◌++◌, ◌∷◌, [], ◌↔◌, IsTrue, IfOk, OnOk, MatchOption, List, ℕ};
+ghost use Rattle.hs_base.specs.declared.pos.Pos.{Pos as Place};
+ghost use Rattle.hs_rules.specs.Trees.{Ex, ex_of, lit, letters, ty_of, unit};
+ghost use Rattle.hs_rules.specs.declared.forms.UnaryAction.TheVariants as unary;
+ghost use Rattle.hs_rules.specs.Programs.{Act, act_of, Bl, bl_of, fn_of, script_of, stmt_of, then, unary_act};
+ghost use Rattle.hs_rules.specs.PlainScripts.{main_script, PlainBlock, PlainScript, PutsLine};
+ghost use Rattle.conc_top.specs.Reading.{HasHeadOfMain, main_fn};
 
-use hs_base::NoMemory;
+use hs_base::{Action, Block, Body, Def, Expr, NoMemory, Script, Stmt, Txt, Ty};
 use hs_items::Items;
-use hs_rules::{Tok, Token, symbol, word};
 use std::alloc::Global;
 
 const LITERAL_LIMIT: usize = 65_536;
 
-/// A token of a plain script that is no literal.
-#[derive(Clone, Copy)]
-enum Fixed {
-    /// The name `main`.
-    Main,
-    Word(u8),
-    Sym(u8),
+/// The texts of the literals of a plain script, in order, or `None` where the script is no plain one.
+pub fn plain_lines(alloc: Global, script: &Script) -> Result<Option<Items<Items<u8>>>, NoMemory>
+    ensures { IfOk result (λ found. MatchOption found
+        ((lines : List (List ℕ)) → PlainScript (script_of script.now) lines → ⊥)
+        (λ lines. PlainScript (script_of script.now) lines)) }
+{
+    match main_block(script) {
+        Some(block) => block_lines(alloc, block),
+        None => Ok(None),
+    }
 }
 
-/// The texts of the literals of a plain script, in order, or `None` where the tokens are no plain script.
-pub fn plain_lines(alloc: Global, tokens: &[Token]) -> Result<Option<Items<Items<u8>>>, NoMemory>
-    ensures { IfOk result (λ found. MatchOption found
-        ((lines : List (List ℕ)) → IsPlain (kinds_of tokens.now) lines → ⊥)
-        (λ lines. IsPlain (kinds_of tokens.now) lines)) }
+// The block of the only definition, where that is `main :: IO () = ..`.
+fn main_block(script: &Script) -> Option<&Block>
+    ensures { MatchOption result
+        ((p q : Place) (b : Bl) → script_of script.now ≡ main_script p q b → ⊥)
+        (λ b. (p : Place) × (q : Place) × (script_of script.now ≡ main_script p q (bl_of b.now))) }
 {
-    let Some((first, behind)) = literal_after_heading(tokens) else {
+    match script.defs.as_slice() {
+        [def] => main_of(def),
+        _ => None,
+    }
+}
+
+fn main_of(def: &Def) -> Option<&Block>
+    ensures { MatchOption result
+        ((p q : Place) (b : Bl) → fn_of def.now ≡ main_fn p q b → ⊥)
+        (λ b. (p : Place) × (q : Place) × (fn_of def.now ≡ main_fn p q (bl_of b.now))) }
+{
+    if !has_head_of_main(def) {
+        return None;
+    }
+    match &def.body {
+        Body::Action(result, block) if is_unit(&result.ty) => Some(block),
+        _ => None,
+    }
+}
+
+fn has_head_of_main(def: &Def) -> bool
+    ensures { IsTrue result ↔ HasHeadOfMain def.now }
+{
+    def.name.text.as_str() == "main" && def.params.is_empty()
+}
+
+fn is_unit(ty: &Ty) -> bool
+    ensures { IsTrue result ↔ (ty_of ty.now ≡ unit) }
+{
+    matches!(ty, Ty::Unit)
+}
+
+// The texts of the statements and of the last action.
+fn block_lines(alloc: Global, block: &Block) -> Result<Option<Items<Items<u8>>>, NoMemory>
+    ensures { IfOk result (λ found. MatchOption found
+        ((lines : List (List ℕ)) → PlainBlock (bl_of block.now) lines → ⊥)
+        (λ lines. PlainBlock (bl_of block.now) lines)) }
+{
+    let mut lines = Items::new(alloc);
+    'stmts: for stmt in block.stmts.as_slice() {
+        let Some(text) = text_of_stmt(stmt) else {
+            return Ok(None);
+        };
+        add_line(alloc, &mut lines, text)?;
+    }
+    let Some(text) = text_put(block.last.get()) else {
         return Ok(None);
     };
-    let mut lines = Items::new(alloc);
-    add_line(alloc, &mut lines, first)?;
-    let mut rest = behind;
-    while let Some((text, after)) = literal_between(rest) {
-        add_line(alloc, &mut lines, text)?;
-        rest = after;
-    }
-    if is_closing(rest) {
-        Ok(Some(lines))
-    } else {
-        Ok(None)
-    }
+    add_line(alloc, &mut lines, text)?;
+    Ok(Some(lines))
 }
 
 fn add_line(alloc: Global, lines: &mut Items<Items<u8>>, text: &[u8]) -> Result<(), NoMemory>
@@ -50,121 +90,55 @@ fn add_line(alloc: Global, lines: &mut Items<Items<u8>>, text: &[u8]) -> Result<
     Ok(())
 }
 
-fn literal_after_heading(tokens: &[Token]) -> Option<(&[u8], &[Token])>
+// The text of a statement without a name that puts a literal.
+fn text_of_stmt(stmt: &Stmt) -> Option<&[u8]>
     ensures { MatchOption result
-        ((text : List ℕ) (rest : List Tok) → Quotes heading text (kinds_of tokens.now) rest → ⊥)
-        (λ found. Quotes heading found.0.now (kinds_of tokens.now) (kinds_of found.1.now)
-        × ((text : List ℕ) (rest : List Tok) → Quotes heading text (kinds_of tokens.now) rest
-        → (text ≡ found.0.now) × (rest ≡ kinds_of found.1.now))) }
+        ((a : Act) (b c : Bl) (x : List ℕ) → stmt_of stmt.now b ≡ then a c → PutsLine a x → ⊥)
+        (λ text. (a : Act) × (stmt_of stmt.now ≡ then a) × PutsLine a text.now) }
 {
-    literal_behind(
-        tokens,
-        &[
-            Fixed::Main,
-            Fixed::Sym(symbol::DOUBLE_COLON),
-            Fixed::Word(word::IO),
-            Fixed::Sym(symbol::OPEN_PAREN),
-            Fixed::Sym(symbol::CLOSE_PAREN),
-            Fixed::Sym(symbol::EQUAL),
-            Fixed::Sym(symbol::OPEN_BRACE),
-            Fixed::Word(word::PUT_STR_LN),
-        ],
-    )
-}
-
-fn literal_between(tokens: &[Token]) -> Option<(&[u8], &[Token])>
-    ensures { MatchOption result
-        ((text : List ℕ) (rest : List Tok) → Quotes between text (kinds_of tokens.now) rest → ⊥)
-        (λ found. Quotes between found.0.now (kinds_of tokens.now) (kinds_of found.1.now)
-        × ((text : List ℕ) (rest : List Tok) → Quotes between text (kinds_of tokens.now) rest
-        → (text ≡ found.0.now) × (rest ≡ kinds_of found.1.now))) }
-{
-    literal_behind(
-        tokens,
-        &[Fixed::Sym(symbol::SEMICOLON), Fixed::Word(word::PUT_STR_LN)],
-    )
-}
-
-// What may stand behind the last literal.
-fn is_closing(tokens: &[Token]) -> bool
-    ensures { IsTrue result ↔ ((kinds_of tokens.now ≡ closing) ⊎ (kinds_of tokens.now ≡ closing_late)) }
-{
-    let semicolon = Fixed::Sym(symbol::SEMICOLON);
-    let brace = Fixed::Sym(symbol::CLOSE_BRACE);
-    are(tokens, &[brace, semicolon]) || are(tokens, &[semicolon, brace, semicolon])
-}
-
-// Whether these are the tokens.
-fn are(tokens: &[Token], fixed: &[Fixed]) -> bool
-    ensures { IsTrue result ↔ (kinds_of tokens.now ≡ toks_of fixed.now) }
-{
-    match strip(tokens, fixed) {
-        Some(rest) => rest.is_empty(),
-        None => false,
-    }
-}
-
-// The text of the literal behind these tokens, and the rest behind it.
-fn literal_behind<'a>(tokens: &'a [Token], fixed: &[Fixed]) -> Option<(&'a [u8], &'a [Token])>
-    ensures { MatchOption result
-        ((text : List ℕ) (rest : List Tok) → Quotes (toks_of fixed.now) text (kinds_of tokens.now) rest → ⊥)
-        (λ found. Quotes (toks_of fixed.now) found.0.now (kinds_of tokens.now) (kinds_of found.1.now)
-        × ((text : List ℕ) (rest : List Tok) → Quotes (toks_of fixed.now) text (kinds_of tokens.now) rest
-        → (text ≡ found.0.now) × (rest ≡ kinds_of found.1.now))) }
-{
-    let Some(behind) = strip(tokens, fixed) else {
-        return None;
-    };
-    let Some((text, rest)) = first_text(behind) else {
-        return None;
-    };
-    if text.len() > LITERAL_LIMIT {
-        return None;
-    }
-    Some((text, rest))
-}
-
-// The first token's text where it is a literal, and the tokens behind it.
-fn first_text(tokens: &[Token]) -> Option<(&[u8], &[Token])>
-    ensures { MatchOption result
-        ((text : List ℕ) (rest : List Tok) → kinds_of tokens.now ≡ Tok.Text text ∷ rest → ⊥)
-        (λ found. kinds_of tokens.now ≡ Tok.Text found.0.now ∷ kinds_of found.1.now) }
-{
-    let Some((first, rest)) = tokens.split_first() else {
-        return None;
-    };
-    match &first.tok {
-        Tok::Text(text) => Some((text.as_str().as_bytes(), rest)),
+    match stmt {
+        Stmt::Do(action) => text_put(action),
         _ => None,
     }
 }
 
-// What stands behind these tokens.
-fn strip<'a>(tokens: &'a [Token], fixed: &[Fixed]) -> Option<&'a [Token]>
+// The text of the literal that the action puts.
+fn text_put(action: &Action) -> Option<&[u8]>
     ensures { MatchOption result
-        ((rest : List Tok) → kinds_of tokens.now ≡ toks_of fixed.now ++ rest → ⊥)
-        (λ rest. kinds_of tokens.now ≡ toks_of fixed.now ++ kinds_of rest.now) }
+        ((x : List ℕ) → PutsLine (act_of action.now) x → ⊥)
+        (λ text. PutsLine (act_of action.now) text.now) }
 {
-    let mut rest = tokens;
-    for expected in fixed {
-        let Some((first, after)) = rest.split_first() else {
-            return None;
-        };
-        if !is(first, *expected) {
-            return None;
-        }
-        rest = after;
+    let Some(value) = value_put(action) else {
+        return None;
+    };
+    let Some(text) = literal(value) else {
+        return None;
+    };
+    let bytes = text.as_str().as_bytes();
+    if bytes.len() > LITERAL_LIMIT {
+        return None;
     }
-    Some(rest)
+    Some(bytes)
 }
 
-fn is(token: &Token, fixed: Fixed) -> bool
-    ensures { IsTrue result ↔ (token.now.tok ≡ tok_of fixed) }
+fn value_put(action: &Action) -> Option<&Expr>
+    ensures { MatchOption result
+        ((p : Place) (e : Ex) → act_of action.now ≡ unary_act unary.PutStrLn p e → ⊥)
+        (λ e. (p : Place) × (act_of action.now ≡ unary_act unary.PutStrLn p (ex_of e.now))) }
 {
-    match (&token.tok, fixed) {
-        (Tok::Name(name), Fixed::Main) => name.as_str() == "main",
-        (Tok::Word(number), Fixed::Word(expected)) => *number == expected,
-        (Tok::Sym(number), Fixed::Sym(expected)) => *number == expected,
-        _ => false,
+    match action {
+        Action::PutStrLn(_, value) => Some(value),
+        _ => None,
+    }
+}
+
+fn literal(value: &Expr) -> Option<&Txt>
+    ensures { MatchOption result
+        ((p : Place) (x : List ℕ) → ex_of value.now ≡ lit p (letters x) → ⊥)
+        (λ text. (p : Place) × (ex_of value.now ≡ lit p (letters text.now))) }
+{
+    match value {
+        Expr::Text(_, text) => Some(text),
+        _ => None,
     }
 }

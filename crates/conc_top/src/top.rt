@@ -14,6 +14,7 @@ use crate::plain::plain_lines;
 use crate::play::play;
 use hs_io::{Clock, Failed, Gate, Sink, Source};
 use hs_lex::{LexFault, lex};
+use hs_parse::{ParseFault, parse};
 use hs_rules::History;
 use std::alloc::Global;
 
@@ -126,7 +127,12 @@ fn judge(alloc: Global, bytes: &[u8]) -> Outcome
         Err(LexFault::NoMemory) => return Outcome::idle(alloc, Ending::Memory),
         Err(fault) => return Outcome::idle(alloc, Ending::Refused(Refusal::Lex(fault))),
     };
-    let lines = match plain_lines(alloc, tokens.list.as_slice()) {
+    let script = match parse(alloc, &tokens) {
+        Ok(script) => script,
+        Err(ParseFault::NoMemory) => return Outcome::idle(alloc, Ending::Memory),
+        Err(fault) => return Outcome::idle(alloc, Ending::Refused(Refusal::Parse(fault))),
+    };
+    let lines = match plain_lines(alloc, &script) {
         Ok(Some(lines)) => lines,
         Ok(None) => return Outcome::idle(alloc, Ending::Refused(Refusal::NotYet)),
         Err(_) => return Outcome::idle(alloc, Ending::Memory),
