@@ -11,6 +11,8 @@
 #![tactic(auto)]
 
 mod ending;
+#[cfg(test)]
+mod grammar_tests;
 mod input;
 mod plain;
 mod play;

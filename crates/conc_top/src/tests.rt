@@ -12,15 +12,15 @@ const THREE: &[u8] = b"main :: IO () = { putStrLn \"a\"; putStrLn \"b\"; putStrL
 
 /// What a call left: output, error output, status, steps and entries.
 #[derive(Debug, Drop)]
-struct Left {
-    out: Vec<u8>,
-    err: Vec<u8>,
-    status: u8,
-    steps: u64,
-    entries: usize,
+pub struct Left {
+    pub out: Vec<u8>,
+    pub err: Vec<u8>,
+    pub status: u8,
+    pub steps: u64,
+    pub entries: usize,
 }
 
-fn run_on(alloc: Global, script: &[u8]) -> Result<Left, Fail> {
+pub fn run_on(alloc: Global, script: &[u8]) -> Result<Left, Fail> {
     let words = [String::from_str(alloc, "run")?];
     let mut source = PlainSource::of(alloc, script)?;
     let out = MemSink::of(alloc, 100_000, &[])?;
@@ -47,12 +47,23 @@ fn run_on(alloc: Global, script: &[u8]) -> Result<Left, Fail> {
 fn scripts_and_refusals(rt: HostRuntime) -> Result<(), Fail> {
     let alloc = rt.alloc();
     let spaces = vec![in alloc; b' '; 1_048_577]?;
-    let rows: [(&[u8], &str, &str, u8, u64, usize); 12] = [
+    let mut deep = b"main :: IO () = { putStrLn ".to_vec(alloc)?;
+    deep.extend_from_slice(&vec![in alloc; b'('; 200]?)?;
+    let rows: [(&[u8], &str, &str, u8, u64, usize); 14] = [
         (HELLO, "hello\n", "", 0, 3, 3),
         (TWO, "a\nb\n", "", 0, 7, 5),
         (THREE, "a\nb\nc\n", "", 0, 11, 7),
         (b"main::IO()={putStrLn\"\";}\t;\r\n", "\n", "", 0, 3, 3),
         (b"", "", "refused: NotYet\n", 3, 0, 0),
+        (
+            b"main :: IO () = {",
+            "",
+            "refused: Unexpected at 1:18\n",
+            3,
+            0,
+            0,
+        ),
+        (&deep, "", "refused: Deep at 1:227\n", 3, 0, 0),
         (&spaces, "", "refused: TooLong\n", 3, 0, 0),
         (&spaces[1..], "", "refused: NotYet\n", 3, 0, 0),
         (
