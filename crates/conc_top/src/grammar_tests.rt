@@ -2,6 +2,9 @@
 //! They were written from the grammar, by hand, and none is plain.
 
 use crate::tests::run_on;
+use hs_base::{Body, Expr, Pos, Script};
+use hs_lex::lex;
+use hs_parse::parse;
 use std::test::Fail;
 
 /// A script, and what is told of it: `refused: NotYet` stands for a script.
@@ -131,16 +134,16 @@ fn a_cut_script_is_refused_at_its_end_or_at_the_cut_token(rt: HostRuntime) -> Re
     let alloc = rt.alloc();
     for script in APART {
         let bytes = script.as_bytes();
-        let mut token = 0usize;
+        let mut column = 1usize;
         for end in 1..bytes.len() {
             if bytes[end - 1] == b' ' {
-                token = end;
+                column = end + 1;
             }
             let left = run_on(alloc, &bytes[..end])?;
             let at_end = format!(in alloc; "refused: Unexpected at 1:{}\n", end + 1)?;
-            let cut = token < end && bytes[end] != b' ';
-            let at_token = format!(in alloc; "refused: Unexpected at 1:{}\n", token + 1)?;
-            let open = format!(in alloc; "refused: OpenText at 1:{}\n", token + 1)?;
+            let cut = column <= end && bytes[end] != b' ';
+            let at_token = format!(in alloc; "refused: Unexpected at 1:{}\n", column)?;
+            let open = format!(in alloc; "refused: OpenText at 1:{}\n", column)?;
             let told = left.err.as_slice();
             let at_cut = told == at_token.as_bytes() || told == open.as_bytes();
             assert!(rt;
@@ -213,5 +216,57 @@ fn an_unexpected_opener_is_no_deep_one(rt: HostRuntime) -> Result<(), Fail> {
         left.err.as_slice(),
         b"refused: Unexpected at 1:214\n".as_slice()
     );
+    Ok(())
+}
+
+/// What is in front, what is repeated and how often, and what stands behind.
+const LONG: [(&str, &str, usize, &str); 3] = [
+    ("f :: Int = 1", " + 1", 100_000, ";"),
+    ("f :: [Int] = [1", ", 1", 100_000, "];"),
+    ("f :: IO () = { ", "g 1; ", 60_000, "g 1 };"),
+];
+
+#[test]
+fn long_trees_are_read_and_dropped(rt: HostRuntime) -> Result<(), Fail> {
+    let alloc = rt.alloc();
+    for (front, part, count, behind) in LONG {
+        let mut script = front.as_bytes().to_vec(alloc)?;
+        for _ in 0..count {
+            script.extend_from_slice(part.as_bytes())?;
+        }
+        script.extend_from_slice(behind.as_bytes())?;
+        let left = run_on(alloc, &script)?;
+        assert_eq!(rt;
+            left.err.as_slice(),
+            b"refused: NotYet\n".as_slice(),
+            "{front}"
+        );
+    }
+    Ok(())
+}
+
+/// Whether the only definition is a 7 in the twelfth column.
+fn is_seven(script: &Script) -> bool {
+    match script.defs.as_slice() {
+        [def] => matches!(
+            &def.body,
+            Body::Pure(_, Expr::Int(Pos { line: 1, col: 12 }, 7))
+        ),
+        _ => false,
+    }
+}
+
+#[test]
+fn a_tree_has_its_parts_at_their_places(rt: HostRuntime) -> Result<(), Fail> {
+    let alloc = rt.alloc();
+    let Ok(tokens) = lex(alloc, b"x :: Int = 7;") else {
+        assert!(rt; false, "no tokens");
+        return Ok(());
+    };
+    let Ok(script) = parse(alloc, &tokens) else {
+        assert!(rt; false, "no script");
+        return Ok(());
+    };
+    assert!(rt; is_seven(&script));
     Ok(())
 }
