@@ -179,9 +179,12 @@ const NESTS: [(&str, &str, &str, &str, &str, usize, usize); 7] = [
 fn two_hundred_openers_may_nest(rt: HostRuntime) -> Result<(), Fail> {
     let alloc = rt.alloc();
     for (front, open, close, inside, behind, most, at) in NESTS {
-        for count in most - 1..most + 2 {
+        for more in 0..3usize {
+            let count = most.saturating_sub(1).saturating_add(more);
             let mut script = front.as_bytes().to_vec(alloc)?;
+            let mut last = 0;
             for _ in 0..count {
+                last = script.len();
                 script.extend_from_slice(open.as_bytes())?;
             }
             script.extend_from_slice(inside.as_bytes())?;
@@ -190,7 +193,7 @@ fn two_hundred_openers_may_nest(rt: HostRuntime) -> Result<(), Fail> {
             }
             script.extend_from_slice(behind.as_bytes())?;
             let left = run_on(alloc, &script)?;
-            let place = front.len() + most * open.len() + at + 1;
+            let place = last.saturating_add(at).saturating_add(1);
             let deep = format!(in alloc; "refused: Deep at 1:{}\n", place)?;
             let wanted = if count > most {
                 deep.as_bytes()
