@@ -5,25 +5,25 @@
 //! first, the table of functions as the list of their heads (`specs/Views`), and an extent as the lesser of the one that
 //! `hs_rules` defines and of 1,000,001 (`specs/Measuring`). The one promise: a piece leaves the scope as its contract
 //! says, the type that it gives is the one that `hs_judging` gives, and the kept fault is the least of the one that was
-//! kept and of those that `hs_judging` lists. The modules are public for the crate that goes down the trees of a script.
+//! kept and of those that `hs_judging` lists. Going down the trees of a script is left to the code to come.
 #![tactic(auto)]
 
-pub mod act_rows;
+mod act_rows;
 mod calls;
-pub mod checker;
+mod checker;
 mod conses;
-pub mod entry;
+mod entry;
 mod fault;
-pub mod first;
-pub mod funs;
-pub mod heads;
-pub mod meter;
+mod first;
+mod funs;
+mod heads;
+mod meter;
 mod meter_acts;
 mod needs;
-pub mod parts;
+mod parts;
 mod rows;
 mod scopes;
-pub mod table;
-pub mod widths;
+mod table;
+mod widths;
 
 pub use fault::{Form, TypeFault, Want};
