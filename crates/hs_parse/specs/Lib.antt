@@ -1,0 +1,4 @@
+pub mod Blocks
+pub mod Exprs
+pub mod Parsed
+pub mod Reads

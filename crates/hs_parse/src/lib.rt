@@ -1,0 +1,23 @@
+//! The parser: the script that a list of tokens spells, or the exact token at which no script goes on.
+//!
+//! To a contract the tokens are their list and the position of their end, and the script is its tree. The one promise is
+//! that of `parse`: it answers the script that spells the tokens within 200 nested openers; `Unexpected` at the first
+//! token with which no script goes on, or at the end; or `Deep` at the first opener that stands in 200.
+//! What the tokens of a text are is left to the lexer, and what a script means to the typing.
+#![tactic(auto)]
+
+mod action;
+mod arms;
+mod cursor;
+mod expr;
+mod fault;
+mod halt;
+mod leaf;
+mod parsing;
+mod script;
+mod step;
+mod trees;
+mod types;
+
+pub use fault::ParseFault;
+pub use parsing::parse;
