@@ -1,5 +1,4 @@
-pub mod Tables
-pub mod Noted
-pub mod Chains
-pub mod Meters
-pub mod ScriptSteps
+pub mod Merged
+pub mod Counted
+pub mod Worst
+pub mod Stepping

@@ -1,4 +1,3 @@
-pub mod Views
-pub mod Judged
-pub mod Contexts
-pub mod Measuring
+pub mod Faults
+pub mod Answers
+pub mod Steps

@@ -1,29 +1,33 @@
-//! The checker of types, piece by piece: types and their widths, scopes, the table of functions, the rows of expressions
-//! and actions, names and calls, the links of `:` and `++`, the heads of definitions, and how far expressions unfold.
+//! The checker of types: which scripts the typing rules accept, and the first rule that another breaks.
 //!
-//! A contract sees a fault as the broken rule of `hs_rules` that it names, a scope as its list of names with the last one
-//! first, the table of functions as the list of their heads (`specs/Views`), and an extent as the lesser of the one that
-//! `hs_rules` defines and of 1,000,001 (`specs/Measuring`). The one promise: a piece leaves the scope as its contract
-//! says, the type that it gives is the one that `hs_judging` gives, and the kept fault is the least of the one that was
-//! kept and of those that `hs_judging` lists. Going down the trees of a script is left to the code to come.
+//! To a contract a fault is the broken rule of `hs_rules` that it names (`specs/Faults`). The one promise: `check` answers
+//! the script exactly where the typing rules accept it, and else the broken rule that comes before all others, or
+//! `NoMain` where nothing is broken.
 #![tactic(auto)]
 
-mod act_rows;
-mod calls;
-mod checker;
-mod conses;
-mod entry;
-mod fault;
-mod first;
-mod funs;
-mod heads;
-mod meter;
-mod meter_acts;
-mod needs;
-mod parts;
-mod rows;
-mod scopes;
-mod table;
-mod widths;
+mod answer;
+mod definition;
+mod progress;
+#[cfg(test)]
+mod tests;
 
-pub use fault::{Form, TypeFault, Want};
+ghost use Rattle.std.specs.Prelude.{◌≡◌, MatchResult};
+ghost use Rattle.hs_types.specs.Faults.{Refused};
+
+use crate::answer::{Answer, judge_script, refusal};
+use hs_base::tree::Script;
+use hs_rules::Checked;
+pub use hs_typing::{Form, TypeFault, Want};
+use std::alloc::Global;
+
+/// Accepts a script, or says which broken rule comes first.
+pub fn check(alloc: Global, script: Script) -> Result<Checked, TypeFault>
+    ensures { MatchResult result (λ checked. checked.script ≡ script) (λ fault. Refused fault script) }
+{
+    match judge_script(alloc, &script) {
+        Err(_) => Err(TypeFault::NoMemory),
+        Ok(Answer::Broken(f)) => Err(refusal(f)),
+        Ok(Answer::NoMain) => Err(TypeFault::NoMain),
+        Ok(Answer::Sound) => Ok(Checked { script }),
+    }
+}

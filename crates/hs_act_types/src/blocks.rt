@@ -1,0 +1,451 @@
+// The walk down a block.
+
+ghost use Rattle.std.specs.Prelude.{◌≡◌, [], ◌∷◌, IfOk};
+ghost use Rattle.hs_rules.specs.Trees.{exn, ty_of};
+ghost use Rattle.hs_rules.specs.Programs.{act_of, bl_of, stmt_of, act_arms_of, scoped, masking};
+ghost use Rattle.hs_rules.specs.Typing.{a_cell, bound, inner_of, no_mask, of, row_arms, row_choose};
+ghost use Rattle.hs_rules.specs.TypingActions.{form_of_acts, row_modify};
+ghost use Rattle.hs_judging.specs.Judging.{needing, own, part, unless_full, unless_wrong, with1};
+ghost use Rattle.hs_judging.specs.JudgingActions.{judge_act, judge_act_arms, judge_bl};
+ghost use Rattle.hs_typing.specs.Views.{opt_ty, part_of};
+ghost use Rattle.hs_typing.specs.Contexts.{ctx_of};
+ghost use Rattle.hs_typing.specs.Judged.{Judged, Stated, names};
+ghost use Rattle.hs_act_types.specs.Parts.{row_two, second_part, third_part};
+
+use crate::closing::{TwoParts, close_two, dropped, kept_if};
+use crate::opening::{asked_form, open, open_mask, open_part};
+use crate::simple::{applied, binary, empty_cell, throw, unary};
+use hs_base::tree::{Action, Block, BlockArms, Name, Stmt};
+use hs_base::{NoMemory, Pos, Ty};
+use hs_expr_types::type_of;
+use hs_rules::forms::{BareAction, BinaryAction, BlockAction, MaskingAction, UnaryAction};
+use hs_typing::Form;
+use hs_typing::act_rows::bare_type;
+use hs_typing::checker::Checker;
+use hs_typing::funs::Funs;
+use hs_typing::parts::Part;
+use std::alloc::Global;
+
+/// The type of an action, where it has one.
+#[cycle(acts)]
+#[tactic(auto, using(crate::proofs::Acted::acted_rules))]
+fn action(
+    checker: &mut Checker,
+    alloc: Global,
+    funs: &Funs,
+    a: &Action,
+) -> Result<Option<Ty>, NoMemory>
+    ensures { IfOk result (λ t. Judged checker.old checker.new (opt_ty t) (judge_act (ctx_of funs.now) (names checker.old) (act_of a.now))) }
+{
+    match a {
+        Action::MyThreadId(_) => Ok(Some(bare_type(BareAction::MyThreadId).ty())),
+        Action::ClockMicros(_) => Ok(Some(bare_type(BareAction::ClockMicros).ty())),
+        Action::GetMaskingState(_) => Ok(Some(bare_type(BareAction::GetMaskingState).ty())),
+        Action::NewEmptyMVar(p, w) => empty_cell(checker, alloc, funs, *p, w),
+        Action::ThrowIo(p, w, e) => throw(checker, alloc, funs, *p, w, e),
+        Action::Call(x, es) => applied(checker, alloc, funs, x, es),
+        Action::Return(p, e) => unary(checker, alloc, funs, *p, UnaryAction::Return, e),
+        Action::PutStr(p, e) => unary(checker, alloc, funs, *p, UnaryAction::PutStr, e),
+        Action::PutStrLn(p, e) => unary(checker, alloc, funs, *p, UnaryAction::PutStrLn, e),
+        Action::HPutStrLn(p, e) => unary(checker, alloc, funs, *p, UnaryAction::HPutStrLn, e),
+        Action::NewMVar(p, e) => unary(checker, alloc, funs, *p, UnaryAction::NewMVar, e),
+        Action::TakeMVar(p, e) => unary(checker, alloc, funs, *p, UnaryAction::TakeMVar, e),
+        Action::ReadMVar(p, e) => unary(checker, alloc, funs, *p, UnaryAction::ReadMVar, e),
+        Action::TryTakeMVar(p, e) => unary(checker, alloc, funs, *p, UnaryAction::TryTakeMVar, e),
+        Action::KillThread(p, e) => unary(checker, alloc, funs, *p, UnaryAction::KillThread, e),
+        Action::ThreadDelay(p, e) => unary(checker, alloc, funs, *p, UnaryAction::ThreadDelay, e),
+        Action::PutMVar(p, m, e) => binary(checker, alloc, funs, *p, BinaryAction::PutMVar, m, e),
+        Action::TryPutMVar(p, m, e) => {
+            binary(checker, alloc, funs, *p, BinaryAction::TryPutMVar, m, e)
+        }
+        Action::ThrowTo(p, t, e) => binary(checker, alloc, funs, *p, BinaryAction::ThrowTo, t, e),
+        Action::ForkIo(p, b) => in_block(checker, alloc, funs, b, *p, BlockAction::ForkIo),
+        Action::MaskOnly(p, b) => in_block(checker, alloc, funs, b, *p, BlockAction::MaskOnly),
+        Action::UninterruptibleMaskOnly(p, b) => {
+            in_block(
+                checker,
+                alloc,
+                funs,
+                b,
+                *p,
+                BlockAction::UninterruptibleMaskOnly,
+            )
+        }
+        Action::ForkIoWithUnmask(p, x, b) => {
+            in_masking(
+                checker,
+                alloc,
+                funs,
+                b,
+                *p,
+                MaskingAction::ForkIoWithUnmask,
+                x,
+            )
+        }
+        Action::Mask(p, x, b) => in_masking(checker, alloc, funs, b, *p, MaskingAction::Mask, x),
+        Action::UninterruptibleMask(p, x, b) => {
+            in_masking(
+                checker,
+                alloc,
+                funs,
+                b,
+                *p,
+                MaskingAction::UninterruptibleMask,
+                x,
+            )
+        }
+        Action::Restore(_, x, b) => restored(checker, alloc, funs, b, x),
+        Action::If(p, e, b, d) => {
+            let t = type_of(checker, alloc, funs, e)?;
+            let u = block(checker, alloc, funs, b)?;
+            third(checker, alloc, funs, d, *p, t, u)
+        }
+        Action::Case(p, e, arms) => {
+            let t = type_of(checker, alloc, funs, e)?;
+            arms_at(checker, alloc, funs, arms.get(), *p, t)
+        }
+        Action::ModifyMVar(p, e, x, b) => {
+            let t = type_of(checker, alloc, funs, e)?;
+            in_cell(checker, alloc, funs, b, *p, t, x)
+        }
+        Action::Catch(p, b, x, d) => {
+            let t = block(checker, alloc, funs, b)?;
+            caught(checker, alloc, funs, d, *p, t, x)
+        }
+        Action::OnException(p, b, d) => {
+            let t = block(checker, alloc, funs, b)?;
+            second(checker, alloc, funs, d, *p, TwoParts::Guard, t)
+        }
+        Action::Finally(p, b, d) => {
+            let t = block(checker, alloc, funs, b)?;
+            second(checker, alloc, funs, d, *p, TwoParts::Guard, t)
+        }
+        Action::Bracket(p, b, x, d, h) => match block(checker, alloc, funs, b)? {
+            None => Ok(None),
+            Some(t) => match open(checker, alloc, x, t)? {
+                false => Ok(None),
+                true => {
+                    let u = block(checker, alloc, funs, d)?;
+                    let r = second(checker, alloc, funs, h, *p, TwoParts::Bracket, u)?;
+                    checker.unbind();
+                    Ok(r)
+                }
+            },
+        },
+        Action::Timeout(p, e, b) => {
+            let t = type_of(checker, alloc, funs, e)?;
+            second(checker, alloc, funs, b, *p, TwoParts::Timeout, t)
+        }
+    }
+}
+
+/// An action with one block.
+#[cycle(acts)]
+#[tactic(auto, using(hs_typing::proofs::Noted::step_rules))]
+fn in_block(
+    checker: &mut Checker,
+    alloc: Global,
+    funs: &Funs,
+    b: &Block,
+    p: Pos,
+    o: BlockAction,
+) -> Result<Option<Ty>, NoMemory>
+    ensures { IfOk result (λ t. Judged checker.old checker.new (opt_ty t) (judge_act (ctx_of funs.now) (names checker.old) (scoped o p (bl_of b.now)))) }
+{
+    let t = block(checker, alloc, funs, b)?;
+    let r = checker.close_scoped(alloc, p, o, t)?;
+    Ok(r)
+}
+
+/// An action with a block in which a masking name is bound.
+#[cycle(acts)]
+#[tactic(auto, using(hs_typing::proofs::Noted::step_rules))]
+fn in_masking(
+    checker: &mut Checker,
+    alloc: Global,
+    funs: &Funs,
+    b: &Block,
+    p: Pos,
+    o: MaskingAction,
+    x: &Name,
+) -> Result<Option<Ty>, NoMemory>
+    ensures { IfOk result (λ t. Judged checker.old checker.new (opt_ty t) (judge_act (ctx_of funs.now) (names checker.old) (masking o p x.now (bl_of b.now)))) }
+{
+    match open_mask(checker, alloc, x)? {
+        false => Ok(None),
+        true => {
+            let t = block(checker, alloc, funs, b)?;
+            checker.unbind();
+            let r = checker.close_masking(alloc, p, o, t)?;
+            Ok(r)
+        }
+    }
+}
+
+/// `restore x b`
+#[cycle(acts)]
+fn restored(
+    checker: &mut Checker,
+    alloc: Global,
+    funs: &Funs,
+    b: &Block,
+    x: &Name,
+) -> Result<Option<Ty>, NoMemory>
+    ensures { IfOk result (λ t. Judged checker.old checker.new (opt_ty t) (unless_wrong (no_mask (ctx_of funs.now) (names checker.old) x.now) (judge_bl (ctx_of funs.now) (names checker.old) (bl_of b.now)))) }
+{
+    let is_mask = checker.check_mask(funs, x);
+    let t = block(checker, alloc, funs, b)?;
+    Ok(kept_if(is_mask, t))
+}
+
+/// The second block of an action, after the type of what stands before it.
+#[cycle(acts)]
+#[tactic(auto, using(hs_typing::proofs::Noted::step_rules))]
+fn second(
+    checker: &mut Checker,
+    alloc: Global,
+    funs: &Funs,
+    b: &Block,
+    p: Pos,
+    o: TwoParts,
+    t: Option<Ty>,
+) -> Result<Option<Ty>, NoMemory>
+    ensures { IfOk result (λ r. Judged checker.old checker.new (opt_ty r) (second_part (opt_ty t) (judge_bl (ctx_of funs.now) (names checker.old) (bl_of b.now)) (λ u v. own p (row_two o u v)))) }
+{
+    let u = block(checker, alloc, funs, b)?;
+    let r = close_two(checker, alloc, p, o, t, u)?;
+    Ok(r)
+}
+
+/// The second branch of an `if`, after the types of what stands before it.
+#[cycle(acts)]
+#[tactic(auto, using(hs_typing::proofs::Noted::step_rules))]
+fn third(
+    checker: &mut Checker,
+    alloc: Global,
+    funs: &Funs,
+    b: &Block,
+    p: Pos,
+    t: Option<Ty>,
+    u: Option<Ty>,
+) -> Result<Option<Ty>, NoMemory>
+    ensures { IfOk result (λ r. Judged checker.old checker.new (opt_ty r) (third_part (opt_ty t) (opt_ty u) (judge_bl (ctx_of funs.now) (names checker.old) (bl_of b.now)) (λ u v w. own p (row_choose u v w)))) }
+{
+    let v = block(checker, alloc, funs, b)?;
+    let r = checker.close_choose(alloc, p, t, u, v)?;
+    Ok(r)
+}
+
+/// The handler of a `catch`, after the type of the block before it.
+#[cycle(acts)]
+#[tactic(auto, using(crate::proofs::Acted::caught_rules))]
+fn caught(
+    checker: &mut Checker,
+    alloc: Global,
+    funs: &Funs,
+    b: &Block,
+    p: Pos,
+    t: Option<Ty>,
+    x: &Name,
+) -> Result<Option<Ty>, NoMemory>
+    ensures { IfOk result (λ r. Judged checker.old checker.new (opt_ty r) (second_part (opt_ty t) (unless_full (names checker.old) x.now (judge_bl (ctx_of funs.now) (bound x.now exn ∷ names checker.old) (bl_of b.now))) (λ u v. own p (row_arms u v)))) }
+{
+    match open(checker, alloc, x, Ty::Exn)? {
+        false => Ok(dropped(t)),
+        true => {
+            let u = block(checker, alloc, funs, b)?;
+            checker.unbind();
+            let r = checker.close_arms(alloc, p, t, u)?;
+            Ok(r)
+        }
+    }
+}
+
+/// The block of a modification of a cell, after the cell's type.
+#[cycle(acts)]
+#[tactic(auto, using(hs_typing::proofs::Noted::step_rules))]
+fn in_cell(
+    checker: &mut Checker,
+    alloc: Global,
+    funs: &Funs,
+    b: &Block,
+    p: Pos,
+    t: Option<Ty>,
+    x: &Name,
+) -> Result<Option<Ty>, NoMemory>
+    ensures { IfOk result (λ r. Judged checker.old checker.new (opt_ty r) (with1 (opt_ty t) (λ u. needing p (of a_cell u ∷ []) (part (unless_full (names checker.old) x.now (judge_bl (ctx_of funs.now) (bound x.now (inner_of u) ∷ names checker.old) (bl_of b.now))) (λ v. own p (row_modify u v)))))) }
+{
+    match t {
+        None => Ok(None),
+        Some(t) => {
+            if !checker.fits(alloc, p, Form::Cell, &t)? {
+                return Ok(None);
+            }
+            let u = under(checker, alloc, funs, b, x, Part::Inner, &t)?;
+            let r = checker.close_modify(alloc, p, &t, u)?;
+            Ok(r)
+        }
+    }
+}
+
+/// The arms of a `case`, after the type of what stands before them.
+#[cycle(acts)]
+#[tactic(auto, using(hs_typing::proofs::Noted::step_rules))]
+fn arms_at(
+    checker: &mut Checker,
+    alloc: Global,
+    funs: &Funs,
+    arms: &BlockArms,
+    p: Pos,
+    t: Option<Ty>,
+) -> Result<Option<Ty>, NoMemory>
+    ensures { IfOk result (λ r. Judged checker.old checker.new (opt_ty r) (with1 (opt_ty t) (λ u. needing p (of (form_of_acts (act_arms_of arms.now)) u ∷ []) (judge_act_arms (ctx_of funs.now) (names checker.old) p u (act_arms_of arms.now))))) }
+{
+    match t {
+        None => Ok(None),
+        Some(t) => {
+            let form = asked_form(arms);
+            if !checker.fits(alloc, p, form, &t)? {
+                return Ok(None);
+            }
+            let r = in_arms(checker, alloc, funs, arms, p, &t)?;
+            Ok(r)
+        }
+    }
+}
+
+/// The arms of a `case` at a type of their form.
+#[cycle(acts)]
+#[tactic(auto, using(crate::proofs::Acted::arms_rules))]
+fn in_arms(
+    checker: &mut Checker,
+    alloc: Global,
+    funs: &Funs,
+    arms: &BlockArms,
+    p: Pos,
+    t: &Ty,
+) -> Result<Option<Ty>, NoMemory>
+    ensures { IfOk result (λ r. Judged checker.old checker.new (opt_ty r) (judge_act_arms (ctx_of funs.now) (names checker.old) p (ty_of t.now) (act_arms_of arms.now))) }
+{
+    match arms {
+        BlockArms::OfMaybe(a, x, b) => {
+            let u = block(checker, alloc, funs, a)?;
+            let v = under(checker, alloc, funs, b, x, Part::Inner, t)?;
+            let r = checker.close_arms(alloc, p, u, v)?;
+            Ok(r)
+        }
+        BlockArms::OfEither(x, a, y, b) => {
+            let u = under(checker, alloc, funs, a, x, Part::First, t)?;
+            let v = under(checker, alloc, funs, b, y, Part::Second, t)?;
+            let r = checker.close_arms(alloc, p, u, v)?;
+            Ok(r)
+        }
+        BlockArms::OfList(a, x, y, b) => {
+            let u = block(checker, alloc, funs, a)?;
+            let v = under_two(checker, alloc, funs, b, x, Part::Inner, y, Part::Whole, t)?;
+            let r = checker.close_arms(alloc, p, u, v)?;
+            Ok(r)
+        }
+        BlockArms::OfPair(x, y, a) => {
+            let r = under_two(checker, alloc, funs, a, x, Part::First, y, Part::Second, t)?;
+            Ok(r)
+        }
+    }
+}
+
+/// A block in which a name has a part of a type.
+#[cycle(acts)]
+fn under(
+    checker: &mut Checker,
+    alloc: Global,
+    funs: &Funs,
+    b: &Block,
+    x: &Name,
+    which: Part,
+    t: &Ty,
+) -> Result<Option<Ty>, NoMemory>
+    ensures { IfOk result (λ r. Judged checker.old checker.new (opt_ty r) (unless_full (names checker.old) x.now (judge_bl (ctx_of funs.now) (bound x.now (part_of which (ty_of t.now)) ∷ names checker.old) (bl_of b.now)))) }
+{
+    match open_part(checker, alloc, x, which, t)? {
+        false => Ok(None),
+        true => {
+            let r = block(checker, alloc, funs, b)?;
+            checker.unbind();
+            Ok(r)
+        }
+    }
+}
+
+/// A block in which two names have parts of a type.
+#[cycle(acts)]
+fn under_two(
+    checker: &mut Checker,
+    alloc: Global,
+    funs: &Funs,
+    b: &Block,
+    x: &Name,
+    first: Part,
+    y: &Name,
+    second: Part,
+    t: &Ty,
+) -> Result<Option<Ty>, NoMemory>
+    ensures { IfOk result (λ r. Judged checker.old checker.new (opt_ty r) (unless_full (names checker.old) x.now (unless_full (bound x.now (part_of first (ty_of t.now)) ∷ names checker.old) y.now (judge_bl (ctx_of funs.now) (bound y.now (part_of second (ty_of t.now)) ∷ bound x.now (part_of first (ty_of t.now)) ∷ names checker.old) (bl_of b.now))))) }
+{
+    match open_part(checker, alloc, x, first, t)? {
+        false => Ok(None),
+        true => {
+            let r = under(checker, alloc, funs, b, y, second, t)?;
+            checker.unbind();
+            Ok(r)
+        }
+    }
+}
+
+/// Judges a statement and binds its name: false where it is broken.
+#[cycle(acts)]
+#[tactic(auto, using(crate::proofs::Acted::stated_rules))]
+fn stmt(checker: &mut Checker, alloc: Global, funs: &Funs, st: &Stmt) -> Result<bool, NoMemory>
+    ensures { IfOk result (λ b. Stated (ctx_of funs.now) checker.old checker.new b (stmt_of st.now)) }
+{
+    match st {
+        Stmt::Do(a) => {
+            let t = action(checker, alloc, funs, a)?;
+            Ok(t.is_some())
+        }
+        Stmt::Bind(x, a) => {
+            checker.check_room(x);
+            let t = action(checker, alloc, funs, a)?;
+            let b = checker.begin(alloc, x, t)?;
+            Ok(b)
+        }
+        Stmt::Let(x, e) => {
+            checker.check_room(x);
+            let t = type_of(checker, alloc, funs, e)?;
+            let b = checker.begin(alloc, x, t)?;
+            Ok(b)
+        }
+    }
+}
+
+/// The type of a block, where it has one.
+#[cycle(acts)]
+#[tactic(auto, using(hs_rules::proofs::EquationsOfActions::bl_is))]
+pub fn block(
+    checker: &mut Checker,
+    alloc: Global,
+    funs: &Funs,
+    b: &Block,
+) -> Result<Option<Ty>, NoMemory>
+    ensures { IfOk result (λ t. Judged checker.old checker.new (opt_ty t) (judge_bl (ctx_of funs.now) (names checker.old) (bl_of b.now))) }
+{
+    let mark = checker.scope.len();
+    'stmts: for st in b.stmts.as_slice() {
+        if !stmt(checker, alloc, funs, st)? {
+            checker.scope.back_to(mark);
+            return Ok(None);
+        }
+    }
+    let t = action(checker, alloc, funs, b.last.get())?;
+    checker.scope.back_to(mark);
+    Ok(t)
+}

@@ -1,0 +1,37 @@
+//! The types of actions: the walk down a block.
+//!
+//! To a contract the walk is a step of the checker (`hs_typing/specs/Judged`). The one promise: it leaves the scope as it
+//! was, the type that it gives is the one that `hs_judging` gives to the block in that scope, and the kept fault is the
+//! least of the one that was kept and of those that `hs_judging` lists.
+#![tactic(auto)]
+
+ghost use Rattle.std.specs.Prelude.{◌≡◌, IfOk};
+ghost use Rattle.hs_rules.specs.Programs.{bl_of};
+ghost use Rattle.hs_judging.specs.JudgingActions.{judge_bl};
+ghost use Rattle.hs_typing.specs.Views.{opt_ty};
+ghost use Rattle.hs_typing.specs.Contexts.{ctx_of};
+ghost use Rattle.hs_typing.specs.Judged.{Judged, names};
+
+mod blocks;
+mod closing;
+mod opening;
+mod simple;
+
+use hs_base::tree::Block;
+use hs_base::{NoMemory, Ty};
+use hs_typing::checker::Checker;
+use hs_typing::funs::Funs;
+use std::alloc::Global;
+
+/// The type of a block, where it has one.
+pub fn type_of_block(
+    checker: &mut Checker,
+    alloc: Global,
+    funs: &Funs,
+    b: &Block,
+) -> Result<Option<Ty>, NoMemory>
+    ensures { IfOk result (λ t. Judged checker.old checker.new (opt_ty t) (judge_bl (ctx_of funs.now) (names checker.old) (bl_of b.now))) }
+{
+    let t = blocks::block(checker, alloc, funs, b)?;
+    Ok(t)
+}

@@ -1,0 +1,104 @@
+// Actions without blocks.
+
+ghost use Rattle.std.specs.Prelude.{◌≡◌, IfOk};
+ghost use Rattle.hs_rules.specs.Trees.{ex_of, exs_of, wr_of};
+ghost use Rattle.hs_rules.specs.Programs.{bare, unary_act, binary_act, throw_io, new_empty, call};
+ghost use Rattle.hs_judging.specs.JudgingActions.{judge_act};
+ghost use Rattle.hs_typing.specs.Views.{opt_ty};
+ghost use Rattle.hs_typing.specs.Contexts.{ctx_of};
+ghost use Rattle.hs_typing.specs.Judged.{Judged, names};
+
+use hs_base::tree::{Expr, Name, Written};
+use hs_base::{NoMemory, Pos, Ty};
+use hs_expr_types::{type_of, types_of};
+use hs_items::Items;
+use hs_rules::forms::{BinaryAction, UnaryAction};
+use hs_typing::checker::Checker;
+use hs_typing::funs::Funs;
+use std::alloc::Global;
+
+/// An action with one expression.
+#[tactic(auto, using(hs_typing::proofs::Noted::step_rules))]
+pub fn unary(
+    checker: &mut Checker,
+    alloc: Global,
+    funs: &Funs,
+    p: Pos,
+    o: UnaryAction,
+    e: &Expr,
+) -> Result<Option<Ty>, NoMemory>
+    ensures { IfOk result (λ t. Judged checker.old checker.new (opt_ty t) (judge_act (ctx_of funs.now) (names checker.old) (unary_act o p (ex_of e.now)))) }
+{
+    let t = type_of(checker, alloc, funs, e)?;
+    let r = checker.close_unary_act(alloc, p, o, t)?;
+    Ok(r)
+}
+
+/// An action with two expressions.
+#[tactic(auto, using(hs_typing::proofs::Noted::step_rules))]
+pub fn binary(
+    checker: &mut Checker,
+    alloc: Global,
+    funs: &Funs,
+    p: Pos,
+    o: BinaryAction,
+    a: &Expr,
+    b: &Expr,
+) -> Result<Option<Ty>, NoMemory>
+    ensures { IfOk result (λ t. Judged checker.old checker.new (opt_ty t) (judge_act (ctx_of funs.now) (names checker.old) (binary_act o p (ex_of a.now) (ex_of b.now)))) }
+{
+    let t = type_of(checker, alloc, funs, a)?;
+    let u = type_of(checker, alloc, funs, b)?;
+    let r = checker.close_binary_act(alloc, p, o, t, u)?;
+    Ok(r)
+}
+
+/// `throwIO @t a`
+#[tactic(auto, using(hs_typing::proofs::Noted::step_rules))]
+pub fn throw(
+    checker: &mut Checker,
+    alloc: Global,
+    funs: &Funs,
+    p: Pos,
+    w: &Written,
+    e: &Expr,
+) -> Result<Option<Ty>, NoMemory>
+    ensures { IfOk result (λ t. Judged checker.old checker.new (opt_ty t) (judge_act (ctx_of funs.now) (names checker.old) (throw_io p (wr_of w.now) (ex_of e.now)))) }
+{
+    let t = checker.written(alloc, w)?;
+    let u = type_of(checker, alloc, funs, e)?;
+    let r = checker.close_throw(alloc, p, t, u)?;
+    Ok(r)
+}
+
+/// `newEmptyMVar @t`
+#[tactic(auto, using(hs_typing::proofs::Noted::step_rules))]
+pub fn empty_cell(
+    checker: &mut Checker,
+    alloc: Global,
+    funs: &Funs,
+    p: Pos,
+    w: &Written,
+) -> Result<Option<Ty>, NoMemory>
+    ensures { IfOk result (λ t. Judged checker.old checker.new (opt_ty t) (judge_act (ctx_of funs.now) (names checker.old) (new_empty p (wr_of w.now)))) }
+{
+    let t = checker.written(alloc, w)?;
+    let r = checker.close_new_empty(alloc, p, t)?;
+    Ok(r)
+}
+
+/// A call of an action function.
+#[tactic(auto, using(hs_typing::proofs::Noted::step_rules))]
+pub fn applied(
+    checker: &mut Checker,
+    alloc: Global,
+    funs: &Funs,
+    x: &Name,
+    es: &Items<Expr>,
+) -> Result<Option<Ty>, NoMemory>
+    ensures { IfOk result (λ t. Judged checker.old checker.new (opt_ty t) (judge_act (ctx_of funs.now) (names checker.old) (call x.now (exs_of es.now)))) }
+{
+    let ts = types_of(checker, alloc, funs, es)?;
+    let t = checker.close_act_call(alloc, funs, x, es.len(), ts)?;
+    Ok(t)
+}

@@ -1,0 +1,80 @@
+-- Steps of the walk, over the states of the checker.
+use Rattle.std.proofs.Common.{◌≡◌, ℕ, ◌+◌, ◌<◌, List, [], ◌∷◌, ◌++◌, length, drop, get_or, Option, refl, ap, ◌∙◌, sym, append_assoc}
+use Rattle.hs_base.specs.declared.pos.Pos.{Pos}
+use Rattle.hs_base.specs.declared.tree.ty.Ty.{Ty}
+use Rattle.hs_base.specs.declared.tree.expr.Expr.{Expr}
+use Rattle.hs_rules.specs.declared.forms.BinaryForm.{BinaryForm}
+use Rattle.hs_rules.specs.Trees.{T, Ex, binary, Links, link, ex_of, exs_of}
+use Rattle.hs_rules.specs.Typing.{Ctx, Bound, row_binary}
+use Rattle.hs_judging.specs.Judging.{Found, Founds, own, parts2, typed, with2, judge, judges, judge_links, operand_faults, operand_types}
+use Rattle.hs_judging.specs.Least.{least}
+use Rattle.hs_typing.specs.Views.{opt_ty, opts_of}
+use Rattle.hs_typing.specs.Judged.{names, kept, pushed, Judged}
+use Rattle.hs_typing.specs.declared.checker.Checker.{Checker}
+use Rattle.hs_typing.proofs.Noted.{least-append, all_joined, judged_step}
+use Rattle.hs_typing.proofs.Chains.{links_step, operands_step}
+
+-- a node with two parts, in the scope before the first
+abbrev over : Ctx → List Bound → BinaryForm → Pos → Option T → Ex → Found
+over c s f p t e = parts2 (typed t) (judge c s e) (λ u v. own p (row_binary f u v))
+
+-- two parts, where the form was read from the operator
+pub binary_step : (c : Ctx) (o m n : Checker) (f g : BinaryForm) (p : Pos) (a e : Ex) (t r : Option T) → g ≡ f
+    → Judged o m t (judge c (names o) a) → Judged m n r (over c (names m) g p t e) → Judged o n r (judge c (names o) (binary f p a e))
+binary_step c o m n f g p a e t r hf h k =
+    let x = judge c (names o) a in
+    let y = judge c (names o) e in
+    record {
+      scope = k.scope ∙ h.scope;
+      type = k.type ∙ (ap (λ z. (over c z g p t e).type) h.scope ∙ (ap (λ z. (over c (names o) g p z e).type) h.type ∙ ap (λ z. (over c (names o) z p x.type e).type) hf));
+      faults = k.faults ∙ (ap (λ z. least (kept m) (over c z g p t e).faults) h.scope ∙ (ap (λ z. least (kept m) (over c (names o) g p z e).faults) h.type ∙ (ap (λ z. least (kept m) (over c (names o) z p x.type e).faults) hf
+          ∙ (ap (λ z. least z (over c (names o) f p x.type e).faults) h.faults ∙ (sym (least-append (kept o) x.faults (over c (names o) f p x.type e).faults)
+          ∙ ap (least (kept o)) (sym (append_assoc x.faults y.faults (with2 x.type y.type (λ u v. own p (row_binary f u v))).faults)))))));
+    }
+
+-- one more link of a chain
+pub link_step : (c : Ctx) (o m n : Checker) (f g : BinaryForm) (p : Pos) (e : Ex) (all ks : Links) (t w : Option T) (whole : Found)
+    → names m ≡ names o → all ≡ link f p e ks → g ≡ f
+    → (judge_links c (names o) (typed t) all).type ≡ whole.type → least (kept m) (judge_links c (names o) (typed t) all).faults ≡ least (kept o) whole.faults
+    → Judged m n w (over c (names m) g p t e)
+    → ((judge_links c (names o) (typed w) ks).type ≡ whole.type) × (least (kept n) (judge_links c (names o) (typed w) ks).faults ≡ least (kept o) whole.faults)
+link_step c o m n f g p e all ks t w whole hs is hg ht hf h =
+    let s = names o in
+    let a = judge c s e in
+    let b = with2 t a.type (λ u v. own p (row_binary f u v)) in
+    links_step c s (kept o) (kept m) (least (kept m) a.faults) (kept n) f p e ks t a.type w whole
+    (ap (λ z. (judge_links c s (typed t) z).type) (sym is) ∙ ht)
+    (ap (λ z. least (kept m) (judge_links c s (typed t) z).faults) (sym is) ∙ hf)
+    refl
+    refl
+    (h.type ∙ (ap (λ z. (over c z g p t e).type) hs ∙ ap (λ z. (over c s z p t e).type) hg))
+    (h.faults ∙ (ap (λ z. least (kept m) (over c z g p t e).faults) hs ∙ (ap (λ z. least (kept m) (over c s z p t e).faults) hg ∙ least-append (kept m) a.faults b.faults)))
+
+-- one more operand of `:` and `++`
+pub operand_step : (c : Ctx) (o m n : Checker) (p : Pos) (f : BinaryForm) (e : Ex) (all ks whole : Links) (x : Option T) (ts us : List (Option Ty)) (t : Option Ty)
+    → names m ≡ names o → all ≡ link f p e ks
+    → opts_of ts ++ operand_types c (names o) all ≡ x ∷ operand_types c (names o) whole
+    → least (kept m) (operand_faults c (names o) all) ≡ least (kept o) (operand_faults c (names o) whole)
+    → Judged m n (opt_ty t) (judge c (names m) e) → us ≡ ts ++ t ∷ []
+    → (opts_of us ++ operand_types c (names o) ks ≡ x ∷ operand_types c (names o) whole) × (least (kept n) (operand_faults c (names o) ks) ≡ least (kept o) (operand_faults c (names o) whole))
+operand_step c o m n p f e all ks whole x ts us t hs is ht hf h eu =
+    let s = names o in
+    operands_step c s (kept o) (kept m) (kept n) p f e ks whole x ts us t
+    (ap (λ z. opts_of ts ++ operand_types c s z) (sym is) ∙ ht)
+    (ap (λ z. least (kept m) (operand_faults c s z)) (sym is) ∙ hf)
+    (h.type ∙ ap (λ z. (judge c z e).type) hs)
+    (h.faults ∙ ap (λ z. least (kept m) (judge c z e).faults) hs)
+    eu
+
+-- one more expression of a row
+pub part_step : (c : Ctx) (o m n : Checker) (es : List Expr) (e : Expr) (i : ℕ) (ts us : Option (List T)) (t : Option T) (whole : Founds)
+    → names m ≡ names o → i < length es → e ≡ get_or es i e
+    → all_joined ts (judges c (names o) (exs_of (drop i es))).types ≡ whole.types
+    → least (kept m) (judges c (names o) (exs_of (drop i es))).faults ≡ least (kept o) whole.faults
+    → Judged m n t (judge c (names m) (ex_of e)) → us ≡ pushed ts t
+    → (all_joined us (judges c (names o) (exs_of (drop (i + 1) es))).types ≡ whole.types) × (least (kept n) (judges c (names o) (exs_of (drop (i + 1) es))).faults ≡ least (kept o) whole.faults)
+part_step c o m n es e i ts us t whole hs lt is ht hf h eu =
+    judged_step c (names o) (kept o) (kept m) (kept n) es e i ts us t whole lt is ht hf
+    (h.type ∙ ap (λ z. (judge c z (ex_of e)).type) hs)
+    (h.faults ∙ ap (λ z. least (kept m) (judge c z (ex_of e)).faults) hs)
+    eu

@@ -1,0 +1,37 @@
+use Rattle.std.proofs.Common.{◌≡◌, ◌∷◌, ◌++◌, drop}
+use Rattle.hs_rules.specs.Trees.{exs_of, links_of, sum_links_of, list_links_of}
+use Rattle.hs_judging.specs.Judging.{typed, judges, judge_links, operand_faults, operand_types}
+use Rattle.hs_judging.specs.Least.{least}
+use Rattle.hs_typing.specs.Views.{opt_ty, opt_tys, opts_of}
+use Rattle.hs_typing.specs.Contexts.{ctx_of}
+use Rattle.hs_typing.specs.Judged.{names, kept}
+use Rattle.hs_typing.proofs.Noted.{all_joined}
+use Rattle.hs_expr_types.proofs.walk.+walk.Given as goal
+
+abbrev pub invariant-types_of-parts : goal.invariant-types_of-parts
+invariant-types_of-parts l = record {
+  scope : names l.checker ≡ names l.fn.checker;
+  types : all_joined (opt_tys l.ts) (judges (ctx_of l.funs) (names l.fn.checker) (exs_of (drop l.e-index l.es))).types ≡ (judges (ctx_of l.funs) (names l.fn.checker) (exs_of l.es)).types;
+  faults : least (kept l.checker) (judges (ctx_of l.funs) (names l.fn.checker) (exs_of (drop l.e-index l.es))).faults ≡ least (kept l.fn.checker) (judges (ctx_of l.funs) (names l.fn.checker) (exs_of l.es)).faults;
+}
+
+abbrev pub invariant-links-links : goal.invariant-links-links
+invariant-links-links l = record {
+  scope : names l.checker ≡ names l.fn.checker;
+  type : (judge_links (ctx_of l.funs) (names l.fn.checker) (typed (opt_ty l.t)) (links_of l.o (drop l.k-index l.ks))).type ≡ (judge_links (ctx_of l.funs) (names l.fn.checker) (typed (opt_ty l.fn.t)) (links_of l.o l.ks)).type;
+  faults : least (kept l.checker) (judge_links (ctx_of l.funs) (names l.fn.checker) (typed (opt_ty l.t)) (links_of l.o (drop l.k-index l.ks))).faults ≡ least (kept l.fn.checker) (judge_links (ctx_of l.funs) (names l.fn.checker) (typed (opt_ty l.fn.t)) (links_of l.o l.ks)).faults;
+}
+
+abbrev pub invariant-sum_links-links : goal.invariant-sum_links-links
+invariant-sum_links-links l = record {
+  scope : names l.checker ≡ names l.fn.checker;
+  type : (judge_links (ctx_of l.funs) (names l.fn.checker) (typed (opt_ty l.t)) (sum_links_of (drop l.k-index l.ks))).type ≡ (judge_links (ctx_of l.funs) (names l.fn.checker) (typed (opt_ty l.fn.t)) (sum_links_of l.ks)).type;
+  faults : least (kept l.checker) (judge_links (ctx_of l.funs) (names l.fn.checker) (typed (opt_ty l.t)) (sum_links_of (drop l.k-index l.ks))).faults ≡ least (kept l.fn.checker) (judge_links (ctx_of l.funs) (names l.fn.checker) (typed (opt_ty l.fn.t)) (sum_links_of l.ks)).faults;
+}
+
+abbrev pub invariant-operands-links : goal.invariant-operands-links
+invariant-operands-links l = record {
+  scope : names l.checker ≡ names l.fn.checker;
+  types : opts_of l.ts ++ operand_types (ctx_of l.funs) (names l.fn.checker) (list_links_of (drop l.k-index l.ks)) ≡ opt_ty l.fn.t ∷ operand_types (ctx_of l.funs) (names l.fn.checker) (list_links_of l.ks);
+  faults : least (kept l.checker) (operand_faults (ctx_of l.funs) (names l.fn.checker) (list_links_of (drop l.k-index l.ks))) ≡ least (kept l.fn.checker) (operand_faults (ctx_of l.funs) (names l.fn.checker) (list_links_of l.ks));
+}

@@ -1,0 +1,13 @@
+use Rattle.std.proofs.Common.{◌≡◌, ◌&&◌, drop, map}
+use Rattle.hs_rules.specs.Programs.{par_of}
+use Rattle.hs_rules.specs.TypingScripts.{params_in, param_faults, none_of}
+use Rattle.hs_judging.specs.Least.{least}
+use Rattle.hs_typing.specs.Judged.{names, kept}
+use Rattle.hs_types.proofs.definition.params.Given as goal
+
+abbrev pub invariant-each : goal.invariant-each
+invariant-each l = record {
+  scope : params_in (names l.checker) (map par_of (drop l.p-index l.ps)) ≡ params_in (names l.fn.checker) (map par_of l.ps);
+  faults : least (kept l.checker) (param_faults (names l.checker) (map par_of (drop l.p-index l.ps))) ≡ least (kept l.fn.checker) (param_faults (names l.fn.checker) (map par_of l.ps));
+  sound : (l.sound && none_of (param_faults (names l.checker) (map par_of (drop l.p-index l.ps)))) ≡ none_of (param_faults (names l.fn.checker) (map par_of l.ps));
+}

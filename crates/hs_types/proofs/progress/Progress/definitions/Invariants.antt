@@ -1,0 +1,14 @@
+use Rattle.std.proofs.Common.{◌≡◌, [], drop, map}
+use Rattle.hs_rules.specs.Programs.{fn_of}
+use Rattle.hs_judging.specs.JudgingScripts.{faults_from}
+use Rattle.hs_judging.specs.Least.{least}
+use Rattle.hs_typing.specs.Views.{kept_of, scope_of, sigs_of}
+use Rattle.hs_types.specs.Steps.{measured_of}
+use Rattle.hs_types.proofs.progress.Progress.definitions.Given as goal
+
+abbrev pub invariant-each : goal.invariant-each
+invariant-each l = record {
+  scope : scope_of l.self.meter.scope.items ≡ [];
+  sigs : l.funs.sigs ≡ l.fn.funs.sigs;
+  faults : least (kept_of l.self.first.fault) (faults_from (sigs_of l.fn.funs.sigs) (measured_of l.self) l.i (map fn_of (drop l.i l.ds))) ≡ least (kept_of l.fn.self.first.fault) (faults_from (sigs_of l.fn.funs.sigs) (measured_of l.fn.self) 0 (map fn_of l.ds));
+}

@@ -1,7 +1,0 @@
--- The functions as the rules see them.
-use Rattle.hs_rules.specs.Typing.{Ctx}
-use Rattle.hs_types.specs.Views.{sigs_of}
-use Rattle.hs_types.specs.declared.funs.Funs.{Funs}
-
-abbrev pub ctx_of : Funs → Ctx
-ctx_of f = record { sigs = sigs_of f.sigs; here = f.here }

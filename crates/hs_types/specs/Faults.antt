@@ -1,0 +1,24 @@
+-- What an answer of the checker says of a script.
+use Rattle.std.specs.Prelude.{⊤}
+use Rattle.hs_base.specs.declared.tree.script.Script.{Script}
+use Rattle.hs_rules.specs.Trees.{ty_of}
+use Rattle.hs_rules.specs.Typing.{twice, unknown, kind, forward, arity, mismatch, scope, wide, large}
+use Rattle.hs_rules.specs.TypingScripts.{LacksMain, IsFirstBroken}
+use Rattle.hs_typing.specs.Views.{wanted_of}
+use Rattle.hs_typing.specs.declared.fault.TypeFault.{TypeFault}
+use Rattle.hs_typing.specs.declared.fault.TypeFault.TheVariants as t
+
+-- The named rule is broken and comes before every broken one; for `NoMain` nothing is broken but there is no `main`.
+-- Memory may be refused for any script.
+abbrev pub Refused : TypeFault → Script → Type 0
+Refused (t.Twice p) s = IsFirstBroken s (twice p)
+Refused (t.Unknown p) s = IsFirstBroken s (unknown p)
+Refused (t.Kind p) s = IsFirstBroken s (kind p)
+Refused (t.Forward p) s = IsFirstBroken s (forward p)
+Refused (t.Arity p m n) s = IsFirstBroken s (arity p m n)
+Refused (t.Mismatch p m u) s = IsFirstBroken s (mismatch p (wanted_of m) (ty_of u))
+Refused (t.Scope p) s = IsFirstBroken s (scope p)
+Refused (t.Wide p) s = IsFirstBroken s (wide p)
+Refused (t.Large p) s = IsFirstBroken s (large p)
+Refused t.NoMain s = LacksMain s
+Refused t.NoMemory s = ⊤

@@ -1,0 +1,26 @@
+-- What a step from definition to definition does.
+use Rattle.std.specs.Prelude.{◌≡◌, ◌+◌, List, [], ◌∷◌}
+use Rattle.hs_rules.specs.Programs.{Bd, pure_body, io_body, Fn}
+use Rattle.hs_rules.specs.Typing.{Ctx}
+use Rattle.hs_rules.specs.TypingSizes.{Extent, nil}
+use Rattle.hs_rules.specs.TypingScripts.{Measured}
+use Rattle.hs_judging.specs.JudgingScripts.{faults_from}
+use Rattle.hs_judging.specs.Least.{least}
+use Rattle.hs_typing.specs.Views.{kept_of, scope_of}
+use Rattle.hs_typing.specs.Measuring.{exts_of}
+use Rattle.hs_types.specs.declared.progress.Progress.{Progress}
+
+-- what was measured, in counts
+abbrev pub measured_of : Progress → Measured
+measured_of p = record { extents = exts_of p.meter.extents; total = p.total }
+
+-- what a call unfolds to, where the greatest expression of the body unfolds to x
+abbrev pub of_call : Bd → Extent → Extent
+of_call (pure_body w e) x = x
+of_call (io_body w a) x = nil
+
+-- One definition was judged and measured. Whatever definitions follow, the first broken rule of all is the same by the
+-- counts before the step and by those after it.
+pub record Advanced (old new : Progress) (c : Ctx) (d : Fn) : Type 0 where
+  pub scope : scope_of new.meter.scope.items ≡ []
+  pub rest : (ds : List Fn) → least (kept_of new.first.fault) (faults_from c.sigs (measured_of new) (c.here + 1) ds) ≡ least (kept_of old.first.fault) (faults_from c.sigs (measured_of old) c.here (d ∷ ds))

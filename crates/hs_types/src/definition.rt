@@ -1,0 +1,174 @@
+ghost use Rattle.std.specs.Prelude.{◌≡◌, ◌++◌, ◌∷◌, [], None, IfOk, OnOk, map};
+ghost use Rattle.hs_rules.specs.Trees.{wr_of};
+ghost use Rattle.hs_rules.specs.Programs.{par_of, bd_of, fn_of};
+ghost use Rattle.hs_rules.specs.Typing.{bound};
+ghost use Rattle.hs_rules.specs.TypingScripts.{result_of, params_in, wide_faults, room_faults, param_faults, head_faults, twice_faults, none_of};
+ghost use Rattle.hs_judging.specs.Judging.{part, with1};
+ghost use Rattle.hs_judging.specs.JudgingScripts.{judge_body, ends, def_faults};
+ghost use Rattle.hs_judging.specs.Least.{least};
+ghost use Rattle.hs_typing.specs.Views.{kept_of, opt_ty};
+ghost use Rattle.hs_typing.specs.Contexts.{ctx_of};
+ghost use Rattle.hs_typing.specs.Judged.{Judged, names, kept};
+
+use hs_act_types::type_of_block;
+use hs_base::tree::{Body, Def, Name, Param, Written};
+use hs_base::{NoMemory, Ty};
+use hs_expr_types::type_of;
+use hs_items::Items;
+use hs_typing::checker::Checker;
+use hs_typing::first::{Broken, First};
+use hs_typing::funs::Funs;
+use hs_typing::heads::written_of;
+use hs_typing::table::Table;
+use hs_typing::widths::is_wide;
+use std::alloc::Global;
+
+/// What a definition breaks first, `Large` aside, and whether its head is sound.
+#[derive(Drop)]
+pub struct Judgement {
+    pub fault: Option<Broken>,
+    pub head: bool,
+}
+
+/// Notes where a written type is too wide.
+#[tactic(auto, using(hs_typing::proofs::ScriptSteps::script_rules))]
+fn check_width(checker: &mut Checker, w: &Written) -> bool
+    ensures { (names checker.new ≡ names checker.old) × (kept checker.new ≡ least (kept checker.old) (wide_faults (wr_of w.now))) × (result ≡ none_of (wide_faults (wr_of w.now))) }
+{
+    if is_wide(&w.ty) {
+        checker.first.note(Broken::Wide(w.pos));
+        false
+    } else {
+        true
+    }
+}
+
+/// Notes where an earlier definition has the name.
+#[tactic(auto, using(hs_typing::proofs::ScriptSteps::script_rules))]
+fn check_once(checker: &mut Checker, funs: &Funs, x: &Name)
+    ensures { (names checker.new ≡ names checker.old) × (kept checker.new ≡ least (kept checker.old) (twice_faults (ctx_of funs.now) x.now)) }
+{
+    match funs.find(&x.text) {
+        None => {}
+        Some(f) => {
+            if f.place < funs.here {
+                checker.first.note(Broken::Twice(x.pos));
+            }
+        }
+    }
+}
+
+/// Binds a parameter, and says whether it is sound.
+#[tactic(auto, using(hs_typing::proofs::ScriptSteps::script_rules))]
+fn param(checker: &mut Checker, alloc: Global, p: &Param) -> Result<bool, NoMemory>
+    ensures { IfOk result (λ b. (names checker.new ≡ bound p.now.name (wr_of p.now.ty).ty ∷ names checker.old) × (kept checker.new ≡ least (kept checker.old) (wide_faults (wr_of p.now.ty) ++ room_faults (names checker.old) p.now.name)) × (b ≡ none_of (wide_faults (wr_of p.now.ty) ++ room_faults (names checker.old) p.now.name))) }
+{
+    let narrow = check_width(checker, &p.ty);
+    let full = checker.is_full();
+    checker.check_room(&p.name);
+    checker.bind(alloc, &p.name, p.ty.ty.copy(alloc)?)?;
+    Ok(narrow && !full)
+}
+
+/// Binds the parameters, and says whether each is sound.
+#[tactic(auto, using(hs_typing::proofs::ScriptSteps::script_rules))]
+fn params(checker: &mut Checker, alloc: Global, ps: &Items<Param>) -> Result<bool, NoMemory>
+    ensures { IfOk result (λ b. (names checker.new ≡ params_in (names checker.old) (map par_of ps.now)) × (kept checker.new ≡ least (kept checker.old) (param_faults (names checker.old) (map par_of ps.now))) × (b ≡ none_of (param_faults (names checker.old) (map par_of ps.now)))) }
+{
+    let mut sound = true;
+    'each: for p in ps.as_slice() {
+        let one = param(checker, alloc, p)?;
+        sound = sound && one;
+    }
+    Ok(sound)
+}
+
+/// The name and the head of a definition; it says whether the head is sound.
+#[tactic(auto, using(hs_typing::proofs::ScriptSteps::script_rules))]
+fn head(checker: &mut Checker, alloc: Global, funs: &Funs, d: &Def) -> Result<bool, NoMemory>
+    requires { names checker.old ≡ [] }
+    ensures { IfOk result (λ b. (names checker.new ≡ params_in [] (fn_of d.now).params) × (kept checker.new ≡ least (kept checker.old) (twice_faults (ctx_of funs.now) d.now.name ++ head_faults (fn_of d.now))) × (b ≡ none_of (head_faults (fn_of d.now)))) }
+{
+    check_once(checker, funs, &d.name);
+    let a = params(checker, alloc, &d.params)?;
+    let b = check_width(checker, written_of(&d.body));
+    Ok(a && b)
+}
+
+/// The type of a body, where it has one.
+fn type_of_body(
+    checker: &mut Checker,
+    alloc: Global,
+    funs: &Funs,
+    b: &Body,
+) -> Result<Option<Ty>, NoMemory>
+    ensures { IfOk result (λ t. Judged checker.old checker.new (opt_ty t) (judge_body (ctx_of funs.now) (names checker.old) (bd_of b.now))) }
+{
+    match b {
+        Body::Pure(_, e) => {
+            let t = type_of(checker, alloc, funs, e)?;
+            Ok(t)
+        }
+        Body::Action(_, b) => {
+            let t = type_of_block(checker, alloc, funs, b)?;
+            Ok(t)
+        }
+    }
+}
+
+/// Notes where the type of the body isn't the declared one.
+fn check_result(
+    checker: &mut Checker,
+    alloc: Global,
+    x: &Name,
+    w: &Written,
+    t: Option<Ty>,
+) -> Result<(), NoMemory>
+    ensures { OnOk result (kept checker.new ≡ least (kept checker.old) (with1 (opt_ty t) (ends x.now (wr_of w.now))).faults) }
+{
+    match t {
+        None => Ok(()),
+        Some(t) => {
+            checker.is(alloc, x.pos, &w.ty, &t)?;
+            Ok(())
+        }
+    }
+}
+
+/// The body of a definition whose head is sound.
+#[tactic(auto, using(hs_typing::proofs::ScriptSteps::script_rules))]
+fn tail(checker: &mut Checker, alloc: Global, funs: &Funs, d: &Def) -> Result<(), NoMemory>
+    requires { names checker.old ≡ params_in [] (fn_of d.now).params }
+    ensures { OnOk result (kept checker.new ≡ least (kept checker.old) (part (judge_body (ctx_of funs.now) (params_in [] (fn_of d.now).params) (fn_of d.now).body) (ends d.now.name (result_of (fn_of d.now).body))).faults) }
+{
+    let t = type_of_body(checker, alloc, funs, &d.body)?;
+    check_result(checker, alloc, &d.name, written_of(&d.body), t)?;
+    Ok(())
+}
+
+fn fault_in(checker: Checker) -> Option<Broken>
+    ensures { kept_of result ≡ kept checker }
+{
+    let Checker { scope: _, first } = checker;
+    let First { fault } = first;
+    fault
+}
+
+/// What a definition breaks first, `Large` aside.
+#[tactic(auto, using(hs_typing::proofs::ScriptSteps::script_rules))]
+pub fn judge(alloc: Global, funs: &Funs, d: &Def) -> Result<Judgement, NoMemory>
+    ensures { IfOk result (λ j. (kept_of j.fault ≡ least None (def_faults (ctx_of funs.now) (fn_of d.now))) × (j.head ≡ none_of (head_faults (fn_of d.now)))) }
+{
+    let mut checker = Checker {
+        scope: Table::new(alloc),
+        first: First::new(),
+    };
+    let sound = head(&mut checker, alloc, funs, d)?;
+    if sound {
+        tail(&mut checker, alloc, funs, d)?;
+    }
+    Ok(Judgement {
+        fault: fault_in(checker),
+        head: sound,
+    })
+}

@@ -1,0 +1,15 @@
+use Rattle.std.proofs.Common.{◌≡◌, ◌≤◌, length, drop}
+use Rattle.hs_rules.specs.Trees.{list_links_of}
+use Rattle.hs_judging.specs.Judging.{folded}
+use Rattle.hs_judging.specs.Least.{least}
+use Rattle.hs_typing.specs.Views.{opt_ty, opts_of}
+use Rattle.hs_typing.specs.Judged.{names, kept}
+use Rattle.hs_typing.proofs.checker.Checker.close_conses.Given as goal
+
+abbrev pub invariant-links : goal.invariant-links
+invariant-links l = record {
+  within : l.i ≤ length l.ks;
+  scope : names l.self ≡ names l.fn.self;
+  type : opt_ty l.t ≡ (folded (opts_of (drop l.i l.ts)) (list_links_of (drop l.i l.ks))).type;
+  faults : kept l.self ≡ least (kept l.fn.self) (folded (opts_of (drop l.i l.ts)) (list_links_of (drop l.i l.ks))).faults;
+}

@@ -1,0 +1,73 @@
+ghost use Rattle.std.specs.Prelude.{◌≡◌, ◌+◌, IfOk, length};
+ghost use Rattle.hs_rules.specs.Trees.{list_links_of, cons_form};
+ghost use Rattle.hs_rules.specs.Typing.{row_binary};
+ghost use Rattle.hs_judging.specs.Judging.{folded, own, with2};
+ghost use Rattle.hs_typing.specs.Views.{opt_ty, opts_of};
+ghost use Rattle.hs_typing.specs.Judged.{Judged};
+
+use crate::checker::Checker;
+use hs_base::tree::{ConsOp, ListLink};
+use hs_base::{NoMemory, Pos, Ty};
+use hs_items::Items;
+use hs_rules::forms::BinaryForm;
+use std::alloc::Global;
+
+/// `:` or `++` as a form.
+fn joined(op: ConsOp) -> BinaryForm
+    ensures { result ≡ cons_form op }
+{
+    match op {
+        ConsOp::Cons => BinaryForm::Cons,
+        ConsOp::Append => BinaryForm::Append,
+    }
+}
+
+fn copied(alloc: Global, t: &Option<Ty>) -> Result<Option<Ty>, NoMemory>
+    ensures { IfOk result (λ r. r ≡ t.now) }
+{
+    match t {
+        None => Ok(None),
+        Some(t) => Ok(Some(t.copy(alloc)?)),
+    }
+}
+
+impl Checker {
+    fn close_link(
+        &mut self,
+        alloc: Global,
+        p: Pos,
+        o: BinaryForm,
+        a: &Option<Ty>,
+        b: Option<Ty>,
+    ) -> Result<Option<Ty>, NoMemory>
+        ensures { IfOk result (λ t. Judged self.old self.new (opt_ty t) (with2 (opt_ty a.now) (opt_ty b) (λ u v. own p (row_binary o u v)))) }
+    {
+        match a {
+            None => Ok(None),
+            Some(a) => match b {
+                None => Ok(None),
+                Some(b) => self.row_binary(alloc, p, o, a, &b),
+            },
+        }
+    }
+
+    /// The nodes of `:` and `++` from the right, over their operands' types.
+    pub fn close_conses(
+        &mut self,
+        alloc: Global,
+        ts: &Items<Option<Ty>>,
+        ks: &Items<ListLink>,
+    ) -> Result<Option<Ty>, NoMemory>
+        requires { length ts.now ≡ 1 + length ks.now }
+        ensures { IfOk result (λ t. Judged self.old self.new (opt_ty t) (folded (opts_of ts.now) (list_links_of ks.now))) }
+    {
+        let ts = ts.as_slice();
+        let ks = ks.as_slice();
+        let mut t = copied(alloc, &ts[ks.len()])?;
+        'links: for i in (0..ks.len()).rev() {
+            let k = &ks[i];
+            t = self.close_link(alloc, k.pos, joined(k.op), &ts[i], t)?;
+        }
+        Ok(t)
+    }
+}
