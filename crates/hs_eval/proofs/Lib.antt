@@ -3,3 +3,5 @@ pub mod Floors
 pub mod Comparisons
 pub mod Steps
 pub mod Named
+pub mod Readings
+pub mod SmallestCode

@@ -2,18 +2,53 @@
 ghost use Rattle.std.specs.Prelude.{◌≡◌, IfOk, List};
 ghost use Rattle.hs_rules.specs.Trees.{Ex};
 ghost use Rattle.hs_rules.specs.Programs.{Fn};
-ghost use Rattle.hs_rules.specs.Values.{V, Env, values_of};
+ghost use Rattle.hs_rules.specs.Values.{V, Env, values_of, Stuck};
 ghost use Rattle.hs_rules.specs.Meaning.{functions_of, value_of_ex};
 ghost use Rattle.hs_rules.specs.Slots.{Scope, roots_of, run, slotted, tree_at};
 ghost use Rattle.hs_rules.specs.Matching.{Matches};
+ghost use Rattle.hs_rules.specs.Codes.{body_of};
+ghost use Rattle.hs_rules.specs.TypedMeaning.{any_cell};
+ghost use Rattle.hs_soundness.specs.CoreSorts.{GoodSort};
 ghost use Rattle.hs_eval.specs.Founds.{out_of};
+ghost use Rattle.hs_eval.specs.Readings.{Reading, meaning, outcome_of};
 
-use crate::eval::eval_at;
+use crate::evaluate::eval_at;
 use crate::found::Found;
+use crate::outcome::Outcome;
 use hs_base::{NoMemory, Values};
 use hs_items::Items;
-use hs_rules::{ExprId, Node};
+use hs_rules::{Code, ExprId, Node};
 use std::alloc::Global;
+
+/// What an expression of a code gives, in an environment that fits its scope: exactly what the expression means with
+/// names, which is a value of its sort or an exception.
+pub fn eval(alloc: Global, code: &Code, at: ExprId, env: &Values) -> Result<Outcome, NoMemory>
+    requires { ∥ Reading (body_of code.now) at (values_of env.now) ∥₁ }
+    ensures value { IfOk result (λ o. (r : Reading (body_of code.now) at (values_of env.now)) → outcome_of o ≡ meaning (body_of code.now) at (values_of env.now) r) }
+    ensures sort { IfOk result (λ o. (r : Reading (body_of code.now) at (values_of env.now)) → GoodSort any_cell r.sort (outcome_of o)) }
+{
+    let found = eval_node(alloc, nodes_of(code), at, env)?;
+    Ok(unstuck(found))
+}
+
+/// Lends the nodes of a code.
+fn nodes_of(code: &Code) -> &Items<Node>
+    ensures { result.now ≡ (body_of code.now).nodes }
+{
+    &code.body.nodes
+}
+
+/// An answer where the typing rules are kept.
+fn unstuck(found: Found) -> Outcome
+    requires { out_of found ≡ Stuck → ⊥ }
+    ensures { outcome_of result ≡ out_of found }
+{
+    match found {
+        Found::Value(value) => Outcome::Value(value),
+        Found::Throws(exn) => Outcome::Throws(exn),
+        Found::Stuck => unreachable!(),
+    }
+}
 
 /// What the node of a number gives, with these values of the slots.
 #[tactic(auto, using(crate::proofs::Named::no_more_slots))]

@@ -12,5 +12,5 @@ mod CellSteps
 mod CellRuns
 mod CellHistories
 mod NothingLegal
-mod TypesKept
-mod FunctionsTyped
+pub mod TypesKept
+pub mod FunctionsTyped

@@ -3,7 +3,7 @@ use Rattle.hs_rules.specs.Values.{values_of, and_one, value_of}
 use Rattle.hs_rules.specs.Slots.{run_all, run_left, trees, trees_in, links_in}
 use Rattle.hs_eval.specs.Founds.{out_of}
 use Rattle.hs_eval.specs.Evaluation.{slots, with_values}
-use Rattle.hs_eval.proofs.eval.+eval.Given as goal
+use Rattle.hs_eval.proofs.evaluate.+eval.Given as goal
 
 abbrev pub decreases-eval_at : goal.decreases-eval_at
 decreases-eval_at l = 16 * l.id.0 + 15

@@ -4,7 +4,7 @@ use Rattle.hs_rules.specs.Slots.{run, trees, tree_in}
 use Rattle.hs_eval.specs.Founds.{out_of}
 use Rattle.hs_eval.specs.Evaluation.{slots}
 use Rattle.hs_eval.proofs.Steps.{all_step, all_throw, all_stuck, all_end}
-use Rattle.hs_eval.proofs.eval.+eval.Goals as goal
+use Rattle.hs_eval.proofs.evaluate.+eval.Goals as goal
 
 pub all-each-preserved : goal.all-each-preserved
 all-each-preserved t c =

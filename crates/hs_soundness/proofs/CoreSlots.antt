@@ -1,0 +1,54 @@
+-- An expression of a core action with slots means what it means with names.
+use Rattle.std.proofs.Common.{◌≡◌, ℕ, zero, suc, ◌≤◌, pos, List, [], ◌∷◌, length, false, Option, Some, None, refl, ap, ◌∙◌, arith}
+use Rattle.std.specs.Prelude.{slice_get}
+use Rattle.hs_rules.specs.declared.forms.BinaryForm.TheVariants as b
+use Rattle.hs_rules.specs.declared.forms.UnaryForm.TheVariants as u
+use Rattle.hs_rules.specs.Trees.{T}
+use Rattle.hs_rules.specs.Programs.{Fn}
+use Rattle.hs_rules.specs.Values.{Name, V, Int, Env, value_at, Outcome, Gives}
+use Rattle.hs_rules.specs.Meaning.{then, unary_of, binary_of, functions_of}
+use Rattle.hs_rules.specs.Core.{CoreEx, OfScript, Read, JustRead, NoValue, BelowZero, IsZero, SameExn, Killed, read, value_of_core}
+use Rattle.hs_rules.specs.Fitting.{Sort, Bound}
+use Rattle.hs_rules.specs.Typing as typing
+use Rattle.hs_rules.specs.Slots.{Scope, slot_of, roots_of, run, at_slot}
+use Rattle.hs_rules.specs.CodeTrees.{is_unread, slot_or_end, slot_read, slotted_core_ex}
+use Rattle.hs_rules.specs.Matching.{Seen, Matches}
+use Rattle.hs_rules.proofs.Slotted.{slots_mean}
+use Rattle.hs_soundness.specs.CoreSorts.{names_of, CoreHas, SlotsFit}
+
+none_at_end : (vs : List V) (n : ℕ) → length vs ≤ n → slice_get vs n ≡ None
+none_at_end [] n h = refl
+none_at_end (v ∷ vs) zero h = absurd (omega arith)
+none_at_end (v ∷ vs) (suc n) h = none_at_end vs n (omega arith)
+
+slot_is : (o : Option ℕ) (r : Option V) (s : Scope) (vs : List V) → length vs ≡ length s → Seen o r vs → at_slot (slice_get vs (slot_or_end o s)) ≡ read r Gives
+slot_is None None s vs l h = ap at_slot (none_at_end vs (length s) (omega (arith, l)))
+slot_is None (Some v) s vs l h = absurd h
+slot_is (Some k) None s vs l h = absurd h
+slot_is (Some k) (Some v) s vs l h = ap at_slot h
+
+read_then : (r : Option V) (f : V → Outcome) → then (read r Gives) f ≡ read r f
+read_then None f = refl
+read_then (Some v) f = refl
+
+read_same : (r : Option V) (f g : V → Outcome) → ((v : V) → f v ≡ g v) → read r f ≡ read r g
+read_same None f g h = refl
+read_same (Some v) f g h = h v
+
+module _ (cells : ℕ → T → Type 0) where
+  -- a name that something reads
+  read_is : (g : List Bound) (env : Env) (vs : List V) (y : Name) → is_unread y ≡ false → Matches (names_of g) env vs → run (slot_read (names_of g) y) vs ≡ read (value_at y env) Gives
+  read_is g env vs y h m = slot_is (slot_of (names_of g) y) (value_at y env) (names_of g) vs m.size (m.seen y h)
+
+  pub core_slots : (script : List Fn) (c : typing.Ctx) (g : List Bound) (env : Env) (vs : List V) (e : CoreEx) (k : Sort) → CoreHas c g e k → SlotsFit cells g env vs → run (slotted_core_ex (roots_of script) (names_of g) e) vs ≡ value_of_core (functions_of script) env e
+  core_slots script c g env vs (OfScript e) k h f = slots_mean script (names_of g) env vs f.slots e
+  core_slots script c g env vs (Read y) k h f = read_is g env vs y h.0 f.slots
+  core_slots script c g env vs (JustRead y) k h f = ap (λ o. then o (unary_of u.Just)) (read_is g env vs y h.1.0 f.slots) ∙ read_then (value_at y env) (unary_of u.Just)
+  core_slots script c g env vs NoValue k h f = refl
+  core_slots script c g env vs (BelowZero y) k h f = ap (λ o. then o (λ v. binary_of b.Less v (Int (pos 0)))) (read_is g env vs y h.0.0 f.slots) ∙ read_then (value_at y env) (λ v. binary_of b.Less v (Int (pos 0)))
+  core_slots script c g env vs (IsZero y) k h f = ap (λ o. then o (λ v. binary_of b.Equal v (Int (pos 0)))) (read_is g env vs y h.0.0 f.slots) ∙ read_then (value_at y env) (λ v. binary_of b.Equal v (Int (pos 0)))
+  core_slots script c g env vs (SameExn y z) k h f =
+      ap (λ o. then o (λ v. then (run (slot_read (names_of g) z) vs) (binary_of b.Equal v))) (read_is g env vs y h.0.0 f.slots)
+      ∙ (read_then (value_at y env) (λ v. then (run (slot_read (names_of g) z) vs) (binary_of b.Equal v))
+      ∙ read_same (value_at y env) _ _ (λ v. ap (λ o. then o (binary_of b.Equal v)) (read_is g env vs z h.1.0 f.slots) ∙ read_then (value_at z env) (binary_of b.Equal v)))
+  core_slots script c g env vs Killed k h f = refl

@@ -1,0 +1,142 @@
+-- Environments that fit: with one name more, and where a cell is of every type.
+use Rattle.std.proofs.Common.{◌≡◌, ℕ, zero, suc, List, [], ◌∷◌, ◌++◌, length, Bool, true, false, cond, Option, Some, None, refl, sym, subst, arith, length-append}
+use Rattle.std.specs.Prelude.{slice_get}
+use Rattle.hs_rules.specs.Trees.{T, unit, int, bool, text, thread, exn, pair, maybe, either, list, cell}
+use Rattle.hs_rules.specs.Values as val
+use Rattle.hs_rules.specs.Values.{Name, Written, Added, Hidden, Unread, Restorer, Given, Caught, TheCell, Content, Instance, BracketResult, BracketFault, Allowed, InTime, Owner, Expiry, Helper, HelperRestorer, same_name, V, Pair, Nothing, Just, Left, Right, Nil, Cons, Env, with_name, value_at}
+use Rattle.hs_rules.specs.Fitting.{Sort, a_value, a_masking_name, an_instance, Bound, sort_at}
+use Rattle.hs_rules.specs.TypedMeaning.{of_pair, of_maybe, of_either, of_list, of_cell, HasV, any_cell}
+use Rattle.hs_rules.specs.Slots.{Scope, slot_of}
+use Rattle.hs_rules.specs.CodeTrees.{is_unread}
+use Rattle.hs_rules.specs.Matching.{Seen, Matches}
+use Rattle.hs_soundness.specs.CoreSorts.{names_of, FitsAt, FitsScope, SlotsFit}
+
+-- ---- cells of every type
+
+pair_kept : (P Q R S : V → Type 0) → ((v : V) → P v → R v) → ((v : V) → Q v → S v) → (v : V) → of_pair P Q v → of_pair R S v
+pair_kept P Q R S f g (Pair a c) h = (f a h.0, g c h.1)
+pair_kept P Q R S f g _ h = absurd h
+
+maybe_kept : (P R : V → Type 0) → ((v : V) → P v → R v) → (v : V) → of_maybe P v → of_maybe R v
+maybe_kept P R f Nothing h = tt
+maybe_kept P R f (Just a) h = f a h
+maybe_kept P R f _ h = absurd h
+
+either_kept : (P Q R S : V → Type 0) → ((v : V) → P v → R v) → ((v : V) → Q v → S v) → (v : V) → of_either P Q v → of_either R S v
+either_kept P Q R S f g (Left a) h = f a h
+either_kept P Q R S f g (Right a) h = g a h
+either_kept P Q R S f g _ h = absurd h
+
+list_kept : (P R : V → Type 0) → ((v : V) → P v → R v) → (v : V) → of_list P v → of_list R v
+list_kept P R f Nil h = tt
+list_kept P R f (Cons a c) h = (f a h.0, list_kept P R f c h.1)
+list_kept P R f _ h = absurd h
+
+cell_kept : (P R : ℕ → Type 0) → ((m : ℕ) → P m → R m) → (v : V) → of_cell P v → of_cell R v
+cell_kept P R f (val.Cell m) h = f m h
+cell_kept P R f _ h = absurd h
+
+module _ (cells : ℕ → T → Type 0) where
+  pub has_any : (t : T) (v : V) → HasV cells t v → HasV any_cell t v
+  has_any unit v h = h
+  has_any int v h = h
+  has_any bool v h = h
+  has_any text v h = h
+  has_any thread v h = h
+  has_any exn v h = h
+  has_any (pair a c) v h = pair_kept (HasV cells a) (HasV cells c) (HasV any_cell a) (HasV any_cell c) (has_any a) (has_any c) v h
+  has_any (maybe a) v h = maybe_kept (HasV cells a) (HasV any_cell a) (has_any a) v h
+  has_any (either a c) v h = either_kept (HasV cells a) (HasV cells c) (HasV any_cell a) (HasV any_cell c) (has_any a) (has_any c) v h
+  has_any (list a) v h = list_kept (HasV cells a) (HasV any_cell a) (has_any a) v h
+  has_any (cell a) v h = cell_kept (λ m. cells m a) (λ m. any_cell m a) (λ m q. tt) v h
+
+  at_any : (y : Name) (o : Option Sort) (r : Option V) → FitsAt cells y o r → FitsAt any_cell y o r
+  at_any y None None h = tt
+  at_any y None (Some v) h = h
+  at_any y (Some k) None h = h
+  at_any (Written x) (Some (a_value t)) (Some v) h = has_any t v h
+  at_any (Written x) (Some a_masking_name) (Some v) h = h
+  at_any (Written x) (Some an_instance) (Some v) h = h
+  at_any (Added z) (Some (a_value t)) (Some v) h = has_any t v h
+  at_any (Added z) (Some a_masking_name) (Some v) h = h
+  at_any (Added z) (Some an_instance) (Some v) h = h
+
+  -- what fits where cells have types fits where a cell is of every type
+  pub fits_any : (g : List Bound) (env : Env) (vs : List V) → SlotsFit cells g env vs → SlotsFit any_cell g env vs
+  fits_any g env vs f = record { slots = f.slots; sorts = λ y. at_any y (sort_at y g) (value_at y env) (f.sorts y) }
+
+-- ---- one name more
+
+-- a name that something reads is kept
+kept_hidden : (z : Hidden) (v : V) (env : Env) → is_unread (Added z) ≡ false → with_name (Added z) v env ≡ record { name = Added z; value = v } ∷ env
+kept_hidden Unread v env h = absurd (cc h)
+kept_hidden Restorer v env h = refl
+kept_hidden Given v env h = refl
+kept_hidden Caught v env h = refl
+kept_hidden TheCell v env h = refl
+kept_hidden Content v env h = refl
+kept_hidden Instance v env h = refl
+kept_hidden BracketResult v env h = refl
+kept_hidden BracketFault v env h = refl
+kept_hidden Allowed v env h = refl
+kept_hidden InTime v env h = refl
+kept_hidden Owner v env h = refl
+kept_hidden Expiry v env h = refl
+kept_hidden Helper v env h = refl
+kept_hidden HelperRestorer v env h = refl
+
+kept : (y : Name) (v : V) (env : Env) → is_unread y ≡ false → with_name y v env ≡ record { name = y; value = v } ∷ env
+kept (Written x) v env h = refl
+kept (Added z) v env h = kept_hidden z v env h
+
+get_left : (xs ys : List V) (k : ℕ) (v : V) → slice_get xs k ≡ Some v → slice_get (xs ++ ys) k ≡ Some v
+get_left [] ys k v h = let z : None ≡ Some v = h in absurd (cc z)
+get_left (x ∷ xs) ys zero v h = h
+get_left (x ∷ xs) ys (suc k) v h = get_left xs ys k v h
+
+get_end : (xs : List V) (k : ℕ) (v : V) → length xs ≡ k → slice_get (xs ++ v ∷ []) k ≡ Some v
+get_end [] zero v h = refl
+get_end [] (suc k) v h = absurd (omega arith)
+get_end (x ∷ xs) zero v h = absurd (omega arith)
+get_end (x ∷ xs) (suc k) v h = get_end xs k v (omega arith)
+
+seen_more : (o : Option ℕ) (r : Option V) (vs us : List V) → Seen o r vs → Seen o r (vs ++ us)
+seen_more None None vs us h = tt
+seen_more None (Some v) vs us h = h
+seen_more (Some k) None vs us h = h
+seen_more (Some k) (Some v) vs us h = get_left vs us k v h
+
+seen_bound : (t : Bool) (n : ℕ) (o : Option ℕ) (r : Option V) (vs : List V) (v : V) → length vs ≡ n → Seen o r vs → Seen (cond t (Some n) o) (cond t (Some v) r) (vs ++ v ∷ [])
+seen_bound true n o r vs v e h = get_end vs n v e
+seen_bound false n o r vs v e h = seen_more o r vs (v ∷ []) h
+
+slots_with : (s : Scope) (env : Env) (vs : List V) (y : Name) (v : V) → Matches s env vs → Matches (y ∷ s) (record { name = y; value = v } ∷ env) (vs ++ v ∷ [])
+slots_with s env vs y v m = record {
+  size = (let l = length-append vs (v ∷ []) in let z = m.size in omega (arith, l, z));
+  seen = (λ x h. seen_bound (same_name x y) (length s) (slot_of s x) (value_at x env) vs v m.size (m.seen x h));
+}
+
+module _ (cells : ℕ → T → Type 0) where
+  -- a sort and a value fit at each of two names that are the same
+  fits_same : (x y : Name) (k : Sort) (v : V) → same_name x y ≡ true → FitsAt cells y (Some k) (Some v) → FitsAt cells x (Some k) (Some v)
+  fits_same (Written x) (Written y) (a_value t) v e h = h
+  fits_same (Written x) (Written y) a_masking_name v e h = h
+  fits_same (Written x) (Written y) an_instance v e h = h
+  fits_same (Written x) (Added z) k v e h = absurd (cc e)
+  fits_same (Added z) (Written y) k v e h = absurd (cc e)
+  fits_same (Added z) (Added w) k v e h = h
+
+  sorts_with : (g : List Bound) (env : Env) (y : Name) (k : Sort) (v : V) → FitsScope cells g env → FitsAt cells y (Some k) (Some v) → FitsScope cells (record { name = y; sort = k } ∷ g) (record { name = y; value = v } ∷ env)
+  sorts_with g env y k v f h x = by (same_name x y) refl
+    where
+      by : (t : Bool) → same_name x y ≡ t → FitsAt cells x (cond t (Some k) (sort_at x g)) (cond t (Some v) (value_at x env))
+      by true e = fits_same x y k v e h
+      by false e = f x
+
+  pub fits_with : (g : List Bound) (env : Env) (vs : List V) (y : Name) (k : Sort) (v : V) → is_unread y ≡ false → FitsAt cells y (Some k) (Some v) → SlotsFit cells g env vs → SlotsFit cells (record { name = y; sort = k } ∷ g) (with_name y v env) (vs ++ v ∷ [])
+  fits_with g env vs y k v u h f =
+      subst (λ z. SlotsFit cells (record { name = y; sort = k } ∷ g) z (vs ++ v ∷ [])) (sym (kept y v env u))
+      (record { slots = slots_with (names_of g) env vs y v f.slots; sorts = sorts_with g env y k v f.sorts h })
+
+  pub fits_none : SlotsFit cells [] [] []
+  fits_none = record { slots = record { size = refl; seen = λ y h. tt }; sorts = λ y. tt }

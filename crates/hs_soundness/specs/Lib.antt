@@ -1,0 +1,3 @@
+pub mod AcceptedBodies
+pub mod CoreSorts
+pub mod WellActions

@@ -1,0 +1,15 @@
+//! Environments that fit.
+
+ghost use Rattle.std.specs.Prelude.{◌≡◌, ◌++◌, ◌∷◌, [], List, false};
+ghost use Rattle.hs_rules.specs.Values.{Name, V, Env, with_name};
+ghost use Rattle.hs_rules.specs.Fitting.{Bound, Sort};
+ghost use Rattle.hs_rules.specs.CodeTrees.{is_unread};
+ghost use Rattle.hs_rules.specs.TypedMeaning.{any_cell};
+ghost use Rattle.hs_soundness.specs.CoreSorts.{FitsAt, SlotsFit};
+
+/// No values fit the empty scope. Where values fit a scope, one more fits it with one name more, of a sort that the value
+/// has: it takes the next slot.
+pub fn environments_fit()
+    ensures none { SlotsFit any_cell [] [] [] }
+    ensures more { (g : List Bound) (env : Env) (vs : List V) (y : Name) (k : Sort) (v : V) → is_unread y ≡ false → FitsAt any_cell y (Some k) (Some v) → SlotsFit any_cell g env vs → SlotsFit any_cell (record { name = y; sort = k } ∷ g) (with_name y v env) (vs ++ v ∷ []) }
+{}
