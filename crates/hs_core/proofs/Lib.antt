@@ -1,2 +1,5 @@
-pub mod Scopes
-pub mod Emitted
+pub mod Numbering
+pub mod ActArena
+pub mod Steps
+pub mod Openings
+pub mod Placings

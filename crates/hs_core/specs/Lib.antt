@@ -1,1 +1,6 @@
-pub mod Emitting
+pub mod Defining
+pub mod Emits
+pub mod Forms
+pub mod Numbering
+pub mod Opening
+pub mod Placing

@@ -1,78 +1,134 @@
-//! The nodes so far, and the names of the scope.
-ghost use Rattle.std.specs.Prelude.{◌≡◌, ◌++◌, ◌∷◌, [], length, IfOk, List, ℕ, bytes_eq};
-
-use hs_base::{NoMemory, Txt};
+//! The nodes of a code so far, and the single steps that add to them.
+use crate::defs::Defs;
+use hs_base::{Exn, Expr, NoMemory, Txt};
 use hs_items::Items;
-use hs_rules::{ExprId, Node};
+use hs_nodes::Emitter;
+use hs_nodes::names::Hidden;
+use hs_rules::forms::{BinaryForm, EmptyForm, UnaryForm};
+use hs_rules::{Act, ActId, ExprId, Node, Primitive};
+use std::alloc::Global;
 
-/// Where the body of a pure function stands.
+/// The nodes of expressions with the names of the scope, and the nodes of actions.
 #[derive(Drop)]
-pub struct Place {
-    pub text: Txt,
-    pub params: usize,
-    pub node: ExprId,
+pub struct ActEmitter {
+    pub emitter: Emitter,
+    pub acts: Items<Act>,
 }
 
-#[derive(Drop)]
-pub struct Emitter {
-    pub nodes: Items<Node>,
-    pub scope: Items<Txt>,
-}
+impl ActEmitter {
+    ghost use Rattle.std.specs.Prelude.{◌≡◌, ◌∷◌, [], IfOk, pos};
+    ghost use Rattle.hs_base.specs.declared.exn.Exn.TheVariants as x;
+    ghost use Rattle.hs_rules.specs.declared.forms.UnaryForm.TheVariants as u;
+    ghost use Rattle.hs_rules.specs.declared.forms.BinaryForm.TheVariants as b;
+    ghost use Rattle.hs_rules.specs.declared.forms.EmptyForm.TheVariants as n;
+    ghost use Rattle.hs_rules.specs.Trees.{ex_of, number, exception};
+    ghost use Rattle.hs_rules.specs.Values.{Written, Added};
+    ghost use Rattle.hs_rules.specs.Slots.{Sx, Sxs, slotted, slot_of, s_literal, s_empty, s_unary, s_binary, s_none, s_more};
+    ghost use Rattle.hs_rules.specs.CodeTrees.{Sa, slot_or_end, slot_read, a_return, a_throw, a_perform, primitive_of};
+    ghost use Rattle.hs_nodes.specs.Names.{scope_of, hidden_of};
+    ghost use Rattle.hs_core.specs.Defining.{Knows, roots};
+    ghost use Rattle.hs_core.specs.Emits.{Emits, EmitsEx, Pushed, StandsIn, AllStandIn, Nothing_given};
 
-pub fn is_name(a: &Txt, b: &Txt) -> bool
-    ensures { result ≡ bytes_eq a.now b.now }
-{
-    a.as_str() == b.as_str()
-}
-
-/// Takes the last name off.
-#[tactic(auto, using(crate::proofs::Scopes::name_off))]
-pub fn off(scope: &mut Items<Txt>)
-    ensures { (xs : List (List ℕ)) (x : List ℕ) → scope.old ≡ xs ++ x ∷ [] → scope.new ≡ xs }
-{
-    let _ = scope.pop();
-}
-
-impl Emitter {
-    ghost use Rattle.std.specs.Prelude.{◌≡◌, ◌++◌, ◌∷◌, [], length, IfOk};
-    ghost use Rattle.hs_rules.specs.Slots.{slot_of};
-    ghost use Rattle.hs_rules.specs.Values.{Written};
-    ghost use Rattle.hs_core.specs.Emitting.{scope_of, place_of};
-
-    /// Adds a node, and answers its number.
-    pub fn add(&mut self, node: Node) -> Result<ExprId, NoMemory>
-        ensures { IfOk result (λ id. (id.0 ≡ length self.old.nodes) × (self.new.nodes ≡ self.old.nodes ++ node ∷ []) × (self.new.scope ≡ self.old.scope)) }
+    /// Adds an action's node.
+    pub fn act(&mut self, act: Act) -> Result<ActId, NoMemory>
+        ensures { IfOk result (λ id. Pushed self.old self.new id act) }
     {
-        let id = ExprId(self.nodes.len());
-        self.nodes.add(node)?;
+        let id = ActId(self.acts.len());
+        self.acts.add(act)?;
         Ok(id)
     }
 
-    /// The slot of a name.
-    pub fn slot(&self, x: &Txt) -> Option<usize>
-        ensures { result ≡ slot_of (scope_of self.now.scope) (Written x.now) }
+    /// Adds the nodes of an expression.
+    pub fn expr(&mut self, alloc: Global, defs: &Defs, e: &Expr) -> Result<ExprId, NoMemory>
+        ensures { IfOk result (λ id. EmitsEx (Knows self.old.emitter.nodes defs.now) self.old self.new id (λ s. slotted (roots defs.now) s (ex_of e.now))) }
     {
-        let items = self.scope.as_slice();
-        'back: for i in (0..items.len()).rev() {
-            if is_name(x, &items[i]) {
-                return Some(i);
-            }
-        }
-        None
+        let id = self.emitter.expr(alloc, &defs.places, e)?;
+        Ok(id)
     }
 
-    /// The node of the body that a call means, or the number of the next node.
-    pub fn place(&self, places: &Items<Place>, x: &Txt, count: usize) -> ExprId
-        ensures { result ≡ place_of places.now x.now count (record { 0 = length self.now.nodes }) }
+    /// The slot of an added name.
+    pub fn slot(&self, h: Hidden) -> usize
+        ensures { result ≡ slot_or_end (slot_of (scope_of self.now.emitter.scope) (Added (hidden_of h))) (scope_of self.now.emitter.scope) }
     {
-        'places: for place in places.as_slice() {
-            if is_name(&place.text, x) {
-                if place.params == count {
-                    return place.node;
-                }
-                return ExprId(self.nodes.len());
-            }
+        match self.emitter.added_slot(h) {
+            Some(k) => k,
+            None => self.emitter.scope.len(),
         }
-        ExprId(self.nodes.len())
+    }
+
+    /// The slot of a name of the script.
+    pub fn written_slot(&self, x: &Txt) -> usize
+        ensures { result ≡ slot_or_end (slot_of (scope_of self.now.emitter.scope) (Written x.now)) (scope_of self.now.emitter.scope) }
+    {
+        match self.emitter.slot(x) {
+            Some(k) => k,
+            None => self.emitter.scope.len(),
+        }
+    }
+
+    /// Reads an added name.
+    pub fn read(&mut self, h: Hidden) -> Result<ExprId, NoMemory>
+        ensures { IfOk result (λ id. EmitsEx Nothing_given self.old self.new id (λ s. slot_read s (Added (hidden_of h)))) }
+    {
+        let slot = self.slot(h);
+        let id = self.emitter.add(Node::Slot(slot))?;
+        Ok(id)
+    }
+
+    /// Reads a name of the script.
+    pub fn read_written(&mut self, x: &Txt) -> Result<ExprId, NoMemory>
+        ensures { IfOk result (λ id. EmitsEx Nothing_given self.old self.new id (λ s. slot_read s (Written x.now))) }
+    {
+        let slot = self.written_slot(x);
+        let id = self.emitter.add(Node::Slot(slot))?;
+        Ok(id)
+    }
+
+    /// `ThreadKilled`
+    pub fn killed(&mut self) -> Result<ExprId, NoMemory>
+        ensures { IfOk result (λ id. EmitsEx Nothing_given self.old self.new id (λ s. s_literal (exception x.ThreadKilled))) }
+    {
+        let id = self.emitter.add(Node::Exn(Exn::ThreadKilled))?;
+        Ok(id)
+    }
+
+    /// `0`
+    pub fn zero(&mut self) -> Result<ExprId, NoMemory>
+        ensures { IfOk result (λ id. EmitsEx Nothing_given self.old self.new id (λ s. s_literal (number (pos 0)))) }
+    {
+        let id = self.emitter.add(Node::Int(0))?;
+        Ok(id)
+    }
+
+    /// `Nothing`
+    pub fn no_value(&mut self) -> Result<ExprId, NoMemory>
+        ensures { IfOk result (λ id. EmitsEx Nothing_given self.old self.new id (λ s. s_empty n.Nothing)) }
+    {
+        let id = self.emitter.add(Node::Empty(EmptyForm::Nothing))?;
+        Ok(id)
+    }
+
+    /// `Just e`
+    pub fn just(&mut self, e: ExprId) -> Result<ExprId, NoMemory>
+        ensures { (t : Sx) → IfOk result (λ id. EmitsEx (StandsIn self.old e t) self.old self.new id (λ s. s_unary u.Just t)) }
+    {
+        let id = self.emitter.add(Node::Unary(UnaryForm::Just, e))?;
+        Ok(id)
+    }
+
+    /// A comparison.
+    pub fn compare(&mut self, form: BinaryForm, e: ExprId, f: ExprId) -> Result<ExprId, NoMemory>
+        ensures { (t w : Sx) → IfOk result (λ id. EmitsEx (StandsIn self.old e t × StandsIn self.old f w) self.old self.new id (λ s. s_binary form t w)) }
+    {
+        let id = self.emitter.add(Node::Binary(form, e, f))?;
+        Ok(id)
+    }
+
+    /// A primitive.
+    pub fn perform(&mut self, primitive: Primitive, es: Items<ExprId>) -> Result<ActId, NoMemory>
+        ensures { (ts : Sxs) → IfOk result (λ id. Emits (AllStandIn self.old es ts) self.old self.new id (λ s. a_perform (primitive_of primitive) ts)) }
+    {
+        let id = self.act(Act::Perform(primitive, es))?;
+        Ok(id)
     }
 }

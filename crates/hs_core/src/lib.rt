@@ -1,12 +1,23 @@
-//! From an accepted script to the code of a machine: so far the nodes of its expressions.
+//! From an accepted script to the code of a machine.
 //!
-//! To a contract an `Emitter` is the list of its nodes and the names of its scope. The one promise: `Emitter::expr` adds
-//! the nodes of an expression, its parts before itself, and answers the number of the last; `proofs/Emitted.antt` says
-//! that this node stands for the expression with slots. Each name takes the slot that the definition gives it, and a
-//! call names the body of the first function of that name. Actions and whole scripts are left to come.
+//! To a contract an `ActEmitter` is the lists of its nodes and the names of its scope. Each step promises the same
+//! (`specs/Emits`): the lists grow at their ends, the scope is as it was, and the number that is answered stands for a
+//! tree, whatever nodes come after. The tree is that of the form's expansion in the step's scope (`specs/Forms`,
+//! `specs/Opening`). A block that an expansion writes twice has its nodes twice. The names that expansions add are
+//! entries of the scope, so no script can capture them. Running a code is left to the machine.
 #![tactic(auto)]
 
+mod action;
+mod brackets;
+mod cells;
+mod defs;
 mod emitter;
-mod expr;
+mod expanding;
+mod guards;
+mod leaves;
+mod pending;
+mod timeouts;
 
-pub use emitter::{Emitter, Place};
+pub use defs::Defs;
+pub use emitter::ActEmitter;
+pub use expanding::expand;

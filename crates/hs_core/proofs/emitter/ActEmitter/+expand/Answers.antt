@@ -1,0 +1,140 @@
+use Rattle.std.proofs.Common.{refl, ap, sym, ◌∙◌, ◌∷◌, length, get_or, arith}
+use Rattle.hs_rules.specs.declared.forms.GuardAction.TheVariants as g
+use Rattle.hs_rules.specs.declared.act.Act.TheVariants as k
+use Rattle.hs_rules.specs.Trees.{ex_of}
+use Rattle.hs_rules.specs.Values.{Written, Added, Restorer}
+use Rattle.hs_rules.specs.Programs.{choose_act, case_act, modify, catch, guard, bracket, timeout, bind, let_in, then, maybe_acts, either_acts, list_acts, pair_acts, act_of, bl_of, stmt_of, act_arms_of}
+use Rattle.hs_rules.proofs.EquationsOfActions.{act-If, act-Case, act-ModifyMVar, act-Catch, act-OnException, act-Finally, act-Bracket, act-Timeout, stmt-Bind, stmt-Let, stmt-Do, acts-OfMaybe, acts-OfEither, acts-OfList, acts-OfPair}
+use Rattle.hs_rules.specs.Slots.{slot_of}
+use Rattle.hs_rules.specs.CodeTrees.{a_if, a_maybe, a_either, a_list, a_pair, a_bind, a_fork, a_fork_unmask, a_catch, a_mask, a_mask_hard, a_restore, slot_or_end}
+use Rattle.hs_nodes.specs.declared.names.Bound.TheVariants as w
+use Rattle.hs_core.specs.Opening.{arms_tree, added}
+use Rattle.hs_core.specs.Forms as form
+use Rattle.hs_core.proofs.ActArena.{knows_on}
+use Rattle.hs_core.proofs.Steps.{one, two, branches, under, after1}
+use Rattle.hs_core.proofs.Openings.{opens_first, opens_step, opens_bind, opens_let, opens_then, block_is, under_names, within_names, after_known, after_ex_act, after_ex_two, acts_two, acts_three, acts_four, as_action, as_case, arms_two, arms_one, as_arms}
+use Rattle.hs_core.proofs.emitter.ActEmitter.+expand.Goals as goal
+
+pub under-returns : goal.under-returns
+under-returns t c =
+    under_names c.args.self.now c.block.new.self (added c.args.hs.now) c.len-count.result c.in_ok-bind_all.ensures c.in_ok-id.ensures c.len-count.ensures c.back_to.ensures
+
+pub within-returns : goal.within-returns
+within-returns t c =
+    within_names c.args.self.now c.block.new.self (added c.args.hs.now) (w.Written c.args.x.now) (added c.args.is.now) c.len-count.result c.in_ok-bind_all.ensures c.in_ok-bind.ensures c.in_ok-bind_all-2.ensures c.in_ok-id.ensures c.len-count.ensures c.back_to.ensures
+
+pub named-returns : goal.named-returns
+named-returns t c =
+    under c.args.self.now c.block.new.self (w.Written c.args.x.now) c.in_ok-bind.ensures c.in_ok-id.ensures c.off.ensures
+
+pub named_two-returns : goal.named_two-returns
+named_two-returns t c =
+    under c.args.self.now c.named.new.self (w.Written c.args.x.now) c.in_ok-bind.ensures c.in_ok-id.ensures c.off.ensures
+
+pub fork-returns : goal.fork-returns
+fork-returns t c =
+    one k.Fork a_fork (λ ts us x. refl) c.in_ok-i.ensures (λ k. k) c.in_ok-id.ensures
+
+pub fork_unmask-returns : goal.fork_unmask-returns
+fork_unmask-returns t c =
+    one k.ForkUnmask a_fork_unmask (λ ts us x. refl) c.in_ok-i.ensures (λ k. k) c.in_ok-id.ensures
+
+pub mask-returns : goal.mask-returns
+mask-returns t c =
+    one k.Mask a_mask (λ ts us x. refl) c.in_ok-i.ensures (λ k. k) c.in_ok-id.ensures
+
+pub mask_hard-returns : goal.mask_hard-returns
+mask_hard-returns t c =
+    one k.UninterruptibleMask a_mask_hard (λ ts us x. refl) c.in_ok-i.ensures (λ k. k) c.in_ok-id.ensures
+
+pub mask_only-returns : goal.mask_only-returns
+mask_only-returns t c =
+    one k.Mask a_mask (λ ts us x. refl) c.in_ok-i.ensures (λ k. k) c.in_ok-id.ensures
+
+pub mask_hard_only-returns : goal.mask_hard_only-returns
+mask_hard_only-returns t c =
+    one k.UninterruptibleMask a_mask_hard (λ ts us x. refl) c.in_ok-i.ensures (λ k. k) c.in_ok-id.ensures
+
+pub restore_form-returns : goal.restore_form-returns
+restore_form-returns t c =
+    after1 (λ s u. a_restore (slot_or_end (slot_of s (Written c.args.x.now)) s) u) c.in_ok-i.ensures (λ k. k) c.in_ok-id.ensures
+
+pub block-returns : goal.block-returns
+block-returns t c =
+    block_is c.args.defs.now c.args.b.now c.get-end.result.now c.len-count.result c.in_ok-pending.pending c.get-end.ensures c.in_ok-pending.ensures c.in_ok-last.ensures c.len-count.ensures c.back_to.ensures c.in_ok-id.ensures
+
+pub stmts-each-init : goal.stmts-each-init
+stmts-each-init t c =
+    opens_first c.args.defs.now c.new-pending.ensures
+
+pub stmts-each-preserved : goal.stmts-each-preserved
+stmts-each-preserved t c =
+    opens_step c.args.defs.now c.each.pending c.args.stmts.now c.each.stmt-index c.stmt-item.result c.each.invariant c.in_ok-one.ensures (c.stmt-item.is ∙ ap (λ l. get_or l c.each.stmt-index c.stmt-item.result) c.as_slice-stmt-items.ensures) (let l = ap length c.as_slice-stmt-items.ensures in omega (arith, l)) c.in_ok-add.ensures.ok
+
+pub stmt-returns-in_ok-bind-in-Bind : goal.stmt-returns-in_ok-bind-in-Bind
+stmt-returns-in_ok-bind-in-Bind t c =
+    opens_bind c.args.defs.now c.in-Bind.x.text (act_of c.in-Bind.a) c.args.stmt.now (bind c.in-Bind.x (act_of c.in-Bind.a)) c.in_ok-i-in-Bind.ensures c.in_ok-bind-in-Bind.ensures (ap stmt_of c.in-Bind.is ∙ stmt-Bind c.in-Bind.x c.in-Bind.a) (λ s y. refl)
+
+pub stmt-returns-in_ok-bind-in-Let : goal.stmt-returns-in_ok-bind-in-Let
+stmt-returns-in_ok-bind-in-Let t c =
+    opens_let c.args.defs.now c.in-Let.x.text (ex_of c.in-Let.e) c.args.stmt.now (let_in c.in-Let.x (ex_of c.in-Let.e)) c.in_ok-i-in-Let.ensures c.in_ok-bind-in-Let.ensures (ap stmt_of c.in-Let.is ∙ stmt-Let c.in-Let.x c.in-Let.e) (λ s y. refl)
+
+pub stmt-returns-in_ok-i-in-Do : goal.stmt-returns-in_ok-i-in-Do
+stmt-returns-in_ok-i-in-Do t c =
+    opens_then c.args.defs.now (act_of c.in-Do.a) c.args.stmt.now (then (act_of c.in-Do.a)) c.in_ok-i-in-Do.ensures (ap stmt_of c.in-Do.is ∙ stmt-Do c.in-Do.a) (λ s y. refl)
+
+pub arms-returns-in_ok-id-in-OfMaybe : goal.arms-returns-in_ok-id-in-OfMaybe
+arms-returns-in_ok-id-in-OfMaybe t c =
+    λ u. as_arms c.args.defs.now u (maybe_acts (bl_of c.in-OfMaybe.a) c.in-OfMaybe.x (bl_of c.in-OfMaybe.b)) (act_arms_of c.args.arms.now) (ap act_arms_of c.in-OfMaybe.is ∙ acts-OfMaybe c.in-OfMaybe.a c.in-OfMaybe.x c.in-OfMaybe.b) (arms_two c.args.defs.now k.CaseMaybe a_maybe (λ ts us x y z. refl) c.in_ok-i-in-OfMaybe.ensures c.in_ok-j-in-OfMaybe.ensures c.in_ok-id-in-OfMaybe.ensures)
+
+pub arms-returns-in_ok-id-in-OfEither : goal.arms-returns-in_ok-id-in-OfEither
+arms-returns-in_ok-id-in-OfEither t c =
+    λ u. as_arms c.args.defs.now u (either_acts c.in-OfEither.x (bl_of c.in-OfEither.a) c.in-OfEither.y (bl_of c.in-OfEither.b)) (act_arms_of c.args.arms.now) (ap act_arms_of c.in-OfEither.is ∙ acts-OfEither c.in-OfEither.x c.in-OfEither.a c.in-OfEither.y c.in-OfEither.b) (arms_two c.args.defs.now k.CaseEither a_either (λ ts us x y z. refl) c.in_ok-i-in-OfEither.ensures c.in_ok-j-in-OfEither.ensures c.in_ok-id-in-OfEither.ensures)
+
+pub arms-returns-in_ok-id-in-OfList : goal.arms-returns-in_ok-id-in-OfList
+arms-returns-in_ok-id-in-OfList t c =
+    λ u. as_arms c.args.defs.now u (list_acts (bl_of c.in-OfList.a) c.in-OfList.x c.in-OfList.y (bl_of c.in-OfList.b)) (act_arms_of c.args.arms.now) (ap act_arms_of c.in-OfList.is ∙ acts-OfList c.in-OfList.a c.in-OfList.x c.in-OfList.y c.in-OfList.b) (arms_two c.args.defs.now k.CaseList a_list (λ ts us x y z. refl) c.in_ok-i-in-OfList.ensures c.in_ok-j-in-OfList.ensures c.in_ok-id-in-OfList.ensures)
+
+pub arms-returns-in_ok-id-in-OfPair : goal.arms-returns-in_ok-id-in-OfPair
+arms-returns-in_ok-id-in-OfPair t c =
+    λ u. as_arms c.args.defs.now u (pair_acts c.in-OfPair.x c.in-OfPair.y (bl_of c.in-OfPair.a)) (act_arms_of c.args.arms.now) (ap act_arms_of c.in-OfPair.is ∙ acts-OfPair c.in-OfPair.x c.in-OfPair.y c.in-OfPair.a) (arms_one c.args.defs.now k.CasePair a_pair (λ ts us x y. refl) c.in_ok-i-in-OfPair.ensures c.in_ok-id-in-OfPair.ensures)
+
+pub action-returns-in_ok-id-in-If : goal.action-returns-in_ok-id-in-If
+action-returns-in_ok-id-in-If t c =
+    as_action c.args.defs.now (choose_act c.in-If.field-0 (ex_of c.in-If.e) (bl_of c.in-If.b) (bl_of c.in-If.d)) (act_of c.args.a.now) (ap act_of c.in-If.is ∙ act-If c.in-If.field-0 c.in-If.e c.in-If.b c.in-If.d)
+    (branches k.If a_if (λ ts us x y z. refl) c.in_ok-t-in-If.ensures (λ k. k) c.in_ok-i-in-If.ensures (λ k. knows_on c.in_ok-t-in-If.ensures.nodes k) c.in_ok-j-in-If.ensures (λ k. knows_on c.in_ok-i-in-If.ensures.nodes (knows_on c.in_ok-t-in-If.ensures.nodes k)) c.in_ok-id-in-If.ensures)
+
+pub action-returns-in_ok-id-in-Case : goal.action-returns-in_ok-id-in-Case
+action-returns-in_ok-id-in-Case t c =
+    as_action c.args.defs.now (case_act c.in-Case.field-0 (ex_of c.in-Case.e) (act_arms_of c.get-two.result.now)) (act_of c.args.a.now) (ap act_of c.in-Case.is ∙ (act-Case c.in-Case.field-0 c.in-Case.e c.in-Case.arms ∙ ap (λ y. case_act c.in-Case.field-0 (ex_of c.in-Case.e) (act_arms_of y)) (sym c.get-two.ensures)))
+    (as_case c.args.defs.now c.in-Case.field-0 (ex_of c.in-Case.e) (act_arms_of c.get-two.result.now) (after_known c.args.defs.now (λ s u. arms_tree c.args.defs.now s u (act_arms_of c.get-two.result.now)) c.in_ok-t-in-Case.ensures c.in_ok-id-in-Case.ensures))
+
+pub action-returns-in_ok-id-in-ModifyMVar : goal.action-returns-in_ok-id-in-ModifyMVar
+action-returns-in_ok-id-in-ModifyMVar t c =
+    as_action c.args.defs.now (modify c.in-ModifyMVar.field-0 (ex_of c.in-ModifyMVar.e) c.in-ModifyMVar.x (bl_of c.in-ModifyMVar.b)) (act_of c.args.a.now) (ap act_of c.in-ModifyMVar.is ∙ act-ModifyMVar c.in-ModifyMVar.field-0 c.in-ModifyMVar.e c.in-ModifyMVar.x c.in-ModifyMVar.b)
+    (after_ex_act c.args.defs.now (λ s u v. form.modify s u (Written c.in-ModifyMVar.x.text) v) c.in_ok-t-in-ModifyMVar.ensures c.in_ok-i-in-ModifyMVar.ensures c.in_ok-id-in-ModifyMVar.ensures)
+
+pub action-returns-in_ok-id-in-Catch : goal.action-returns-in_ok-id-in-Catch
+action-returns-in_ok-id-in-Catch t c =
+    as_action c.args.defs.now (catch c.in-Catch.field-0 (bl_of c.in-Catch.b) c.in-Catch.x (bl_of c.in-Catch.d)) (act_of c.args.a.now) (ap act_of c.in-Catch.is ∙ act-Catch c.in-Catch.field-0 c.in-Catch.b c.in-Catch.x c.in-Catch.d)
+    (two k.Catch a_catch (λ ts us x y. refl) c.in_ok-i-in-Catch.ensures (λ k. k) c.in_ok-j-in-Catch.ensures (λ k. knows_on c.in_ok-i-in-Catch.ensures.nodes k) c.in_ok-id-in-Catch.ensures)
+
+pub action-returns-in_ok-id-in-OnException : goal.action-returns-in_ok-id-in-OnException
+action-returns-in_ok-id-in-OnException t c =
+    as_action c.args.defs.now (guard g.OnException c.in-OnException.field-0 (bl_of c.in-OnException.b) (bl_of c.in-OnException.d)) (act_of c.args.a.now) (ap act_of c.in-OnException.is ∙ act-OnException c.in-OnException.field-0 c.in-OnException.b c.in-OnException.d)
+    (acts_two c.args.defs.now (λ s u v. a_catch u (form.handler s v)) c.in_ok-i-in-OnException.ensures c.in_ok-j-in-OnException.ensures c.in_ok-id-in-OnException.ensures)
+
+pub action-returns-in_ok-id-in-Finally : goal.action-returns-in_ok-id-in-Finally
+action-returns-in_ok-id-in-Finally t c =
+    as_action c.args.defs.now (guard g.Finally c.in-Finally.field-0 (bl_of c.in-Finally.b) (bl_of c.in-Finally.d)) (act_of c.args.a.now) (ap act_of c.in-Finally.is ∙ act-Finally c.in-Finally.field-0 c.in-Finally.b c.in-Finally.d)
+    (acts_three c.args.defs.now (λ s u v w. form.finally s u v w) c.in_ok-i-in-Finally.ensures c.in_ok-j-in-Finally.ensures c.in_ok-k-in-Finally.ensures c.in_ok-id-in-Finally.ensures)
+
+pub action-returns-in_ok-id-in-Bracket : goal.action-returns-in_ok-id-in-Bracket
+action-returns-in_ok-id-in-Bracket t c =
+    as_action c.args.defs.now (bracket c.in-Bracket.field-0 (bl_of c.in-Bracket.b) c.in-Bracket.x (bl_of c.in-Bracket.d) (bl_of c.in-Bracket.u)) (act_of c.args.a.now) (ap act_of c.in-Bracket.is ∙ act-Bracket c.in-Bracket.field-0 c.in-Bracket.b c.in-Bracket.x c.in-Bracket.d c.in-Bracket.u)
+    (acts_four c.args.defs.now (λ s u v w x. a_mask (a_bind u (form.bracket_marked (Written c.in-Bracket.x.text ∷ Added Restorer ∷ s) v w x))) c.in_ok-i-in-Bracket.ensures c.in_ok-j-in-Bracket.ensures c.in_ok-k-in-Bracket.ensures c.in_ok-l-in-Bracket.ensures c.in_ok-id-in-Bracket.ensures)
+
+pub action-returns-in_ok-id-in-Timeout : goal.action-returns-in_ok-id-in-Timeout
+action-returns-in_ok-id-in-Timeout t c =
+    as_action c.args.defs.now (timeout c.in-Timeout.field-0 (ex_of c.in-Timeout.e) (bl_of c.in-Timeout.b)) (act_of c.args.a.now) (ap act_of c.in-Timeout.is ∙ act-Timeout c.in-Timeout.field-0 c.in-Timeout.e c.in-Timeout.b)
+    (after_ex_two c.args.defs.now (λ s x u v. form.timeout s x u v) c.in_ok-t-in-Timeout.ensures c.in_ok-i-in-Timeout.ensures c.in_ok-j-in-Timeout.ensures c.in_ok-id-in-Timeout.ensures)

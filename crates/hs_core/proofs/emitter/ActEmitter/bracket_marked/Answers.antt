@@ -1,0 +1,11 @@
+use Rattle.std.proofs.Common.{refl}
+use Rattle.hs_rules.specs.declared.act.Act.TheVariants as k
+use Rattle.hs_nodes.specs.declared.names.Hidden.TheVariants as h
+use Rattle.hs_nodes.specs.declared.names.Bound.TheVariants as w
+use Rattle.hs_rules.specs.CodeTrees.{a_bind}
+use Rattle.hs_core.proofs.Steps.{two, under, goes, kept}
+use Rattle.hs_core.proofs.emitter.ActEmitter.bracket_marked.Goals as goal
+
+pub returns : goal.returns
+returns c =
+    λ A B C. two k.Bind a_bind (λ ts us x y. refl) c.in_ok-t.ensures (λ k. tt) (under c.perform_none.new.self c.bracket_acquired.new.self (w.Added h.Instance) c.in_ok-bind_added.ensures (c.in_ok-m.ensures A B C) c.off.ensures) (λ k. (kept (goes c.in_ok-t.ensures) k.0, kept (goes c.in_ok-t.ensures) k.1, kept (goes c.in_ok-t.ensures) k.2)) c.in_ok-id.ensures

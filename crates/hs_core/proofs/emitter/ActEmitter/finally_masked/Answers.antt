@@ -1,0 +1,11 @@
+use Rattle.std.proofs.Common.{refl}
+use Rattle.hs_rules.specs.declared.act.Act.TheVariants as k
+use Rattle.hs_nodes.specs.declared.names.Hidden.TheVariants as h
+use Rattle.hs_nodes.specs.declared.names.Bound.TheVariants as w
+use Rattle.hs_rules.specs.CodeTrees.{a_bind}
+use Rattle.hs_core.proofs.Steps.{two, under, goes, kept}
+use Rattle.hs_core.proofs.emitter.ActEmitter.finally_masked.Goals as goal
+
+pub returns : goal.returns
+returns c =
+    λ A B C. two k.Bind a_bind (λ ts us x y. refl) (c.in_ok-g.ensures A B) (λ k. (k.0, k.1)) (under c.guarded.new.self c.then_return.new.self (w.Added h.Given) c.in_ok-bind_added.ensures (c.in_ok-r.ensures C) c.off.ensures) (λ k. kept (goes (c.in_ok-g.ensures A B)) k.2) c.in_ok-id.ensures

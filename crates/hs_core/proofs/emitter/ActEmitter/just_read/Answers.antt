@@ -1,0 +1,8 @@
+use Rattle.hs_rules.specs.declared.forms.UnaryForm.TheVariants as u
+use Rattle.hs_rules.specs.Slots.{s_unary}
+use Rattle.hs_core.proofs.Steps.{ex_after}
+use Rattle.hs_core.proofs.emitter.ActEmitter.just_read.Goals as goal
+
+pub returns : goal.returns
+returns c =
+    ex_after (s_unary u.Just) c.in_ok-e.ensures (λ k. k) c.in_ok-id.ensures

@@ -1,0 +1,9 @@
+use Rattle.hs_rules.specs.declared.act.Primitive.TheVariants as p
+use Rattle.hs_rules.specs.Slots.{s_none, s_more}
+use Rattle.hs_rules.specs.CodeTrees.{a_perform, primitive_of}
+use Rattle.hs_core.proofs.Steps.{with_killed}
+use Rattle.hs_core.proofs.emitter.ActEmitter.kill.Goals as goal
+
+pub returns : goal.returns
+returns c =
+    λ t. with_killed (λ v w. a_perform (primitive_of p.ThrowTo) (s_more v (s_more w s_none))) c.in_ok-killed.ensures tt c.in_ok-id.ensures

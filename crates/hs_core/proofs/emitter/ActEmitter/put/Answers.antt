@@ -1,0 +1,9 @@
+use Rattle.hs_rules.specs.declared.act.Primitive.TheVariants as p
+use Rattle.hs_rules.specs.Slots.{s_none, s_more}
+use Rattle.hs_rules.specs.CodeTrees.{a_perform, primitive_of}
+use Rattle.hs_core.proofs.Steps.{after_ex2}
+use Rattle.hs_core.proofs.emitter.ActEmitter.put.Goals as goal
+
+pub returns : goal.returns
+returns c =
+    after_ex2 (λ u v. a_perform (primitive_of p.PutMVar) (s_more u (s_more v s_none))) c.in_ok-e.ensures (λ k. k) c.in_ok-f.ensures (λ k. k) c.in_ok-id.ensures

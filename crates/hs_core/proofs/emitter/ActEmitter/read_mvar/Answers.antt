@@ -1,0 +1,11 @@
+use Rattle.std.proofs.Common.{refl}
+use Rattle.hs_rules.specs.declared.act.Act.TheVariants as k
+use Rattle.hs_nodes.specs.declared.names.Hidden.TheVariants as h
+use Rattle.hs_nodes.specs.declared.names.Bound.TheVariants as w
+use Rattle.hs_rules.specs.CodeTrees.{a_let}
+use Rattle.hs_core.proofs.Steps.{with_ex, under}
+use Rattle.hs_core.proofs.emitter.ActEmitter.read_mvar.Goals as goal
+
+pub returns : goal.returns
+returns c =
+    λ t. with_ex k.Let a_let (λ ts us x y. refl) (λ k. k) (under c.args.self.now c.read_cell.new.self (w.Added h.TheCell) c.in_ok-bind_added.ensures c.in_ok-m.ensures c.off.ensures) (λ k. tt) c.in_ok-id.ensures

@@ -1,0 +1,10 @@
+use Rattle.std.proofs.Common.{ap}
+use Rattle.hs_rules.specs.declared.node.Node.TheVariants as n
+use Rattle.hs_rules.specs.Slots.{s_slot}
+use Rattle.hs_rules.specs.Values.{Written}
+use Rattle.hs_rules.specs.CodeTrees.{slot_read}
+use Rattle.hs_core.proofs.Steps.{leaf}
+use Rattle.hs_core.proofs.emitter.ActEmitter.read_written.Goals as goal
+
+pub returns : goal.returns
+returns c = leaf c.args.self.now c.add.new.self c.in_ok-id.id (n.Slot c.written_slot-slot.result) (λ s. slot_read s (Written c.args.x.now)) c.in_ok-id.ensures (λ k. ap s_slot c.written_slot-slot.ensures)

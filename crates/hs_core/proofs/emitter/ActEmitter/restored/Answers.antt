@@ -1,0 +1,10 @@
+use Rattle.hs_rules.specs.Values.{Added}
+use Rattle.hs_rules.specs.Slots.{slot_of}
+use Rattle.hs_rules.specs.CodeTrees.{slot_or_end}
+use Rattle.hs_nodes.specs.Names.{hidden_of}
+use Rattle.hs_core.proofs.Steps.{restores}
+use Rattle.hs_core.proofs.emitter.ActEmitter.restored.Goals as goal
+
+pub returns : goal.returns
+returns c =
+    λ A. restores c.slot-slot.result (λ s. slot_or_end (slot_of s (Added (hidden_of c.args.h))) s) A c.slot-slot.ensures c.in_ok-id.ensures

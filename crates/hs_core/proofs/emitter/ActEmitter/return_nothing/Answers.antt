@@ -1,0 +1,9 @@
+use Rattle.std.proofs.Common.{refl}
+use Rattle.hs_rules.specs.declared.act.Act.TheVariants as k
+use Rattle.hs_rules.specs.CodeTrees.{a_return}
+use Rattle.hs_core.proofs.Steps.{of_ex}
+use Rattle.hs_core.proofs.emitter.ActEmitter.return_nothing.Goals as goal
+
+pub returns : goal.returns
+returns c =
+    of_ex k.Return a_return (λ ts us x. refl) c.in_ok-e.ensures (λ k. k) c.in_ok-id.ensures

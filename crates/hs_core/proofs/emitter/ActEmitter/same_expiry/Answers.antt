@@ -1,0 +1,8 @@
+use Rattle.hs_rules.specs.declared.forms.BinaryForm.TheVariants as b
+use Rattle.hs_rules.specs.Slots.{s_binary}
+use Rattle.hs_core.proofs.Steps.{ex_after2}
+use Rattle.hs_core.proofs.emitter.ActEmitter.same_expiry.Goals as goal
+
+pub returns : goal.returns
+returns c =
+    ex_after2 (s_binary b.Equal) c.in_ok-e.ensures (λ k. k) c.in_ok-f.ensures (λ k. k) c.in_ok-id.ensures

@@ -1,0 +1,11 @@
+use Rattle.std.proofs.Common.{refl}
+use Rattle.hs_rules.specs.declared.act.Act.TheVariants as k
+use Rattle.hs_nodes.specs.declared.names.Hidden.TheVariants as h
+use Rattle.hs_nodes.specs.declared.names.Bound.TheVariants as w
+use Rattle.hs_rules.specs.CodeTrees.{a_catch}
+use Rattle.hs_core.proofs.Steps.{two, under}
+use Rattle.hs_core.proofs.emitter.ActEmitter.timed.Goals as goal
+
+pub returns : goal.returns
+returns c =
+    λ B. two k.Catch a_catch (λ ts us x y. refl) (c.in_ok-g.ensures B) (λ k. k) (under c.timed_bracket.new.self c.expired.new.self (w.Added h.Caught) c.in_ok-bind_added.ensures c.in_ok-h.ensures c.off.ensures) (λ k. tt) c.in_ok-id.ensures

@@ -1,0 +1,9 @@
+use Rattle.std.proofs.Common.{refl, pos}
+use Rattle.hs_rules.specs.declared.node.Node.TheVariants as n
+use Rattle.hs_rules.specs.Slots.{s_literal}
+use Rattle.hs_rules.specs.Trees.{number}
+use Rattle.hs_core.proofs.Steps.{leaf}
+use Rattle.hs_core.proofs.emitter.ActEmitter.zero.Goals as goal
+
+pub returns : goal.returns
+returns c = leaf c.args.self.now c.add.new.self c.in_ok-id.id (n.Int (pos 0)) (λ s. s_literal (number (pos 0))) c.in_ok-id.ensures (λ k. refl)

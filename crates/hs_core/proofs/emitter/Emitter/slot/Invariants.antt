@@ -1,8 +1,0 @@
-use Rattle.std.proofs.Common.{◌≡◌, take}
-use Rattle.hs_rules.specs.Slots.{slot_of}
-use Rattle.hs_rules.specs.Values.{Written}
-use Rattle.hs_core.specs.Emitting.{scope_of}
-use Rattle.hs_core.proofs.emitter.Emitter.slot.Given as goal
-
-abbrev pub invariant-back : goal.invariant-back
-invariant-back l = slot_of (scope_of l.items) (Written l.x) ≡ slot_of (scope_of (take l.i l.items)) (Written l.x)

@@ -1,0 +1,389 @@
+//! Actions, blocks and arms.
+use crate::defs::Defs;
+use crate::emitter::ActEmitter;
+use crate::pending::{Pending, back_to, bind_all};
+use hs_base::{Action, Block, BlockArms, Expr, NoMemory, Stmt, Txt};
+use hs_items::Items;
+use hs_nodes::names::{Hidden, bind, off};
+use hs_rules::{Act, ActId, ExprId, Primitive};
+use std::alloc::Global;
+
+/// The names of a form with a mask of its own round its blocks.
+const MASKED: [Hidden; 1] = [Hidden::Restorer];
+
+/// The names of a `modifyMVar_` round its block, but for the one that the script gives.
+const MODIFIED: [Hidden; 2] = [Hidden::TheCell, Hidden::Restorer];
+
+/// The names of a `bracket` round its releasing block, in the handler and at the exit.
+const FAULT: [Hidden; 2] = [Hidden::Instance, Hidden::BracketFault];
+
+const EXIT: [Hidden; 2] = [Hidden::Instance, Hidden::BracketResult];
+
+/// The names of a `timeout` round its block.
+const TIMED: [Hidden; 6] = [
+    Hidden::Allowed,
+    Hidden::Owner,
+    Hidden::Expiry,
+    Hidden::Restorer,
+    Hidden::Helper,
+    Hidden::Instance,
+];
+
+#[tactic(auto, using(hs_rules::proofs::EquationsOfActions::act_rules))]
+impl ActEmitter {
+    ghost use Rattle.std.specs.Prelude.{IfOk, ◌∷◌, []};
+    ghost use Rattle.hs_rules.specs.Trees.{ex_of};
+    ghost use Rattle.hs_rules.specs.Values.{Written, Added, Restorer, Given, Caught, TheCell, Instance, BracketResult, BracketFault, Allowed, Owner, Expiry, Helper};
+    ghost use Rattle.hs_rules.specs.Programs.{act_of, bl_of, act_arms_of};
+    ghost use Rattle.hs_rules.specs.Slots.{Sx, slotted, slot_of};
+    ghost use Rattle.hs_rules.specs.CodeTrees.{a_if, a_bind, a_fork, a_fork_unmask, a_mask, a_mask_hard, a_catch, a_restore, slot_or_end};
+    ghost use Rattle.hs_nodes.specs.Names.{scope_after};
+    ghost use Rattle.hs_core.specs.Defining.{Knows, roots};
+    ghost use Rattle.hs_core.specs.Emits.{Emits, StandsIn};
+    ghost use Rattle.hs_core.specs.Opening.{action_tree, block_tree, arms_tree, added, Opens, OpensAll};
+    ghost use Rattle.hs_core.specs.Forms as form;
+
+    /// Adds the nodes of an action, and answers the number of its last.
+    #[cycle(expand)]
+    pub fn action(&mut self, alloc: Global, defs: &Defs, a: &Action) -> Result<ActId, NoMemory>
+        ensures { IfOk result (λ id. Emits (Knows self.old.emitter.nodes defs.now) self.old self.new id (λ s. action_tree defs.now s (act_of a.now))) }
+    {
+        match a {
+            Action::Return(_, e) => self.give(alloc, defs, e),
+            Action::ThrowIo(_, _, e) => self.throw(alloc, defs, e),
+            Action::If(_, e, b, d) => {
+                let t = self.expr(alloc, defs, e)?;
+                let i = self.block(alloc, defs, b)?;
+                let j = self.block(alloc, defs, d)?;
+                let id = self.act(Act::If(t, i, j))?;
+                Ok(id)
+            }
+            Action::Case(_, e, arms) => {
+                let t = self.expr(alloc, defs, e)?;
+                let two = arms.get();
+                let id = self.arms(alloc, defs, t, two)?;
+                Ok(id)
+            }
+            Action::Call(f, es) => self.call(alloc, defs, &f.text, es),
+            Action::PutStr(_, e) => self.primitive_one(alloc, defs, Primitive::PutStr, e),
+            Action::PutStrLn(_, e) => self.primitive_one(alloc, defs, Primitive::PutStrLn, e),
+            Action::HPutStrLn(_, e) => self.primitive_one(alloc, defs, Primitive::HPutStrLn, e),
+            Action::NewMVar(_, e) => self.primitive_one(alloc, defs, Primitive::NewMVar, e),
+            Action::NewEmptyMVar(_, _) => self.primitive(alloc, defs, Primitive::NewEmptyMVar),
+            Action::TakeMVar(_, e) => self.primitive_one(alloc, defs, Primitive::TakeMVar, e),
+            Action::PutMVar(_, e, f) => self.primitive_two(alloc, defs, Primitive::PutMVar, e, f),
+            Action::ReadMVar(_, e) => self.read_cell_of(alloc, defs, e),
+            Action::TryTakeMVar(_, e) => self.primitive_one(alloc, defs, Primitive::TryTakeMVar, e),
+            Action::TryPutMVar(_, e, f) => self.primitive_two(
+                alloc,
+                defs,
+                Primitive::TryPutMVar,
+                e,
+                f,
+            ),
+            Action::ModifyMVar(_, e, x, b) => {
+                let t = self.expr(alloc, defs, e)?;
+                let i = self.within(alloc, defs, &MODIFIED, &x.text, &[], b)?;
+                let id = self.modify(alloc, t, &x.text, i)?;
+                Ok(id)
+            }
+            Action::ForkIo(_, b) => self.fork(alloc, defs, b),
+            Action::ForkIoWithUnmask(_, x, b) => self.fork_unmask(alloc, defs, &x.text, b),
+            Action::MyThreadId(_) => self.primitive(alloc, defs, Primitive::MyThreadId),
+            Action::ThrowTo(_, e, f) => self.primitive_two(alloc, defs, Primitive::ThrowTo, e, f),
+            Action::KillThread(_, e) => self.kill_thread(alloc, defs, e),
+            Action::ThreadDelay(_, e) => self.primitive_one(alloc, defs, Primitive::ThreadDelay, e),
+            Action::ClockMicros(_) => self.primitive(alloc, defs, Primitive::ClockMicros),
+            Action::GetMaskingState(_) => self.primitive(alloc, defs, Primitive::GetMaskingState),
+            Action::Catch(_, b, x, d) => {
+                let i = self.block(alloc, defs, b)?;
+                let j = self.named(alloc, defs, &x.text, d)?;
+                let id = self.act(Act::Catch(i, j))?;
+                Ok(id)
+            }
+            Action::Mask(_, x, b) => self.mask(alloc, defs, &x.text, b),
+            Action::MaskOnly(_, b) => self.mask_only(alloc, defs, b),
+            Action::UninterruptibleMask(_, x, b) => self.mask_hard(alloc, defs, &x.text, b),
+            Action::UninterruptibleMaskOnly(_, b) => self.mask_hard_only(alloc, defs, b),
+            Action::Restore(_, x, b) => self.restore_form(alloc, defs, &x.text, b),
+            Action::OnException(_, b, d) => {
+                let i = self.block(alloc, defs, b)?;
+                let j = self.under(alloc, defs, &[Hidden::Caught], d)?;
+                let id = self.on_exception(i, j)?;
+                Ok(id)
+            }
+            Action::Finally(_, b, d) => {
+                let i = self.under(alloc, defs, &MASKED, b)?;
+                let j = self.under(alloc, defs, &[Hidden::Restorer, Hidden::Caught], d)?;
+                let k = self.under(alloc, defs, &[Hidden::Restorer, Hidden::Given], d)?;
+                let id = self.finally(i, j, k)?;
+                Ok(id)
+            }
+            Action::Bracket(_, b, x, d, u) => {
+                let i = self.under(alloc, defs, &MASKED, b)?;
+                let j = self.within(alloc, defs, &MASKED, &x.text, &[Hidden::Instance], u)?;
+                let k = self.within(alloc, defs, &MASKED, &x.text, &FAULT, d)?;
+                let l = self.within(alloc, defs, &MASKED, &x.text, &EXIT, d)?;
+                let id = self.bracket_whole(alloc, &x.text, i, j, k, l)?;
+                Ok(id)
+            }
+            Action::Timeout(_, e, b) => {
+                let t = self.expr(alloc, defs, e)?;
+                let i = self.under(alloc, defs, &[Hidden::Allowed], b)?;
+                let j = self.under(alloc, defs, &TIMED, b)?;
+                let id = self.timeout(alloc, t, i, j)?;
+                Ok(id)
+            }
+        }
+    }
+
+    /// Adds the nodes of a block, and answers the number of its last.
+    #[cycle(expand)]
+    pub fn block(&mut self, alloc: Global, defs: &Defs, b: &Block) -> Result<ActId, NoMemory>
+        ensures { IfOk result (λ id. Emits (Knows self.old.emitter.nodes defs.now) self.old self.new id (λ s. block_tree defs.now s (bl_of b.now))) }
+    {
+        let count = self.emitter.scope.len();
+        let pending = self.stmts(alloc, defs, &b.stmts)?;
+        let end = b.last.get();
+        let last = self.action(alloc, defs, end)?;
+        back_to(&mut self.emitter.scope, count);
+        let id = self.closed(pending, last)?;
+        Ok(id)
+    }
+
+    /// Statements in a row, whose names stay in the scope.
+    #[cycle(expand)]
+    fn stmts(
+        &mut self,
+        alloc: Global,
+        defs: &Defs,
+        stmts: &Items<Stmt>,
+    ) -> Result<Items<Pending>, NoMemory>
+        ensures { IfOk result (λ qs. OpensAll defs.now self.old self.new qs stmts.now) }
+    {
+        let mut pending = Items::new(alloc);
+        'each: for stmt in stmts.as_slice() {
+            let one = self.stmt(alloc, defs, stmt)?;
+            pending.add(one)?;
+        }
+        Ok(pending)
+    }
+
+    /// A statement. The name that it binds stays in the scope.
+    #[cycle(expand)]
+    fn stmt(&mut self, alloc: Global, defs: &Defs, stmt: &Stmt) -> Result<Pending, NoMemory>
+        ensures { IfOk result (λ q. Opens defs.now self.old self.new q stmt.now) }
+    {
+        match stmt {
+            Stmt::Bind(x, a) => {
+                let i = self.action(alloc, defs, a)?;
+                bind(&mut self.emitter.scope, alloc, &x.text)?;
+                Ok(Pending::Bind(i))
+            }
+            Stmt::Let(x, e) => {
+                let i = self.expr(alloc, defs, e)?;
+                bind(&mut self.emitter.scope, alloc, &x.text)?;
+                Ok(Pending::Let(i))
+            }
+            Stmt::Do(a) => {
+                let i = self.action(alloc, defs, a)?;
+                Ok(Pending::Then(i))
+            }
+        }
+    }
+
+    /// A block under added names.
+    #[cycle(expand)]
+    fn under(
+        &mut self,
+        alloc: Global,
+        defs: &Defs,
+        hs: &[Hidden],
+        b: &Block,
+    ) -> Result<ActId, NoMemory>
+        ensures { IfOk result (λ id. Emits (Knows self.old.emitter.nodes defs.now) self.old self.new id (λ s. block_tree defs.now (scope_after s (added hs.now)) (bl_of b.now))) }
+    {
+        let count = self.emitter.scope.len();
+        bind_all(&mut self.emitter.scope, hs)?;
+        let id = self.block(alloc, defs, b)?;
+        back_to(&mut self.emitter.scope, count);
+        Ok(id)
+    }
+
+    /// A block under added names, one of the script, and added ones again.
+    #[cycle(expand)]
+    fn within(
+        &mut self,
+        alloc: Global,
+        defs: &Defs,
+        hs: &[Hidden],
+        x: &Txt,
+        is: &[Hidden],
+        b: &Block,
+    ) -> Result<ActId, NoMemory>
+        ensures { IfOk result (λ id. Emits (Knows self.old.emitter.nodes defs.now) self.old self.new id (λ s. block_tree defs.now (scope_after (Written x.now ∷ scope_after s (added hs.now)) (added is.now)) (bl_of b.now))) }
+    {
+        let count = self.emitter.scope.len();
+        bind_all(&mut self.emitter.scope, hs)?;
+        bind(&mut self.emitter.scope, alloc, x)?;
+        bind_all(&mut self.emitter.scope, is)?;
+        let id = self.block(alloc, defs, b)?;
+        back_to(&mut self.emitter.scope, count);
+        Ok(id)
+    }
+
+    /// A block under a name of the script.
+    #[cycle(expand)]
+    fn named(&mut self, alloc: Global, defs: &Defs, x: &Txt, b: &Block) -> Result<ActId, NoMemory>
+        ensures { IfOk result (λ id. Emits (Knows self.old.emitter.nodes defs.now) self.old self.new id (λ s. block_tree defs.now (Written x.now ∷ s) (bl_of b.now))) }
+    {
+        bind(&mut self.emitter.scope, alloc, x)?;
+        let id = self.block(alloc, defs, b)?;
+        off(&mut self.emitter.scope);
+        Ok(id)
+    }
+
+    /// A block under two names of the script.
+    #[cycle(expand)]
+    fn named_two(
+        &mut self,
+        alloc: Global,
+        defs: &Defs,
+        x: &Txt,
+        y: &Txt,
+        b: &Block,
+    ) -> Result<ActId, NoMemory>
+        ensures { IfOk result (λ id. Emits (Knows self.old.emitter.nodes defs.now) self.old self.new id (λ s. block_tree defs.now (Written y.now ∷ Written x.now ∷ s) (bl_of b.now))) }
+    {
+        bind(&mut self.emitter.scope, alloc, x)?;
+        let id = self.named(alloc, defs, y, b)?;
+        off(&mut self.emitter.scope);
+        Ok(id)
+    }
+
+    /// The arms of a `case`, after what it looks at.
+    #[cycle(expand)]
+    fn arms(
+        &mut self,
+        alloc: Global,
+        defs: &Defs,
+        t: ExprId,
+        arms: &BlockArms,
+    ) -> Result<ActId, NoMemory>
+        ensures { (u : Sx) → IfOk result (λ id. Emits (Knows self.old.emitter.nodes defs.now × StandsIn self.old t u) self.old self.new id (λ s. arms_tree defs.now s u (act_arms_of arms.now))) }
+    {
+        match arms {
+            BlockArms::OfMaybe(a, x, b) => {
+                let i = self.block(alloc, defs, a)?;
+                let j = self.named(alloc, defs, &x.text, b)?;
+                let id = self.act(Act::CaseMaybe(t, i, j))?;
+                Ok(id)
+            }
+            BlockArms::OfEither(x, a, y, b) => {
+                let i = self.named(alloc, defs, &x.text, a)?;
+                let j = self.named(alloc, defs, &y.text, b)?;
+                let id = self.act(Act::CaseEither(t, i, j))?;
+                Ok(id)
+            }
+            BlockArms::OfList(a, x, y, b) => {
+                let i = self.block(alloc, defs, a)?;
+                let j = self.named_two(alloc, defs, &x.text, &y.text, b)?;
+                let id = self.act(Act::CaseList(t, i, j))?;
+                Ok(id)
+            }
+            BlockArms::OfPair(x, y, a) => {
+                let i = self.named_two(alloc, defs, &x.text, &y.text, a)?;
+                let id = self.act(Act::CasePair(t, i))?;
+                Ok(id)
+            }
+        }
+    }
+
+    /// `forkIO A`
+    #[cycle(expand)]
+    fn fork(&mut self, alloc: Global, defs: &Defs, b: &Block) -> Result<ActId, NoMemory>
+        ensures { IfOk result (λ id. Emits (Knows self.old.emitter.nodes defs.now) self.old self.new id (λ s. a_fork (block_tree defs.now s (bl_of b.now)))) }
+    {
+        let i = self.block(alloc, defs, b)?;
+        let id = self.act(Act::Fork(i))?;
+        Ok(id)
+    }
+
+    /// `forkIOWithUnmask x A`
+    #[cycle(expand)]
+    fn fork_unmask(
+        &mut self,
+        alloc: Global,
+        defs: &Defs,
+        x: &Txt,
+        b: &Block,
+    ) -> Result<ActId, NoMemory>
+        ensures { IfOk result (λ id. Emits (Knows self.old.emitter.nodes defs.now) self.old self.new id (λ s. a_fork_unmask (block_tree defs.now (Written x.now ∷ s) (bl_of b.now)))) }
+    {
+        let i = self.named(alloc, defs, x, b)?;
+        let id = self.act(Act::ForkUnmask(i))?;
+        Ok(id)
+    }
+
+    /// `mask x A`
+    #[cycle(expand)]
+    fn mask(&mut self, alloc: Global, defs: &Defs, x: &Txt, b: &Block) -> Result<ActId, NoMemory>
+        ensures { IfOk result (λ id. Emits (Knows self.old.emitter.nodes defs.now) self.old self.new id (λ s. a_mask (block_tree defs.now (Written x.now ∷ s) (bl_of b.now)))) }
+    {
+        let i = self.named(alloc, defs, x, b)?;
+        let id = self.act(Act::Mask(i))?;
+        Ok(id)
+    }
+
+    /// `uninterruptibleMask x A`
+    #[cycle(expand)]
+    fn mask_hard(
+        &mut self,
+        alloc: Global,
+        defs: &Defs,
+        x: &Txt,
+        b: &Block,
+    ) -> Result<ActId, NoMemory>
+        ensures { IfOk result (λ id. Emits (Knows self.old.emitter.nodes defs.now) self.old self.new id (λ s. a_mask_hard (block_tree defs.now (Written x.now ∷ s) (bl_of b.now)))) }
+    {
+        let i = self.named(alloc, defs, x, b)?;
+        let id = self.act(Act::UninterruptibleMask(i))?;
+        Ok(id)
+    }
+
+    /// `mask_ A`
+    #[cycle(expand)]
+    fn mask_only(&mut self, alloc: Global, defs: &Defs, b: &Block) -> Result<ActId, NoMemory>
+        ensures { IfOk result (λ id. Emits (Knows self.old.emitter.nodes defs.now) self.old self.new id (λ s. a_mask (block_tree defs.now (Added Restorer ∷ s) (bl_of b.now)))) }
+    {
+        let i = self.under(alloc, defs, &[Hidden::Restorer], b)?;
+        let id = self.act(Act::Mask(i))?;
+        Ok(id)
+    }
+
+    /// `uninterruptibleMask_ A`
+    #[cycle(expand)]
+    fn mask_hard_only(&mut self, alloc: Global, defs: &Defs, b: &Block) -> Result<ActId, NoMemory>
+        ensures { IfOk result (λ id. Emits (Knows self.old.emitter.nodes defs.now) self.old self.new id (λ s. a_mask_hard (block_tree defs.now (Added Restorer ∷ s) (bl_of b.now)))) }
+    {
+        let i = self.under(alloc, defs, &[Hidden::Restorer], b)?;
+        let id = self.act(Act::UninterruptibleMask(i))?;
+        Ok(id)
+    }
+
+    /// `restore x A`
+    #[cycle(expand)]
+    fn restore_form(
+        &mut self,
+        alloc: Global,
+        defs: &Defs,
+        x: &Txt,
+        b: &Block,
+    ) -> Result<ActId, NoMemory>
+        ensures { IfOk result (λ id. Emits (Knows self.old.emitter.nodes defs.now) self.old self.new id (λ s. a_restore (slot_or_end (slot_of s (Written x.now)) s) (block_tree defs.now s (bl_of b.now)))) }
+    {
+        let i = self.block(alloc, defs, b)?;
+        let id = self.restore(x, i)?;
+        Ok(id)
+    }
+}

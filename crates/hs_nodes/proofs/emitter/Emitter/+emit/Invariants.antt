@@ -1,0 +1,33 @@
+use Rattle.std.proofs.Common.{◌≡◌, ◌++◌, drop, length}
+use Rattle.hs_rules.specs.Trees.{exs_of, links_of, sum_links_of, list_links_of}
+use Rattle.hs_nodes.specs.Emitting.{all_nodes, ids_of, link_nodes, node_links}
+use Rattle.hs_nodes.specs.Names.{scope_of}
+use Rattle.hs_nodes.proofs.emitter.Emitter.+emit.Given as goal
+
+abbrev pub invariant-all-each : goal.invariant-all-each
+invariant-all-each l = record {
+  scope : l.self.scope ≡ l.fn.self.scope;
+  nodes : l.self.nodes ++ all_nodes l.places.all (scope_of l.fn.self.scope) (length l.self.nodes) (exs_of (drop l.e-index l.es)) ≡ l.fn.self.nodes ++ all_nodes l.places.all (scope_of l.fn.self.scope) (length l.fn.self.nodes) (exs_of l.es);
+  ids : l.ids ++ ids_of l.places.all (scope_of l.fn.self.scope) (length l.self.nodes) (exs_of (drop l.e-index l.es)) ≡ ids_of l.places.all (scope_of l.fn.self.scope) (length l.fn.self.nodes) (exs_of l.es);
+}
+
+abbrev pub invariant-links-each : goal.invariant-links-each
+invariant-links-each l = record {
+  scope : l.self.scope ≡ l.fn.self.scope;
+  nodes : l.self.nodes ++ link_nodes l.places.all (scope_of l.fn.self.scope) (length l.self.nodes) (links_of l.form (drop l.link-index l.links)) ≡ l.fn.self.nodes ++ link_nodes l.places.all (scope_of l.fn.self.scope) (length l.fn.self.nodes) (links_of l.form l.links);
+  ids : l.ks ++ node_links l.places.all (scope_of l.fn.self.scope) (length l.self.nodes) (links_of l.form (drop l.link-index l.links)) ≡ node_links l.places.all (scope_of l.fn.self.scope) (length l.fn.self.nodes) (links_of l.form l.links);
+}
+
+abbrev pub invariant-sum_links-each : goal.invariant-sum_links-each
+invariant-sum_links-each l = record {
+  scope : l.self.scope ≡ l.fn.self.scope;
+  nodes : l.self.nodes ++ link_nodes l.places.all (scope_of l.fn.self.scope) (length l.self.nodes) (sum_links_of (drop l.link-index l.links)) ≡ l.fn.self.nodes ++ link_nodes l.places.all (scope_of l.fn.self.scope) (length l.fn.self.nodes) (sum_links_of l.links);
+  ids : l.ks ++ node_links l.places.all (scope_of l.fn.self.scope) (length l.self.nodes) (sum_links_of (drop l.link-index l.links)) ≡ node_links l.places.all (scope_of l.fn.self.scope) (length l.fn.self.nodes) (sum_links_of l.links);
+}
+
+abbrev pub invariant-list_links-each : goal.invariant-list_links-each
+invariant-list_links-each l = record {
+  scope : l.self.scope ≡ l.fn.self.scope;
+  nodes : l.self.nodes ++ link_nodes l.places.all (scope_of l.fn.self.scope) (length l.self.nodes) (list_links_of (drop l.link-index l.links)) ≡ l.fn.self.nodes ++ link_nodes l.places.all (scope_of l.fn.self.scope) (length l.fn.self.nodes) (list_links_of l.links);
+  ids : l.ks ++ node_links l.places.all (scope_of l.fn.self.scope) (length l.self.nodes) (list_links_of (drop l.link-index l.links)) ≡ node_links l.places.all (scope_of l.fn.self.scope) (length l.fn.self.nodes) (list_links_of l.links);
+}

@@ -1,0 +1,4 @@
+pub mod Names
+pub mod Finding
+pub mod Emitting
+pub mod Standing

@@ -1,0 +1,371 @@
+//! The nodes of expressions.
+ghost use Rattle.std.specs.Prelude.{◌≡◌, ◌++◌, ◌∷◌, [], ◌+◌, length, IfOk};
+ghost use Rattle.hs_rules.specs.Slots.{slot_of, count};
+ghost use Rattle.hs_rules.specs.Values.{Written};
+ghost use Rattle.hs_rules.specs.Trees.{ex_of, exs_of, arms_of, links_of, list_links_of, sum_links_of, constant_of, compare_form, sum_form, cons_form};
+ghost use Rattle.hs_nodes.specs.Emitting.{nodes_of, all_nodes, ids_of, link_nodes, node_links, arm_nodes, read_nodes, own1, literal_node, place_of, Emitted};
+ghost use Rattle.hs_nodes.specs.Names.{scope_of};
+
+use crate::emitter::Emitter;
+use crate::names::{bind, off};
+use crate::places::Places;
+use hs_base::{
+    CompareOp, ConsOp, Constant, Exn, Expr, ExprArms, Link, ListLink, NoMemory, SumLink, SumOp, Txt,
+};
+use hs_items::Items;
+use hs_rules::forms::{BinaryForm, EmptyForm, SideForm, UnaryForm};
+use hs_rules::{ExprId, Node, NodeLink};
+use std::alloc::Global;
+
+fn constant(constant: Constant) -> Node
+    ensures { result ≡ literal_node (constant_of constant) }
+{
+    match constant {
+        Constant::True => Node::Bool(true),
+        Constant::False => Node::Bool(false),
+        Constant::ThreadKilled => Node::Exn(Exn::ThreadKilled),
+        Constant::UserInterrupt => Node::Exn(Exn::UserInterrupt),
+        Constant::DivideByZero => Node::Exn(Exn::DivideByZero),
+        Constant::Overflow => Node::Exn(Exn::Overflow),
+    }
+}
+
+fn compare_form(op: CompareOp) -> BinaryForm
+    ensures { result ≡ compare_form op }
+{
+    match op {
+        CompareOp::Equal => BinaryForm::Equal,
+        CompareOp::Unequal => BinaryForm::Unequal,
+        CompareOp::Less => BinaryForm::Less,
+        CompareOp::AtMost => BinaryForm::AtMost,
+        CompareOp::Greater => BinaryForm::Greater,
+        CompareOp::AtLeast => BinaryForm::AtLeast,
+    }
+}
+
+fn sum_form(op: SumOp) -> BinaryForm
+    ensures { result ≡ sum_form op }
+{
+    match op {
+        SumOp::Plus => BinaryForm::Plus,
+        SumOp::Minus => BinaryForm::Minus,
+    }
+}
+
+fn cons_form(op: ConsOp) -> BinaryForm
+    ensures { result ≡ cons_form op }
+{
+    match op {
+        ConsOp::Cons => BinaryForm::Cons,
+        ConsOp::Append => BinaryForm::Append,
+    }
+}
+
+#[tactic(auto, using(crate::proofs::Scopes::emit_rules, hs_rules::proofs::Equations::ex_rules, hs_rules::proofs::Equations::arms_rules))]
+impl Emitter {
+    /// Adds the node of a form with one part.
+    fn unary(&mut self, form: UnaryForm, part: ExprId) -> Result<ExprId, NoMemory>
+        ensures { IfOk result (λ id. (id.0 ≡ length self.old.nodes) × (self.new.nodes ≡ self.old.nodes ++ Node.Unary form part ∷ []) × (self.new.scope ≡ self.old.scope)) }
+    {
+        let id = self.add(Node::Unary(form, part))?;
+        Ok(id)
+    }
+
+    /// Adds the nodes of an expression, and answers the number of its last.
+    #[cycle(emit)]
+    pub fn expr(&mut self, alloc: Global, places: &Places, e: &Expr) -> Result<ExprId, NoMemory>
+        ensures { IfOk result (λ id. Emitted self.old self.new id (nodes_of places.now.all (scope_of self.old.scope) (length self.old.nodes) (ex_of e.now))) }
+    {
+        match e {
+            Expr::If(_, c, a, b) => {
+                let h = self.expr(alloc, places, c.get())?;
+                let i = self.expr(alloc, places, a.get())?;
+                let j = self.expr(alloc, places, b.get())?;
+                self.add(Node::If(h, i, j))
+            }
+            Expr::Case(_, c, arms) => {
+                let h = self.expr(alloc, places, c.get())?;
+                self.arms(alloc, places, h, arms.get())
+            }
+            Expr::Let(_, x, a, b) => {
+                let i = self.expr(alloc, places, a.get())?;
+                let j = self.under(alloc, places, &x.text, b.get())?;
+                self.add(Node::Let(i, j))
+            }
+            Expr::Or(a, links) => {
+                let i = self.expr(alloc, places, a.get())?;
+                let links = self.links(alloc, places, BinaryForm::Or, links)?;
+                self.add(Node::Chain(i, links))
+            }
+            Expr::And(a, links) => {
+                let i = self.expr(alloc, places, a.get())?;
+                let links = self.links(alloc, places, BinaryForm::And, links)?;
+                self.add(Node::Chain(i, links))
+            }
+            Expr::Compare(a, op, _, b) => {
+                let i = self.expr(alloc, places, a.get())?;
+                let j = self.expr(alloc, places, b.get())?;
+                self.add(Node::Binary(compare_form(*op), i, j))
+            }
+            Expr::Cons(a, links) => {
+                let i = self.expr(alloc, places, a.get())?;
+                let links = self.list_links(alloc, places, links)?;
+                self.add(Node::Conses(i, links))
+            }
+            Expr::Negate(_, a) => self.single(alloc, places, UnaryForm::Negate, a.get()),
+            Expr::Sum(a, links) => {
+                let i = self.expr(alloc, places, a.get())?;
+                let links = self.sum_links(alloc, places, links)?;
+                self.add(Node::Chain(i, links))
+            }
+            Expr::Product(a, links) => {
+                let i = self.expr(alloc, places, a.get())?;
+                let links = self.links(alloc, places, BinaryForm::Times, links)?;
+                self.add(Node::Chain(i, links))
+            }
+            Expr::Call(x, es) => {
+                let id = self.call(alloc, places, &x.text, es)?;
+                Ok(id)
+            }
+            Expr::Just(_, a) => self.single(alloc, places, UnaryForm::Just, a.get()),
+            Expr::Nothing(_, _) => self.add(Node::Empty(EmptyForm::Nothing)),
+            Expr::Left(_, _, _, a) => self.aside(alloc, places, SideForm::Left, a.get()),
+            Expr::Right(_, _, _, a) => self.aside(alloc, places, SideForm::Right, a.get()),
+            Expr::EmptyList(_, _) => self.add(Node::Empty(EmptyForm::EmptyList)),
+            Expr::ErrorCall(_, a) => self.single(alloc, places, UnaryForm::ErrorCall, a.get()),
+            Expr::Not(_, a) => self.single(alloc, places, UnaryForm::Not, a.get()),
+            Expr::Fst(_, a) => self.single(alloc, places, UnaryForm::Fst, a.get()),
+            Expr::Snd(_, a) => self.single(alloc, places, UnaryForm::Snd, a.get()),
+            Expr::Show(_, a) => self.single(alloc, places, UnaryForm::Show, a.get()),
+            Expr::Div(_, a, b) => {
+                let i = self.expr(alloc, places, a.get())?;
+                let j = self.expr(alloc, places, b.get())?;
+                self.add(Node::Binary(BinaryForm::Div, i, j))
+            }
+            Expr::Mod(_, a, b) => {
+                let i = self.expr(alloc, places, a.get())?;
+                let j = self.expr(alloc, places, b.get())?;
+                self.add(Node::Binary(BinaryForm::Mod, i, j))
+            }
+            Expr::Int(_, m) => self.add(Node::Int(*m)),
+            Expr::Text(_, text) => self.add(Node::Text(text.copy(alloc)?)),
+            Expr::Constant(_, c) => self.add(constant(*c)),
+            Expr::Unit(_) => self.add(Node::Unit),
+            Expr::Pair(_, a, b) => {
+                let i = self.expr(alloc, places, a.get())?;
+                let j = self.expr(alloc, places, b.get())?;
+                self.add(Node::Binary(BinaryForm::Pair, i, j))
+            }
+            Expr::List(_, es) => {
+                let id = self.items(alloc, places, es)?;
+                Ok(id)
+            }
+        }
+    }
+
+    /// A form with one part.
+    #[cycle(emit)]
+    fn single(
+        &mut self,
+        alloc: Global,
+        places: &Places,
+        form: UnaryForm,
+        a: &Expr,
+    ) -> Result<ExprId, NoMemory>
+        ensures { IfOk result (λ id. Emitted self.old self.new id (own1 (length self.old.nodes) (nodes_of places.now.all (scope_of self.old.scope) (length self.old.nodes) (ex_of a.now)) (Node.Unary form))) }
+    {
+        let i = self.expr(alloc, places, a)?;
+        self.unary(form, i)
+    }
+
+    /// `Left` or `Right`.
+    #[cycle(emit)]
+    fn aside(
+        &mut self,
+        alloc: Global,
+        places: &Places,
+        form: SideForm,
+        a: &Expr,
+    ) -> Result<ExprId, NoMemory>
+        ensures { IfOk result (λ id. Emitted self.old self.new id (own1 (length self.old.nodes) (nodes_of places.now.all (scope_of self.old.scope) (length self.old.nodes) (ex_of a.now)) (Node.Side form))) }
+    {
+        let i = self.expr(alloc, places, a)?;
+        self.add(Node::Side(form, i))
+    }
+
+    /// An expression under one more name.
+    #[cycle(emit)]
+    fn under(
+        &mut self,
+        alloc: Global,
+        places: &Places,
+        x: &Txt,
+        a: &Expr,
+    ) -> Result<ExprId, NoMemory>
+        ensures { IfOk result (λ id. Emitted self.old self.new id (nodes_of places.now.all (Written x.now ∷ scope_of self.old.scope) (length self.old.nodes) (ex_of a.now))) }
+    {
+        bind(&mut self.scope, alloc, x)?;
+        let id = self.expr(alloc, places, a)?;
+        off(&mut self.scope);
+        Ok(id)
+    }
+
+    /// An expression under two more names.
+    #[cycle(emit)]
+    fn under_two(
+        &mut self,
+        alloc: Global,
+        places: &Places,
+        x: &Txt,
+        y: &Txt,
+        a: &Expr,
+    ) -> Result<ExprId, NoMemory>
+        ensures { IfOk result (λ id. Emitted self.old self.new id (nodes_of places.now.all (Written y.now ∷ Written x.now ∷ scope_of self.old.scope) (length self.old.nodes) (ex_of a.now))) }
+    {
+        bind(&mut self.scope, alloc, x)?;
+        let id = self.under(alloc, places, y, a)?;
+        off(&mut self.scope);
+        Ok(id)
+    }
+
+    /// A name, or a call.
+    #[cycle(emit)]
+    fn call(
+        &mut self,
+        alloc: Global,
+        places: &Places,
+        x: &Txt,
+        es: &Items<Expr>,
+    ) -> Result<ExprId, NoMemory>
+        ensures { IfOk result (λ id. Emitted self.old self.new id (read_nodes (slot_of (scope_of self.old.scope) (Written x.now)) (all_nodes places.now.all (scope_of self.old.scope) (length self.old.nodes) (exs_of es.now) ++ Node.Call (place_of places.now.all x.now (count (exs_of es.now)) (record { 0 = length self.old.nodes + length (all_nodes places.now.all (scope_of self.old.scope) (length self.old.nodes) (exs_of es.now)) })) (ids_of places.now.all (scope_of self.old.scope) (length self.old.nodes) (exs_of es.now)) ∷ []))) }
+    {
+        match self.slot(x) {
+            Some(k) => self.add(Node::Slot(k)),
+            None => {
+                let ids = self.all(alloc, places, es)?;
+                let body = self.place(places, x, es.len());
+                self.add(Node::Call(body, ids))
+            }
+        }
+    }
+
+    /// The items of a list.
+    #[cycle(emit)]
+    fn items(
+        &mut self,
+        alloc: Global,
+        places: &Places,
+        es: &Items<Expr>,
+    ) -> Result<ExprId, NoMemory>
+        ensures { IfOk result (λ id. Emitted self.old self.new id (all_nodes places.now.all (scope_of self.old.scope) (length self.old.nodes) (exs_of es.now) ++ Node.List (ids_of places.now.all (scope_of self.old.scope) (length self.old.nodes) (exs_of es.now)) ∷ [])) }
+    {
+        let ids = self.all(alloc, places, es)?;
+        self.add(Node::List(ids))
+    }
+
+    /// Adds the nodes of expressions in a row, and answers their numbers.
+    #[cycle(emit)]
+    pub fn all(
+        &mut self,
+        alloc: Global,
+        places: &Places,
+        es: &Items<Expr>,
+    ) -> Result<Items<ExprId>, NoMemory>
+        ensures { IfOk result (λ ids. (self.new.nodes ≡ self.old.nodes ++ all_nodes places.now.all (scope_of self.old.scope) (length self.old.nodes) (exs_of es.now)) × (self.new.scope ≡ self.old.scope) × (ids ≡ ids_of places.now.all (scope_of self.old.scope) (length self.old.nodes) (exs_of es.now))) }
+    {
+        let mut ids = Items::new(alloc);
+        'each: for e in es.as_slice() {
+            let id = self.expr(alloc, places, e)?;
+            ids.add(id)?;
+        }
+        Ok(ids)
+    }
+
+    #[cycle(emit)]
+    fn links(
+        &mut self,
+        alloc: Global,
+        places: &Places,
+        form: BinaryForm,
+        links: &Items<Link>,
+    ) -> Result<Items<NodeLink>, NoMemory>
+        ensures { IfOk result (λ ks. (self.new.nodes ≡ self.old.nodes ++ link_nodes places.now.all (scope_of self.old.scope) (length self.old.nodes) (links_of form links.now)) × (self.new.scope ≡ self.old.scope) × (ks ≡ node_links places.now.all (scope_of self.old.scope) (length self.old.nodes) (links_of form links.now))) }
+    {
+        let mut ks = Items::new(alloc);
+        'each: for link in links.as_slice() {
+            let operand = self.expr(alloc, places, &link.operand)?;
+            ks.add(NodeLink { form, operand })?;
+        }
+        Ok(ks)
+    }
+
+    #[cycle(emit)]
+    fn sum_links(
+        &mut self,
+        alloc: Global,
+        places: &Places,
+        links: &Items<SumLink>,
+    ) -> Result<Items<NodeLink>, NoMemory>
+        ensures { IfOk result (λ ks. (self.new.nodes ≡ self.old.nodes ++ link_nodes places.now.all (scope_of self.old.scope) (length self.old.nodes) (sum_links_of links.now)) × (self.new.scope ≡ self.old.scope) × (ks ≡ node_links places.now.all (scope_of self.old.scope) (length self.old.nodes) (sum_links_of links.now))) }
+    {
+        let mut ks = Items::new(alloc);
+        'each: for link in links.as_slice() {
+            let operand = self.expr(alloc, places, &link.operand)?;
+            let form = sum_form(link.op);
+            ks.add(NodeLink { form, operand })?;
+        }
+        Ok(ks)
+    }
+
+    #[cycle(emit)]
+    fn list_links(
+        &mut self,
+        alloc: Global,
+        places: &Places,
+        links: &Items<ListLink>,
+    ) -> Result<Items<NodeLink>, NoMemory>
+        ensures { IfOk result (λ ks. (self.new.nodes ≡ self.old.nodes ++ link_nodes places.now.all (scope_of self.old.scope) (length self.old.nodes) (list_links_of links.now)) × (self.new.scope ≡ self.old.scope) × (ks ≡ node_links places.now.all (scope_of self.old.scope) (length self.old.nodes) (list_links_of links.now))) }
+    {
+        let mut ks = Items::new(alloc);
+        'each: for link in links.as_slice() {
+            let operand = self.expr(alloc, places, &link.operand)?;
+            let form = cons_form(link.op);
+            ks.add(NodeLink { form, operand })?;
+        }
+        Ok(ks)
+    }
+
+    /// The arms of a `case`, after what it looks at.
+    #[cycle(emit)]
+    fn arms(
+        &mut self,
+        alloc: Global,
+        places: &Places,
+        h: ExprId,
+        arms: &ExprArms,
+    ) -> Result<ExprId, NoMemory>
+        ensures { IfOk result (λ id. Emitted self.old self.new id (arm_nodes places.now.all (scope_of self.old.scope) (length self.old.nodes) h (arms_of arms.now))) }
+    {
+        match arms {
+            ExprArms::OfMaybe(a, x, b) => {
+                let i = self.expr(alloc, places, a)?;
+                let j = self.under(alloc, places, &x.text, b)?;
+                self.add(Node::CaseMaybe(h, i, j))
+            }
+            ExprArms::OfEither(x, a, y, b) => {
+                let i = self.under(alloc, places, &x.text, a)?;
+                let j = self.under(alloc, places, &y.text, b)?;
+                self.add(Node::CaseEither(h, i, j))
+            }
+            ExprArms::OfList(a, x, y, b) => {
+                let i = self.expr(alloc, places, a)?;
+                let j = self.under_two(alloc, places, &x.text, &y.text, b)?;
+                self.add(Node::CaseList(h, i, j))
+            }
+            ExprArms::OfPair(x, y, a) => {
+                let i = self.under_two(alloc, places, &x.text, &y.text, a)?;
+                self.add(Node::CasePair(h, i))
+            }
+        }
+    }
+}
