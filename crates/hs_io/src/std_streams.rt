@@ -1,4 +1,4 @@
-ghost use Rattle.std.specs.Prelude.{None, length};
+ghost use Rattle.std.specs.Prelude.{◌≡◌, None, length};
 
 use crate::failed::Failed;
 use crate::sink::Sink;
@@ -13,7 +13,10 @@ pub struct StdSource<R> {
 }
 
 impl<R: Read> StdSource<R> {
-    pub fn new(stream: R) -> StdSource<R> {
+    /// Over a stream, before the first read.
+    pub fn new(stream: R) -> StdSource<R>
+        ensures { (result.stream ≡ stream) × (result.faults ≡ 0) }
+    {
         StdSource { stream, faults: 0 }
     }
 }
@@ -42,7 +45,10 @@ pub struct StdSink<W> {
 }
 
 impl<W: Write> StdSink<W> {
-    pub fn new(stream: W) -> StdSink<W> {
+    /// Over a stream, before the first put.
+    pub fn new(stream: W) -> StdSink<W>
+        ensures { (result.stream ≡ stream) × (result.faults ≡ 0) }
+    {
         StdSink { stream, faults: 0 }
     }
 }
