@@ -18,11 +18,14 @@ use Rattle.hs_rules.proofs.PlainRuns.{plain_runs}
 use Rattle.conc_top.specs.declared.ending.RunEnd.{RunEnd}
 use Rattle.conc_top.specs.declared.ending.RunEnd.TheVariants as end
 use Rattle.conc_top.specs.declared.ending.Refusal.{Refusal}
-use Rattle.conc_top.specs.declared.ending.Refusal.TheVariants.{TooLong, Lex, Parse, NotYet}
+use Rattle.conc_top.specs.declared.ending.Refusal.TheVariants.{TooLong, Lex, Parse, Types, NotYet}
 use Rattle.conc_top.specs.declared.ending.Ending.{Ending}
 use Rattle.conc_top.specs.declared.ending.Ending.TheVariants.{Ran, Accepted, Words, Refused, Read, Memory, Write}
 use Rattle.conc_top.specs.Answers.{script_limit, Comes, ErrorsFailed, IsDue, IsIdle, IsLeft, Keeps, OutputFailed, RunsScript, Tells}
-use Rattle.conc_top.specs.Answers.{HasLines, IsFirstFault, IsMisspelled, IsSpelled}
+use Rattle.conc_top.specs.Answers.{HasLines, IsAccepted, IsFirstFault, IsMisspelled, IsMistyped, IsSpelled}
+use Rattle.hs_types.specs.Faults as types
+use Rattle.hs_typing.specs.declared.fault.TypeFault.{TypeFault}
+use Rattle.hs_typing.specs.declared.fault.TypeFault.TheVariants as fault
 use Rattle.hs_parse.specs.Parsed.{Parsed}
 use Rattle.hs_parse.specs.declared.fault.ParseFault.{ParseFault}
 use Rattle.hs_parse.specs.declared.fault.ParseFault.TheVariants as parse
@@ -30,7 +33,7 @@ use Rattle.conc_top.specs.Lines.{HasPlace}
 use Rattle.hs_lex.specs.Answers.{IsRight}
 use Rattle.hs_lex.specs.declared.fault.LexFault.{LexFault}
 use Rattle.hs_lex.specs.declared.fault.LexFault.TheVariants as lex
-use Rattle.conc_top.specs.Outcomes.{IsJudged, WasPlayed, WasRefused}
+use Rattle.conc_top.specs.Outcomes.{IsJudged, IsToldFor, WasPlayed, WasRefused}
 
 -- ---- what is told
 
@@ -71,7 +74,7 @@ end_through (Some known) (Some left) bytes short taken end = all_left known left
 
 -- ---- a plain script ran
 
-plain_ran : (bytes : List ℕ) (s : Script) (ds : List Fn) (lines : List (List ℕ)) (history : List Entry) (output : List ℕ) → IsSpelled bytes s → ds ≡ script_of s
+plain_ran : (bytes : List ℕ) (s : Script) (ds : List Fn) (lines : List (List ℕ)) (history : List Entry) (output : List ℕ) → IsAccepted bytes s → ds ≡ script_of s
     → PlainScript ds lines → history ≡ plain_history lines → output ≡ lines_of lines → RunsScript bytes history output [] 0
 plain_ran bytes s ds lines history output spelled is plain same printed = record {
   script = ds;
@@ -126,6 +129,13 @@ refused_comes good fault before now taken (Lex f) history output is_good short c
   through = end_through before now taken short consumed end;
 }
 refused_comes good fault before now taken (Parse f) history output is_good short consumed end why none nothing = record {
+  bytes = taken;
+  left = known_left before now taken consumed end;
+  due = (is_good, (short, why));
+  kept = idle history output none nothing;
+  through = end_through before now taken short consumed end;
+}
+refused_comes good fault before now taken (Types f) history output is_good short consumed end why none nothing = record {
   bytes = taken;
   left = known_left before now taken consumed end;
   due = (is_good, (short, why));
@@ -305,6 +315,16 @@ pub given_up : (good fault : Type 0) (before now : Option (List ℕ)) (came e : 
 given_up good fault before now came e history idle_history output idle_output errors last comes has is none nothing =
     memory_comes good fault before now e idle_history idle_output (good_of good fault comes.bytes came has comes.due) is none nothing
 
+pub told_comes : (good fault : Type 0) (before now : Option (List ℕ)) (came told : Ending) (history told_history : List Entry) (output told_output : List ℕ)
+    → Comes good fault before now came history output [] 0 → IsToldFor came history output told told_history told_output
+    → Comes good fault before now told told_history told_output [] 0
+told_comes good fault before now came told history told_history output told_output comes (inl same) =
+    subst (λ o. Comes good fault before now told told_history o [] 0) (sym same.2)
+    (subst (λ h. Comes good fault before now told h output [] 0) (sym same.1)
+    (subst (λ e. Comes good fault before now e history output [] 0) (sym same.0) comes))
+told_comes good fault before now came told history told_history output told_output comes (inr none) =
+    given_up good fault before now came told history told_history output told_output [] 0 comes none.0 none.1 none.2 none.3
+
 -- ---- the lexer's answer
 
 pub first_fault : (bytes : List ℕ) (f : LexFault) → (f ≡ lex.NoMemory → ⊥) → IsRight bytes (Err f) → IsFirstFault f bytes
@@ -320,3 +340,8 @@ pub misspelled : (bytes : List ℕ) (tokens : Tokens) (f : ParseFault) → (f �
 misspelled bytes tokens (parse.Unexpected at) other has parsed = (tokens, has, parsed)
 misspelled bytes tokens (parse.Deep at) other has parsed = (tokens, has, parsed)
 misspelled bytes tokens parse.NoMemory other has parsed = absurd (other refl)
+
+-- ---- the checker's answer
+
+pub mistyped : (bytes : List ℕ) (s : Script) (f : TypeFault) → (f ≡ fault.NoMemory → ⊥) → IsSpelled bytes s → types.Refused f s → IsMistyped f bytes
+mistyped bytes s f other spelled refused = (s, spelled, refused, other)

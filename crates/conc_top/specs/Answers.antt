@@ -14,13 +14,17 @@ use Rattle.hs_rules.specs.declared.token.Tokens.{Tokens}
 use Rattle.hs_rules.specs.Tokens.{HasTokens, LexesTo, NotUtf8, Faulty, BadChar, OpenText, BigNumber}
 use Rattle.hs_lex.specs.declared.fault.LexFault.{LexFault}
 use Rattle.hs_lex.specs.declared.fault.LexFault.TheVariants as lex
+use Rattle.hs_rules.specs.TypingScripts as typing
 use Rattle.hs_parse.specs.Parsed.{Parsed}
 use Rattle.hs_parse.specs.declared.fault.ParseFault.{ParseFault}
 use Rattle.hs_parse.specs.declared.fault.ParseFault.TheVariants as parse
+use Rattle.hs_types.specs.Faults as types
+use Rattle.hs_typing.specs.declared.fault.TypeFault.{TypeFault}
+use Rattle.hs_typing.specs.declared.fault.TypeFault.TheVariants as fault
 use Rattle.conc_top.specs.declared.ending.RunEnd.{RunEnd}
 use Rattle.conc_top.specs.declared.ending.RunEnd.TheVariants as end
 use Rattle.conc_top.specs.declared.ending.Refusal.{Refusal}
-use Rattle.conc_top.specs.declared.ending.Refusal.TheVariants.{TooLong, Lex, Parse, NotYet}
+use Rattle.conc_top.specs.declared.ending.Refusal.TheVariants.{TooLong, Lex, Parse, Types, NotYet}
 use Rattle.conc_top.specs.declared.ending.Ending.{Ending}
 use Rattle.conc_top.specs.declared.ending.Ending.TheVariants.{Ran, Accepted, Words, Refused, Read, Memory, Write}
 
@@ -40,13 +44,17 @@ depth_limit = 200
 abbrev pub IsSpelled : List ℕ → Script → Type 0
 IsSpelled bytes s = (tokens : Tokens) × HasTokens bytes tokens × SpellsWithin depth_limit s tokens.list
 
+-- These bytes are this script, which the typing rules accept.
+abbrev pub IsAccepted : List ℕ → Script → Type 0
+IsAccepted bytes s = IsSpelled bytes s × typing.Accepted s
+
 -- These bytes are a plain script with these lines.
 abbrev pub HasLines : List ℕ → List (List ℕ) → Type 0
-HasLines bytes lines = (s : Script) × IsSpelled bytes s × PlainScript (script_of s) lines
+HasLines bytes lines = (s : Script) × IsAccepted bytes s × PlainScript (script_of s) lines
 
--- These bytes are this script, which can be run: a plain one.
+-- These bytes are this script, which can be run: an accepted and plain one.
 abbrev pub IsScript : List ℕ → List Fn → Type 0
-IsScript bytes ds = (s : Script) × IsSpelled bytes s × (ds ≡ script_of s) × (lines : List (List ℕ)) × PlainScript ds lines
+IsScript bytes ds = (s : Script) × IsAccepted bytes s × (ds ≡ script_of s) × (lines : List (List ℕ)) × PlainScript ds lines
 
 -- ---- when each answer comes
 
@@ -68,14 +76,19 @@ IsParseFault parse.NoMemory tokens = ⊥
 abbrev pub IsMisspelled : ParseFault → List ℕ → Type 0
 IsMisspelled fault bytes = (tokens : Tokens) × HasTokens bytes tokens × IsParseFault fault tokens
 
--- the bytes are a script, and no plain one
+-- the bytes are a script that breaks a typing rule: the one that is named comes before all others; want of memory is none
+abbrev pub IsMistyped : TypeFault → List ℕ → Type 0
+IsMistyped f bytes = (s : Script) × IsSpelled bytes s × types.Refused f s × (f ≡ fault.NoMemory → ⊥)
+
+-- the bytes are an accepted script, and no plain one
 abbrev pub IsNotYet : List ℕ → Type 0
-IsNotYet bytes = (s : Script) × IsSpelled bytes s × ((lines : List (List ℕ)) → PlainScript (script_of s) lines → ⊥)
+IsNotYet bytes = (s : Script) × IsAccepted bytes s × ((lines : List (List ℕ)) → PlainScript (script_of s) lines → ⊥)
 
 abbrev pub IsRefused : Refusal → List ℕ → Type 0
 IsRefused TooLong bytes = script_limit < length bytes
 IsRefused (Lex fault) bytes = (length bytes ≤ script_limit) × IsFirstFault fault bytes
 IsRefused (Parse fault) bytes = (length bytes ≤ script_limit) × IsMisspelled fault bytes
+IsRefused (Types f) bytes = (length bytes ≤ script_limit) × IsMistyped f bytes
 IsRefused NotYet bytes = (length bytes ≤ script_limit) × IsNotYet bytes
 
 -- what a run has ended with; a plain script always ends by a value

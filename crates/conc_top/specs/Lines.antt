@@ -6,6 +6,8 @@ use Rattle.hs_lex.specs.declared.fault.LexFault.{LexFault}
 use Rattle.hs_lex.specs.declared.fault.LexFault.TheVariants as lex
 use Rattle.hs_parse.specs.declared.fault.ParseFault.{ParseFault}
 use Rattle.hs_parse.specs.declared.fault.ParseFault.TheVariants as parse
+use Rattle.hs_typing.specs.declared.fault.TypeFault.{TypeFault}
+use Rattle.hs_typing.specs.declared.fault.TypeFault.TheVariants as types
 use Rattle.hs_rules.specs.Primitives.{line_feed}
 use Rattle.hs_rules.specs.Endings.{limit_line, memory_line}
 use Rattle.conc_top.specs.declared.ending.RunEnd.{RunEnd}
@@ -63,10 +65,26 @@ parse_line (parse.Deep at) = placed_line (codes "Deep") at
 -- this one is no refusal
 parse_line parse.NoMemory = memory_line
 
+-- the missing `main` is shown at the first place
+abbrev pub types_line : TypeFault → List ℕ
+types_line (types.Twice at) = placed_line (codes "Twice") at
+types_line (types.Unknown at) = placed_line (codes "Unknown") at
+types_line (types.Kind at) = placed_line (codes "Kind") at
+types_line (types.Forward at) = placed_line (codes "Forward") at
+types_line (types.Arity at want got) = placed_line (codes "Arity") at
+types_line (types.Mismatch at want got) = placed_line (codes "Mismatch") at
+types_line (types.Scope at) = placed_line (codes "Scope") at
+types_line (types.Wide at) = placed_line (codes "Wide") at
+types_line (types.Large at) = placed_line (codes "Large") at
+types_line types.NoMain = codes "refused: NoMain at 1:1" ++ line_feed
+-- this one is no refusal
+types_line types.NoMemory = memory_line
+
 abbrev pub refusal_line : Refusal → List ℕ
 refusal_line refusal.TooLong = codes "refused: TooLong" ++ line_feed
 refusal_line (refusal.Lex fault) = lex_line fault
 refusal_line (refusal.Parse fault) = parse_line fault
+refusal_line (refusal.Types fault) = types_line fault
 refusal_line refusal.NotYet = codes "refused: NotYet" ++ line_feed
 
 -- the line that goes to the error sink, or nothing
@@ -79,11 +97,37 @@ line_of Memory = memory_line
 line_of Read = codes "read fault" ++ line_feed
 line_of Write = []
 
--- the line has a place in it
+-- the line has a place in it; that of a missing `main` is the same text each time
+abbrev pub PlacesLexFault : LexFault → Type 0
+PlacesLexFault (lex.NotUtf8 at) = ⊤
+PlacesLexFault (lex.BadChar at) = ⊤
+PlacesLexFault (lex.OpenText at) = ⊤
+PlacesLexFault (lex.BigNumber at) = ⊤
+PlacesLexFault lex.NoMemory = ⊥
+
+abbrev pub PlacesParseFault : ParseFault → Type 0
+PlacesParseFault (parse.Unexpected at) = ⊤
+PlacesParseFault (parse.Deep at) = ⊤
+PlacesParseFault parse.NoMemory = ⊥
+
+abbrev pub PlacesTypeFault : TypeFault → Type 0
+PlacesTypeFault (types.Twice at) = ⊤
+PlacesTypeFault (types.Unknown at) = ⊤
+PlacesTypeFault (types.Kind at) = ⊤
+PlacesTypeFault (types.Forward at) = ⊤
+PlacesTypeFault (types.Arity at want got) = ⊤
+PlacesTypeFault (types.Mismatch at want got) = ⊤
+PlacesTypeFault (types.Scope at) = ⊤
+PlacesTypeFault (types.Wide at) = ⊤
+PlacesTypeFault (types.Large at) = ⊤
+PlacesTypeFault types.NoMain = ⊥
+PlacesTypeFault types.NoMemory = ⊥
+
 abbrev pub RefusesAPlace : Refusal → Type 0
 RefusesAPlace refusal.TooLong = ⊥
-RefusesAPlace (refusal.Lex fault) = ⊤
-RefusesAPlace (refusal.Parse fault) = ⊤
+RefusesAPlace (refusal.Lex fault) = PlacesLexFault fault
+RefusesAPlace (refusal.Parse fault) = PlacesParseFault fault
+RefusesAPlace (refusal.Types fault) = PlacesTypeFault fault
 RefusesAPlace refusal.NotYet = ⊥
 
 abbrev pub HasPlace : Ending → Type 0

@@ -1,12 +1,13 @@
 -- What the steps of the top call come to.
-use Rattle.std.specs.Prelude.{◌≡◌, ℕ, List, []}
+use Rattle.std.specs.Prelude.{◌≡◌, ◌⊎◌, ℕ, List, []}
 use Rattle.hs_rules.specs.declared.entry.Entry.{Entry}
-use Rattle.conc_top.specs.Answers.{HasLines, IsFirstFault, IsMisspelled, IsNotYet}
+use Rattle.conc_top.specs.Answers.{HasLines, IsFirstFault, IsMisspelled, IsMistyped, IsNotYet}
 use Rattle.hs_rules.specs.PlainScripts.{lines_of, plain_history}
+use Rattle.conc_top.specs.Lines.{HasPlace}
 use Rattle.conc_top.specs.declared.ending.RunEnd.{RunEnd}
 use Rattle.conc_top.specs.declared.ending.RunEnd.TheVariants as end
 use Rattle.conc_top.specs.declared.ending.Refusal.{Refusal}
-use Rattle.conc_top.specs.declared.ending.Refusal.TheVariants.{TooLong, Lex, Parse, NotYet}
+use Rattle.conc_top.specs.declared.ending.Refusal.TheVariants.{TooLong, Lex, Parse, Types, NotYet}
 use Rattle.conc_top.specs.declared.ending.Ending.{Ending}
 use Rattle.conc_top.specs.declared.ending.Ending.TheVariants.{Ran, Accepted, Words, Refused, Read, Memory, Write}
 
@@ -19,6 +20,7 @@ abbrev pub WasRefused : Refusal → List ℕ → Type 0
 WasRefused TooLong bytes = ⊥
 WasRefused (Lex fault) bytes = IsFirstFault fault bytes
 WasRefused (Parse fault) bytes = IsMisspelled fault bytes
+WasRefused (Types fault) bytes = IsMistyped fault bytes
 WasRefused NotYet bytes = IsNotYet bytes
 
 -- what is made of the bytes of a script
@@ -30,3 +32,8 @@ IsJudged Accepted bytes history output = ⊥
 IsJudged Words bytes history output = ⊥
 IsJudged Read bytes history output = ⊥
 IsJudged Write bytes history output = ⊥
+
+-- what is told in place of an outcome: the same, or want of memory where its line has a place in it
+abbrev pub IsToldFor : (came : Ending) (history : List Entry) (output : List ℕ) (told : Ending) (told_history : List Entry) (told_output : List ℕ) → Type 0
+IsToldFor came history output told told_history told_output =
+    ((told ≡ came) × (told_history ≡ history) × (told_output ≡ output)) ⊎ (HasPlace came × (told ≡ Memory) × (told_history ≡ []) × (told_output ≡ []))

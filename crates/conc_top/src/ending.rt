@@ -1,10 +1,11 @@
 ghost use Rattle.std.specs.Prelude.{◌≡◌, IfOk, OnErr};
-ghost use Rattle.conc_top.specs.Lines.{HasPlace, line_of, placed_line, refusal_line, RefusesAPlace, run_line, run_status, status_of, text_of};
+ghost use Rattle.conc_top.specs.Lines.{HasPlace, line_of, placed_line, PlacesTypeFault, refusal_line, RefusesAPlace, run_line, run_status, status_of, text_of, types_line};
 
 use hs_base::{NoMemory, Pos};
 use hs_lex::LexFault;
 use hs_parse::ParseFault;
 use hs_rules::{Entry, History, LimitKind};
+use hs_types::TypeFault;
 use std::alloc::Global;
 
 /// The line of the ending `Memory`.
@@ -38,7 +39,9 @@ pub enum Refusal {
     Lex(LexFault),
     /// The tokens are no script.
     Parse(ParseFault),
-    /// Not a plain script.
+    /// The script breaks a typing rule.
+    Types(TypeFault),
+    /// An accepted script, but no plain one.
     NotYet,
 }
 
@@ -170,7 +173,27 @@ impl Refusal {
             Refusal::Parse(ParseFault::Unexpected(at)) => line_at(alloc, "Unexpected", *at),
             Refusal::Parse(ParseFault::Deep(at)) => line_at(alloc, "Deep", *at),
             Refusal::Parse(ParseFault::NoMemory) => Ok(Line::Fixed(OUT_OF_MEMORY)),
+            Refusal::Types(fault) => types_line(alloc, fault),
         }
+    }
+}
+
+fn types_line(alloc: Global, fault: &TypeFault) -> Result<Line, NoMemory>
+    ensures line { IfOk result (λ line. text_of line ≡ types_line fault.now) }
+    ensures err { OnErr result (PlacesTypeFault fault.now) }
+{
+    match fault {
+        TypeFault::Twice(at) => line_at(alloc, "Twice", *at),
+        TypeFault::Unknown(at) => line_at(alloc, "Unknown", *at),
+        TypeFault::Kind(at) => line_at(alloc, "Kind", *at),
+        TypeFault::Forward(at) => line_at(alloc, "Forward", *at),
+        TypeFault::Arity { pos, .. } => line_at(alloc, "Arity", *pos),
+        TypeFault::Mismatch { pos, .. } => line_at(alloc, "Mismatch", *pos),
+        TypeFault::Scope(at) => line_at(alloc, "Scope", *at),
+        TypeFault::Wide(at) => line_at(alloc, "Wide", *at),
+        TypeFault::Large(at) => line_at(alloc, "Large", *at),
+        TypeFault::NoMain => Ok(Line::Fixed("refused: NoMain at 1:1\n")),
+        TypeFault::NoMemory => Ok(Line::Fixed(OUT_OF_MEMORY)),
     }
 }
 

@@ -7,9 +7,11 @@
 //! ending. Which bytes a real stream gives or takes is left to `hs_io`, and what a run is to `hs_rules`.
 //!
 //! Only plain scripts run yet (`hs_rules/specs/PlainScripts`): the bytes have to have tokens (`hs_lex`) that spell a script
-//! (`hs_parse`), and `plain` reads the lines from its tree.
+//! (`hs_parse`) which the typing rules accept (`hs_types`), and `plain` reads the lines from its tree.
 #![tactic(auto)]
 
+#[cfg(test)]
+mod code_tests;
 mod ending;
 #[cfg(test)]
 mod grammar_tests;
@@ -19,6 +21,8 @@ mod play;
 #[cfg(test)]
 mod tests;
 mod top;
+#[cfg(test)]
+mod types_tests;
 
 pub use ending::{Done, Ending, Refusal, RunEnd};
 pub use top::run;

@@ -1,5 +1,5 @@
-use crate::{Ending, RunEnd, run};
-use hs_io::{MemSink, MemSource, NullSink, OpenGate, PlainSource, VirtualClock};
+use crate::{Done, Ending, RunEnd, run};
+use hs_io::{MemSink, MemSource, NullSink, OpenGate, PlainSource, Source, VirtualClock};
 use hs_rules::Entry;
 use std::alloc::Global;
 use std::test::Fail;
@@ -10,37 +10,76 @@ const TWO: &[u8] = b"main :: IO () = { putStrLn \"a\"; putStrLn \"b\" };";
 
 const THREE: &[u8] = b"main :: IO () = { putStrLn \"a\"; putStrLn \"b\"; putStrLn \"c\" };";
 
-/// What a call left: output, error output, status, steps and entries.
+/// The endings that the rows tell apart.
+#[derive(Clone, Copy, Debug, PartialEq, Eq)]
+pub enum Kind {
+    Done,
+    Words,
+    Write,
+    Other,
+}
+
+/// What a call left: output, error output, status, the kind of its ending, steps and entries.
 #[derive(Debug, Drop)]
 pub struct Left {
     pub out: Vec<u8>,
     pub err: Vec<u8>,
     pub status: u8,
+    pub kind: Kind,
     pub steps: u64,
     pub entries: usize,
 }
 
-pub fn run_on(alloc: Global, script: &[u8]) -> Result<Left, Fail> {
-    let words = [String::from_str(alloc, "run")?];
-    let mut source = PlainSource::of(alloc, script)?;
-    let out = MemSink::of(alloc, 100_000, &[])?;
-    let err = MemSink::of(alloc, 100, &[])?;
-    let done = run(
+fn kind_of(ending: Ending) -> Kind {
+    match &ending {
+        Ending::Ran(RunEnd::Done) => Kind::Done,
+        Ending::Words => Kind::Words,
+        Ending::Write => Kind::Write,
+        _ => Kind::Other,
+    }
+}
+
+/// A call over sinks in memory: the output's has these failing puts, the error output's has so much room.
+fn run_over<S: Source>(
+    alloc: Global,
+    words: &[String],
+    source: &mut S,
+    failing: &[(u32, u32)],
+    room: usize,
+) -> Result<Left, Fail> {
+    let out = MemSink::of(alloc, 100_000, failing)?;
+    let err = MemSink::of(alloc, room, &[])?;
+    let Done {
+        status,
+        ending,
+        history,
+        out,
+        err,
+        clock: _,
+    } = run(
         alloc,
-        &words,
-        &mut source,
+        words,
+        source,
         out,
         err,
         VirtualClock::new(),
         &OpenGate,
     );
+    let kind = kind_of(ending);
     Ok(Left {
-        out: done.out.told().to_vec(alloc)?,
-        err: done.err.told().to_vec(alloc)?,
-        status: done.status,
-        steps: done.history.steps(),
-        entries: done.history.len(),
+        out: out.told().to_vec(alloc)?,
+        err: err.told().to_vec(alloc)?,
+        status,
+        kind,
+        steps: history.steps(),
+        entries: history.len(),
     })
+}
+
+pub fn run_on(alloc: Global, script: &[u8]) -> Result<Left, Fail> {
+    let words = [String::from_str(alloc, "run")?];
+    let mut source = PlainSource::of(alloc, script)?;
+    run_over(alloc, &words, &mut source, &[], 100)
 }
 
 #[test]
@@ -54,7 +93,7 @@ fn scripts_and_refusals(rt: HostRuntime) -> Result<(), Fail> {
         (TWO, "a\nb\n", "", 0, 7, 5),
         (THREE, "a\nb\nc\n", "", 0, 11, 7),
         (b"main::IO()={putStrLn\"\";}\t;\r\n", "\n", "", 0, 3, 3),
-        (b"", "", "refused: NotYet\n", 3, 0, 0),
+        (b"", "", "refused: NoMain at 1:1\n", 3, 0, 0),
         (
             b"main :: IO () = {",
             "",
@@ -65,7 +104,7 @@ fn scripts_and_refusals(rt: HostRuntime) -> Result<(), Fail> {
         ),
         (&deep, "", "refused: Deep at 1:227\n", 3, 0, 0),
         (&spaces, "", "refused: TooLong\n", 3, 0, 0),
-        (&spaces[1..], "", "refused: NotYet\n", 3, 0, 0),
+        (&spaces[1..], "", "refused: NoMain at 1:1\n", 3, 0, 0),
         (
             b"main :: IO () = { putStrLn \"hel",
             "",
@@ -117,7 +156,14 @@ fn hello_keeps_its_history(rt: HostRuntime) -> Result<(), Fail> {
     let words = [String::from_str(alloc, "run")?];
     // In pieces of one byte, over a sink that tells nothing.
     let mut source = MemSource::of(alloc, HELLO, 1, &[])?;
-    let done = run(
+    let Done {
+        status: _,
+        ending,
+        history,
+        out: _,
+        err: _,
+        clock: _,
+    } = run(
         alloc,
         &words,
         &mut source,
@@ -126,11 +172,11 @@ fn hello_keeps_its_history(rt: HostRuntime) -> Result<(), Fail> {
         VirtualClock::new(),
         &OpenGate,
     );
-    assert!(rt; matches!(&done.ending, Ending::Ran(RunEnd::Done)));
-    assert_eq!(rt; done.history.at(0), Some(Entry::Local { t: 0, k: 1 }));
-    assert_eq!(rt; done.history.at(1), Some(Entry::Op { t: 0 }));
-    assert_eq!(rt; done.history.at(2), Some(Entry::Finish { t: 0 }));
-    assert_eq!(rt; done.history.at(3), None);
+    assert_eq!(rt; kind_of(ending), Kind::Done);
+    assert_eq!(rt; history.at(0), Some(Entry::Local { t: 0, k: 1 }));
+    assert_eq!(rt; history.at(1), Some(Entry::Op { t: 0 }));
+    assert_eq!(rt; history.at(2), Some(Entry::Finish { t: 0 }));
+    assert_eq!(rt; history.at(3), None);
     Ok(())
 }
 
@@ -140,31 +186,13 @@ fn words_come_before_reading(rt: HostRuntime) -> Result<(), Fail> {
     let mut source = MemSource::of(alloc, HELLO, 8, &[])?;
     for word in ["walk", "Run", "run "] {
         let words = [String::from_str(alloc, word)?];
-        let err = MemSink::of(alloc, 100, &[])?;
-        let done = run(
-            alloc,
-            &words,
-            &mut source,
-            NullSink,
-            err,
-            VirtualClock::new(),
-            &OpenGate,
-        );
-        assert_eq!(rt; done.err.told(), b"words not understood\n".as_slice());
-        assert_eq!(rt; done.status, 2);
+        let left = run_over(alloc, &words, &mut source, &[], 100)?;
+        assert_eq!(rt; left.err.as_slice(), b"words not understood\n".as_slice());
+        assert_eq!(rt; left.status, 2);
     }
-    let err = MemSink::of(alloc, 100, &[])?;
-    let done = run(
-        alloc,
-        &[],
-        &mut source,
-        NullSink,
-        err,
-        VirtualClock::new(),
-        &OpenGate,
-    );
-    assert!(rt; matches!(&done.ending, Ending::Words));
-    assert_eq!(rt; done.err.told(), b"words not understood\n".as_slice());
+    let left = run_over(alloc, &[], &mut source, &[], 100)?;
+    assert_eq!(rt; left.kind, Kind::Words);
+    assert_eq!(rt; left.err.as_slice(), b"words not understood\n".as_slice());
     Ok(())
 }
 
@@ -174,49 +202,21 @@ fn faults_end_the_call(rt: HostRuntime) -> Result<(), Fail> {
     let words = [String::from_str(alloc, "run")?];
 
     let mut source = MemSource::of(alloc, THREE, 8, &[2])?;
-    let out = MemSink::of(alloc, 100, &[])?;
-    let err = MemSink::of(alloc, 100, &[])?;
-    let done = run(
-        alloc,
-        &words,
-        &mut source,
-        out,
-        err,
-        VirtualClock::new(),
-        &OpenGate,
-    );
-    assert_eq!(rt; done.out.told(), b"".as_slice());
-    assert_eq!(rt; done.err.told(), b"read fault\n".as_slice());
-    assert_eq!(rt; done.status, 7);
-    assert!(rt; done.history.is_empty());
+    let left = run_over(alloc, &words, &mut source, &[], 100)?;
+    assert_eq!(rt; left.out.as_slice(), b"".as_slice());
+    assert_eq!(rt; left.err.as_slice(), b"read fault\n".as_slice());
+    assert_eq!(rt; left.status, 7);
+    assert_eq!(rt; left.entries, 0);
 
     let mut source = PlainSource::of(alloc, THREE)?;
-    let out = MemSink::of(alloc, 100, &[(1, 3)])?;
-    let done = run(
-        alloc,
-        &words,
-        &mut source,
-        out,
-        NullSink,
-        VirtualClock::new(),
-        &OpenGate,
-    );
-    assert_eq!(rt; done.out.told(), b"a\nb".as_slice());
-    assert_eq!(rt; done.status, 8);
+    let left = run_over(alloc, &words, &mut source, &[(1, 3)], 100)?;
+    assert_eq!(rt; left.out.as_slice(), b"a\nb".as_slice());
+    assert_eq!(rt; left.status, 8);
 
     let mut source = PlainSource::of(alloc, b"")?;
-    let err = MemSink::of(alloc, 4, &[])?;
-    let done = run(
-        alloc,
-        &words,
-        &mut source,
-        NullSink,
-        err,
-        VirtualClock::new(),
-        &OpenGate,
-    );
-    assert_eq!(rt; done.err.told(), b"refu".as_slice());
-    assert!(rt; matches!(&done.ending, Ending::Write));
+    let left = run_over(alloc, &words, &mut source, &[], 4)?;
+    assert_eq!(rt; left.err.as_slice(), b"refu".as_slice());
+    assert_eq!(rt; left.kind, Kind::Write);
     Ok(())
 }
 

@@ -3,12 +3,12 @@ ghost use Rattle.std.specs.Io.KnownBytes.{Appends};
 ghost use Rattle.hs_io.specs.Causes.{HasCause, Rose};
 ghost use Rattle.hs_io.specs.Outside.{Puts};
 ghost use Rattle.conc_top.specs.declared.ending.Ending.{Ending};
-ghost use Rattle.conc_top.specs.declared.ending.Ending.TheVariants.{Write};
+ghost use Rattle.conc_top.specs.declared.ending.Ending.TheVariants.{Memory, Write};
 ghost use Rattle.conc_top.specs.Answers.{AreGood, Comes, ErrorsFailed, IsDue, IsLeft, OutputFailed, script_limit, Tells, WasToldNothing};
-ghost use Rattle.conc_top.specs.Lines.{line_of, status_of};
-ghost use Rattle.conc_top.specs.Outcomes.{IsJudged};
+ghost use Rattle.conc_top.specs.Lines.{line_of, status_of, text_of};
+ghost use Rattle.conc_top.specs.Outcomes.{IsJudged, IsToldFor};
 
-use crate::ending::{Done, Ending, OUT_OF_MEMORY, Refusal, RunEnd};
+use crate::ending::{Done, Ending, Line, OUT_OF_MEMORY, Refusal, RunEnd};
 use crate::input::{Input, read_input};
 use crate::plain::plain_lines;
 use crate::play::play;
@@ -16,6 +16,7 @@ use hs_io::{Clock, Failed, Gate, Sink, Source};
 use hs_lex::{LexFault, lex};
 use hs_parse::{ParseFault, parse};
 use hs_rules::History;
+use hs_types::{TypeFault, check};
 use std::alloc::Global;
 
 /// Does all that the program does: reads the words, reads the script from the source, runs it, and tells what it
@@ -56,16 +57,8 @@ pub fn run<S: Source, O: Sink, E: Sink, K: Clock, G: Gate>(
     ensures clock { result.clock ≡ clock }
 {
     let outcome = come_to(alloc, words, source);
-    match outcome.ending.line(alloc) {
-        Ok(line) => tell(outcome, line.as_str(), out, err, clock),
-        Err(_) => tell(
-            Outcome::idle(alloc, Ending::Memory),
-            OUT_OF_MEMORY,
-            out,
-            err,
-            clock,
-        ),
-    }
+    let (outcome, line) = with_line(alloc, outcome);
+    tell(outcome, line.as_str(), out, err, clock)
 }
 
 /// What a call comes to before it tells anything.
@@ -88,6 +81,37 @@ impl Outcome {
             history: History::new(alloc),
             output: Vec::new(alloc),
         }
+    }
+}
+
+// The outcome and its line, or want of memory where there is none for a line with a place in it.
+fn with_line(alloc: Global, outcome: Outcome) -> (Outcome, Line)
+    ensures line { text_of result.1 ≡ line_of result.0.ending }
+    ensures outcome { IsToldFor outcome.ending outcome.history outcome.output.items result.0.ending result.0.history result.0.output.items }
+{
+    match outcome.ending.line(alloc) {
+        Ok(line) => (outcome, line),
+        Err(_) => (memory_for(alloc, outcome), Line::Fixed(OUT_OF_MEMORY)),
+    }
+}
+
+// Want of memory in place of an outcome, which is let go.
+fn memory_for(alloc: Global, _outcome: Outcome) -> Outcome
+    ensures ending { result.ending ≡ Memory }
+    ensures history { result.history ≡ [] }
+    ensures output { result.output.items ≡ [] }
+{
+    Outcome::idle(alloc, Ending::Memory)
+}
+
+// The ending, or Write after a failed put.
+fn after_put(ending: Ending, put: Result<(), Failed>) -> Ending
+    ensures ok { OnOk put (result ≡ ending) }
+    ensures failed { OnErr put (result ≡ Write) }
+{
+    match put {
+        Ok(()) => ending,
+        Err(Failed) => Ending::Write,
     }
 }
 
@@ -132,7 +156,12 @@ fn judge(alloc: Global, bytes: &[u8]) -> Outcome
         Err(ParseFault::NoMemory) => return Outcome::idle(alloc, Ending::Memory),
         Err(fault) => return Outcome::idle(alloc, Ending::Refused(Refusal::Parse(fault))),
     };
-    let lines = match plain_lines(alloc, &script) {
+    let checked = match check(alloc, script) {
+        Ok(checked) => checked,
+        Err(TypeFault::NoMemory) => return Outcome::idle(alloc, Ending::Memory),
+        Err(fault) => return Outcome::idle(alloc, Ending::Refused(Refusal::Types(fault))),
+    };
+    let lines = match plain_lines(alloc, checked.script()) {
         Ok(Some(lines)) => lines,
         Ok(None) => return Outcome::idle(alloc, Ending::Refused(Refusal::NotYet)),
         Err(_) => return Outcome::idle(alloc, Ending::Memory),
@@ -168,10 +197,8 @@ fn tell<O: Sink, E: Sink, K: Clock>(
         history,
         output,
     } = come;
-    let ending = match put_both(&mut out, &mut err, &output, line.as_bytes()) {
-        Ok(()) => ending,
-        Err(Failed) => Ending::Write,
-    };
+    let put = put_both(&mut out, &mut err, &output, line.as_bytes());
+    let ending = after_put(ending, put);
     Done {
         status: ending.status(),
         ending,
