@@ -8,13 +8,13 @@ use Rattle.std.proofs.Math.Seq.{drop-append_seam}
 use Rattle.hs_io.specs.Causes.{HasCause, Rose}
 use Rattle.hs_io.specs.Outside.{Puts}
 use Rattle.hs_rules.specs.declared.entry.Entry.{Entry}
-use Rattle.hs_rules.specs.declared.token.Tokens.{Tokens}
-use Rattle.hs_rules.specs.Tokens.{HasTokens}
+use Rattle.rules_tokens.specs.declared.token.Tokens.{Tokens}
+use Rattle.rules_tokens.specs.Tokens.{HasTokens}
 use Rattle.hs_base.specs.declared.tree.script.Script.{Script}
-use Rattle.hs_rules.specs.Programs.{Fn, script_of}
-use Rattle.hs_rules.specs.PlainScripts.{PlainScript, plain_history, lines_of, plain_end}
+use Rattle.rules_trees.specs.Programs.{Fn, script_of}
+use Rattle.conc_top.specs.PlainScripts.{PlainScript, plain_history, lines_of, plain_end}
 use Rattle.hs_rules.specs.Runs.{after}
-use Rattle.hs_rules.proofs.PlainRuns.{plain_runs}
+use Rattle.conc_top.proofs.PlainRuns.{plain_runs}
 use Rattle.conc_top.specs.declared.ending.RunEnd.{RunEnd}
 use Rattle.conc_top.specs.declared.ending.RunEnd.TheVariants as end
 use Rattle.conc_top.specs.declared.ending.Refusal.{Refusal}

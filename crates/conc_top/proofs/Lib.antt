@@ -1,2 +1,3 @@
 pub mod PlainTrees
 pub mod Answered
+pub mod PlainRuns

@@ -12,12 +12,12 @@ use Rattle.hs_base.specs.declared.tree.ty.Written.{Written}
 use Rattle.hs_base.specs.declared.tree.script.Param.{Param}
 use Rattle.hs_base.specs.declared.tree.script.Body.TheVariants as y
 use Rattle.hs_base.specs.declared.tree.script.Def.{Def}
-use Rattle.hs_rules.specs.Trees.{Ex, lit, letters, T, ty_of, unit}
-use Rattle.hs_rules.specs.declared.forms.UnaryAction.TheVariants as unary
-use Rattle.hs_rules.specs.Programs.{Act, act_of, Bd, bd_of, Bl, bl_of, Fn, fn_of, Par, par_of, script_of, io_body, pure_body, rest_of, stmt_of, then, last, unary_act}
-use Rattle.hs_rules.specs.PlainScripts.{main_script, PlainBlock, plain_last, plain_then, PlainScript, plain_script, PutsLine, puts_line}
+use Rattle.rules_trees.specs.Trees.{Ex, lit, letters, T, ty_of, unit}
+use Rattle.rules_trees.specs.declared.forms.UnaryAction.TheVariants as unary
+use Rattle.rules_trees.specs.Programs.{Act, act_of, Bd, bd_of, Bl, bl_of, Fn, fn_of, Par, par_of, script_of, io_body, pure_body, rest_of, stmt_of, then, last, unary_act}
+use Rattle.conc_top.specs.PlainScripts.{main_script, PlainBlock, plain_last, plain_then, PlainScript, plain_script, PutsLine, puts_line}
 use Rattle.conc_top.specs.Reading.{HasHeadOfMain, main_fn}
-use Rattle.hs_rules.proofs.EquationsOfActions.{bl_is, stmt-Bind, stmt-Let, stmt-Do}
+use Rattle.rules_trees.proofs.EquationsOfActions.{bl_is, stmt-Bind, stmt-Let, stmt-Do}
 
 -- ---- a literal that is put
 

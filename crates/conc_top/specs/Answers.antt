@@ -4,17 +4,17 @@ use Rattle.std.specs.Io.KnownBytes.{Appends}
 use Rattle.hs_io.specs.Causes.{Rose}
 use Rattle.hs_rules.specs.declared.entry.Entry.{Entry}
 use Rattle.hs_base.specs.declared.tree.script.Script.{Script}
-use Rattle.hs_rules.specs.Grammar.{SpellsWithin}
-use Rattle.hs_rules.specs.Programs.{Fn, script_of}
-use Rattle.hs_rules.specs.PlainScripts.{PlainScript}
+use Rattle.rules_grammar.specs.Grammar.{SpellsWithin}
+use Rattle.rules_trees.specs.Programs.{Fn, script_of}
+use Rattle.conc_top.specs.PlainScripts.{PlainScript}
 use Rattle.hs_rules.specs.State.{State}
 use Rattle.hs_rules.specs.Runs.{IsRun}
 use Rattle.hs_rules.specs.Endings.{IsDone}
-use Rattle.hs_rules.specs.declared.token.Tokens.{Tokens}
-use Rattle.hs_rules.specs.Tokens.{HasTokens, LexesTo, NotUtf8, Faulty, BadChar, OpenText, BigNumber}
+use Rattle.rules_tokens.specs.declared.token.Tokens.{Tokens}
+use Rattle.rules_tokens.specs.Tokens.{HasTokens, LexesTo, NotUtf8, Faulty, BadChar, OpenText, BigNumber}
 use Rattle.hs_lex.specs.declared.fault.LexFault.{LexFault}
 use Rattle.hs_lex.specs.declared.fault.LexFault.TheVariants as lex
-use Rattle.hs_rules.specs.TypingScripts as typing
+use Rattle.rules_typing.specs.TypingScripts as typing
 use Rattle.hs_parse.specs.Parsed.{Parsed}
 use Rattle.hs_parse.specs.declared.fault.ParseFault.{ParseFault}
 use Rattle.hs_parse.specs.declared.fault.ParseFault.TheVariants as parse

@@ -3,3 +3,4 @@ pub mod Lines
 pub mod Answers
 pub mod Inputs
 pub mod Outcomes
+pub mod PlainScripts

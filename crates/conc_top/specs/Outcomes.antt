@@ -2,7 +2,7 @@
 use Rattle.std.specs.Prelude.{◌≡◌, ◌⊎◌, ℕ, List, []}
 use Rattle.hs_rules.specs.declared.entry.Entry.{Entry}
 use Rattle.conc_top.specs.Answers.{HasLines, IsFirstFault, IsMisspelled, IsMistyped, IsNotYet}
-use Rattle.hs_rules.specs.PlainScripts.{lines_of, plain_history}
+use Rattle.conc_top.specs.PlainScripts.{lines_of, plain_history}
 use Rattle.conc_top.specs.Lines.{HasPlace}
 use Rattle.conc_top.specs.declared.ending.RunEnd.{RunEnd}
 use Rattle.conc_top.specs.declared.ending.RunEnd.TheVariants as end

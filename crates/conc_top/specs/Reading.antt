@@ -2,8 +2,8 @@
 use Rattle.std.specs.Prelude.{◌≡◌, [], codes}
 use Rattle.hs_base.specs.declared.pos.Pos.{Pos}
 use Rattle.hs_base.specs.declared.tree.script.Def.{Def}
-use Rattle.hs_rules.specs.Trees.{unit}
-use Rattle.hs_rules.specs.Programs.{Bl, io_body, Fn}
+use Rattle.rules_trees.specs.Trees.{unit}
+use Rattle.rules_trees.specs.Programs.{Bl, io_body, Fn}
 
 -- main :: IO () = B
 abbrev pub main_fn : Pos → Pos → Bl → Fn

@@ -1,10 +1,10 @@
 //! The reader of plain scripts, over their trees.
 ghost use Rattle.std.specs.Prelude.{◌≡◌, ◌++◌, ◌∷◌, [], ◌↔◌, IsTrue, IfOk, OnOk, MatchOption, List, ℕ};
 ghost use Rattle.hs_base.specs.declared.pos.Pos.{Pos as Place};
-ghost use Rattle.hs_rules.specs.Trees.{Ex, ex_of, lit, letters, ty_of, unit};
-ghost use Rattle.hs_rules.specs.declared.forms.UnaryAction.TheVariants as unary;
-ghost use Rattle.hs_rules.specs.Programs.{Act, act_of, Bl, bl_of, fn_of, script_of, stmt_of, then, unary_act};
-ghost use Rattle.hs_rules.specs.PlainScripts.{main_script, PlainBlock, PlainScript, PutsLine};
+ghost use Rattle.rules_trees.specs.Trees.{Ex, ex_of, lit, letters, ty_of, unit};
+ghost use Rattle.rules_trees.specs.declared.forms.UnaryAction.TheVariants as unary;
+ghost use Rattle.rules_trees.specs.Programs.{Act, act_of, Bl, bl_of, fn_of, script_of, stmt_of, then, unary_act};
+ghost use Rattle.conc_top.specs.PlainScripts.{main_script, PlainBlock, PlainScript, PutsLine};
 ghost use Rattle.conc_top.specs.Reading.{HasHeadOfMain, main_fn};
 
 use hs_base::{Action, Block, Body, Def, Expr, NoMemory, Script, Stmt, Txt, Ty};

@@ -1,7 +1,7 @@
 //! The run of a plain script: its history and what it prints.
 ghost use Rattle.std.specs.Prelude.{◌≡◌, ◌<◌, ◌^◌, ◌++◌, ◌∷◌, [], IfOk, OnOk};
 ghost use Rattle.hs_rules.specs.declared.entry.Entry.TheVariants.{Local, Op};
-ghost use Rattle.hs_rules.specs.PlainScripts.{bind_steps, lines_of, plain_history};
+ghost use Rattle.conc_top.specs.PlainScripts.{bind_steps, lines_of, plain_history};
 
 use hs_base::NoMemory;
 use hs_items::Items;

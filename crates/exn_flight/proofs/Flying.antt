@@ -3,7 +3,7 @@ use Rattle.std.proofs.Common.{◌≡◌, ◌≢◌, ℕ, zero, suc, ◌<◌, ◌
 use Rattle.std.proofs.lemmas.Bool.{ne_eqb, both_ways}
 use Rattle.std.proofs.lemmas.List.{take_more}
 use Rattle.hs_base.specs.declared.exn.Exn.{Exn}
-use Rattle.hs_rules.specs.Waiting.{Flying, withdrawn, is_throwing, thrown_by, flying_to, first_thrown}
+use Rattle.rules_waiting.specs.Waiting.{Flying, withdrawn, is_throwing, thrown_by, flying_to, first_thrown}
 use Rattle.exn_flight.specs.declared.throws.Throw.{Throw}
 use Rattle.exn_flight.specs.Flights.{AreThrowers}
 use Rattle.exn_flight.specs.Throwing.{throw_at, no_throw, with_exn, flying, followed, IsLive, NoneTo, IsFirst, AreAt}

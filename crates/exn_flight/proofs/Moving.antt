@@ -1,7 +1,7 @@
 -- The sleepers of one table of places are added to another.
 use Rattle.std.proofs.Common.{◌≡◌, ℕ, suc, ◌<◌, ◌≤◌, ◌+◌, true, false, cond, List, [], ◌∷◌, ◌++◌, length, take, drop, Option, Some, None, refl, ap, sym, subst, ◌∙◌, arith}
 use Rattle.std.proofs.lemmas.List.{length-append, take-append-drop, append-nil}
-use Rattle.hs_rules.specs.Waiting.{Sleeper, sleeper_before, sleeper_added, sorted_sleepers, is_sleeping}
+use Rattle.rules_waiting.specs.Waiting.{Sleeper, sleeper_before, sleeper_added, sorted_sleepers, is_sleeping}
 use Rattle.exn_flight.specs.Asleep.{with_sleeper, sleepers_at}
 use Rattle.exn_flight.specs.Numbered.{AreDistinct}
 use Rattle.exn_flight.specs.Tournaments.{node}

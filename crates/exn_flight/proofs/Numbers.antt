@@ -1,6 +1,6 @@
 -- Lists in which no two items have one number.
 use Rattle.std.proofs.Common.{◌≡◌, ℕ, ◌==◌, Bool, true, false, cond, List, [], ◌∷◌, ◌++◌, refl, ap, ◌∙◌, arith}
-use Rattle.hs_rules.specs.Waiting.{has, without}
+use Rattle.rules_waiting.specs.Waiting.{has, without}
 use Rattle.exn_flight.specs.Numbered.{AreDistinct}
 
 pub step_false : (b c : Bool) → cond b true c ≡ false → (b ≡ false) × (c ≡ false)

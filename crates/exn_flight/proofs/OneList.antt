@@ -1,7 +1,7 @@
 -- The exceptions in flight and the sleepers, as the one list of blocked threads says them, when a thread blocks or is
 -- blocked no more.
 use Rattle.std.proofs.Common.{◌≡◌, ℕ, ◌==◌, true, false, cond, List, [], ◌∷◌, ◌++◌, refl, ap, sym, ◌∙◌}
-use Rattle.hs_rules.specs.Waiting.{Reason, Taking, Putting, Throwing, Sleeping, Waiting, Flying, Sleeper, blocks, leaves, flight_of, sleepers_of, with_flying, with_sleeper, withdrawn, still_asleep}
+use Rattle.rules_waiting.specs.Waiting.{Reason, Taking, Putting, Throwing, Sleeping, Waiting, Flying, Sleeper, blocks, leaves, flight_of, sleepers_of, with_flying, with_sleeper, withdrawn, still_asleep}
 
 module _ {V : Type 0} where
   -- a thread that blocks is the last thrower, or the last sleeper

@@ -1,7 +1,7 @@
 -- Sleepers in order.
 use Rattle.std.proofs.Common.{◌≡◌, ℕ, ◌<◌, ◌≤◌, ◌==◌, nat_le, Bool, true, false, cond, List, [], ◌∷◌, Option, Some, None, refl, ap, ◌∙◌, arith}
 use Rattle.std.proofs.lemmas.Bool.{lt-leb, le-leb, both_ways}
-use Rattle.hs_rules.specs.Waiting.{Sleeper, sleeper_before, sleeper_added, sorted_sleepers, is_sleeping, first_awake, earliest}
+use Rattle.rules_waiting.specs.Waiting.{Sleeper, sleeper_before, sleeper_added, sorted_sleepers, is_sleeping, first_awake, earliest}
 use Rattle.exn_flight.specs.Numbered.{AreDistinct}
 use Rattle.exn_flight.specs.Asleep.{IsBeforeAll, AreInOrder}
 use Rattle.exn_flight.proofs.Numbers.{step_false}

@@ -2,7 +2,7 @@
 use Rattle.std.proofs.Common.{◌≡◌, ◌≢◌, ℕ, zero, suc, ◌<◌, ◌≤◌, ◌+◌, ◌-◌, ◌==◌, true, false, cond, List, [], ◌∷◌, ◌++◌, length, take, Option, Some, None, refl, ap, sym, ◌∙◌, arith, eq-eqb, set, inl, inr}
 use Rattle.std.proofs.lemmas.Bool.{cases_eq, ne_eqb, both_ways}
 use Rattle.std.proofs.lemmas.List.{get_or-set_same, get_or-set_other, length-set, take_more}
-use Rattle.hs_rules.specs.Waiting.{Sleeper, sleeper_before, sleeper_added, sorted_sleepers, still_asleep, is_sleeping}
+use Rattle.rules_waiting.specs.Waiting.{Sleeper, sleeper_before, sleeper_added, sorted_sleepers, still_asleep, is_sleeping}
 use Rattle.exn_flight.specs.Asleep.{with_sleeper, sleepers_at, ArePlaced}
 use Rattle.exn_flight.specs.Numbered.{AreDistinct}
 use Rattle.exn_flight.specs.Tables.{IsPut}

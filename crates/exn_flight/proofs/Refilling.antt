@@ -4,7 +4,7 @@ use Rattle.std.proofs.lemmas.List.{get_or-set_other, length-set, length-append, 
 use Rattle.std.specs.HashMap.{get}
 use Rattle.std.specs.Map.{lookup}
 use Rattle.hs_base.specs.declared.exn.Exn.{Exn}
-use Rattle.hs_rules.specs.Waiting.{Flying, is_throwing}
+use Rattle.rules_waiting.specs.Waiting.{Flying, is_throwing}
 use Rattle.exn_flight.specs.declared.throws.Throw.{Throw}
 use Rattle.exn_flight.specs.declared.throws.Throws.{Throws}
 use Rattle.exn_flight.specs.Flights.{AreThrowers}

@@ -1,6 +1,6 @@
 -- A sleeper that leaves a sorted list leaves the rest sorted.
 use Rattle.std.proofs.Common.{◌≡◌, ℕ, ◌==◌, true, false, cond, List, [], ◌∷◌, refl, ap, sym, ◌∙◌, arith}
-use Rattle.hs_rules.specs.Waiting.{Sleeper, Waiting, leaves, sleepers_of, sleeper_before, sleeper_added, sorted_sleepers, still_asleep}
+use Rattle.rules_waiting.specs.Waiting.{Sleeper, Waiting, leaves, sleepers_of, sleeper_before, sleeper_added, sorted_sleepers, still_asleep}
 use Rattle.exn_flight.proofs.OneList.{sleepers_leave}
 
 abbrev NoneBefore : Sleeper → List Sleeper → Type 0

@@ -1,6 +1,6 @@
 -- Sleepers put in order one after the other: the order in which they are put doesn't matter.
 use Rattle.std.proofs.Common.{◌≡◌, ℕ, Bool, true, false, cond, List, [], ◌∷◌, ◌++◌, refl, ap, sym, ◌∙◌, arith}
-use Rattle.hs_rules.specs.Waiting.{Sleeper, Sleeping, Waiting, blocks, sleepers_of, sleeper_before, sleeper_added, sorted_sleepers}
+use Rattle.rules_waiting.specs.Waiting.{Sleeper, Sleeping, Waiting, blocks, sleepers_of, sleeper_before, sleeper_added, sorted_sleepers}
 use Rattle.exn_flight.proofs.OneList.{sleepers_block}
 
 both : (a b : Sleeper) → sleeper_before a b ≡ true → sleeper_before b a ≡ true → ⊥

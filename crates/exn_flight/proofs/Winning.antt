@@ -2,7 +2,7 @@
 use Rattle.std.proofs.Common.{◌≡◌, ◌≢◌, ◌⊎◌, ℕ, zero, suc, ◌<◌, ◌≤◌, ◌+◌, ◌-◌, ◌/◌, true, false, cond, List, [], ◌∷◌, length, drop, Option, Some, None, refl, ap, sym, subst, ◌∙◌, arith, set, inl, inr}
 use Rattle.std.proofs.lemmas.Bool.{cases_eq, cases_lt}
 use Rattle.std.proofs.lemmas.List.{get_or-set_same, get_or-set_other, get_or-drop, drop-set-lt, drop-set-add, length-set, length-drop}
-use Rattle.hs_rules.specs.Waiting.{Sleeper, sleeper_before}
+use Rattle.rules_waiting.specs.Waiting.{Sleeper, sleeper_before}
 use Rattle.exn_flight.specs.Tournaments.{node, goes_first, first_of, best, IsWon, AreWon, IsTournament, Climbs}
 
 -- ---- an order of sleepers and of nobody, who is last

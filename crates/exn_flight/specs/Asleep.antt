@@ -1,6 +1,6 @@
 -- What `Sleepers` means: the sleepers by due, and of one due by thread, and how many more fit.
 use Rattle.std.specs.Prelude.{◌≡◌, ◌-◌, ◌≤◌, ℕ, true, List, [], ◌∷◌, length, slice_index_or, Option, Some, None}
-use Rattle.hs_rules.specs.Waiting.{Sleeper, sleeper_before}
+use Rattle.rules_waiting.specs.Waiting.{Sleeper, sleeper_before}
 
 pub record Asleep : Type 0 where
   pub list : List Sleeper

@@ -2,7 +2,7 @@
 use Rattle.std.specs.Prelude.{ℕ, List, Option, Some, None}
 use Rattle.std.specs.Borrow.{Bor}
 use Rattle.hs_base.specs.declared.exn.Exn.{Exn}
-use Rattle.hs_rules.specs.Waiting.{Flying, withdrawn}
+use Rattle.rules_waiting.specs.Waiting.{Flying, withdrawn}
 use Rattle.exn_flight.specs.Numbered.{AreDistinct}
 
 pub record InFlight : Type 0 where

@@ -2,7 +2,7 @@
 use Rattle.std.specs.Prelude.{◌≡◌, ◌≢◌, ℕ, ◌+◌, ◌-◌, ◌<◌, ◌≤◌, min, List, [], ◌∷◌, length, take, slice_index_or, slice_set, Option, Some, None, IsSome, nat_eq}
 use Rattle.std.specs.HashMap.{get, spare}
 use Rattle.hs_base.specs.declared.exn.Exn.{Exn}
-use Rattle.hs_rules.specs.Waiting.{Flying}
+use Rattle.rules_waiting.specs.Waiting.{Flying}
 use Rattle.exn_flight.specs.declared.throws.Throw.{Throw}
 use Rattle.exn_flight.specs.declared.throws.Throws.{Throws}
 

@@ -1,6 +1,6 @@
 -- Sleepers by place, and the nodes that tell who is first.
 use Rattle.std.specs.Prelude.{◌≡◌, ◌≢◌, ℕ, ◌+◌, ◌<◌, ◌≤◌, Bool, true, false, cond, List, [], ◌∷◌, length, drop, slice_index_or, Option, Some, None}
-use Rattle.hs_rules.specs.Waiting.{Sleeper, sleeper_before}
+use Rattle.rules_waiting.specs.Waiting.{Sleeper, sleeper_before}
 
 abbrev pub goes_first : Option Sleeper → Option Sleeper → Bool
 goes_first None b = false

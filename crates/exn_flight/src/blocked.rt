@@ -3,8 +3,8 @@
 
 ghost use Rattle.std.specs.Prelude.{◌≡◌, ℕ, List, [], ◌∷◌, ◌++◌};
 ghost use Rattle.hs_base.specs.declared.exn.Exn.{Exn};
-ghost use Rattle.hs_rules.specs.Values.{V};
-ghost use Rattle.hs_rules.specs.Waiting.{Waiting, Throwing, Sleeping, blocks, leaves, flight_of, sleepers_of, withdrawn, still_asleep, sleeper_added, sorted_sleepers};
+ghost use Rattle.rules_meaning.specs.Values.{V};
+ghost use Rattle.rules_waiting.specs.Waiting.{Waiting, Throwing, Sleeping, blocks, leaves, flight_of, sleepers_of, withdrawn, still_asleep, sleeper_added, sorted_sleepers};
 
 /// The exceptions in flight are the throwers among the blocked threads: `Flight::throw_at` does to them what a thrower
 /// that blocks does, and `deliver` and `withdraw` what one that is blocked no more does.

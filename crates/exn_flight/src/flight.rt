@@ -1,5 +1,5 @@
 ghost use Rattle.std.specs.Prelude.{◌≡◌, ◌+◌, ◌<◌, ◌≤◌, [], ◌∷◌, ◌++◌, false, length, slice_index_or, Some, MatchOption, OnOk};
-ghost use Rattle.hs_rules.specs.Waiting.{Flying, flying_to, withdrawn, is_throwing, thrown_by, first_thrown};
+ghost use Rattle.rules_waiting.specs.Waiting.{Flying, flying_to, withdrawn, is_throwing, thrown_by, first_thrown};
 ghost use Rattle.exn_flight.specs.Flights.{shown, after_delivery};
 
 use crate::table::place_of;

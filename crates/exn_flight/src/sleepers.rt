@@ -1,5 +1,5 @@
 ghost use Rattle.std.specs.Prelude.{◌≡◌, ◌+◌, ◌^◌, ◌<◌, ◌≤◌, [], false, length, IfOk, OnOk};
-ghost use Rattle.hs_rules.specs.Waiting.{sleeper_added, still_asleep, is_sleeping, first_awake, earliest};
+ghost use Rattle.rules_waiting.specs.Waiting.{sleeper_added, still_asleep, is_sleeping, first_awake, earliest};
 ghost use Rattle.std.specs.Option.{option_copied};
 ghost use Rattle.exn_flight.specs.Asleep.{AreInOrder, with_sleeper};
 
@@ -24,7 +24,7 @@ pub struct Sleepers {
 impl Model for Sleepers {
     ghost use Rattle.std.specs.Prelude.{min, nat_eq};
     ghost use Rattle.std.specs.HashMap.{get, spare};
-    ghost use Rattle.hs_rules.specs.Waiting.{sorted_sleepers};
+    ghost use Rattle.rules_waiting.specs.Waiting.{sorted_sleepers};
     ghost use Rattle.exn_flight.specs.Asleep.{Asleep, asleep, sleepers_at, ArePlaced};
 
     ghost Value = { Asleep };

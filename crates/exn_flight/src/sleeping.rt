@@ -1,5 +1,5 @@
 ghost use Rattle.std.specs.Prelude.{◌≡◌};
-ghost use Rattle.hs_rules.specs.Waiting.{sleeper_before};
+ghost use Rattle.rules_waiting.specs.Waiting.{sleeper_before};
 
 use std::marker::Model;
 
@@ -11,7 +11,7 @@ pub struct Sleeping {
 }
 
 impl Model for Sleeping {
-    ghost use Rattle.hs_rules.specs.Waiting.{Sleeper};
+    ghost use Rattle.rules_waiting.specs.Waiting.{Sleeper};
 
     ghost Value = { Sleeper };
 

@@ -1,6 +1,6 @@
 ghost use Rattle.std.specs.Prelude.{◌≡◌, ◌+◌, ◌<◌, ◌≤◌, [], ◌∷◌, ◌++◌, false, Some, None, length, slice_set, nat_eq, IfOk, OnOk, OnErr, MatchOption};
 ghost use Rattle.std.specs.HashMap.{get, spare};
-ghost use Rattle.hs_rules.specs.Waiting.{withdrawn, is_throwing, thrown_by};
+ghost use Rattle.rules_waiting.specs.Waiting.{withdrawn, is_throwing, thrown_by};
 ghost use Rattle.exn_flight.specs.Flights.{AreThrowers};
 ghost use Rattle.exn_flight.specs.Throwing.{throw_at, followed, flying, spare_of, IsSound, IsEmpty, IsLive, AreLinked, AreFirsts, AreFirstsBut, NoneBehind, IsNextLive};
 

@@ -16,7 +16,7 @@ pub struct Tournament {
 
 impl Model for Tournament {
     ghost use Rattle.std.specs.Prelude.{List, Option, drop};
-    ghost use Rattle.hs_rules.specs.Waiting.{Sleeper};
+    ghost use Rattle.rules_waiting.specs.Waiting.{Sleeper};
     ghost use Rattle.exn_flight.specs.Tournaments.{IsTournament};
 
     ghost Value = { List (Option Sleeper) };

@@ -2,11 +2,11 @@
 use Rattle.std.proofs.Common.{◌≡◌, ◌≤◌, ◌-◌, List, [], ◌∷◌, ◌++◌, length, drop, Bool, true, false, Option, Some, None, refl, ap, ◌∙◌, sym, subst, arith}
 use Rattle.std.proofs.lemmas.List.{append-nil}
 use Rattle.hs_base.specs.declared.tree.expr.Name.{Name}
-use Rattle.hs_rules.specs.Trees.{T}
-use Rattle.hs_rules.specs.Typing.{Fault, Bound, bound, Ctx}
-use Rattle.hs_rules.specs.Programs.{Bl}
-use Rattle.hs_rules.proofs.Equations.{ty_rules}
-use Rattle.hs_rules.proofs.EquationsOfActions.{act_rules, act_arms_rules, stmt_rules}
+use Rattle.rules_trees.specs.Trees.{T}
+use Rattle.rules_typing.specs.Typing.{Fault, Bound, bound, Ctx}
+use Rattle.rules_trees.specs.Programs.{Bl}
+use Rattle.rules_trees.proofs.Equations.{ty_rules}
+use Rattle.rules_trees.proofs.EquationsOfActions.{act_rules, act_arms_rules, stmt_rules}
 use Rattle.hs_judging.specs.Judging.{Found, after, with1, part, not_full, full, unless, scope_faults}
 use Rattle.hs_judging.specs.JudgingActions.{judge_bl}
 use Rattle.hs_judging.specs.Least.{least}

@@ -4,8 +4,8 @@ use Rattle.std.specs.Prelude.{IfOk}
 use Rattle.std.proofs.lemmas.Result.{IfOk-weaker}
 use Rattle.hs_base.specs.declared.no_memory.NoMemory.{NoMemory}
 use Rattle.hs_base.specs.declared.tree.ty.Ty.{Ty}
-use Rattle.hs_rules.specs.Trees.{T}
-use Rattle.hs_rules.specs.Typing.{Bound}
+use Rattle.rules_trees.specs.Trees.{T}
+use Rattle.rules_typing.specs.Typing.{Bound}
 use Rattle.hs_judging.specs.Judging.{Found, with1, with2, part, parts2}
 use Rattle.hs_judging.specs.Least.{least}
 use Rattle.hs_typing.specs.Views.{opt_ty}

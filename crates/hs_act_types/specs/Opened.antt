@@ -1,7 +1,7 @@
 -- A name was bound for a block, or it was noted that the scope takes no more names.
 use Rattle.std.specs.Prelude.{◌≡◌, [], ◌∷◌, Bool, true, false}
 use Rattle.hs_base.specs.declared.tree.expr.Name.{Name}
-use Rattle.hs_rules.specs.Typing.{Bound, scope}
+use Rattle.rules_typing.specs.Typing.{Bound, scope}
 use Rattle.hs_judging.specs.Judging.{full}
 use Rattle.hs_judging.specs.Least.{least}
 use Rattle.hs_typing.specs.Judged.{names, kept}

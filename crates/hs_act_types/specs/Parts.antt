@@ -1,8 +1,8 @@
 -- The last part of an action, after the types of the parts before it.
 use Rattle.std.specs.Prelude.{Option}
-use Rattle.hs_rules.specs.Trees.{T}
-use Rattle.hs_rules.specs.Typing.{Row}
-use Rattle.hs_rules.specs.TypingActions.{row_guard, row_bracket, row_timeout}
+use Rattle.rules_trees.specs.Trees.{T}
+use Rattle.rules_typing.specs.Typing.{Row}
+use Rattle.rules_typing.specs.TypingActions.{row_guard, row_bracket, row_timeout}
 use Rattle.hs_judging.specs.Judging.{Found, after, with2, with3}
 use Rattle.hs_act_types.specs.declared.closing.TwoParts.{TwoParts}
 use Rattle.hs_act_types.specs.declared.closing.TwoParts.TheVariants as o

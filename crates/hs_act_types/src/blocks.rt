@@ -1,10 +1,10 @@
 // The walk down a block.
 
 ghost use Rattle.std.specs.Prelude.{◌≡◌, [], ◌∷◌, IfOk};
-ghost use Rattle.hs_rules.specs.Trees.{exn, ty_of};
-ghost use Rattle.hs_rules.specs.Programs.{act_of, bl_of, stmt_of, act_arms_of, scoped, masking};
-ghost use Rattle.hs_rules.specs.Typing.{a_cell, bound, inner_of, no_mask, of, row_arms, row_choose};
-ghost use Rattle.hs_rules.specs.TypingActions.{form_of_acts, row_modify};
+ghost use Rattle.rules_trees.specs.Trees.{exn, ty_of};
+ghost use Rattle.rules_trees.specs.Programs.{act_of, bl_of, stmt_of, act_arms_of, scoped, masking};
+ghost use Rattle.rules_typing.specs.Typing.{a_cell, bound, inner_of, no_mask, of, row_arms, row_choose};
+ghost use Rattle.rules_typing.specs.TypingActions.{form_of_acts, row_modify};
 ghost use Rattle.hs_judging.specs.Judging.{needing, own, part, unless_full, unless_wrong, with1};
 ghost use Rattle.hs_judging.specs.JudgingActions.{judge_act, judge_act_arms, judge_bl};
 ghost use Rattle.hs_typing.specs.Views.{opt_ty, part_of};
@@ -18,7 +18,7 @@ use crate::simple::{applied, binary, empty_cell, throw, unary};
 use hs_base::tree::{Action, Block, BlockArms, Name, Stmt};
 use hs_base::{NoMemory, Pos, Ty};
 use hs_expr_types::type_of;
-use hs_rules::forms::{BareAction, BinaryAction, BlockAction, MaskingAction, UnaryAction};
+use rules_trees::forms::{BareAction, BinaryAction, BlockAction, MaskingAction, UnaryAction};
 use hs_typing::Form;
 use hs_typing::act_rows::bare_type;
 use hs_typing::checker::Checker;
@@ -429,7 +429,7 @@ fn stmt(checker: &mut Checker, alloc: Global, funs: &Funs, st: &Stmt) -> Result<
 
 /// The type of a block, where it has one.
 #[cycle(acts)]
-#[tactic(auto, using(hs_rules::proofs::EquationsOfActions::bl_is))]
+#[tactic(auto, using(rules_trees::proofs::EquationsOfActions::bl_is))]
 pub fn block(
     checker: &mut Checker,
     alloc: Global,

@@ -6,7 +6,7 @@
 #![tactic(auto)]
 
 ghost use Rattle.std.specs.Prelude.{◌≡◌, IfOk};
-ghost use Rattle.hs_rules.specs.Programs.{bl_of};
+ghost use Rattle.rules_trees.specs.Programs.{bl_of};
 ghost use Rattle.hs_judging.specs.JudgingActions.{judge_bl};
 ghost use Rattle.hs_typing.specs.Views.{opt_ty};
 ghost use Rattle.hs_typing.specs.Contexts.{ctx_of};

@@ -1,10 +1,10 @@
 // The names that are bound for one block.
 
 ghost use Rattle.std.specs.Prelude.{◌≡◌, IfOk};
-ghost use Rattle.hs_rules.specs.Trees.{ty_of};
-ghost use Rattle.hs_rules.specs.Programs.{act_arms_of};
-ghost use Rattle.hs_rules.specs.Typing.{bound, masked};
-ghost use Rattle.hs_rules.specs.TypingActions.{form_of_acts};
+ghost use Rattle.rules_trees.specs.Trees.{ty_of};
+ghost use Rattle.rules_trees.specs.Programs.{act_arms_of};
+ghost use Rattle.rules_typing.specs.Typing.{bound, masked};
+ghost use Rattle.rules_typing.specs.TypingActions.{form_of_acts};
 ghost use Rattle.hs_typing.specs.Views.{form_of, part_of};
 ghost use Rattle.hs_act_types.specs.Opened.{Opened};
 
@@ -58,7 +58,7 @@ pub fn open_mask(checker: &mut Checker, alloc: Global, x: &Name) -> Result<bool,
 }
 
 /// The form that arms ask of what stands before them.
-#[tactic(auto, using(hs_rules::proofs::EquationsOfActions::act_arms_rules))]
+#[tactic(auto, using(rules_trees::proofs::EquationsOfActions::act_arms_rules))]
 pub fn asked_form(arms: &BlockArms) -> Form
     ensures { form_of result ≡ form_of_acts (act_arms_of arms.now) }
 {

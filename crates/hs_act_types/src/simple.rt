@@ -1,8 +1,8 @@
 // Actions without blocks.
 
 ghost use Rattle.std.specs.Prelude.{◌≡◌, IfOk};
-ghost use Rattle.hs_rules.specs.Trees.{ex_of, exs_of, wr_of};
-ghost use Rattle.hs_rules.specs.Programs.{bare, unary_act, binary_act, throw_io, new_empty, call};
+ghost use Rattle.rules_trees.specs.Trees.{ex_of, exs_of, wr_of};
+ghost use Rattle.rules_trees.specs.Programs.{bare, unary_act, binary_act, throw_io, new_empty, call};
 ghost use Rattle.hs_judging.specs.JudgingActions.{judge_act};
 ghost use Rattle.hs_typing.specs.Views.{opt_ty};
 ghost use Rattle.hs_typing.specs.Contexts.{ctx_of};
@@ -12,7 +12,7 @@ use hs_base::tree::{Expr, Name, Written};
 use hs_base::{NoMemory, Pos, Ty};
 use hs_expr_types::{type_of, types_of};
 use hs_items::Items;
-use hs_rules::forms::{BinaryAction, UnaryAction};
+use rules_trees::forms::{BinaryAction, UnaryAction};
 use hs_typing::checker::Checker;
 use hs_typing::funs::Funs;
 use std::alloc::Global;

@@ -18,6 +18,8 @@ pub enum Exn {
     Timeout(u32),
     /// A text of more than 65,536 bytes (own).
     TextLimit,
+    /// What a thread gets that waits at a cell where nothing else can go on. No script can write it.
+    BlockedIndefinitely,
 }
 
 impl Exn {
@@ -33,6 +35,7 @@ impl Exn {
             Exn::Overflow => Ok(Exn::Overflow),
             Exn::Timeout(n) => Ok(Exn::Timeout(*n)),
             Exn::TextLimit => Ok(Exn::TextLimit),
+            Exn::BlockedIndefinitely => Ok(Exn::BlockedIndefinitely),
         }
     }
 
@@ -48,6 +51,7 @@ impl Exn {
             (Exn::Overflow, Exn::Overflow) => true,
             (Exn::Timeout(m), Exn::Timeout(n)) => m == n,
             (Exn::TextLimit, Exn::TextLimit) => true,
+            (Exn::BlockedIndefinitely, Exn::BlockedIndefinitely) => true,
             (_, _) => false,
         }
     }
@@ -64,6 +68,9 @@ impl Exn {
             Exn::Overflow => Txt::of(alloc, "arithmetic overflow"),
             Exn::Timeout(_) => Txt::of(alloc, "<<timeout>>"),
             Exn::TextLimit => Txt::of(alloc, "text too long"),
+            Exn::BlockedIndefinitely => {
+                Txt::of(alloc, "thread blocked indefinitely in an MVar operation")
+            }
         }
     }
 }

@@ -26,7 +26,4 @@ pub use tree::{
     Action, Block, BlockArms, Body, CompareOp, ConsOp, Constant, Def, Expr, ExprArms, Link,
     ListLink, Name, Param, Script, Stmt, SumLink, SumOp, Ty, Written,
 };
-pub use value::{Value, Values};
-
-#[cfg(test)]
-mod tests;
+pub use value::{Head, Split, Value, ValueList, Values};

@@ -3,19 +3,21 @@ ghost use Rattle.std.specs.Prelude.{◌≡◌, ◌↔◌, IfOk, IsTrue, string_b
 use crate::no_memory::NoMemory;
 use std::alloc::Global;
 use std::marker::Model;
+use std::sync::ArcStr;
 
 /// A text. Contracts see the list of its bytes, so two texts that are equal are equal values.
 #[derive(Debug, Drop)]
 pub struct Txt {
-    text: String,
+    text: ArcStr<Global>,
 }
 
 impl Model for Txt {
-    ghost use Rattle.std.specs.Prelude.{List, ℕ, string_bytes, IsUtf8};
+    ghost use Rattle.std.specs.Prelude.{List, ℕ};
+    ghost use Rattle.std.specs.Arc.{arc_str_bytes};
 
     ghost Value = { List ℕ };
 
-    ghost view = { λ t. string_bytes t.text };
+    ghost view = { λ t. arc_str_bytes t.text };
 }
 
 impl Txt {
@@ -23,15 +25,16 @@ impl Txt {
     pub fn of(alloc: Global, text: &str) -> Result<Txt, NoMemory>
         ensures { IfOk result (λ t. t ≡ text.now) }
     {
-        let text = String::from_str(alloc, text)?;
+        let text = ArcStr::from_str(alloc, text)?;
         Ok(Txt { text })
     }
 
     /// Keeps the text of a `String`.
-    pub fn from_string(text: String) -> Txt
-        ensures { result ≡ string_bytes text }
+    pub fn from_string(text: String) -> Result<Txt, NoMemory>
+        ensures { IfOk result (λ t. t ≡ string_bytes text) }
     {
-        Txt { text }
+        let text = ArcStr::from_string(text)?;
+        Ok(Txt { text })
     }
 
     /// Lends the text.
@@ -41,11 +44,12 @@ impl Txt {
         self.text.as_str()
     }
 
-    /// An equal text.
-    pub fn copy(&self, alloc: Global) -> Result<Txt, NoMemory>
+    /// An equal text, by one more owner.
+    pub fn copy(&self, _alloc: Global) -> Result<Txt, NoMemory>
         ensures { IfOk result (λ t. t ≡ self.now) }
     {
-        Txt::of(alloc, self.as_str())
+        let text = self.text.clone()?;
+        Ok(Txt { text })
     }
 
     /// Whether the two texts have the same bytes.

@@ -1,28 +1,31 @@
-ghost use Rattle.std.specs.Prelude.{◌≡◌, IfOk};
+ghost use Rattle.std.specs.Prelude.{◌≡◌, ◌↔◌, IfOk, IsTrue};
+ghost use Rattle.hs_base.specs.Lists.{before, chain_of, SplitAs};
+ghost use Rattle.hs_base.specs.declared.value.ValueList.{Nil};
 
 use crate::exn::Exn;
 use crate::mask::Mask;
 use crate::no_memory::NoMemory;
 use crate::text::Txt;
-use hs_items::{Boxed, Items};
+use hs_items::{Items, Shared};
 use std::alloc::Global;
 
-/// A list of values.
+/// The values of an environment, the first bound first.
 pub type Values = Items<Value>;
 
 /// A value of a running script.
 #[derive(Drop)]
+#[cycle(value)]
 pub enum Value {
     Unit,
     Int(i64),
     Bool(bool),
     Text(Txt),
-    Pair(Boxed<Value>, Boxed<Value>),
+    Pair(Shared<Value>, Shared<Value>),
     Nothing,
-    Just(Boxed<Value>),
-    Left(Boxed<Value>),
-    Right(Boxed<Value>),
-    List(Values),
+    Just(Shared<Value>),
+    Left(Shared<Value>),
+    Right(Shared<Value>),
+    List(ValueList),
     /// An `MVar`, by its number.
     Cell(u32),
     /// A `ThreadId`, by its number.
@@ -34,15 +37,46 @@ pub enum Value {
     Inst(u32),
 }
 
-fn boxed(alloc: Global, value: Value) -> Result<Boxed<Value>, NoMemory>
-    ensures { IfOk result (λ b. b ≡ value) }
-{
-    Ok(Boxed::new(alloc, value)?)
+/// A list of a script, as cells that copies share: `:`, a copy and taking the first value off take constant time.
+#[cycle(value)]
+pub enum ValueList {
+    Nil,
+    Cons(Shared<Head>),
+}
+
+/// The first value of a list, and the rest.
+#[derive(Drop)]
+#[cycle(value)]
+pub struct Head {
+    pub first: Value,
+    pub rest: ValueList,
+}
+
+/// A list by its first value and the rest.
+#[derive(Drop)]
+pub enum Split<'a> {
+    Empty,
+    Of(&'a Value, ValueList),
+}
+
+// A loop, so that a long list does not run out of stack.
+impl Drop for ValueList {
+    #[cycle(list_drop)]
+    fn drop(mut self) {
+        loop {
+            match self {
+                ValueList::Nil => return,
+                ValueList::Cons(head) => match head.into_inner() {
+                    None => return,
+                    Some(Head { first: _, rest }) => self = rest,
+                },
+            }
+        }
+    }
 }
 
 impl Value {
-    /// An equal value.
-    #[cycle(value_copy)]
+    /// An equal value, which shares its parts: it takes constant time and no memory but a count.
     pub fn copy(&self, alloc: Global) -> Result<Value, NoMemory>
         ensures { IfOk result (λ v. v ≡ self.now) }
     {
@@ -51,15 +85,12 @@ impl Value {
             Value::Int(n) => Ok(Value::Int(*n)),
             Value::Bool(b) => Ok(Value::Bool(*b)),
             Value::Text(t) => Ok(Value::Text(t.copy(alloc)?)),
-            Value::Pair(a, b) => Ok(Value::Pair(
-                boxed(alloc, a.get().copy(alloc)?)?,
-                boxed(alloc, b.get().copy(alloc)?)?,
-            )),
+            Value::Pair(a, b) => Ok(Value::Pair(a.share()?, b.share()?)),
             Value::Nothing => Ok(Value::Nothing),
-            Value::Just(a) => Ok(Value::Just(boxed(alloc, a.get().copy(alloc)?)?)),
-            Value::Left(a) => Ok(Value::Left(boxed(alloc, a.get().copy(alloc)?)?)),
-            Value::Right(a) => Ok(Value::Right(boxed(alloc, a.get().copy(alloc)?)?)),
-            Value::List(items) => Ok(Value::List(copy_values(alloc, items)?)),
+            Value::Just(a) => Ok(Value::Just(a.share()?)),
+            Value::Left(a) => Ok(Value::Left(a.share()?)),
+            Value::Right(a) => Ok(Value::Right(a.share()?)),
+            Value::List(items) => Ok(Value::List(items.copy()?)),
             Value::Cell(n) => Ok(Value::Cell(*n)),
             Value::Thread(n) => Ok(Value::Thread(*n)),
             Value::Exn(e) => Ok(Value::Exn(e.copy(alloc)?)),
@@ -69,13 +100,64 @@ impl Value {
     }
 }
 
-#[cycle(value_copy)]
-fn copy_values(alloc: Global, from: &Values) -> Result<Values, NoMemory>
-    ensures { IfOk result (λ v. v ≡ from.now) }
-{
-    let mut to = Items::new(alloc);
-    for item in from.as_slice() {
-        to.add(item.copy(alloc)?)?;
+impl ValueList {
+    /// The empty list.
+    pub fn new() -> ValueList
+        ensures { result ≡ Nil }
+    {
+        ValueList::Nil
     }
-    Ok(to)
+
+    /// An equal list, of the same cells.
+    pub fn copy(&self) -> Result<ValueList, NoMemory>
+        ensures { IfOk result (λ vs. vs ≡ self.now) }
+    {
+        match self {
+            ValueList::Nil => Ok(ValueList::Nil),
+            ValueList::Cons(head) => Ok(ValueList::Cons(head.share()?)),
+        }
+    }
+
+    /// A value before a list.
+    pub fn cons(alloc: Global, first: Value, rest: ValueList) -> Result<ValueList, NoMemory>
+        ensures { IfOk result (λ vs. vs ≡ before first rest) }
+    {
+        let head = Shared::new(alloc, Head { first, rest })?;
+        Ok(ValueList::Cons(head))
+    }
+
+    pub fn is_empty(&self) -> bool
+        ensures { IsTrue result ↔ (self.now ≡ Nil) }
+    {
+        match self {
+            ValueList::Nil => true,
+            ValueList::Cons(_) => false,
+        }
+    }
+
+    /// The first value, and the rest, of the same cells.
+    pub fn split(&self) -> Result<Split, NoMemory>
+        ensures { IfOk result (SplitAs self.now) }
+    {
+        match self {
+            ValueList::Nil => Ok(Split::Empty),
+            ValueList::Cons(head) => {
+                let head = head.get();
+                Ok(Split::Of(&head.first, head.rest.copy()?))
+            }
+        }
+    }
+
+    /// The list of these values.
+    #[tactic(auto, using(crate::proofs::Chains::chains))]
+    pub fn from_vec(alloc: Global, values: Vec<Value>) -> Result<ValueList, NoMemory>
+        ensures { IfOk result (λ vs. vs ≡ chain_of values.items) }
+    {
+        let mut values = values;
+        let mut list = ValueList::new();
+        while let Some(value) = values.pop() {
+            list = ValueList::cons(alloc, value, list)?;
+        }
+        Ok(list)
+    }
 }

@@ -2,12 +2,12 @@
 use Rattle.std.proofs.Common.{◌≡◌, ◌+◌, ◌<◌, List, [], ◌∷◌, ◌++◌, length, get_or, refl, ap, ◌∙◌, sym, subst, arith, append_assoc, length-append}
 use Rattle.std.proofs.lemmas.List.{append-nil, get_or_append_left}
 use Rattle.std.proofs.Math.Seq.{get_or-append_seam}
-use Rattle.hs_rules.specs.declared.node.Node.{Node}
-use Rattle.hs_rules.specs.declared.node.ExprId.{ExprId}
-use Rattle.hs_rules.specs.declared.act.ActId.{ActId}
-use Rattle.hs_rules.specs.declared.act.Act.{Act}
-use Rattle.hs_rules.specs.Slots.{Sx, Sxs, s_none, s_more, trees}
-use Rattle.hs_rules.specs.CodeTrees.{Sa, a_bad, act_decode, act_trees_onto, act_trees, act_tree_at}
+use Rattle.rules_code.specs.declared.node.Node.{Node}
+use Rattle.rules_code.specs.declared.node.ExprId.{ExprId}
+use Rattle.rules_code.specs.declared.act.ActId.{ActId}
+use Rattle.rules_code.specs.declared.act.Act.{Act}
+use Rattle.rules_code.specs.Slots.{Sx, Sxs, s_none, s_more, trees}
+use Rattle.rules_code.specs.CodeTrees.{Sa, a_bad, act_decode, act_trees_onto, act_trees, act_tree_at}
 use Rattle.hs_nodes.specs.Standing.{Stands, AllStand, Known}
 use Rattle.hs_nodes.proofs.Emitted.{stands_more, known_more}
 use Rattle.hs_core.specs.declared.defs.Defs.{Defs}

@@ -5,19 +5,19 @@ use Rattle.std.proofs.lemmas.List.{append-nil}
 use Rattle.std.proofs.Math.Seq.{take-suc}
 use Rattle.hs_base.specs.declared.tree.action.Stmt.{Stmt}
 use Rattle.hs_base.specs.declared.pos.Pos.{Pos}
-use Rattle.hs_rules.specs.declared.node.Node.{Node}
-use Rattle.hs_rules.specs.declared.node.ExprId.{ExprId}
-use Rattle.hs_rules.specs.declared.act.Act.{Act}
-use Rattle.hs_rules.specs.declared.act.Act.TheVariants as k
-use Rattle.hs_rules.specs.declared.act.ActId.{ActId}
-use Rattle.hs_rules.specs.Trees.{Ex}
-use Rattle.hs_rules.specs.Values.{Written}
-use Rattle.hs_rules.specs.Programs.{Act as Action, Bl, last, ActArms, maybe_acts, either_acts, list_acts, pair_acts, case_act, before, stmt_of, act_of, bl_of}
-use Rattle.hs_rules.proofs.EquationsOfActions.{bl_is}
+use Rattle.rules_code.specs.declared.node.Node.{Node}
+use Rattle.rules_code.specs.declared.node.ExprId.{ExprId}
+use Rattle.rules_code.specs.declared.act.Act.{Act}
+use Rattle.rules_code.specs.declared.act.Act.TheVariants as k
+use Rattle.rules_code.specs.declared.act.ActId.{ActId}
+use Rattle.rules_trees.specs.Trees.{Ex}
+use Rattle.rules_expansion.specs.Names.{Written}
+use Rattle.rules_trees.specs.Programs.{Act as Action, Bl, last, ActArms, maybe_acts, either_acts, list_acts, pair_acts, case_act, before, stmt_of, act_of, bl_of}
+use Rattle.rules_trees.proofs.EquationsOfActions.{bl_is}
 use Rattle.hs_base.specs.declared.tree.action.Block.{Block}
 use Rattle.hs_base.specs.declared.tree.action.Action.{Action as Action-tree}
-use Rattle.hs_rules.specs.Slots.{Sx, Scope, slotted, tree_in}
-use Rattle.hs_rules.specs.CodeTrees.{Sa, a_bad, act_in, act_decode, a_let, a_bind, a_then}
+use Rattle.rules_code.specs.Slots.{Sx, Scope, slotted, tree_in}
+use Rattle.rules_code.specs.CodeTrees.{Sa, a_bad, act_in, act_decode, a_let, a_bind, a_then}
 use Rattle.hs_nodes.specs.declared.names.Bound.{Bound}
 use Rattle.hs_nodes.specs.declared.names.Bound.TheVariants as w
 use Rattle.hs_nodes.specs.Names.{name_of, scope_after, scope_of}

@@ -6,22 +6,22 @@ use Rattle.std.proofs.Math.Seq.{take-suc}
 use Rattle.hs_base.specs.declared.tree.script.Param.{Param}
 use Rattle.hs_base.specs.declared.tree.script.Def.{Def}
 use Rattle.hs_base.specs.declared.tree.script.Script.{Script}
-use Rattle.hs_rules.specs.declared.node.Node.{Node}
-use Rattle.hs_rules.specs.declared.node.ExprId.{ExprId}
-use Rattle.hs_rules.specs.declared.act.Act.{Act}
-use Rattle.hs_rules.specs.declared.act.ActId.{ActId}
-use Rattle.hs_rules.specs.declared.code.Fun.{Fun}
-use Rattle.hs_rules.specs.Trees.{Ex, Wr}
-use Rattle.hs_rules.specs.Programs.{Fn, Par, Bd, pure_body, io_body, Bl, fn_of, par_of, script_of}
-use Rattle.hs_rules.specs.Meaning.{texts_of}
-use Rattle.hs_rules.specs.Core.{ActionFunction, action_named}
-use Rattle.hs_rules.specs.Expansion.{block_core, param_names, with_action, actions_of}
-use Rattle.hs_rules.specs.Runs.{body_of}
-use Rattle.hs_rules.specs.Values.{Written}
-use Rattle.hs_rules.specs.Slots.{Scope, Root, slotted, scope_onto, root_with, roots_onto, roots_of}
-use Rattle.hs_rules.specs.CodeTrees.{Sa, place_among, slotted_core, scope_of_names, SlottedFunction, slotted_function, slotted_functions, act_tree_at, functions_at, code_trees, tree_or_bad, main_tree, StandsFor}
-use Rattle.hs_rules.specs.TypingScripts.{Accepted, main_by, sigs_from, param_types, result_of, acts}
-use Rattle.hs_rules.specs.Typing.{Sig, find}
+use Rattle.rules_code.specs.declared.node.Node.{Node}
+use Rattle.rules_code.specs.declared.node.ExprId.{ExprId}
+use Rattle.rules_code.specs.declared.act.Act.{Act}
+use Rattle.rules_code.specs.declared.act.ActId.{ActId}
+use Rattle.rules_code.specs.declared.code.Fun.{Fun}
+use Rattle.rules_trees.specs.Trees.{Ex, Wr}
+use Rattle.rules_trees.specs.Programs.{Fn, Par, Bd, pure_body, io_body, Bl, fn_of, par_of, script_of}
+use Rattle.rules_meaning.specs.Meaning.{texts_of}
+use Rattle.rules_expansion.specs.Core.{ActionFunction, action_named}
+use Rattle.rules_expansion.specs.Expansion.{block_core, param_names, with_action, actions_of}
+use Rattle.rules_expansion.specs.Expansion.{body_of}
+use Rattle.rules_expansion.specs.Names.{Written}
+use Rattle.rules_code.specs.Slots.{Scope, Root, slotted, scope_onto, root_with, roots_onto, roots_of}
+use Rattle.rules_code.specs.CodeTrees.{Sa, place_among, slotted_core, scope_of_names, SlottedFunction, slotted_function, slotted_functions, act_tree_at, functions_at, code_trees, tree_or_bad, main_tree, StandsFor}
+use Rattle.rules_typing.specs.TypingScripts.{Accepted, main_by, sigs_from, param_types, result_of, acts}
+use Rattle.rules_typing.specs.Typing.{Sig, find}
 use Rattle.hs_nodes.specs.declared.emitter.Emitter.{Emitter}
 use Rattle.hs_nodes.specs.declared.places.Place.{Place}
 use Rattle.hs_nodes.specs.declared.names.Bound.{Bound}

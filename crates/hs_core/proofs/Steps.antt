@@ -1,14 +1,14 @@
 -- Steps of the expansion in a row.
 use Rattle.std.proofs.Common.{◌≡◌, ℕ, ◌+◌, List, [], ◌∷◌, ◌++◌, length, refl, ap, ◌∙◌, sym, subst, arith, length-append}
-use Rattle.hs_rules.specs.declared.node.Node.{Node}
-use Rattle.hs_rules.specs.declared.node.ExprId.{ExprId}
-use Rattle.hs_rules.specs.declared.act.ActId.{ActId}
-use Rattle.hs_rules.specs.declared.act.Act.{Act}
-use Rattle.hs_rules.specs.declared.act.Act.TheVariants as c
-use Rattle.hs_rules.specs.declared.act.Primitive as named
-use Rattle.hs_rules.specs.Slots.{Sx, Sxs, s_none, s_more, Scope, slotted, slotted_all, decode, trees, tree_in, trees_in, tree_at}
-use Rattle.hs_rules.specs.CodeTrees.{Sa, a_perform, a_restore, a_call, place_among, primitive_of, act_in, act_decode, act_trees, act_tree_at}
-use Rattle.hs_rules.proofs.Arena.{tree_at-more, tree_at-last}
+use Rattle.rules_code.specs.declared.node.Node.{Node}
+use Rattle.rules_code.specs.declared.node.ExprId.{ExprId}
+use Rattle.rules_code.specs.declared.act.ActId.{ActId}
+use Rattle.rules_code.specs.declared.act.Act.{Act}
+use Rattle.rules_code.specs.declared.act.Act.TheVariants as c
+use Rattle.rules_code.specs.declared.act.Primitive as named
+use Rattle.rules_code.specs.Slots.{Sx, Sxs, s_none, s_more, Scope, slotted, slotted_all, decode, trees, tree_in, trees_in, tree_at}
+use Rattle.rules_code.specs.CodeTrees.{Sa, a_perform, a_restore, a_call, place_among, primitive_of, act_in, act_decode, act_trees, act_tree_at}
+use Rattle.rules_code.proofs.Arena.{tree_at-more, tree_at-last}
 use Rattle.hs_nodes.specs.declared.emitter.Emitter.{Emitter}
 use Rattle.hs_nodes.specs.declared.names.Bound.{Bound}
 use Rattle.hs_nodes.specs.Names.{name_of, scope_of}
@@ -16,11 +16,11 @@ use Rattle.hs_nodes.specs.Standing.{Stands, AllStand}
 use Rattle.hs_nodes.proofs.Scopes.{scope-push}
 use Rattle.hs_nodes.specs.Emitting.{nodes_of, all_nodes, ids_of, Emitted}
 use Rattle.hs_nodes.proofs.Emitted.{all_trees, at_end, emitted, emitted_all}
-use Rattle.hs_rules.specs.Trees.{Ex, Exs}
+use Rattle.rules_trees.specs.Trees.{Ex, Exs}
 use Rattle.hs_core.specs.declared.defs.Defs.{Defs}
 use Rattle.hs_core.specs.Numbering.{names_of, index_among}
 use Rattle.hs_core.specs.Defining.{Knows, roots, functions}
-use Rattle.hs_rules.specs.Core.{ActionFunction}
+use Rattle.rules_expansion.specs.Core.{ActionFunction}
 use Rattle.std.specs.Prelude.{cond, bytes_eq}
 use Rattle.hs_core.specs.declared.emitter.ActEmitter.{ActEmitter}
 use Rattle.hs_core.specs.Emits.{Grows, DoneIn, StandsIn, AllStandIn, Emits, EmitsEx, EmitsAll, Pushed}

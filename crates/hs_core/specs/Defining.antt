@@ -1,10 +1,10 @@
 -- What is known of the definitions of a script while its code is made.
 use Rattle.std.specs.Prelude.{◌≡◌, List}
-use Rattle.hs_rules.specs.declared.node.Node.{Node}
-use Rattle.hs_rules.specs.Core.{ActionFunction}
-use Rattle.hs_rules.specs.Expansion.{actions_of}
-use Rattle.hs_rules.specs.Programs.{script_of}
-use Rattle.hs_rules.specs.Slots.{Root, roots_of}
+use Rattle.rules_code.specs.declared.node.Node.{Node}
+use Rattle.rules_expansion.specs.Core.{ActionFunction}
+use Rattle.rules_expansion.specs.Expansion.{actions_of}
+use Rattle.rules_trees.specs.Programs.{script_of}
+use Rattle.rules_code.specs.Slots.{Root, roots_of}
 use Rattle.hs_nodes.specs.Standing.{Known}
 use Rattle.hs_core.specs.declared.defs.Defs.{Defs}
 use Rattle.hs_core.specs.Numbering.{names_of}

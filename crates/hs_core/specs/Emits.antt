@@ -1,12 +1,12 @@
 -- What a step of the expansion does: the nodes grow, the scope is as before, and the number that is answered stands for a
 -- tree, where what the step takes for granted holds. The tree is a function of the scope.
 use Rattle.std.specs.Prelude.{◌≡◌, ◌<◌, List, [], ◌∷◌, ◌++◌, length}
-use Rattle.hs_rules.specs.declared.node.ExprId.{ExprId}
-use Rattle.hs_rules.specs.declared.node.Node.{Node}
-use Rattle.hs_rules.specs.declared.act.ActId.{ActId}
-use Rattle.hs_rules.specs.declared.act.Act.{Act}
-use Rattle.hs_rules.specs.Slots.{Sx, Sxs, Scope}
-use Rattle.hs_rules.specs.CodeTrees.{Sa, act_tree_at}
+use Rattle.rules_code.specs.declared.node.ExprId.{ExprId}
+use Rattle.rules_code.specs.declared.node.Node.{Node}
+use Rattle.rules_code.specs.declared.act.ActId.{ActId}
+use Rattle.rules_code.specs.declared.act.Act.{Act}
+use Rattle.rules_code.specs.Slots.{Sx, Sxs, Scope}
+use Rattle.rules_code.specs.CodeTrees.{Sa, act_tree_at}
 use Rattle.hs_nodes.specs.Names.{scope_of}
 use Rattle.hs_nodes.specs.Standing.{Stands, AllStand}
 use Rattle.hs_core.specs.declared.emitter.ActEmitter.{ActEmitter}

@@ -1,6 +1,6 @@
 -- The numbers of action functions, by their names.
 use Rattle.std.specs.Prelude.{ℕ, ◌+◌, List, [], ◌∷◌, cond, bytes_eq}
-use Rattle.hs_rules.specs.Core.{ActionFunction}
+use Rattle.rules_expansion.specs.Core.{ActionFunction}
 
 abbrev pub names_of : List ActionFunction → List (List ℕ)
 names_of [] = []

@@ -1,15 +1,15 @@
 -- Statements whose blocks go on: what stands for each, and what it makes of the tree of what follows.
 use Rattle.std.specs.Prelude.{◌≡◌, List, [], ◌∷◌, map}
 use Rattle.hs_base.specs.declared.tree.action.Stmt.{Stmt}
-use Rattle.hs_rules.specs.declared.node.Node.{Node}
-use Rattle.hs_rules.specs.declared.act.ActId.{ActId}
-use Rattle.hs_rules.specs.declared.act.Act.{Act}
-use Rattle.hs_rules.specs.declared.act.Act.TheVariants as k
-use Rattle.hs_rules.specs.Values.{Written}
-use Rattle.hs_rules.specs.Programs.{Act as Action, Bl, ActArms, maybe_acts, either_acts, list_acts, pair_acts, before, stmt_of}
-use Rattle.hs_rules.specs.Expansion.{core, block_core}
-use Rattle.hs_rules.specs.Slots.{Sx, Scope}
-use Rattle.hs_rules.specs.CodeTrees.{Sa, a_let, a_bind, a_then, a_maybe, a_either, a_list, a_pair, slotted_core}
+use Rattle.rules_code.specs.declared.node.Node.{Node}
+use Rattle.rules_code.specs.declared.act.ActId.{ActId}
+use Rattle.rules_code.specs.declared.act.Act.{Act}
+use Rattle.rules_code.specs.declared.act.Act.TheVariants as k
+use Rattle.rules_expansion.specs.Names.{Written}
+use Rattle.rules_trees.specs.Programs.{Act as Action, Bl, ActArms, maybe_acts, either_acts, list_acts, pair_acts, before, stmt_of}
+use Rattle.rules_expansion.specs.Expansion.{core, block_core}
+use Rattle.rules_code.specs.Slots.{Sx, Scope}
+use Rattle.rules_code.specs.CodeTrees.{Sa, a_let, a_bind, a_then, a_maybe, a_either, a_list, a_pair, slotted_core}
 use Rattle.hs_nodes.specs.declared.names.Bound.{Bound}
 use Rattle.hs_nodes.specs.declared.names.Bound.TheVariants as w
 use Rattle.hs_nodes.specs.declared.names.Hidden as code

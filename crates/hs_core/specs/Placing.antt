@@ -1,17 +1,17 @@
 -- The definitions of a script one after another: the pure functions first, and then the action functions.
 use Rattle.std.specs.Prelude.{◌≡◌, ℕ, List, [], ◌∷◌, map, ◌++◌, Option, Some, None}
 use Rattle.hs_base.specs.declared.tree.script.Param.{Param}
-use Rattle.hs_rules.specs.declared.node.Node.{Node}
-use Rattle.hs_rules.specs.declared.act.Act.{Act}
-use Rattle.hs_rules.specs.declared.act.ActId.{ActId}
-use Rattle.hs_rules.specs.declared.node.ExprId.{ExprId}
-use Rattle.hs_rules.specs.Trees.{Ex}
-use Rattle.hs_rules.specs.Meaning.{texts_of}
-use Rattle.hs_rules.specs.declared.code.Fun.{Fun}
-use Rattle.hs_rules.specs.Programs.{Fn, par_of}
-use Rattle.hs_rules.specs.Expansion.{actions_of}
-use Rattle.hs_rules.specs.Slots.{Root, root_with, slotted, scope_onto}
-use Rattle.hs_rules.specs.CodeTrees.{SlottedFunction, slotted_functions}
+use Rattle.rules_code.specs.declared.node.Node.{Node}
+use Rattle.rules_code.specs.declared.act.Act.{Act}
+use Rattle.rules_code.specs.declared.act.ActId.{ActId}
+use Rattle.rules_code.specs.declared.node.ExprId.{ExprId}
+use Rattle.rules_trees.specs.Trees.{Ex}
+use Rattle.rules_meaning.specs.Meaning.{texts_of}
+use Rattle.rules_code.specs.declared.code.Fun.{Fun}
+use Rattle.rules_trees.specs.Programs.{Fn, par_of}
+use Rattle.rules_expansion.specs.Expansion.{actions_of}
+use Rattle.rules_code.specs.Slots.{Root, root_with, slotted, scope_onto}
+use Rattle.rules_code.specs.CodeTrees.{SlottedFunction, slotted_functions}
 use Rattle.hs_nodes.specs.declared.emitter.Emitter.{Emitter}
 use Rattle.hs_nodes.specs.declared.places.Place.{Place}
 use Rattle.hs_nodes.specs.declared.names.Bound.{Bound}

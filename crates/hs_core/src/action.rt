@@ -5,7 +5,7 @@ use crate::pending::{Pending, back_to, bind_all};
 use hs_base::{Action, Block, BlockArms, Expr, NoMemory, Stmt, Txt};
 use hs_items::Items;
 use hs_nodes::names::{Hidden, bind, off};
-use hs_rules::{Act, ActId, ExprId, Primitive};
+use rules_code::{Act, ActId, ExprId, Primitive};
 use std::alloc::Global;
 
 /// The names of a form with a mask of its own round its blocks.
@@ -29,14 +29,14 @@ const TIMED: [Hidden; 6] = [
     Hidden::Instance,
 ];
 
-#[tactic(auto, using(hs_rules::proofs::EquationsOfActions::act_rules))]
+#[tactic(auto, using(rules_trees::proofs::EquationsOfActions::act_rules))]
 impl ActEmitter {
     ghost use Rattle.std.specs.Prelude.{IfOk, ◌∷◌, []};
-    ghost use Rattle.hs_rules.specs.Trees.{ex_of};
-    ghost use Rattle.hs_rules.specs.Values.{Written, Added, Restorer, Given, Caught, TheCell, Instance, BracketResult, BracketFault, Allowed, Owner, Expiry, Helper};
-    ghost use Rattle.hs_rules.specs.Programs.{act_of, bl_of, act_arms_of};
-    ghost use Rattle.hs_rules.specs.Slots.{Sx, slotted, slot_of};
-    ghost use Rattle.hs_rules.specs.CodeTrees.{a_if, a_bind, a_fork, a_fork_unmask, a_mask, a_mask_hard, a_catch, a_restore, slot_or_end};
+    ghost use Rattle.rules_trees.specs.Trees.{ex_of};
+    ghost use Rattle.rules_expansion.specs.Names.{Written, Added, Restorer, Given, Caught, TheCell, Instance, BracketResult, BracketFault, Allowed, Owner, Expiry, Helper};
+    ghost use Rattle.rules_trees.specs.Programs.{act_of, bl_of, act_arms_of};
+    ghost use Rattle.rules_code.specs.Slots.{Sx, slotted, slot_of};
+    ghost use Rattle.rules_code.specs.CodeTrees.{a_if, a_bind, a_fork, a_fork_unmask, a_mask, a_mask_hard, a_catch, a_restore, slot_or_end};
     ghost use Rattle.hs_nodes.specs.Names.{scope_after};
     ghost use Rattle.hs_core.specs.Defining.{Knows, roots};
     ghost use Rattle.hs_core.specs.Emits.{Emits, StandsIn};

@@ -1,7 +1,7 @@
 //! What the script defines.
 ghost use Rattle.std.specs.Prelude.{◌≡◌, IfOk};
-ghost use Rattle.hs_rules.specs.Programs.{script_of};
-ghost use Rattle.hs_rules.specs.Expansion.{actions_of};
+ghost use Rattle.rules_trees.specs.Programs.{script_of};
+ghost use Rattle.rules_expansion.specs.Expansion.{actions_of};
 ghost use Rattle.hs_index.specs.Indexing.{Indexes};
 ghost use Rattle.hs_core.specs.Numbering.{names_of};
 
@@ -60,8 +60,8 @@ fn index_of(alloc: Global, names: &Items<Txt>) -> Result<Index, NoMemory>
 
 impl Defs {
     ghost use Rattle.std.specs.Prelude.{◌≡◌, IfOk};
-    ghost use Rattle.hs_rules.specs.Programs.{script_of};
-    ghost use Rattle.hs_rules.specs.Expansion.{actions_of};
+    ghost use Rattle.rules_trees.specs.Programs.{script_of};
+    ghost use Rattle.rules_expansion.specs.Expansion.{actions_of};
     ghost use Rattle.hs_core.specs.Numbering.{index_among, names_of};
 
     /// The definitions of a script, with the places of its pure functions.

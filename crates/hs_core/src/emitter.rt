@@ -4,8 +4,8 @@ use hs_base::{Exn, Expr, NoMemory, Txt};
 use hs_items::Items;
 use hs_nodes::Emitter;
 use hs_nodes::names::Hidden;
-use hs_rules::forms::{BinaryForm, EmptyForm, UnaryForm};
-use hs_rules::{Act, ActId, ExprId, Node, Primitive};
+use rules_trees::forms::{BinaryForm, EmptyForm, UnaryForm};
+use rules_code::{Act, ActId, ExprId, Node, Primitive};
 use std::alloc::Global;
 
 /// The nodes of expressions with the names of the scope, and the nodes of actions.
@@ -18,13 +18,13 @@ pub struct ActEmitter {
 impl ActEmitter {
     ghost use Rattle.std.specs.Prelude.{◌≡◌, ◌∷◌, [], IfOk, pos};
     ghost use Rattle.hs_base.specs.declared.exn.Exn.TheVariants as x;
-    ghost use Rattle.hs_rules.specs.declared.forms.UnaryForm.TheVariants as u;
-    ghost use Rattle.hs_rules.specs.declared.forms.BinaryForm.TheVariants as b;
-    ghost use Rattle.hs_rules.specs.declared.forms.EmptyForm.TheVariants as n;
-    ghost use Rattle.hs_rules.specs.Trees.{ex_of, number, exception};
-    ghost use Rattle.hs_rules.specs.Values.{Written, Added};
-    ghost use Rattle.hs_rules.specs.Slots.{Sx, Sxs, slotted, slot_of, s_literal, s_empty, s_unary, s_binary, s_none, s_more};
-    ghost use Rattle.hs_rules.specs.CodeTrees.{Sa, slot_or_end, slot_read, a_return, a_throw, a_perform, primitive_of};
+    ghost use Rattle.rules_trees.specs.declared.forms.UnaryForm.TheVariants as u;
+    ghost use Rattle.rules_trees.specs.declared.forms.BinaryForm.TheVariants as b;
+    ghost use Rattle.rules_trees.specs.declared.forms.EmptyForm.TheVariants as n;
+    ghost use Rattle.rules_trees.specs.Trees.{ex_of, number, exception};
+    ghost use Rattle.rules_expansion.specs.Names.{Written, Added};
+    ghost use Rattle.rules_code.specs.Slots.{Sx, Sxs, slotted, slot_of, s_literal, s_empty, s_unary, s_binary, s_none, s_more};
+    ghost use Rattle.rules_code.specs.CodeTrees.{Sa, slot_or_end, slot_read, a_return, a_throw, a_perform, primitive_of};
     ghost use Rattle.hs_nodes.specs.Names.{scope_of, hidden_of};
     ghost use Rattle.hs_core.specs.Defining.{Knows, roots};
     ghost use Rattle.hs_core.specs.Emits.{Emits, EmitsEx, Pushed, StandsIn, AllStandIn, Nothing_given};

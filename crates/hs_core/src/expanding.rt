@@ -1,10 +1,10 @@
 //! From an accepted script to its code.
 ghost use Rattle.std.specs.Prelude.{◌≡◌, ◌++◌, [], IfOk, OnOk, slice_get, codes};
-ghost use Rattle.hs_rules.specs.Trees.{ex_of};
-ghost use Rattle.hs_rules.specs.Programs.{fn_of, script_of, bl_of};
-ghost use Rattle.hs_rules.specs.Slots.{roots_of, slotted};
-ghost use Rattle.hs_rules.specs.Expansion.{actions_of};
-ghost use Rattle.hs_rules.specs.Codes.{body_of};
+ghost use Rattle.rules_trees.specs.Trees.{ex_of};
+ghost use Rattle.rules_trees.specs.Programs.{fn_of, script_of, bl_of};
+ghost use Rattle.rules_code.specs.Slots.{roots_of, slotted};
+ghost use Rattle.rules_expansion.specs.Expansion.{actions_of};
+ghost use Rattle.rules_code.specs.Codes.{body_of};
 ghost use Rattle.hs_nodes.specs.Standing.{Known};
 ghost use Rattle.hs_core.specs.Numbering.{index_among};
 ghost use Rattle.hs_core.specs.Placing.{written, Functions, main_id};
@@ -18,7 +18,8 @@ use hs_base::{Block, Body as DefBody, Expr, NoMemory, Txt};
 use hs_items::Items;
 use hs_nodes::names::{Bound, bind};
 use hs_nodes::{Emitter, Place, Places};
-use hs_rules::{ActId, Body, Checked, Code, ExprId, Fun};
+use rules_code::{ActId, Body, Code, ExprId, Fun};
+use rules_typing::Checked;
 use std::alloc::Global;
 use std::snapshot::Snapshot;
 
@@ -87,7 +88,7 @@ fn places(emitter: &mut Emitter, alloc: Global, script: &Script) -> Result<Place
 
 impl ActEmitter {
     ghost use Rattle.std.specs.Prelude.{◌≡◌, IfOk, OnOk, length, List, [], ◌∷◌};
-    ghost use Rattle.hs_rules.specs.Programs.{fn_of, script_of, bl_of};
+    ghost use Rattle.rules_trees.specs.Programs.{fn_of, script_of, bl_of};
     ghost use Rattle.hs_nodes.specs.Names.{scope_after};
     ghost use Rattle.hs_core.specs.Defining.{Knows};
     ghost use Rattle.hs_core.specs.Emits.{Emits};

@@ -3,15 +3,15 @@ use crate::defs::Defs;
 use crate::emitter::ActEmitter;
 use hs_base::{Expr, NoMemory, Txt};
 use hs_items::Items;
-use hs_rules::{Act, ActId, ExprId, Primitive};
+use rules_code::{Act, ActId, ExprId, Primitive};
 use std::alloc::Global;
 
 impl ActEmitter {
     ghost use Rattle.std.specs.Prelude.{IfOk, []};
-    ghost use Rattle.hs_rules.specs.Trees.{ex_of, exs_of};
-    ghost use Rattle.hs_rules.specs.Core.{ThrowTo, Killed};
-    ghost use Rattle.hs_rules.specs.Slots.{slotted, slotted_all, s_none, s_more};
-    ghost use Rattle.hs_rules.specs.CodeTrees.{a_return, a_throw, a_call, a_perform, primitive_of, place_among, slotted_core_ex};
+    ghost use Rattle.rules_trees.specs.Trees.{ex_of, exs_of};
+    ghost use Rattle.rules_expansion.specs.Core.{ThrowTo, Killed};
+    ghost use Rattle.rules_code.specs.Slots.{slotted, slotted_all, s_none, s_more};
+    ghost use Rattle.rules_code.specs.CodeTrees.{a_return, a_throw, a_call, a_perform, primitive_of, place_among, slotted_core_ex};
     ghost use Rattle.hs_core.specs.Defining.{Knows, roots, functions};
     ghost use Rattle.hs_core.specs.Emits.{Emits, EmitsAll};
     ghost use Rattle.hs_core.specs.Forms as form;

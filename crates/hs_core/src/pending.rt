@@ -6,7 +6,7 @@ use crate::emitter::ActEmitter;
 use hs_base::NoMemory;
 use hs_items::Items;
 use hs_nodes::names::{Bound, Hidden, bind_added, off};
-use hs_rules::{Act, ActId, ExprId};
+use rules_code::{Act, ActId, ExprId};
 
 /// A statement that has its nodes, before what follows it in its block.
 #[derive(Clone, Copy, Debug, PartialEq, Eq)]
@@ -37,7 +37,7 @@ impl Pending {
 
 impl ActEmitter {
     ghost use Rattle.std.specs.Prelude.{IfOk, List};
-    ghost use Rattle.hs_rules.specs.CodeTrees.{Sa};
+    ghost use Rattle.rules_code.specs.CodeTrees.{Sa};
     ghost use Rattle.hs_core.specs.Emits.{Emits, DoneIn};
     ghost use Rattle.hs_core.specs.Opening.{Opened, wrap, wrap_all, Holds, HoldAll};
 

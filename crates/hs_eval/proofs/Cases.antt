@@ -6,9 +6,9 @@ use Rattle.hs_base.specs.declared.value.Value.{Value, out-Value, roll-Value, rol
 use Rattle.hs_base.specs.declared.value.Value.TheVariants as raw
 use Rattle.hs_base.specs.declared.value.Value.TheOpen.{Value-F}
 use Rattle.hs_base.specs.declared.value.Value.TheFolds.{fold-roll-Value}
-use Rattle.hs_rules.specs.Values.{V, UnitValue, Int, Truth, Text, Pair, Nothing, Just, Left, Right, Nil, Cons, Cell, Thread, Exception, Restore, Inst, value_of, values_of, value_step, list_of, Outcome, Stuck}
-use Rattle.hs_rules.specs.Meaning.{on_truth, on_number, on_text, on_pair, on_maybe, on_either, on_list, shown, same_value, order_of}
-use Rattle.hs_rules.proofs.Values.{value_of-Pair, value_of-Just, value_of-Left, value_of-Right, value_of-List}
+use Rattle.rules_meaning.specs.Values.{V, UnitValue, Int, Truth, Text, Pair, Nothing, Just, Left, Right, Nil, Cons, Cell, Thread, Exception, Restore, Inst, value_of, values_of, value_step, list_of, Outcome, Stuck}
+use Rattle.rules_meaning.specs.Meaning.{on_truth, on_number, on_text, on_pair, on_maybe, on_either, on_list, shown, same_value, order_of}
+use Rattle.rules_meaning.proofs.Values.{value_of-Pair, value_of-Just, value_of-Left, value_of-Right, value_of-List}
 
 -- the mirror of each form of value that holds no value
 pub value_of-Unit : value_of raw.Unit ≡ UnitValue

@@ -5,7 +5,7 @@ use Rattle.std.proofs.lemmas.Int.{ints}
 use Rattle.std.proofs.Math.Facts.{to_z-of_z}
 use Rattle.std.proofs.Math.Nat.{div-le_self, div-lt_self}
 use Rattle.std.specs.Int.{int_div_euclid, int_rem_euclid}
-use Rattle.hs_rules.specs.Meaning.{floor_by, rest_by, floor_quotient, floor_rest, has_no_quotient}
+use Rattle.rules_meaning.specs.Meaning.{floor_by, rest_by, floor_quotient, floor_rest, has_no_quotient}
 
 by_positive : (z : ℤ) (k : ℕ) → int_div_euclid z (pos k) ≡ floor_by z k
 by_positive (pos m) k = refl

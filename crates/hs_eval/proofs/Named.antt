@@ -2,7 +2,7 @@
 use Rattle.std.proofs.Common.{◌≡◌, List, [], ◌++◌, ap}
 use Rattle.std.proofs.lemmas.List.{append-nil}
 use Rattle.hs_base.specs.declared.value.Value.{Value}
-use Rattle.hs_rules.specs.Values.{values_of}
+use Rattle.rules_meaning.specs.Values.{values_of}
 use Rattle.hs_eval.specs.Evaluation.{slots}
 
 pub no_more_slots : (vs : List Value) → slots vs [] ≡ values_of vs

@@ -3,13 +3,13 @@ use Rattle.std.proofs.Common.{◌≡◌, List, sym, ap, ◌∙◌, subst}
 use Rattle.std.proofs.Math.Bool.{Bool-set}
 use Rattle.std.proofs.Math.Logic.{∥∥₁_elim}
 use Rattle.hs_base.specs.declared.tree.script.Script.{Script}
-use Rattle.hs_rules.specs.declared.code.Body.{Body}
-use Rattle.hs_rules.specs.declared.node.ExprId.{ExprId}
-use Rattle.hs_rules.specs.Programs.{script_of}
-use Rattle.hs_rules.specs.Values.{V, Outcome, Stuck}
-use Rattle.hs_rules.specs.TypingScripts.{Accepted, sigs_from}
-use Rattle.hs_rules.specs.TypedMeaning.{any_cell}
-use Rattle.hs_rules.specs.Slots.{run, tree_at}
+use Rattle.rules_code.specs.declared.code.Body.{Body}
+use Rattle.rules_code.specs.declared.node.ExprId.{ExprId}
+use Rattle.rules_trees.specs.Programs.{script_of}
+use Rattle.rules_meaning.specs.Values.{V, Outcome, Stuck}
+use Rattle.rules_typing.specs.TypingScripts.{Accepted, sigs_from}
+use Rattle.rules_typed.specs.TypedMeaning.{any_cell}
+use Rattle.rules_code.specs.Slots.{run, tree_at}
 use Rattle.hs_soundness.specs.CoreSorts.{GoodSort}
 use Rattle.hs_soundness.proofs.CoreExpressions.{accepted_good}
 use Rattle.hs_soundness.proofs.CoreSlots.{core_slots}

@@ -3,23 +3,23 @@ use Rattle.std.proofs.Common.{◌≡◌, List, [], ◌∷◌, codes, true, refl,
 use Rattle.hs_base.specs.declared.pos.Pos.{Pos}
 use Rattle.hs_base.specs.declared.tree.action.Action.TheVariants as a
 use Rattle.hs_base.specs.declared.tree.expr.Expr.TheVariants as e
-use Rattle.hs_rules.specs.declared.forms.UnaryAction.TheVariants as u
+use Rattle.rules_trees.specs.declared.forms.UnaryAction.TheVariants as u
 use Rattle.hs_base.specs.declared.tree.script.Script.{Script}
-use Rattle.hs_rules.specs.declared.node.Node.{Node}
-use Rattle.hs_rules.specs.declared.act.Act.{Act}
-use Rattle.hs_rules.specs.declared.code.Fun.{Fun}
-use Rattle.hs_rules.specs.declared.code.Body.{Body}
-use Rattle.hs_rules.specs.Trees.{T, unit, lit, nothing_more}
-use Rattle.hs_rules.specs.Programs.{Bl, last, unary_act, bl_of, io_body, Fn, script_of}
-use Rattle.hs_rules.specs.PlainScripts.{main_script}
-use Rattle.hs_rules.specs.Fitting.{a_value}
-use Rattle.hs_rules.specs.TypingScripts.{Accepted, NothingBroken, has_main}
-use Rattle.hs_rules.specs.TypedMeaning.{any_cell}
-use Rattle.hs_rules.specs.Slots.{tree_at}
-use Rattle.hs_rules.specs.Core.{OfScript}
-use Rattle.hs_rules.specs.CodeTrees.{code_trees, main_tree, StandsFor}
-use Rattle.hs_rules.proofs.Equations.{ty-Unit, ex-Unit}
-use Rattle.hs_rules.proofs.EquationsOfActions.{bl_is, act-Return}
+use Rattle.rules_code.specs.declared.node.Node.{Node}
+use Rattle.rules_code.specs.declared.act.Act.{Act}
+use Rattle.rules_code.specs.declared.code.Fun.{Fun}
+use Rattle.rules_code.specs.declared.code.Body.{Body}
+use Rattle.rules_trees.specs.Trees.{T, unit, lit, nothing_more}
+use Rattle.rules_trees.specs.Programs.{Bl, last, unary_act, bl_of, io_body, Fn, script_of}
+use Rattle.conc_top.specs.PlainScripts.{main_script}
+use Rattle.rules_typed.specs.Sorts.{a_value}
+use Rattle.rules_typing.specs.TypingScripts.{Accepted, NothingBroken, has_main}
+use Rattle.rules_typed.specs.TypedMeaning.{any_cell}
+use Rattle.rules_code.specs.Slots.{tree_at}
+use Rattle.rules_expansion.specs.Core.{OfScript}
+use Rattle.rules_code.specs.CodeTrees.{code_trees, main_tree, StandsFor}
+use Rattle.rules_trees.proofs.Equations.{ty-Unit, ex-Unit}
+use Rattle.rules_trees.proofs.EquationsOfActions.{bl_is, act-Return}
 use Rattle.hs_judging.proofs.Scripts.{script_breaks}
 use Rattle.hs_soundness.proofs.Growing.{fits_none}
 use Rattle.hs_eval.specs.Readings.{Reading}

@@ -6,19 +6,19 @@ use Rattle.std.proofs.Math.ListN.{drop_of_length-le}
 use Rattle.hs_base.specs.declared.exn.Exn.{Exn}
 use Rattle.hs_base.specs.declared.value.Value.{Value}
 use Rattle.hs_base.specs.declared.value.Value.TheVariants as raw
-use Rattle.hs_rules.specs.declared.forms.BinaryForm.{BinaryForm}
-use Rattle.hs_rules.specs.declared.forms.BinaryForm.TheVariants as b
-use Rattle.hs_rules.specs.declared.forms.UnaryForm.{UnaryForm}
-use Rattle.hs_rules.specs.declared.forms.SideForm.{SideForm}
-use Rattle.hs_rules.specs.declared.node.Node.{Node}
-use Rattle.hs_rules.specs.declared.node.Node.TheVariants as n
-use Rattle.hs_rules.specs.declared.node.ExprId.{ExprId}
-use Rattle.hs_rules.specs.declared.node.NodeLink.{NodeLink}
-use Rattle.hs_rules.specs.Values.{V, Cons, list_of, value_of, values_of, Outcome, Gives, Throws, Stuck, Outcomes, AllGive, OneThrows, OneStuck, and_one, and_then}
-use Rattle.hs_rules.specs.Meaning.{put_before, then, then_all, binary_of, linked}
-use Rattle.hs_rules.specs.Slots.{Sx, Sxs, s_none, s_more, Slinks, s_end, s_link, run, run_all, run_left, run_right, tree_in, trees_in, links_in, at_slot}
+use Rattle.rules_trees.specs.declared.forms.BinaryForm.{BinaryForm}
+use Rattle.rules_trees.specs.declared.forms.BinaryForm.TheVariants as b
+use Rattle.rules_trees.specs.declared.forms.UnaryForm.{UnaryForm}
+use Rattle.rules_trees.specs.declared.forms.SideForm.{SideForm}
+use Rattle.rules_code.specs.declared.node.Node.{Node}
+use Rattle.rules_code.specs.declared.node.Node.TheVariants as n
+use Rattle.rules_code.specs.declared.node.ExprId.{ExprId}
+use Rattle.rules_code.specs.declared.node.NodeLink.{NodeLink}
+use Rattle.rules_meaning.specs.Values.{V, Cons, list_of, value_of, values_of, Outcome, Gives, Throws, Stuck, Outcomes, AllGive, OneThrows, OneStuck, and_one, and_then}
+use Rattle.rules_meaning.specs.Meaning.{put_before, then, then_all, binary_of, linked}
+use Rattle.rules_code.specs.Slots.{Sx, Sxs, s_none, s_more, Slinks, s_end, s_link, run, run_all, run_left, run_right, tree_in, trees_in, links_in, at_slot}
 use Rattle.hs_eval.specs.Evaluation.{slots, mirrored, operands_of, with_values, join_right, join_all, after}
-use Rattle.hs_rules.proofs.Values.{value_of-List}
+use Rattle.rules_meaning.proofs.Values.{value_of-List}
 
 onto_list : (v : V) (us : List V) → put_before v (list_of us) ≡ Gives (Cons v (list_of us))
 onto_list v [] = refl

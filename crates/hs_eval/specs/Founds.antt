@@ -1,5 +1,5 @@
 -- What an answer of the evaluator stands for.
-use Rattle.hs_rules.specs.Values.{value_of, Outcome, Gives, Throws, Stuck}
+use Rattle.rules_meaning.specs.Values.{value_of, Outcome, Gives, Throws, Stuck}
 use Rattle.hs_eval.specs.declared.found.Found.{Found}
 use Rattle.hs_eval.specs.declared.found.Found.TheVariants as f
 

@@ -1,18 +1,19 @@
 -- What an expression of a code is, when values of slots are an environment that fits its scope, and what an answer
 -- stands for (own).
 use Rattle.std.specs.Prelude.{◌≡◌, ℕ, List}
-use Rattle.hs_rules.specs.declared.code.Body.{Body}
-use Rattle.hs_rules.specs.declared.node.ExprId.{ExprId}
-use Rattle.hs_rules.specs.Programs.{script_of}
-use Rattle.hs_rules.specs.Values as val
-use Rattle.hs_rules.specs.Values.{V, Env, value_of}
-use Rattle.hs_rules.specs.Meaning.{functions_of}
-use Rattle.hs_rules.specs.Fitting.{Sort, Bound}
-use Rattle.hs_rules.specs.TypingScripts.{sigs_from}
-use Rattle.hs_rules.specs.TypedMeaning.{any_cell}
-use Rattle.hs_rules.specs.Slots.{roots_of, tree_at}
-use Rattle.hs_rules.specs.Core.{CoreEx, value_of_core}
-use Rattle.hs_rules.specs.CodeTrees.{slotted_core_ex}
+use Rattle.rules_code.specs.declared.code.Body.{Body}
+use Rattle.rules_code.specs.declared.node.ExprId.{ExprId}
+use Rattle.rules_trees.specs.Programs.{script_of}
+use Rattle.rules_meaning.specs.Values as val
+use Rattle.rules_meaning.specs.Values.{V, Env, value_of}
+use Rattle.rules_meaning.specs.Meaning.{functions_of}
+use Rattle.rules_typed.specs.Sorts.{Sort, Bound}
+use Rattle.rules_typing.specs.TypingScripts.{sigs_from}
+use Rattle.rules_typed.specs.TypedMeaning.{any_cell}
+use Rattle.rules_code.specs.Slots.{roots_of, tree_at}
+use Rattle.rules_expansion.specs.Core.{CoreEx}
+use Rattle.rules_meaning.specs.CoreMeaning.{value_of_core}
+use Rattle.rules_code.specs.CodeTrees.{slotted_core_ex}
 use Rattle.hs_soundness.specs.CoreSorts.{names_of, CoreHas, SlotsFit}
 use Rattle.hs_eval.specs.declared.outcome.Outcome.{Outcome}
 use Rattle.hs_eval.specs.declared.outcome.Outcome.TheVariants as o

@@ -7,11 +7,11 @@ use Rattle.hs_base.specs.declared.tree.expr.Expr.TheVariants as e
 use Rattle.hs_base.specs.declared.tree.ty.Ty.TheVariants as t
 use Rattle.hs_base.specs.declared.tree.script.Body.TheVariants as y
 use Rattle.hs_base.specs.declared.tree.script.Script.{Script}
-use Rattle.hs_rules.specs.declared.node.Node.{Node}
-use Rattle.hs_rules.specs.declared.node.Node.TheVariants as n
-use Rattle.hs_rules.specs.declared.act.Act.{Act}
-use Rattle.hs_rules.specs.declared.act.Act.TheVariants as c
-use Rattle.hs_rules.specs.declared.code.Fun.{Fun}
+use Rattle.rules_code.specs.declared.node.Node.{Node}
+use Rattle.rules_code.specs.declared.node.Node.TheVariants as n
+use Rattle.rules_code.specs.declared.act.Act.{Act}
+use Rattle.rules_code.specs.declared.act.Act.TheVariants as c
+use Rattle.rules_code.specs.declared.code.Fun.{Fun}
 
 abbrev pub smallest_script : Pos → Script
 smallest_script p = record {

@@ -1,7 +1,7 @@
 //! Forms with two parts.
 ghost use Rattle.std.specs.Prelude.{◌≡◌, ◌++◌, ℤ, IfOk, MatchOption};
-ghost use Rattle.hs_rules.specs.Values.{value_of, Int, Stuck, Outcome, Gives, Pair};
-ghost use Rattle.hs_rules.specs.Meaning.{binary_of, on_numbers, as_truth, isnt, is_before, is_behind, put_before, joined_texts, limited};
+ghost use Rattle.rules_meaning.specs.Values.{value_of, Int, Stuck, Outcome, Gives, Pair};
+ghost use Rattle.rules_meaning.specs.Meaning.{binary_of, on_numbers, as_truth, isnt, is_before, is_behind, put_before, joined_texts, limited};
 ghost use Rattle.hs_eval.specs.Founds.{out_of};
 
 use crate::compare::{order_of, same_value};
@@ -11,7 +11,7 @@ use crate::numbers::{minus, plus, quotient, remainder, times};
 use crate::read::{as_number, as_text};
 use hs_base::{NoMemory, Txt, Value};
 use hs_items::Items;
-use hs_rules::forms::BinaryForm;
+use rules_trees::forms::BinaryForm;
 use std::alloc::Global;
 use std::cmp::Ordering;
 

@@ -1,7 +1,7 @@
 //! Comparisons.
 ghost use Rattle.std.specs.Prelude.{◌≡◌};
-ghost use Rattle.hs_rules.specs.Values.{value_of};
-ghost use Rattle.hs_rules.specs.Meaning.{same_value, order_of, same_exn};
+ghost use Rattle.rules_meaning.specs.Values.{value_of};
+ghost use Rattle.rules_meaning.specs.Meaning.{same_value, order_of, same_exn};
 
 use hs_base::{Exn, Value};
 use std::cmp::Ordering;

@@ -1,8 +1,8 @@
 //! Evaluation of numbered nodes.
 ghost use Rattle.std.specs.Prelude.{◌≡◌, ◌++◌, ◌∷◌, [], IfOk, take, cond};
-ghost use Rattle.hs_rules.specs.Values.{value_of, values_of};
-ghost use Rattle.hs_rules.specs.Meaning.{then, then_all, linked, binary_of, on_truth, on_maybe, on_either, on_list, on_pair};
-ghost use Rattle.hs_rules.specs.Slots.{run, run_all, run_left, run_right, decode, trees, tree_at, trees_in, links_in};
+ghost use Rattle.rules_meaning.specs.Values.{value_of, values_of};
+ghost use Rattle.rules_meaning.specs.Meaning.{then, then_all, linked, binary_of, on_truth, on_maybe, on_either, on_list, on_pair};
+ghost use Rattle.rules_code.specs.Slots.{run, run_all, run_left, run_right, decode, trees, tree_at, trees_in, links_in};
 ghost use Rattle.hs_eval.specs.Founds.{out_of};
 ghost use Rattle.hs_eval.specs.Evaluation.{outs_of, part_of, slots, after, with_values};
 
@@ -13,13 +13,13 @@ use crate::lists::{Parted, id_at, joined, one, operand_ids, split_first};
 use crate::read::as_truth;
 use hs_base::{NoMemory, Value, Values};
 use hs_items::Items;
-use hs_rules::forms::BinaryForm;
-use hs_rules::{ExprId, Node, NodeLink};
+use rules_trees::forms::BinaryForm;
+use rules_code::{ExprId, Node, NodeLink};
 use std::alloc::Global;
 
 /// Evaluates the node of a number.
 #[cycle(eval)]
-#[tactic(auto, using(hs_rules::proofs::Arena::arena_rules))]
+#[tactic(auto, using(rules_code::proofs::Arena::arena_rules))]
 pub fn eval_at(
     alloc: Global,
     nodes: &Items<Node>,
@@ -37,7 +37,7 @@ pub fn eval_at(
 
 /// A part of a node, whose number is lower.
 #[cycle(eval)]
-#[tactic(auto, using(hs_rules::proofs::Arena::arena_rules))]
+#[tactic(auto, using(rules_code::proofs::Arena::arena_rules))]
 fn part(
     alloc: Global,
     nodes: &Items<Node>,

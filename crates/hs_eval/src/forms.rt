@@ -1,7 +1,7 @@
 //! What a form gives at the values of its parts.
 ghost use Rattle.std.specs.Prelude.{◌≡◌, ◌++◌, IfOk, codes, decimal};
-ghost use Rattle.hs_rules.specs.Values.{value_of};
-ghost use Rattle.hs_rules.specs.Meaning.{unary_of, side_of, shown, as_text, limited, truth_text};
+ghost use Rattle.rules_meaning.specs.Values.{value_of};
+ghost use Rattle.rules_meaning.specs.Meaning.{unary_of, side_of, shown, as_text, limited, truth_text};
 ghost use Rattle.std.specs.Fmt.{signed_decimal};
 ghost use Rattle.hs_eval.specs.Founds.{out_of};
 
@@ -9,7 +9,7 @@ use crate::found::Found;
 use crate::numbers::negated;
 use hs_base::{Exn, NoMemory, Txt, Value};
 use hs_items::Boxed;
-use hs_rules::forms::{SideForm, UnaryForm};
+use rules_trees::forms::{SideForm, UnaryForm};
 use std::alloc::Global;
 
 pub fn boxed(alloc: Global, value: Value) -> Result<Boxed<Value>, NoMemory>

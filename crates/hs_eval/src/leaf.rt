@@ -2,9 +2,9 @@
 ghost use Rattle.std.specs.Prelude.{◌≡◌, ◌++◌, ◌∷◌, [], IfOk, MatchOption, take, List, slice_get};
 ghost use Rattle.std.specs.Option.{option_copied};
 ghost use Rattle.hs_base.specs.declared.value.Value.{Value};
-ghost use Rattle.hs_rules.specs.Values.{value_of, list_of, Gives};
-ghost use Rattle.hs_rules.specs.Meaning.{empty_of, then, then_all, binary_of};
-ghost use Rattle.hs_rules.specs.Slots.{decode, trees, tree_at, s_bad, at_slot};
+ghost use Rattle.rules_meaning.specs.Values.{value_of, list_of, Gives};
+ghost use Rattle.rules_meaning.specs.Meaning.{empty_of, then, then_all, binary_of};
+ghost use Rattle.rules_code.specs.Slots.{decode, trees, tree_at, s_bad, at_slot};
 ghost use Rattle.hs_eval.specs.Founds.{out_of};
 ghost use Rattle.hs_eval.specs.Evaluation.{outs_of, mirrored, slots};
 
@@ -12,12 +12,12 @@ use crate::binary::binary;
 use crate::found::{Found, FoundAll};
 use hs_base::{NoMemory, Value, Values};
 use hs_items::Items;
-use hs_rules::forms::{BinaryForm, EmptyForm};
-use hs_rules::{ExprId, Node};
+use rules_trees::forms::{BinaryForm, EmptyForm};
+use rules_code::{ExprId, Node};
 use std::alloc::Global;
 
 /// The node of a number.
-#[tactic(auto, using(hs_rules::proofs::Arena::arena_rules))]
+#[tactic(auto, using(rules_code::proofs::Arena::arena_rules))]
 pub fn node_at(nodes: &Items<Node>, id: ExprId) -> Option<&Node>
     ensures { MatchOption result (tree_at nodes.now id ≡ s_bad) (λ k. tree_at nodes.now id ≡ decode (take id.0 (trees nodes.now)) k.now) }
 {

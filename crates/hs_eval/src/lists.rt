@@ -1,7 +1,7 @@
 //! Lists of values.
 ghost use Rattle.std.specs.Prelude.{◌≡◌, ◌∷◌, [], ◌<◌, IfOk, length, slice_get};
-ghost use Rattle.hs_rules.specs.Values.{value_of, values_of};
-ghost use Rattle.hs_rules.specs.Meaning.{then_all};
+ghost use Rattle.rules_meaning.specs.Values.{value_of, values_of};
+ghost use Rattle.rules_meaning.specs.Meaning.{then_all};
 ghost use Rattle.hs_eval.specs.Founds.{out_of};
 ghost use Rattle.hs_eval.specs.Evaluation.{outs_of, PartedAs, operands_of, join_all, join_right};
 
@@ -9,7 +9,7 @@ use crate::found::{Found, FoundAll};
 use crate::leaf::closed;
 use hs_base::{NoMemory, Value, Values};
 use hs_items::Items;
-use hs_rules::{ExprId, NodeLink};
+use rules_code::{ExprId, NodeLink};
 use std::alloc::Global;
 
 /// A list by its first item and the rest.

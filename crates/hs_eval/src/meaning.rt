@@ -1,13 +1,13 @@
 //! What an expression gives, with the values of its slots, and what it means with names.
 ghost use Rattle.std.specs.Prelude.{◌≡◌, IfOk, List};
-ghost use Rattle.hs_rules.specs.Trees.{Ex};
-ghost use Rattle.hs_rules.specs.Programs.{Fn};
-ghost use Rattle.hs_rules.specs.Values.{V, Env, values_of, Stuck};
-ghost use Rattle.hs_rules.specs.Meaning.{functions_of, value_of_ex};
-ghost use Rattle.hs_rules.specs.Slots.{Scope, roots_of, run, slotted, tree_at};
-ghost use Rattle.hs_rules.specs.Matching.{Matches};
-ghost use Rattle.hs_rules.specs.Codes.{body_of};
-ghost use Rattle.hs_rules.specs.TypedMeaning.{any_cell};
+ghost use Rattle.rules_trees.specs.Trees.{Ex};
+ghost use Rattle.rules_trees.specs.Programs.{Fn};
+ghost use Rattle.rules_meaning.specs.Values.{V, Env, values_of, Stuck};
+ghost use Rattle.rules_meaning.specs.Meaning.{functions_of, value_of_ex};
+ghost use Rattle.rules_code.specs.Slots.{Scope, roots_of, run, slotted, tree_at};
+ghost use Rattle.rules_code.specs.Matching.{Matches};
+ghost use Rattle.rules_code.specs.Codes.{body_of};
+ghost use Rattle.rules_typed.specs.TypedMeaning.{any_cell};
 ghost use Rattle.hs_soundness.specs.CoreSorts.{GoodSort};
 ghost use Rattle.hs_eval.specs.Founds.{out_of};
 ghost use Rattle.hs_eval.specs.Readings.{Reading, meaning, outcome_of};
@@ -17,7 +17,7 @@ use crate::found::Found;
 use crate::outcome::Outcome;
 use hs_base::{NoMemory, Values};
 use hs_items::Items;
-use hs_rules::{Code, ExprId, Node};
+use rules_code::{Code, ExprId, Node};
 use std::alloc::Global;
 
 /// What an expression of a code gives, in an environment that fits its scope: exactly what the expression means with
@@ -66,7 +66,7 @@ pub fn eval_node(
 }
 
 /// An expression of a script, with slots, means what it means with names, in every environment that matches its scope.
-#[tactic(auto, using(hs_rules::proofs::Slotted::slots_mean))]
+#[tactic(auto, using(rules_code::proofs::Slotted::slots_mean))]
 pub fn slots_mean()
     ensures { (script : List Fn) (s : Scope) (env : Env) (vs : List V) → Matches s env vs → (e : Ex) → run (slotted (roots_of script) s e) vs ≡ value_of_ex (functions_of script) env e }
 {}

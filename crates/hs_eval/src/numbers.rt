@@ -1,6 +1,6 @@
 //! Numbers of 64 bits, with a sign.
 ghost use Rattle.std.specs.Prelude.{◌≡◌, pos, ◌≢◌, false};
-ghost use Rattle.hs_rules.specs.Meaning.{floor_quotient, floor_rest, has_no_quotient, quotient, remainder, plus, minus, times, negated};
+ghost use Rattle.rules_meaning.specs.Meaning.{floor_quotient, floor_rest, has_no_quotient, quotient, remainder, plus, minus, times, negated};
 ghost use Rattle.hs_eval.specs.Founds.{out_of};
 
 use crate::found::Found;

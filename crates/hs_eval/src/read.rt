@@ -1,7 +1,7 @@
 //! What a value is, seen from outside.
 ghost use Rattle.std.specs.Prelude.{◌≡◌, ℕ, ℤ, List, Bool, MatchOption};
-ghost use Rattle.hs_rules.specs.Values.{value_of, Int, Truth, Text, Stuck, Outcome};
-ghost use Rattle.hs_rules.specs.Meaning.{on_truth, on_number, on_text};
+ghost use Rattle.rules_meaning.specs.Values.{value_of, Int, Truth, Text, Stuck, Outcome};
+ghost use Rattle.rules_meaning.specs.Meaning.{on_truth, on_number, on_text};
 
 use hs_base::{Txt, Value};
 

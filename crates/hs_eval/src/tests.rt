@@ -1,8 +1,8 @@
 use crate::{Found, eval_node, slots_mean};
 use hs_base::{Exn, Txt, Value, Values};
 use hs_items::Items;
-use hs_rules::forms::{BinaryForm, EmptyForm, SideForm, UnaryForm};
-use hs_rules::{ExprId, Node, NodeLink};
+use rules_trees::forms::{BinaryForm, EmptyForm, SideForm, UnaryForm};
+use rules_code::{ExprId, Node, NodeLink};
 use std::alloc::Global;
 use std::test::Fail;
 

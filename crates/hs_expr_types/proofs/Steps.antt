@@ -3,9 +3,9 @@ use Rattle.std.proofs.Common.{◌≡◌, ℕ, ◌+◌, ◌<◌, List, [], ◌∷
 use Rattle.hs_base.specs.declared.pos.Pos.{Pos}
 use Rattle.hs_base.specs.declared.tree.ty.Ty.{Ty}
 use Rattle.hs_base.specs.declared.tree.expr.Expr.{Expr}
-use Rattle.hs_rules.specs.declared.forms.BinaryForm.{BinaryForm}
-use Rattle.hs_rules.specs.Trees.{T, Ex, binary, Links, link, ex_of, exs_of}
-use Rattle.hs_rules.specs.Typing.{Ctx, Bound, row_binary}
+use Rattle.rules_trees.specs.declared.forms.BinaryForm.{BinaryForm}
+use Rattle.rules_trees.specs.Trees.{T, Ex, binary, Links, link, ex_of, exs_of}
+use Rattle.rules_typing.specs.Typing.{Ctx, Bound, row_binary}
 use Rattle.hs_judging.specs.Judging.{Found, Founds, own, parts2, typed, with2, judge, judges, judge_links, operand_faults, operand_types}
 use Rattle.hs_judging.specs.Least.{least}
 use Rattle.hs_typing.specs.Views.{opt_ty, opts_of}

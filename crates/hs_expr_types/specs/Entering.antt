@@ -1,8 +1,8 @@
 -- What binding a name does where the scope takes it, and where it is full.
 use Rattle.std.specs.Prelude.{◌≡◌, [], ◌∷◌, Bool, true, false}
 use Rattle.hs_base.specs.declared.tree.expr.Name.{Name}
-use Rattle.hs_rules.specs.Trees.{T}
-use Rattle.hs_rules.specs.Typing.{bound, scope}
+use Rattle.rules_trees.specs.Trees.{T}
+use Rattle.rules_typing.specs.Typing.{bound, scope}
 use Rattle.hs_judging.specs.Judging.{full}
 use Rattle.hs_judging.specs.Least.{least}
 use Rattle.hs_typing.specs.Judged.{names, kept}

@@ -1,11 +1,11 @@
 //! The forms that the operators and alternatives of a tree stand for.
 ghost use Rattle.std.specs.Prelude.{◌≡◌};
-ghost use Rattle.hs_rules.specs.Trees.{arms_of, compare_form, sum_form};
-ghost use Rattle.hs_rules.specs.Typing.{form_of_arms};
+ghost use Rattle.rules_trees.specs.Trees.{arms_of, compare_form, sum_form};
+ghost use Rattle.rules_typing.specs.Typing.{form_of_arms};
 ghost use Rattle.hs_typing.specs.Views.{form_of};
 
 use hs_base::tree::{CompareOp, ExprArms, SumOp};
-use hs_rules::forms::BinaryForm;
+use rules_trees::forms::BinaryForm;
 use hs_typing::Form;
 
 /// A comparison as a form.
@@ -33,7 +33,7 @@ pub fn sum_form(op: SumOp) -> BinaryForm
 }
 
 /// The form of types that the alternatives of a `case` ask for.
-#[tactic(auto, using(hs_rules::proofs::Equations::arms_rules))]
+#[tactic(auto, using(rules_trees::proofs::Equations::arms_rules))]
 pub fn asked_form(arms: &ExprArms) -> Form
     ensures { form_of result ≡ form_of_arms (arms_of arms.now) }
 {

@@ -1,7 +1,7 @@
 //! What the walk does where it goes no deeper: words, written types, names that are bound, and types that are gathered.
 ghost use Rattle.std.specs.Prelude.{◌≡◌, [], ◌∷◌, ◌++◌, IfOk, Some};
-ghost use Rattle.hs_rules.specs.Trees.{ty_of, wr_of, constant_of};
-ghost use Rattle.hs_rules.specs.Typing.{of, row_empty, type_of_lit};
+ghost use Rattle.rules_trees.specs.Trees.{ty_of, wr_of, constant_of};
+ghost use Rattle.rules_typing.specs.Typing.{of, row_empty, type_of_lit};
 ghost use Rattle.hs_judging.specs.Judging.{good, needing, own, part, typed, written};
 ghost use Rattle.hs_typing.specs.Views.{form_of, opt_ty, opt_tys, opts_of, part_of};
 ghost use Rattle.hs_typing.specs.Judged.{Judged, pushed};
@@ -10,7 +10,7 @@ ghost use Rattle.hs_expr_types.specs.Entering.{Entered};
 use hs_base::tree::{Constant, Name, Written};
 use hs_base::{NoMemory, Pos, Ty};
 use hs_items::Items;
-use hs_rules::forms::EmptyForm;
+use rules_trees::forms::EmptyForm;
 use hs_typing::Form;
 use hs_typing::checker::Checker;
 use hs_typing::first::Broken;
@@ -18,7 +18,7 @@ use hs_typing::parts::Part;
 use std::alloc::Global;
 
 /// The type of an atom that is one word.
-#[tactic(auto, using(hs_rules::proofs::Equations::ty_rules))]
+#[tactic(auto, using(rules_trees::proofs::Equations::ty_rules))]
 pub fn constant_type(constant: Constant) -> Ty
     ensures { ty_of result ≡ type_of_lit (constant_of constant) }
 {

@@ -1,8 +1,8 @@
 //! The walk itself: one cycle of calls over the parts of an expression. A function has the tree that it goes down as its
 //! first tree, and what is known of the parts before it after that.
 ghost use Rattle.std.specs.Prelude.{◌≡◌, ◌∷◌, [], IfOk};
-ghost use Rattle.hs_rules.specs.Trees.{ty_of, wr_of, ex_of, exs_of, arms_of, links_of, sum_links_of, list_links_of};
-ghost use Rattle.hs_rules.specs.Typing.{of, bound, form_of_arms, row_unary, row_binary, row_choose, row_side};
+ghost use Rattle.rules_trees.specs.Trees.{ty_of, wr_of, ex_of, exs_of, arms_of, links_of, sum_links_of, list_links_of};
+ghost use Rattle.rules_typing.specs.Typing.{of, bound, form_of_arms, row_unary, row_binary, row_choose, row_side};
 ghost use Rattle.hs_judging.specs.Judging.{after, needing, not_full, own, part, parts2, parts3, typed, written, unless_full, folded, judge, judges, judge_links, judge_arms, operand_faults, operand_types};
 ghost use Rattle.hs_typing.specs.Views.{opt_ty, opt_tys, opts_of, part_of};
 ghost use Rattle.hs_typing.specs.Contexts.{ctx_of};
@@ -13,7 +13,7 @@ use crate::leaves::{added, alone, constant_type, empty, enter, fitting};
 use hs_base::tree::{Expr, ExprArms, Link, ListLink, Name, SumLink, Written};
 use hs_base::{NoMemory, Pos, Ty};
 use hs_items::Items;
-use hs_rules::forms::{BinaryForm, EmptyForm, SideForm, UnaryForm};
+use rules_trees::forms::{BinaryForm, EmptyForm, SideForm, UnaryForm};
 use hs_typing::checker::Checker;
 use hs_typing::funs::Funs;
 use hs_typing::parts::Part;

@@ -1,8 +1,8 @@
 -- A parser looks at one token past what it reads: with other tokens from the second on, and more levels, it does the same.
 use Rattle.std.proofs.Common.{◌≡◌, ℕ, zero, suc, ◌<◌, ◌≤◌, Bool, true, false, List, [], ◌∷◌, ◌++◌, length, refl, sym, ap, ◌∙◌, subst, arith, append_assoc, length-append, ◌⊎◌, inl, inr}
 use Rattle.std.proofs.lemmas.List.{append_cancel_right}
-use Rattle.hs_rules.specs.declared.token.Token.{Token}
-use Rattle.hs_rules.specs.GrammarParts.{Kind, kind_of}
+use Rattle.rules_tokens.specs.declared.token.Token.{Token}
+use Rattle.rules_grammar.specs.GrammarParts.{Kind, kind_of}
 use Rattle.hs_grammar.specs.Parser.{same_kind, begins, is_in, unexpected, too_deep, Out, Done, Stop, Parser, bind, done, choose, take_if, take, turn, turns, loop, another, after_separator, behind_item, item_step}
 use Rattle.hs_grammar.proofs.Loops.{TakesLeft, loop_eq}
 

@@ -1,10 +1,10 @@
 -- The checks by which one token decides, and that each part can be closed; and that this grammar passes them.
 use Rattle.std.proofs.Common.{◌≡◌, Bool, true, false, List, [], ◌∷◌, ◌++◌, refl}
-use Rattle.hs_rules.specs.Grammar as g
-use Rattle.hs_rules.specs.Grammar.{rule_of, script, block_item, other_action}
-use Rattle.hs_rules.specs.GrammarForms.{Rule, give, one, seq, alt, go_on, many, ended, within}
-use Rattle.hs_rules.specs.GrammarKinds as k
-use Rattle.hs_rules.specs.GrammarParts.{Kind, name, int, text, Part, type_in_parens, type_in_brackets, param_in_parens, block_in_braces, block_if, block_case, block_arms, let_stmt, no_items, two_names, expr_if, expr_case, expr_arms, expr_let, expr_in_parens, items_in_brackets, items_or_none}
+use Rattle.rules_grammar.specs.Grammar as g
+use Rattle.rules_grammar.specs.Grammar.{rule_of, script, block_item, other_action}
+use Rattle.rules_grammar.specs.GrammarForms.{Rule, give, one, seq, alt, go_on, many, ended, within}
+use Rattle.rules_grammar.specs.GrammarKinds as k
+use Rattle.rules_grammar.specs.GrammarParts.{Kind, name, int, text, Part, type_in_parens, type_in_brackets, param_in_parens, block_in_braces, block_if, block_case, block_arms, let_stmt, no_items, two_names, expr_if, expr_case, expr_arms, expr_let, expr_in_parens, items_in_brackets, items_or_none}
 use Rattle.hs_grammar.specs.Parser.{same_kind, either, both, negated, apart, where', may_be_empty, firsts}
 use Rattle.hs_grammar.proofs.KindLists.{contained}
 

@@ -1,8 +1,8 @@
 -- What a rule spells is read, where nothing follows that it would still take.
 use Rattle.std.proofs.Common.{◌≡◌, ℕ, suc, ◌<◌, Bool, true, false, List, [], ◌∷◌, ◌++◌, length, Option, Some, None, refl, sym, ap, ◌∙◌, subst, ◌⊎◌, inl, inr, arith, length-append}
-use Rattle.hs_rules.specs.declared.token.Token.{Token}
-use Rattle.hs_rules.specs.GrammarForms.{Rule, give, one, seq, alt, go_on, many, ended, within, Item, tokens_of, Spelling, Empty, Single, Made, Then, Either, Each, OnLeft, Passed, Last, Spelled}
-use Rattle.hs_rules.specs.GrammarParts.{Kind, kind_of, Part}
+use Rattle.rules_tokens.specs.declared.token.Token.{Token}
+use Rattle.rules_grammar.specs.GrammarForms.{Rule, give, one, seq, alt, go_on, many, ended, within, Item, tokens_of, Spelling, Empty, Single, Made, Then, Either, Each, OnLeft, Passed, Last, Spelled}
+use Rattle.rules_grammar.specs.GrammarParts.{Kind, kind_of, Part}
 use Rattle.hs_grammar.specs.Parser.{same_kind, either, both, negated, apart, where', may_be_empty, firsts, begins, Why, Out, Done, Stop, Parser, bind, done, choose, take_if, take, on_left, turn, turns, loop, another, after_separator, behind_item, item_step, Inner, read_then, read, enter}
 use Rattle.hs_grammar.proofs.KindLists.{both_true, negated_true, clash, same_of, begins_apart, not_begins}
 use Rattle.hs_grammar.proofs.Checks.{after_part, after, fine}

@@ -1,10 +1,10 @@
 -- What a parser's outcome says of the tokens: what was read is spelled, and where the parser stops what was read goes on.
 use Rattle.std.proofs.Common.{◌≡◌, ℕ, zero, suc, ◌<◌, Bool, true, false, List, [], ◌∷◌, ◌++◌, length, Option, Some, None, refl, sym, ap, ◌∙◌, subst, append_assoc, ◌⊎◌, inl, inr, pos}
-use Rattle.hs_rules.specs.declared.token.Tok.TheVariants as tok
-use Rattle.hs_rules.specs.declared.token.Token.{Token}
-use Rattle.hs_rules.specs.Grammar.{Below}
-use Rattle.hs_rules.specs.GrammarForms.{Rule, give, one, seq, alt, go_on, many, ended, within, Item, tokens_of, Spelling, Empty, Single, Made, Then, Either, Each, OnLeft, Passed, Last, Spelled}
-use Rattle.hs_rules.specs.GrammarParts.{Kind, name, upper, int, text, word, symbol, kind_of, Part}
+use Rattle.rules_tokens.specs.declared.token.Tok.TheVariants as tok
+use Rattle.rules_tokens.specs.declared.token.Token.{Token}
+use Rattle.rules_grammar.specs.Grammar.{Below}
+use Rattle.rules_grammar.specs.GrammarForms.{Rule, give, one, seq, alt, go_on, many, ended, within, Item, tokens_of, Spelling, Empty, Single, Made, Then, Either, Each, OnLeft, Passed, Last, Spelled}
+use Rattle.rules_grammar.specs.GrammarParts.{Kind, name, upper, int, text, word, symbol, kind_of, Part}
 use Rattle.hs_grammar.specs.Parser.{same_kind, firsts, begins, Why, unexpected, too_deep, Out, Done, Stop, Parser, bind, done, choose, take_if, take, on_left, turn, turns, loop, another, after_separator, behind_item, item_step, Inner, read_then, read}
 use Rattle.hs_grammar.proofs.KindLists.{same_is}
 use Rattle.hs_grammar.proofs.Reading.{take_bind, read_seq, read_go_on}

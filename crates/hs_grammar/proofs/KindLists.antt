@@ -1,7 +1,7 @@
 -- Lists of kinds of tokens.
 use Rattle.std.proofs.Common.{◌≡◌, ℕ, Bool, true, false, List, [], ◌∷◌, ◌++◌, refl, sym, ap, ◌∙◌, subst, eqb-true, eq-eqb, rules, ◌==◌}
-use Rattle.hs_rules.specs.declared.token.Token.{Token}
-use Rattle.hs_rules.specs.GrammarParts.{Kind, name, upper, int, text, word, symbol, kind_of}
+use Rattle.rules_tokens.specs.declared.token.Token.{Token}
+use Rattle.rules_grammar.specs.GrammarParts.{Kind, name, upper, int, text, word, symbol, kind_of}
 use Rattle.hs_grammar.specs.Parser.{same_kind, either, both, negated, is_in, apart, begins}
 
 pub both_true : (a b : Bool) → both a b ≡ true → (a ≡ true) × (b ≡ true)

@@ -1,11 +1,11 @@
 -- The parts that stand in an opener, by the levels of openers.
 use Rattle.std.proofs.Common.{◌≡◌, ℕ, zero, suc, ◌+◌, ◌≤◌, Bool, true, false, List, [], ◌++◌, Some, None, refl, ap, ◌⊎◌, inl, inr, arith}
 use Rattle.hs_base.specs.declared.tree.action.Stmt.TheVariants as s
-use Rattle.hs_rules.specs.declared.token.Token.{Token}
-use Rattle.hs_rules.specs.GrammarKinds as k
-use Rattle.hs_rules.specs.Grammar.{rule_of, block_item, other_action, SpelledIn}
-use Rattle.hs_rules.specs.GrammarForms.{Rule, give, one, seq, alt, go_on, many, ended, within, Spelling, Single, Made, OnLeft, Spelled}
-use Rattle.hs_rules.specs.GrammarParts.{Part, type_in_parens, type_in_brackets, param_in_parens, block_in_braces, block_if, block_case, block_arms, let_stmt, no_items, two_names, expr_if, expr_case, expr_arms, expr_let, expr_in_parens, items_in_brackets, items_or_none}
+use Rattle.rules_tokens.specs.declared.token.Token.{Token}
+use Rattle.rules_grammar.specs.GrammarKinds as k
+use Rattle.rules_grammar.specs.Grammar.{rule_of, block_item, other_action, SpelledIn}
+use Rattle.rules_grammar.specs.GrammarForms.{Rule, give, one, seq, alt, go_on, many, ended, within, Spelling, Single, Made, OnLeft, Spelled}
+use Rattle.rules_grammar.specs.GrammarParts.{Part, type_in_parens, type_in_brackets, param_in_parens, block_in_braces, block_if, block_case, block_arms, let_stmt, no_items, two_names, expr_if, expr_case, expr_arms, expr_let, expr_in_parens, items_in_brackets, items_or_none}
 use Rattle.hs_grammar.specs.Parser.{either, Inner, read, enter}
 use Rattle.hs_grammar.proofs.KindLists.{both_true}
 use Rattle.hs_grammar.proofs.Spellings.{Parts, PartsAppend, appends, subs, PartsSub}

@@ -1,8 +1,8 @@
 -- Turns of a loop.
 use Rattle.std.proofs.Common.{◌≡◌, ℕ, zero, suc, ◌<◌, ◌≤◌, Bool, true, false, List, ◌∷◌, length, refl, ap, subst, ◌⊎◌, inl, inr, arith, length-append}
-use Rattle.hs_rules.specs.declared.token.Token.{Token}
-use Rattle.hs_rules.specs.GrammarForms.{tokens_of}
-use Rattle.hs_rules.specs.GrammarParts.{Kind}
+use Rattle.rules_tokens.specs.declared.token.Token.{Token}
+use Rattle.rules_grammar.specs.GrammarForms.{tokens_of}
+use Rattle.rules_grammar.specs.GrammarParts.{Kind}
 use Rattle.hs_grammar.specs.Parser.{begins, Out, Done, Stop, Parser, bind, done, choose, turn, turns, loop, another, behind_item, item_step}
 use Rattle.hs_grammar.proofs.Good.{GoodOut, BehindS, good_behind}
 

@@ -1,10 +1,10 @@
 -- What the parser's outcome means.
 use Rattle.std.proofs.Common.{◌≡◌, ℕ, zero, suc, ◌+◌, ◌<◌, ◌≤◌, max, true, false, List, [], ◌∷◌, ◌++◌, length, refl, sym, ap, ◌∙◌, subst, ◌⊎◌, inl, inr, arith, length-append, append_assoc, append-nil}
 use Rattle.hs_base.specs.declared.tree.script.Script.{Script}
-use Rattle.hs_rules.specs.declared.token.Token.{Token}
-use Rattle.hs_rules.specs.Grammar.{rule_of, script, block_item, SpelledIn, SpelledBy, SpellsWithin, Spells, Below, IsViable, IsViableBelow}
-use Rattle.hs_rules.specs.GrammarForms.{Rule, give, one, seq, alt, go_on, many, ended, within, Item, tokens_of, Spelled}
-use Rattle.hs_rules.specs.GrammarParts.{Kind, Part, type_in_parens, type_in_brackets, param_in_parens, block_in_braces, block_if, block_case, block_arms, let_stmt, no_items, two_names, expr_if, expr_case, expr_arms, expr_let, expr_in_parens, items_in_brackets, items_or_none}
+use Rattle.rules_tokens.specs.declared.token.Token.{Token}
+use Rattle.rules_grammar.specs.Grammar.{rule_of, script, block_item, SpelledIn, SpelledBy, SpellsWithin, Spells, Below, IsViable, IsViableBelow}
+use Rattle.rules_grammar.specs.GrammarForms.{Rule, give, one, seq, alt, go_on, many, ended, within, Item, tokens_of, Spelled}
+use Rattle.rules_grammar.specs.GrammarParts.{Kind, Part, type_in_parens, type_in_brackets, param_in_parens, block_in_braces, block_if, block_case, block_arms, let_stmt, no_items, two_names, expr_if, expr_case, expr_arms, expr_let, expr_in_parens, items_in_brackets, items_or_none}
 use Rattle.hs_grammar.specs.Parser.{both, negated, apart, may_be_empty, firsts, begins, Why, unexpected, too_deep, Out, Done, Stop, Parser, bind, done, on_left, loop, another, item_step, Inner, read_then, read, enter, at_end, whole, Means}
 use Rattle.hs_grammar.proofs.KindLists.{both_true, negated_true, clash, not_begins_contained}
 use Rattle.hs_grammar.proofs.Checks.{after_part, after, fine, plain, opened, fine_part, after_rule, fine_script, plain_script, plain_item, fine_item}

@@ -1,8 +1,8 @@
 -- A parser with a continuation is the parser, and then the continuation.
 use Rattle.std.proofs.Common.{◌≡◌, Bool, true, false, List, [], ◌∷◌, refl, sym, ap, ◌∙◌, ◌⊎◌, inl, inr}
-use Rattle.hs_rules.specs.declared.token.Token.{Token}
-use Rattle.hs_rules.specs.GrammarForms.{Rule, give, one, seq, alt, go_on, many, ended, within}
-use Rattle.hs_rules.specs.GrammarParts.{Kind, kind_of}
+use Rattle.rules_tokens.specs.declared.token.Token.{Token}
+use Rattle.rules_grammar.specs.GrammarForms.{Rule, give, one, seq, alt, go_on, many, ended, within}
+use Rattle.rules_grammar.specs.GrammarParts.{Kind, kind_of}
 use Rattle.hs_grammar.specs.Parser.{same_kind, firsts, begins, Out, Done, Stop, Parser, bind, done, choose, take_if, take, on_left, loop, another, item_step, Inner, read_then, read}
 
 pub bind_done : {A : Type 0} (o : Out A) → bind o done ≡ o

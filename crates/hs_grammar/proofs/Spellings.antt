@@ -1,7 +1,7 @@
 -- What follows can be taken apart from what a rule spells, and parts may spell more.
 use Rattle.std.proofs.Common.{ℕ, List, [], ◌∷◌, ◌++◌, Option, Some, None, ap, ◌⊎◌, inl, inr}
-use Rattle.hs_rules.specs.GrammarForms.{Rule, give, one, seq, alt, go_on, many, ended, within, Item, Spelling, Empty, Single, Made, Then, Either, Each, OnLeft, Passed, Last, Spelled}
-use Rattle.hs_rules.specs.GrammarParts.{Kind, Part}
+use Rattle.rules_grammar.specs.GrammarForms.{Rule, give, one, seq, alt, go_on, many, ended, within, Item, Spelling, Empty, Single, Made, Then, Either, Each, OnLeft, Passed, Last, Spelled}
+use Rattle.rules_grammar.specs.GrammarParts.{Kind, Part}
 
 -- ---- something may follow
 abbrev pub Appends : {A : Type 0} → Spelling A → Type 0

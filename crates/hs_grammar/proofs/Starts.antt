@@ -1,9 +1,9 @@
 -- What is spelled begins with one of the rule's first kinds, or is nothing.
 use Rattle.std.proofs.Common.{◌≡◌, ℕ, zero, suc, ◌<◌, ◌≤◌, Bool, true, false, List, [], ◌∷◌, ◌++◌, length, Option, Some, None, refl, sym, ap, ◌∙◌, subst, ◌⊎◌, inl, inr, arith}
-use Rattle.hs_rules.specs.declared.token.Token.{Token}
-use Rattle.hs_rules.specs.Grammar.{rule_of, SpelledIn}
-use Rattle.hs_rules.specs.GrammarForms.{Rule, give, one, seq, alt, go_on, many, ended, within, Item, tokens_of, Spelling, Empty, Single, Made, Then, Either, Each, OnLeft, Passed, Last, Spelled}
-use Rattle.hs_rules.specs.GrammarParts.{Kind, kind_of, Part}
+use Rattle.rules_tokens.specs.declared.token.Token.{Token}
+use Rattle.rules_grammar.specs.Grammar.{rule_of, SpelledIn}
+use Rattle.rules_grammar.specs.GrammarForms.{Rule, give, one, seq, alt, go_on, many, ended, within, Item, tokens_of, Spelling, Empty, Single, Made, Then, Either, Each, OnLeft, Passed, Last, Spelled}
+use Rattle.rules_grammar.specs.GrammarParts.{Kind, kind_of, Part}
 use Rattle.hs_grammar.specs.Parser.{same_kind, either, both, negated, apart, where', may_be_empty, firsts, begins}
 use Rattle.hs_grammar.proofs.KindLists.{both_true, negated_true, clash, either_right, same_of, begins_left, begins_right}
 use Rattle.hs_grammar.proofs.Checks.{after, fine}

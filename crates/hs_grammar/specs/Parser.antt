@@ -2,10 +2,10 @@
 use Rattle.std.specs.Prelude.{◌≡◌, ◌⊎◌, ℕ, zero, suc, ◌==◌, Bool, true, false, List, [], ◌∷◌, ◌++◌, length}
 use mathlib.Core.Logic.{inl, inr}
 use Rattle.hs_base.specs.declared.tree.script.Script.{Script}
-use Rattle.hs_rules.specs.declared.token.Token.{Token}
-use Rattle.hs_rules.specs.Grammar.{script, rule_of, SpellsWithin, IsUnexpected, IsTooDeep}
-use Rattle.hs_rules.specs.GrammarForms.{Rule, give, one, seq, alt, go_on, many, ended, within}
-use Rattle.hs_rules.specs.GrammarParts.{Kind, name, upper, int, text, word, symbol, kind_of, Part}
+use Rattle.rules_tokens.specs.declared.token.Token.{Token}
+use Rattle.rules_grammar.specs.Grammar.{script, rule_of, SpellsWithin, IsUnexpected, IsTooDeep}
+use Rattle.rules_grammar.specs.GrammarForms.{Rule, give, one, seq, alt, go_on, many, ended, within}
+use Rattle.rules_grammar.specs.GrammarParts.{Kind, name, upper, int, text, word, symbol, kind_of, Part}
 
 -- ---- kinds of tokens
 

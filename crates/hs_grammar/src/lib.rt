@@ -8,8 +8,8 @@
 
 ghost use Rattle.std.specs.Prelude.{◌≡◌, ℕ, List};
 ghost use Rattle.hs_base.specs.declared.tree.script.Script.{Script};
-ghost use Rattle.hs_rules.specs.declared.token.Token.{Token};
-ghost use Rattle.hs_rules.specs.Grammar.{Spells};
+ghost use Rattle.rules_tokens.specs.declared.token.Token.{Token};
+ghost use Rattle.rules_grammar.specs.Grammar.{Spells};
 ghost use Rattle.hs_grammar.specs.Parser.{whole, Means, Out};
 
 /// At most one script is spelled by a list of tokens.

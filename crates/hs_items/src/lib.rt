@@ -7,6 +7,8 @@
 
 mod boxed;
 mod items;
+mod shared;
 
 pub use boxed::Boxed;
 pub use items::Items;
+pub use shared::Shared;

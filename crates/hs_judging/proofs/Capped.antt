@@ -1,8 +1,8 @@
 -- How far expressions unfold, in counts: extents that are the same in counts are so above them too.
 use Rattle.std.proofs.Common.{◌≡◌, ℕ, ◌+◌, List, [], ◌∷◌, Option, Some, None, refl, arith, min, max, get_or}
-use Rattle.hs_rules.specs.Trees.{Ex, lit, name, unary, binary, chain, conses, choose, items, empty, side, given, case, Exs, none, more, Links, end, link, Arms, maybe_arms, either_arms, list_arms, pair_arms}
-use Rattle.hs_rules.specs.Typing.{Sort, Bound, Sig, masked, look, find}
-use Rattle.hs_rules.specs.TypingSizes.{Extent, nil, sig_extent, body_extent, extent, extents, link_extents, arm_extents}
+use Rattle.rules_trees.specs.Trees.{Ex, lit, name, unary, binary, chain, conses, choose, items, empty, side, given, case, Exs, none, more, Links, end, link, Arms, maybe_arms, either_arms, list_arms, pair_arms}
+use Rattle.rules_typing.specs.Typing.{Sort, Bound, Sig, masked, look, find}
+use Rattle.rules_typing.specs.TypingSizes.{Extent, nil, sig_extent, body_extent, extent, extents, link_extents, arm_extents}
 
 -- the same up to the greatest count
 pub record Same (x y : Extent) : Type 0 where

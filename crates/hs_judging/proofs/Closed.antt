@@ -1,23 +1,23 @@
 -- The expanded size is what the forms add up to.
 use Rattle.std.proofs.Common.{◌≡◌, ℕ, ◌+◌, refl, arith, ◌∙◌}
-use Rattle.hs_rules.specs.declared.forms.BareAction.{BareAction}
-use Rattle.hs_rules.specs.declared.forms.BareAction.TheVariants as z
-use Rattle.hs_rules.specs.declared.forms.UnaryAction.{UnaryAction}
-use Rattle.hs_rules.specs.declared.forms.UnaryAction.TheVariants as u
-use Rattle.hs_rules.specs.declared.forms.BinaryAction.{BinaryAction}
-use Rattle.hs_rules.specs.declared.forms.BinaryAction.TheVariants as b
-use Rattle.hs_rules.specs.declared.forms.BlockAction.{BlockAction}
-use Rattle.hs_rules.specs.declared.forms.BlockAction.TheVariants as k
-use Rattle.hs_rules.specs.declared.forms.MaskingAction.{MaskingAction}
-use Rattle.hs_rules.specs.declared.forms.MaskingAction.TheVariants as m
-use Rattle.hs_rules.specs.declared.forms.GuardAction.{GuardAction}
-use Rattle.hs_rules.specs.declared.forms.GuardAction.TheVariants as g
-use Rattle.hs_rules.specs.Values.{Name, Written}
-use Rattle.hs_rules.specs.Trees.{Ex}
-use Rattle.hs_rules.specs.Programs.{Act, bare, unary_act, binary_act, throw_io, new_empty, call, choose_act, case_act, modify, scoped, masking, restore, catch, guard, bracket, timeout, Bl, last, then, bind, let_in, ActArms, maybe_acts, either_acts, list_acts, pair_acts, Bd, pure_body, io_body}
-use Rattle.hs_rules.specs.Core.{CoreEx, OfScript, Core}
-use Rattle.hs_rules.specs.Expansion.{bare_core, unary_core, binary_core, scoped_core, masking_core, guard_core, core, block_core, arms_core}
-use Rattle.hs_rules.specs.Sizes.{ex_size, core_ex_size, core_size, body_size}
+use Rattle.rules_trees.specs.declared.forms.BareAction.{BareAction}
+use Rattle.rules_trees.specs.declared.forms.BareAction.TheVariants as z
+use Rattle.rules_trees.specs.declared.forms.UnaryAction.{UnaryAction}
+use Rattle.rules_trees.specs.declared.forms.UnaryAction.TheVariants as u
+use Rattle.rules_trees.specs.declared.forms.BinaryAction.{BinaryAction}
+use Rattle.rules_trees.specs.declared.forms.BinaryAction.TheVariants as b
+use Rattle.rules_trees.specs.declared.forms.BlockAction.{BlockAction}
+use Rattle.rules_trees.specs.declared.forms.BlockAction.TheVariants as k
+use Rattle.rules_trees.specs.declared.forms.MaskingAction.{MaskingAction}
+use Rattle.rules_trees.specs.declared.forms.MaskingAction.TheVariants as m
+use Rattle.rules_trees.specs.declared.forms.GuardAction.{GuardAction}
+use Rattle.rules_trees.specs.declared.forms.GuardAction.TheVariants as g
+use Rattle.rules_expansion.specs.Names.{Name, Written}
+use Rattle.rules_trees.specs.Trees.{Ex}
+use Rattle.rules_trees.specs.Programs.{Act, bare, unary_act, binary_act, throw_io, new_empty, call, choose_act, case_act, modify, scoped, masking, restore, catch, guard, bracket, timeout, Bl, last, then, bind, let_in, ActArms, maybe_acts, either_acts, list_acts, pair_acts, Bd, pure_body, io_body}
+use Rattle.rules_expansion.specs.Core.{CoreEx, OfScript, Core}
+use Rattle.rules_expansion.specs.Expansion.{bare_core, unary_core, binary_core, scoped_core, masking_core, guard_core, core, block_core, arms_core}
+use Rattle.rules_expansion.specs.Sizes.{ex_size, core_ex_size, core_size, body_size}
 use Rattle.hs_judging.specs.Closed.{unary_nodes, guard_nodes, act_nodes, bl_nodes, act_arm_nodes, body_nodes}
 
 bare_is : (o : BareAction) → core_size (bare_core o) ≡ 1

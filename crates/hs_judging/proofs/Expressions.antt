@@ -1,8 +1,8 @@
 -- The function agrees with the rules on expressions.
 use Rattle.std.proofs.Common.{subst, ap, ◌∙◌, ◌⊎◌, List, ◌∷◌, inl, inr, ⊎_elim}
 use Rattle.hs_base.specs.declared.pos.Pos.{Pos}
-use Rattle.hs_rules.specs.Trees.{T, Ex, lit, name, unary, binary, chain, conses, choose, items, empty, side, given, case, Exs, none, more, Links, end, link, Arms, maybe_arms, either_arms, list_arms, pair_arms}
-use Rattle.hs_rules.specs.Typing.{Fault, type_of_lit, row_unary, row_binary, row_empty, row_side, row_choose, row_items, row_arms, form_of_arms, first_of, second_of, inner_of, Ctx, Bound, bound, meant, count, Gives, Breaks, NotFull, NoRoom, IsWritten, WrittenBreaks, HasType, HaveTypes, LinksHave, ConsesHave, ArmsHave, BreaksIn, BreaksAny, LinksBreak, ConsesBreak, ArmsBreak}
+use Rattle.rules_trees.specs.Trees.{T, Ex, lit, name, unary, binary, chain, conses, choose, items, empty, side, given, case, Exs, none, more, Links, end, link, Arms, maybe_arms, either_arms, list_arms, pair_arms}
+use Rattle.rules_typing.specs.Typing.{Fault, type_of_lit, row_unary, row_binary, row_empty, row_side, row_choose, row_items, row_arms, form_of_arms, first_of, second_of, inner_of, Ctx, Bound, bound, meant, count, Gives, Breaks, NotFull, NoRoom, IsWritten, WrittenBreaks, HasType, HaveTypes, LinksHave, ConsesHave, ArmsHave, BreaksIn, BreaksAny, LinksBreak, ConsesBreak, ArmsBreak}
 use Rattle.hs_judging.specs.Judging.{Found, own, written, parts2, unless_full, after, judge, judges, judge_links, judge_arms}
 use Rattle.hs_judging.proofs.Chains.{judge_conses, links_after, conses_after, conses_are}
 use Rattle.hs_judging.proofs.Laws.{Agrees, Parts, agree_good, agree_part, agree_parts2, agree_parts3, agree_all, agree_called, agree_own, agree_written, agree_room, agree_given, agree_formed, parts_none, parts_more}

@@ -1,8 +1,8 @@
 -- The fault that is kept is one of those noted, and none comes before it.
 use Rattle.std.proofs.Common.{◌≡◌, ℕ, ◌<◌, ◌≤◌, ◌||◌, ◌⊎◌, List, [], ◌∷◌, Bool, true, false, cond, Option, Some, None, refl, sym, ap, ◌∙◌, subst, arith, inl, inr, ⊎_elim, ltb}
 use Rattle.std.proofs.lemmas.Bool.{ltb-true}
-use Rattle.hs_rules.specs.Typing.{Fault}
-use Rattle.hs_rules.specs.TypingFaults.{place, rank, Precedes, In}
+use Rattle.rules_typing.specs.Typing.{Fault}
+use Rattle.rules_typing.specs.TypingFaults.{place, rank, Precedes, In}
 use Rattle.hs_judging.specs.Least.{lower, before, lesser, least}
 
 -- numbers in a row

@@ -3,13 +3,13 @@ use Rattle.std.proofs.Common.{◌≡◌, ℕ, ◌+◌, ◌||◌, ◌⊎◌, List
 use Rattle.std.proofs.lemmas.Bool.{ltb-true, lt-ltb}
 use Rattle.hs_base.specs.declared.tree.expr.Name.{Name}
 use Rattle.hs_base.specs.declared.tree.script.Script.{Script}
-use Rattle.hs_rules.specs.Trees.{T, Wr}
-use Rattle.hs_rules.specs.Programs.{Bd, pure_body, io_body, Fn, script_of}
-use Rattle.hs_rules.specs.Sizes.{body_size}
-use Rattle.hs_rules.specs.Typing.{Fault, large, AllMet, FirstUnmet, is, Bound, Sig, Ctx}
-use Rattle.hs_rules.specs.TypingFaults.{In}
-use Rattle.hs_rules.specs.TypingSizes.{Extent, worst_body, param_names}
-use Rattle.hs_rules.specs.TypingScripts.{result_of, params_in, head_faults, twice_faults, sigs_from, BodyHas, BodyBreaks, Ends, DefBreaks, LargeBreaks, AnyBreaks, ScriptBreaks, NothingBroken, IsFirstBroken, none_of, Measured, unmeasured, measured_with, IsLarge}
+use Rattle.rules_trees.specs.Trees.{T, Wr}
+use Rattle.rules_trees.specs.Programs.{Bd, pure_body, io_body, Fn, script_of}
+use Rattle.rules_expansion.specs.Sizes.{body_size}
+use Rattle.rules_typing.specs.Typing.{Fault, large, AllMet, FirstUnmet, is, Bound, Sig, Ctx}
+use Rattle.rules_typing.specs.TypingFaults.{In}
+use Rattle.rules_typing.specs.TypingSizes.{Extent, worst_body, param_names}
+use Rattle.rules_typing.specs.TypingScripts.{result_of, params_in, head_faults, twice_faults, sigs_from, BodyHas, BodyBreaks, Ends, DefBreaks, LargeBreaks, AnyBreaks, ScriptBreaks, NothingBroken, IsFirstBroken, none_of, Measured, unmeasured, measured_with, IsLarge}
 use Rattle.hs_judging.specs.Judging.{Found, good, lost, part}
 use Rattle.hs_judging.specs.JudgingScripts.{judge_body, ends, def_found, def_faults, is_far, is_large, large_faults, faults_from, script_faults, NoFaults, IsLeast}
 use Rattle.hs_judging.proofs.Laws.{Agrees, agree_part, agree_good, agree_needing, in_left, in_right, in_cases}

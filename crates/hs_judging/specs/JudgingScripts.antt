@@ -2,13 +2,13 @@
 use Rattle.std.specs.Prelude.{ℕ, ◌+◌, ◌||◌, List, [], ◌∷◌, ◌++◌, Bool, true, false, cond, ltb}
 use Rattle.hs_base.specs.declared.tree.expr.Name.{Name}
 use Rattle.hs_base.specs.declared.tree.script.Script.{Script}
-use Rattle.hs_rules.specs.Trees.{T, Wr}
-use Rattle.hs_rules.specs.Programs.{Bd, pure_body, io_body, Fn, script_of}
-use Rattle.hs_rules.specs.Sizes.{body_size}
-use Rattle.hs_rules.specs.Typing.{Fault, large, is, Bound, Sig, Ctx}
-use Rattle.hs_rules.specs.TypingFaults.{In, Precedes}
-use Rattle.hs_rules.specs.TypingSizes.{Extent, worst_body, param_names}
-use Rattle.hs_rules.specs.TypingScripts.{result_of, params_in, head_faults, twice_faults, sigs_from, none_of, Measured, unmeasured, measured_with}
+use Rattle.rules_trees.specs.Trees.{T, Wr}
+use Rattle.rules_trees.specs.Programs.{Bd, pure_body, io_body, Fn, script_of}
+use Rattle.rules_expansion.specs.Sizes.{body_size}
+use Rattle.rules_typing.specs.Typing.{Fault, large, is, Bound, Sig, Ctx}
+use Rattle.rules_typing.specs.TypingFaults.{In, Precedes}
+use Rattle.rules_typing.specs.TypingSizes.{Extent, worst_body, param_names}
+use Rattle.rules_typing.specs.TypingScripts.{result_of, params_in, head_faults, twice_faults, sigs_from, none_of, Measured, unmeasured, measured_with}
 use Rattle.hs_judging.specs.Judging.{Found, good, lost, part, needing, judge}
 use Rattle.hs_judging.specs.JudgingActions.{judge_bl}
 

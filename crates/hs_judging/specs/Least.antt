@@ -1,8 +1,8 @@
 -- The first of a list of broken rules, by position and then by the order of the rules.
 use Rattle.std.specs.Prelude.{ℕ, ◌||◌, List, [], ◌∷◌, Bool, false, cond, Option, Some, None, ltb}
 use Rattle.hs_base.specs.declared.pos.Pos.{Pos}
-use Rattle.hs_rules.specs.Typing.{Fault}
-use Rattle.hs_rules.specs.TypingFaults.{place, rank}
+use Rattle.rules_typing.specs.Typing.{Fault}
+use Rattle.rules_typing.specs.TypingFaults.{place, rank}
 
 abbrev pub lower : ℕ → ℕ → Bool → Bool
 lower m n b = ltb m n || (cond (ltb n m) false b)

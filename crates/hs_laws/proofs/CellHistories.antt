@@ -5,21 +5,23 @@ use Rattle.hs_base.specs.declared.exn.Exn.{Exn}
 use Rattle.hs_rules.specs.declared.entry.Entry.{Entry}
 use Rattle.hs_rules.specs.declared.entry.Entry.TheVariants as entry
 use Rattle.hs_rules.specs.declared.entry.Entry.TheVariants.{Local}
-use Rattle.hs_rules.specs.Values as val
-use Rattle.hs_rules.specs.Values.{Hidden, Name, Written, Added, Unread, Instance, BracketResult, BracketFault, V, UnitValue, Int, Truth, Text, Nothing, Just, Left, Right, Pair, Nil, Cons, Exception, Restore, Inst, Env, with_name, value_at, Outcome, Gives, Throws, Stuck, Outcomes, AllGive, OneThrows, OneStuck}
-use Rattle.hs_rules.specs.Core.{Primitive, PutStr, PutStrLn, HPutStrLn, NewMVar, NewEmptyMVar, TakeMVar, PutMVar, TryTakeMVar, TryPutMVar, MyThreadId, GetMaskingState, ClockMicros, ThreadDelay, ThrowTo, NewTimeout, Acquired, Release, Core, Code}
+use Rattle.rules_meaning.specs.Values as val
+use Rattle.rules_expansion.specs.Names.{Hidden, Name, Written, Added, Unread, Instance, BracketResult, BracketFault}
+use Rattle.rules_meaning.specs.Values.{V, UnitValue, Int, Truth, Text, Nothing, Just, Left, Right, Pair, Nil, Cons, Exception, Restore, Inst, Env, with_name, value_at, Outcome, Gives, Throws, Stuck, Outcomes, AllGive, OneThrows, OneStuck}
+use Rattle.rules_expansion.specs.Core.{Primitive, PutStr, PutStrLn, HPutStrLn, NewMVar, NewEmptyMVar, TakeMVar, PutMVar, TryTakeMVar, TryPutMVar, MyThreadId, GetMaskingState, ClockMicros, ThreadDelay, ThrowTo, NewTimeout, Acquired, Release, Core}
+use Rattle.rules_meaning.specs.CoreMeaning.{Code}
 use Rattle.hs_rules.specs.Terms.{Operation, Calls, Forks, ForksUnmask, Part, Ret, Throw, Do, Performs, Frame, Term, mask_at}
 use Rattle.hs_rules.specs.LocalRules.{locals}
-use Rattle.hs_rules.specs.Waiting.{want_at, with_place, Reason, Taking, Putting, Throwing, Sleeping, Flying, leaves, is_blocked, reason_of, line_of, flight_of, flying_to}
+use Rattle.rules_waiting.specs.Waiting.{want_at, with_place, Reason, Taking, Putting, Throwing, Sleeping, Flying, leaves, is_blocked, reason_of, line_of, flight_of, flying_to}
 use Rattle.hs_rules.specs.State.{Thread, State, resume, answer, resume_all, block, first}
 use Rattle.hs_rules.specs.Primitives.{on_none, on_one, on_two, as_text, as_number, as_cell, as_thread, as_exn, as_instance, moves_in, goes_in, take, put, try_take, try_put, throw_at, due_in, delay, performed, operated}
 use Rattle.hs_rules.specs.Entries.{moved, local_entry, at_operation, op_entry, is_throw, is_unmasked, is_interruptible, is_open, is_receptive, received, receive_entry, woken, uncaught_line, throwers, closed, finish_entry, on_thread, next}
 use Rattle.hs_rules.specs.Entries as entries
 use Rattle.hs_rules.specs.Runs.{Run}
-use Rattle.hs_rules.specs.OneCell.{made, Want, To_take, To_put, leaves_line, first_put, first_take}
-use Rattle.hs_rules.specs.CellLaw.{Shows, answered, KeptCell}
+use Rattle.rules_waiting.specs.OneCell.{made, Want, To_take, To_put, leaves_line, first_put, first_take}
+use Rattle.hs_laws.specs.CellLaw.{Shows, answered, KeptCell}
 use Rattle.hs_laws.proofs.Lists.{cond_cases, cond_false, equal_or}
-use Rattle.hs_rules.specs.BracketPhases.{Fine, FineCode}
+use Rattle.hs_laws.specs.BracketPhases.{Fine, FineCode}
 use Rattle.hs_laws.proofs.States.{Holds, Keeps, next_kept, first_holds}
 use Rattle.hs_laws.proofs.CellSteps.{line_leaves, line_more}
 use Rattle.hs_laws.proofs.CellRuns.{cell_run}

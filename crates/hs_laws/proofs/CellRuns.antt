@@ -7,25 +7,27 @@ use Rattle.hs_base.specs.declared.exn.Exn.{Exn}
 use Rattle.hs_rules.specs.declared.entry.Entry.{Entry}
 use Rattle.hs_rules.specs.declared.entry.Entry.TheVariants as entry
 use Rattle.hs_rules.specs.declared.entry.Entry.TheVariants.{Local}
-use Rattle.hs_rules.specs.Values as val
-use Rattle.hs_rules.specs.Values.{Hidden, Name, Written, Added, Unread, Instance, BracketResult, BracketFault, V, UnitValue, Int, Truth, Text, Nothing, Just, Left, Right, Pair, Nil, Cons, Exception, Restore, Inst, Env, with_name, value_at, Outcome, Gives, Throws, Stuck, Outcomes, AllGive, OneThrows, OneStuck}
-use Rattle.hs_rules.specs.Core.{Primitive, PutStr, PutStrLn, HPutStrLn, NewMVar, NewEmptyMVar, TakeMVar, PutMVar, TryTakeMVar, TryPutMVar, MyThreadId, GetMaskingState, ClockMicros, ThreadDelay, ThrowTo, NewTimeout, Acquired, Release, Code}
+use Rattle.rules_meaning.specs.Values as val
+use Rattle.rules_expansion.specs.Names.{Hidden, Name, Written, Added, Unread, Instance, BracketResult, BracketFault}
+use Rattle.rules_meaning.specs.Values.{V, UnitValue, Int, Truth, Text, Nothing, Just, Left, Right, Pair, Nil, Cons, Exception, Restore, Inst, Env, with_name, value_at, Outcome, Gives, Throws, Stuck, Outcomes, AllGive, OneThrows, OneStuck}
+use Rattle.rules_expansion.specs.Core.{Primitive, PutStr, PutStrLn, HPutStrLn, NewMVar, NewEmptyMVar, TakeMVar, PutMVar, TryTakeMVar, TryPutMVar, MyThreadId, GetMaskingState, ClockMicros, ThreadDelay, ThrowTo, NewTimeout, Acquired, Release}
+use Rattle.rules_meaning.specs.CoreMeaning.{Code}
 use Rattle.hs_rules.specs.Terms.{Operation, Calls, Forks, ForksUnmask, Part, Ret, Throw, Do, Performs, Frame, Term, mask_at}
 use Rattle.hs_rules.specs.LocalRules.{locals}
-use Rattle.hs_rules.specs.Waiting.{want_at, Reason, Taking, Putting, Throwing, Sleeping, Waiting, Flying, leaves, is_blocked, reason_of, line_of, flight_of, flying_to}
+use Rattle.rules_waiting.specs.Waiting.{want_at, Reason, Taking, Putting, Throwing, Sleeping, Waiting, Flying, leaves, is_blocked, reason_of, line_of, flight_of, flying_to}
 use Rattle.hs_rules.specs.State.{Thread, State, resume, answer, resume_all, block}
 use Rattle.hs_rules.specs.Primitives.{on_none, on_one, on_two, as_text, as_number, as_cell, as_thread, as_exn, as_instance, take, put, try_take, try_put, throw_at, due_in, delay, line_feed, performed, operated}
 use Rattle.hs_rules.specs.Entries.{moved, local_entry, at_operation, op_entry, is_throw, is_unmasked, is_interruptible, is_open, is_receptive, received, receive_entry, woken, uncaught_line, throwers, closed, finish_entry, on_thread, next}
 use Rattle.hs_rules.specs.Entries as entries
 use Rattle.hs_rules.specs.Runs.{Run}
-use Rattle.hs_rules.specs.OneCell as one
-use Rattle.hs_rules.specs.OneCell.{Want, To_take, To_put, Place, Cell, Call, Make, Take, Put, Try_take, Try_put, Leave, Answer, Made, Took, Gave, Tried_take, Tried_put, Reply, After, cell_of, reply_of, after_of, leaves_line, joins_line, put_of, takes_it, first_put, first_take, comes_in, call}
-use Rattle.hs_rules.specs.CellLaw.{Shows, call_if, with_one, with_two, primitive_call, operation_call, part_call, thread_call, leave_if, leave_call, call_of, after_call, IsAnswered, AnswersCall, FollowsCell, held, put_in, came_in, taken_by, went_out, ins_by, outs_by, ins, outs, cell_after}
+use Rattle.rules_waiting.specs.OneCell as one
+use Rattle.rules_waiting.specs.OneCell.{Want, To_take, To_put, Place, Cell, Call, Make, Take, Put, Try_take, Try_put, Leave, Answer, Made, Took, Gave, Tried_take, Tried_put, Reply, After, cell_of, reply_of, after_of, leaves_line, joins_line, put_of, takes_it, first_put, first_take, comes_in, call}
+use Rattle.hs_laws.specs.CellLaw.{Shows, call_if, with_one, with_two, primitive_call, operation_call, part_call, thread_call, leave_if, leave_call, call_of, after_call, IsAnswered, AnswersCall, FollowsCell, held, put_in, came_in, taken_by, went_out, ins_by, outs_by, ins, outs, cell_after}
 use Rattle.hs_laws.proofs.Lists.{item_append, cond_cases, cond_true, cond_false, equal_or, Each, each_changed, Found, first_found, Once, those, throws, throws_at, throw_is_first, throwers_are, once_reason}
-use Rattle.hs_rules.specs.Waiting.{first_thrown}
+use Rattle.rules_waiting.specs.Waiting.{first_thrown}
 use Rattle.hs_laws.proofs.States.{Holds, Keeps, Waits, Apart, next_kept}
 use Rattle.hs_laws.proofs.CellSteps.{Follows, FollowsSome, take_follows, put_follows, try_take_follows, try_put_follows, Away, Still, StillSome, take_still, try_take_still, put_still, try_put_still, resume_still, block_still, those_still, away_leaves, line_leaves, not_blocked_reason, reason_left}
-use Rattle.hs_rules.specs.BracketPhases.{FineCode}
+use Rattle.hs_laws.specs.BracketPhases.{FineCode}
 
 -- the state after an entry shows the cell after its call, and answers whom the machine answers
 abbrev pub Done : ℕ → State → Cell V → Option (Call V) → State → Type 0

@@ -1,14 +1,14 @@
 -- A cell within a state does what the cell alone does.
 use Rattle.std.proofs.Common.{◌≡◌, ◌≢◌, ℕ, zero, suc, ◌==◌, List, [], ◌∷◌, ◌++◌, slice_get, slice_set, Bool, true, false, cond, Option, Some, None, refl, sym, ap, ◌∙◌, subst, ◌⊎◌, inl, inr, ⊎_elim}
 use Rattle.std.proofs.Common.{append-nil}
-use Rattle.hs_rules.specs.Values.{V, UnitValue, Truth, Nothing, Just}
+use Rattle.rules_meaning.specs.Values.{V, UnitValue, Truth, Nothing, Just}
 use Rattle.hs_rules.specs.Terms.{Part, Ret, Term, term}
-use Rattle.hs_rules.specs.Waiting.{want_at, with_place, Reason, Taking, Putting, Throwing, Sleeping, Waiting, leaves, is_blocked, reason_of, line_of}
+use Rattle.rules_waiting.specs.Waiting.{want_at, with_place, Reason, Taking, Putting, Throwing, Sleeping, Waiting, leaves, is_blocked, reason_of, line_of}
 use Rattle.hs_rules.specs.State.{Thread, State, with_term, frames_of, resume, answer, resume_all, block}
 use Rattle.hs_rules.specs.Primitives.{moves_in, taken, goes_in, given, take, put, try_take, try_put}
-use Rattle.hs_rules.specs.OneCell as one
-use Rattle.hs_rules.specs.OneCell.{Want, To_take, To_put, Place, Cell, Call, Make, Take, Put, Try_take, Try_put, Leave, Answer, Made, Took, Gave, Tried_take, Tried_put, Reply, After, cell_of, reply_of, after_of, leaves_line, joins_line, put_of, takes_it, first_put, first_take, comes_in, call}
-use Rattle.hs_rules.specs.CellLaw.{told, answered, replied}
+use Rattle.rules_waiting.specs.OneCell as one
+use Rattle.rules_waiting.specs.OneCell.{Want, To_take, To_put, Place, Cell, Call, Make, Take, Put, Try_take, Try_put, Leave, Answer, Made, Took, Gave, Tried_take, Tried_put, Reply, After, cell_of, reply_of, after_of, leaves_line, joins_line, put_of, takes_it, first_put, first_take, comes_in, call}
+use Rattle.hs_laws.specs.CellLaw.{told, answered, replied}
 use Rattle.hs_laws.proofs.Lists.{cond_cases, cond_true, cond_false, equal_or, item_same, item_other, Found, first_found, Once, once_left, once_more, Absent_in, Distinct, Ones, ones_apart, distinct_those, ones_those_if, first_of_kind, those, takes, puts, only_thread, put_is_first, take_is_first, once_reason}
 use Rattle.hs_laws.proofs.States.{other_thread}
 

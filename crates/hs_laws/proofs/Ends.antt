@@ -1,12 +1,13 @@
 -- What operations, exceptions and ends do to a term that is held.
 use Rattle.std.proofs.Common.{◌≡◌, ℕ, List, [], ◌∷◌, refl}
 use Rattle.hs_base.specs.declared.exn.Exn.{Exn}
-use Rattle.hs_rules.specs.Values.{Name, V, UnitValue, Inst, Env}
-use Rattle.hs_rules.specs.Core.{Acquired, Release, Core}
+use Rattle.rules_expansion.specs.Names.{Name}
+use Rattle.rules_meaning.specs.Values.{V, UnitValue, Inst, Env}
+use Rattle.rules_expansion.specs.Core.{Acquired, Release, Core}
 use Rattle.hs_rules.specs.Terms.{Operation, Calls, Forks, ForksUnmask, Part, Ret, Throw, Performs, Frame, mask_at}
-use Rattle.hs_rules.specs.BracketLaw.{IsMasked}
-use Rattle.hs_rules.specs.BracketPhases.{Fine, fine_return, fine_bind}
-use Rattle.hs_rules.specs.BracketPhases.{FineOp, Below, no_frames, below_bind, below_throw, Held, held_ret, held_throw, held_do, held_op, held_masked, held_number, held_acquire, held_acquired, held_instance, held_keep, held_guarded, held_result, held_leave, held_leave_release, held_leave_op, held_handle, held_handle_release, held_handle_op, held_then_throw, held_last, held_thrown, held_passing}
+use Rattle.hs_laws.specs.BracketLaw.{IsMasked}
+use Rattle.hs_laws.specs.BracketPhases.{Fine, fine_return, fine_bind}
+use Rattle.hs_laws.specs.BracketPhases.{FineOp, Below, no_frames, below_bind, below_throw, Held, held_ret, held_throw, held_do, held_op, held_masked, held_number, held_acquire, held_acquired, held_instance, held_keep, held_guarded, held_result, held_leave, held_leave_release, held_leave_op, held_handle, held_handle_release, held_handle_op, held_then_throw, held_last, held_thrown, held_passing}
 
 pub below_of_op : {op : Operation} {fs : List Frame} {o : List ℕ} → FineOp op → Held (Performs op) fs o → Below fs o
 below_of_op k (held_op f r) = r

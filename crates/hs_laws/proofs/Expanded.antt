@@ -1,37 +1,40 @@
 -- Each expansion is a fine action, and what follows for the runs of a script.
 use Rattle.std.proofs.Common.{◌≡◌, ℕ, List, [], ◌∷◌, Option, Some, None, refl, subst, codes}
 use Rattle.hs_rules.specs.declared.entry.Entry.{Entry}
-use Rattle.hs_rules.specs.declared.forms.BareAction.{BareAction}
-use Rattle.hs_rules.specs.declared.forms.BareAction.TheVariants as z
-use Rattle.hs_rules.specs.declared.forms.UnaryAction.{UnaryAction}
-use Rattle.hs_rules.specs.declared.forms.UnaryAction.TheVariants as u
-use Rattle.hs_rules.specs.declared.forms.BinaryAction.{BinaryAction}
-use Rattle.hs_rules.specs.declared.forms.BinaryAction.TheVariants as b
-use Rattle.hs_rules.specs.declared.forms.BlockAction.{BlockAction}
-use Rattle.hs_rules.specs.declared.forms.BlockAction.TheVariants as k
-use Rattle.hs_rules.specs.declared.forms.MaskingAction.{MaskingAction}
-use Rattle.hs_rules.specs.declared.forms.MaskingAction.TheVariants as m
-use Rattle.hs_rules.specs.declared.forms.GuardAction.{GuardAction}
-use Rattle.hs_rules.specs.declared.forms.GuardAction.TheVariants as g
-use Rattle.hs_rules.specs.Programs as tree
-use Rattle.hs_rules.specs.Programs.{Act, Bl, ActArms, Par, Bd, Fn}
-use Rattle.hs_rules.specs.Values.{Name}
-use Rattle.hs_rules.specs.Core.{CoreEx, Core, Code, ActionFunction, action_named}
-use Rattle.hs_rules.specs.Expansion.{in_time, timeout_helper, timeout_end, timed, timeout, bare_core, unary_core, binary_core, scoped_core, masking_core, guard_core, core, block_core, arms_core, with_action, actions_of}
+use Rattle.rules_trees.specs.declared.forms.BareAction.{BareAction}
+use Rattle.rules_trees.specs.declared.forms.BareAction.TheVariants as z
+use Rattle.rules_trees.specs.declared.forms.UnaryAction.{UnaryAction}
+use Rattle.rules_trees.specs.declared.forms.UnaryAction.TheVariants as u
+use Rattle.rules_trees.specs.declared.forms.BinaryAction.{BinaryAction}
+use Rattle.rules_trees.specs.declared.forms.BinaryAction.TheVariants as b
+use Rattle.rules_trees.specs.declared.forms.BlockAction.{BlockAction}
+use Rattle.rules_trees.specs.declared.forms.BlockAction.TheVariants as k
+use Rattle.rules_trees.specs.declared.forms.MaskingAction.{MaskingAction}
+use Rattle.rules_trees.specs.declared.forms.MaskingAction.TheVariants as m
+use Rattle.rules_trees.specs.declared.forms.GuardAction.{GuardAction}
+use Rattle.rules_trees.specs.declared.forms.GuardAction.TheVariants as g
+use Rattle.rules_trees.specs.Programs as tree
+use Rattle.rules_trees.specs.Programs.{Act, Bl, ActArms, Par, Bd, Fn}
+use Rattle.rules_expansion.specs.Names.{Name}
+use Rattle.rules_expansion.specs.Core.{CoreEx, Core, ActionFunction, action_named}
+use Rattle.rules_meaning.specs.CoreMeaning.{Code}
+use Rattle.rules_expansion.specs.Expansion.{in_time, timeout_helper, timeout_end, timed, timeout, bare_core, unary_core, binary_core, scoped_core, masking_core, guard_core, core, block_core, arms_core, with_action, actions_of}
 use Rattle.hs_rules.specs.State.{State, first}
 use Rattle.hs_rules.specs.Entries.{next}
-use Rattle.hs_rules.specs.Runs.{Run, then_next, after_from, code_of, body_of, main_of, begun, IsRun}
-use Rattle.hs_rules.specs.BracketLaw.{Brackets}
-use Rattle.hs_rules.specs.BracketPhases.{Owing, Fine, fine_return, fine_throw, fine_let, fine_bind, fine_if, fine_maybe, fine_either, fine_list, fine_pair, fine_call, fine_primitive, fine_fork, fine_fork_unmask, fine_catch, fine_mask, fine_mask_hard, fine_restore, fine_bracket, FineCode}
+use Rattle.hs_rules.specs.Runs.{Run, then_next, after_from, begun, IsRun}
+use Rattle.rules_meaning.specs.CoreMeaning.{code_of}
+use Rattle.rules_expansion.specs.Expansion.{body_of, main_of}
+use Rattle.hs_laws.specs.BracketLaw.{Brackets}
+use Rattle.hs_laws.specs.BracketPhases.{Owing, Fine, fine_return, fine_throw, fine_let, fine_bind, fine_if, fine_maybe, fine_either, fine_list, fine_pair, fine_call, fine_primitive, fine_fork, fine_fork_unmask, fine_catch, fine_mask, fine_mask_hard, fine_restore, fine_bracket, FineCode}
 use Rattle.hs_laws.proofs.Steps.{FineDef, def_fine}
 use Rattle.hs_rules.specs.declared.entry.Entry.TheVariants as entry
-use Rattle.hs_rules.specs.MaskLaw.{Received}
+use Rattle.hs_laws.specs.MaskLaw.{Received}
 use Rattle.hs_rules.specs.Endings.{AllWait, IsQuiet}
 use Rattle.hs_laws.proofs.NothingLegal.{quiet}
 use Rattle.hs_laws.proofs.WaitsBegan.{mask_law}
-use Rattle.hs_rules.specs.CellLaw.{KeptCell}
+use Rattle.hs_laws.specs.CellLaw.{KeptCell}
 use Rattle.hs_laws.proofs.CellHistories.{cell_law}
-use Rattle.hs_rules.specs.Values.{V}
+use Rattle.rules_meaning.specs.Values.{V}
 use Rattle.std.proofs.Common.{slice_get}
 use Rattle.hs_laws.proofs.States.{Holds, first_holds, run_kept, brackets, owing}
 

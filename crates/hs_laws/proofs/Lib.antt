@@ -12,5 +12,3 @@ mod CellSteps
 mod CellRuns
 mod CellHistories
 mod NothingLegal
-pub mod TypesKept
-pub mod FunctionsTyped

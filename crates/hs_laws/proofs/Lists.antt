@@ -1,10 +1,10 @@
 -- Lists by number, and what holds of each that waits.
-use Rattle.hs_rules.specs.Waiting.{first_thrown}
+use Rattle.rules_waiting.specs.Waiting.{first_thrown}
 use Rattle.std.proofs.Common.{◌≡◌, ◌≢◌, ℕ, zero, suc, ◌<◌, ◌==◌, List, [], ◌∷◌, ◌++◌, length, slice_get, slice_set, Bool, true, false, cond, Option, Some, None, refl, sym, ap, ◌∙◌, subst, arith, ◌⊎◌, ⊎_elim}
 use Rattle.hs_base.specs.declared.exn.Exn.{Exn}
-use Rattle.hs_rules.specs.Values.{V}
-use Rattle.hs_rules.specs.OneCell.{To_take, To_put, first_put, first_take}
-use Rattle.hs_rules.specs.Waiting.{Reason, Taking, Putting, Throwing, Sleeping, Waiting, leaves, is_blocked, reason_of, with_place, line_of, flight_of, flying_to}
+use Rattle.rules_meaning.specs.Values.{V}
+use Rattle.rules_waiting.specs.OneCell.{To_take, To_put, first_put, first_take}
+use Rattle.rules_waiting.specs.Waiting.{Reason, Taking, Putting, Throwing, Sleeping, Waiting, leaves, is_blocked, reason_of, with_place, line_of, flight_of, flying_to}
 use Rattle.hs_rules.specs.Entries.{throwers}
 use Rattle.std.proofs.lemmas.Bool.Decides.{eqb_tells}
 

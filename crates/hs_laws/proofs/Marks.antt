@@ -1,7 +1,7 @@
 -- What the marks of a run look like, and what follows of the counts.
 use Rattle.std.proofs.Common.{◌≡◌, ◌≢◌, ℕ, suc, ◌+◌, ◌<◌, ◌≤◌, ◌==◌, List, [], ◌∷◌, Bool, true, false, cond, refl, sym, ap, ◌∙◌, subst, arith, ⊎_elim}
 use Rattle.hs_rules.specs.State.{Mark, AcquiredBy, ReleasedBy}
-use Rattle.hs_rules.specs.BracketLaw.{without, mine, acquired, acquired_by, released, released_by, count, Numbered}
+use Rattle.hs_laws.specs.BracketLaw.{without, mine, acquired, acquired_by, released, released_by, count, Numbered}
 use Rattle.hs_laws.proofs.Lists.{cond_cases, cond_true, cond_false, equal_or}
 
 -- Each acquired number is above the earlier ones, and each released one was its thread's last.

@@ -2,17 +2,17 @@
 use Rattle.std.proofs.Common.{◌≡◌, ℕ, zero, suc, ◌<◌, ◌==◌, nat_le, List, [], ◌∷◌, Bool, true, false, cond, Option, Some, None, refl, sym, ap, ◌∙◌, subst, slice_get, ⊎_elim}
 use Rattle.hs_rules.specs.declared.entry.Entry.{Entry}
 use Rattle.hs_rules.specs.declared.entry.Entry.TheVariants as entry
-use Rattle.hs_rules.specs.Values.{V, UnitValue}
-use Rattle.hs_rules.specs.Core.{Code}
+use Rattle.rules_meaning.specs.Values.{V, UnitValue}
+use Rattle.rules_meaning.specs.CoreMeaning.{Code}
 use Rattle.hs_rules.specs.Terms.{Part, Ret, Throw, Do, Performs, Frame, mask_at}
 use Rattle.hs_rules.specs.LocalRules.{locals}
-use Rattle.hs_rules.specs.Waiting.{Reason, Taking, Putting, Throwing, Sleeping, Waiting, is_blocked, reason_of, flight_of, flying_to}
+use Rattle.rules_waiting.specs.Waiting.{Reason, Taking, Putting, Throwing, Sleeping, Waiting, is_blocked, reason_of, flight_of, flying_to}
 use Rattle.hs_rules.specs.State.{Thread, State, answer}
 use Rattle.hs_rules.specs.Primitives.{operated}
 use Rattle.hs_rules.specs.Entries.{moved, local_entry, at_operation, op_entry, is_receptive, received, receive_entry, woken, finish_entry, on_thread, next}
 use Rattle.hs_rules.specs.Entries as entries
 use Rattle.hs_rules.specs.Endings.{IsTick, IsQuiet, AllWait}
-use Rattle.hs_rules.specs.BracketPhases.{Blocks, OpPart, At, Owing}
+use Rattle.hs_laws.specs.BracketPhases.{Blocks, OpPart, At, Owing}
 use Rattle.hs_laws.proofs.Lists.{cond_cases, cond_true, cond_false, equal_or}
 use Rattle.std.proofs.lemmas.Bool.{lt-leb}
 

@@ -1,11 +1,12 @@
 -- A held term owes what its facts say, and what owes stands masked.
 use Rattle.std.proofs.Common.{◌≡◌, ◌≢◌, ℕ, List, [], ◌∷◌, ◌++◌, Option, Some, refl, ap, ◌∙◌}
-use Rattle.hs_rules.specs.Values.{Name, Written, Added, Instance, BracketResult, BracketFault, V, Inst, Env, value_at}
-use Rattle.hs_rules.specs.Core.{Primitive, Release, Core}
+use Rattle.rules_expansion.specs.Names.{Name, Written, Added, Instance, BracketResult, BracketFault}
+use Rattle.rules_meaning.specs.Values.{V, Inst, Env, value_at}
+use Rattle.rules_expansion.specs.Core.{Primitive, Release, Core}
 use Rattle.hs_rules.specs.Terms.{Operation, Calls, Forks, ForksUnmask, Part, Frame, mask_at}
-use Rattle.hs_rules.specs.BracketLaw.{instance_of, owed_word, owed_start, owed_bind, owed_catch, owed_do, owed_to, owed_ret, owed_op, owed_here, owed_frames, owed, IsMasked, MaskedCatches}
-use Rattle.hs_rules.specs.BracketPhases.{IsCommon, IsOrdinary, Fine, fine_return, fine_throw, fine_let, fine_bind, fine_if, fine_maybe, fine_either, fine_list, fine_pair, fine_call, fine_primitive, fine_fork, fine_fork_unmask, fine_catch, fine_mask, fine_mask_hard, fine_restore, fine_bracket}
-use Rattle.hs_rules.specs.BracketPhases.{FineOp, Below, no_frames, below_bind, below_catch, below_mask, below_number, below_guarded, below_throw, below_last, Held, held_ret, held_throw, held_do, held_op, held_masked, held_number, held_acquire, held_acquired, held_instance, held_keep, held_guarded, held_result, held_leave, held_leave_release, held_leave_op, held_handle, held_handle_release, held_handle_op, held_then_throw, held_last, held_thrown, held_passing}
+use Rattle.hs_laws.specs.BracketLaw.{instance_of, owed_word, owed_start, owed_bind, owed_catch, owed_do, owed_to, owed_ret, owed_op, owed_here, owed_frames, owed, IsMasked, MaskedCatches}
+use Rattle.hs_laws.specs.BracketPhases.{IsCommon, IsOrdinary, Fine, fine_return, fine_throw, fine_let, fine_bind, fine_if, fine_maybe, fine_either, fine_list, fine_pair, fine_call, fine_primitive, fine_fork, fine_fork_unmask, fine_catch, fine_mask, fine_mask_hard, fine_restore, fine_bracket}
+use Rattle.hs_laws.specs.BracketPhases.{FineOp, Below, no_frames, below_bind, below_catch, below_mask, below_number, below_guarded, below_throw, below_last, Held, held_ret, held_throw, held_do, held_op, held_masked, held_number, held_acquire, held_acquired, held_instance, held_keep, held_guarded, held_result, held_leave, held_leave_release, held_leave_op, held_handle, held_handle_release, held_handle_op, held_then_throw, held_last, held_thrown, held_passing}
 
 common_catch : (x : Name) (env : Env) → IsCommon x → owed_catch x env ≡ []
 common_catch (Written x) env c = refl

@@ -2,16 +2,18 @@
 use Rattle.std.proofs.Common.{◌≡◌, ℕ, zero, suc, List, [], ◌∷◌, Bool, true, false, cond, Option, Some, None, refl, bytes_eq}
 use Rattle.hs_base.specs.declared.mask.Mask.{Mask}
 use Rattle.hs_base.specs.declared.exn.Exn.{Exn}
-use Rattle.hs_rules.specs.Values.{Name, Added, Instance, BracketResult, BracketFault, V, Truth, Nothing, Just, Left, Right, Pair, Nil, Cons, Exception, Restore, Inst, Env, value_at, Outcome, Gives, Throws, Stuck, Outcomes, AllGive, OneThrows, OneStuck}
-use Rattle.hs_rules.specs.Core.{Release, Read, Core, ActionFunction, Code, action_named, value_of_core, values_of_core}
-use Rattle.hs_rules.specs.Meaning.{values_of_exs}
-use Rattle.hs_rules.specs.Expansion.{release, bracket_exit}
+use Rattle.rules_expansion.specs.Names.{Name, Added, Instance, BracketResult, BracketFault}
+use Rattle.rules_meaning.specs.Values.{V, Truth, Nothing, Just, Left, Right, Pair, Nil, Cons, Exception, Restore, Inst, Env, value_at, Outcome, Gives, Throws, Stuck, Outcomes, AllGive, OneThrows, OneStuck}
+use Rattle.rules_expansion.specs.Core.{Release, Read, Core, ActionFunction, action_named}
+use Rattle.rules_meaning.specs.CoreMeaning.{Code, value_of_core, values_of_core}
+use Rattle.rules_meaning.specs.Meaning.{values_of_exs}
+use Rattle.rules_expansion.specs.Expansion.{release, bracket_exit}
 use Rattle.hs_rules.specs.Terms.{Calls, Part, Throw, Performs, Frame, BindTo, MaskIn, Term, mask_at}
 use Rattle.hs_rules.specs.LocalRules.{on_value, on_values, thrown, chosen, chosen_maybe, chosen_either, chosen_list, chosen_pair, with_params, entered, called, restored, first_step, ret_step, throw_step, on_top, local, on_term, locals}
-use Rattle.hs_rules.specs.BracketPhases.{Fine, fine_return, fine_throw, fine_let, fine_bind, fine_if, fine_maybe, fine_either, fine_list, fine_pair, fine_call, fine_primitive, fine_fork, fine_fork_unmask, fine_catch, fine_mask, fine_mask_hard, fine_restore, fine_bracket, FineCode}
-use Rattle.hs_rules.specs.BracketLaw.{IsMasked}
+use Rattle.hs_laws.specs.BracketPhases.{Fine, fine_return, fine_throw, fine_let, fine_bind, fine_if, fine_maybe, fine_either, fine_list, fine_pair, fine_call, fine_primitive, fine_fork, fine_fork_unmask, fine_catch, fine_mask, fine_mask_hard, fine_restore, fine_bracket, FineCode}
+use Rattle.hs_laws.specs.BracketLaw.{IsMasked}
 use Rattle.hs_laws.proofs.Held.{join_masked}
-use Rattle.hs_rules.specs.BracketPhases.{Below, no_frames, below_bind, below_catch, below_mask, below_number, below_guarded, below_throw, below_last, Held, held_ret, held_throw, held_do, held_op, held_masked, held_number, held_acquire, held_acquired, held_instance, held_keep, held_guarded, held_result, held_leave, held_leave_release, held_leave_op, held_handle, held_handle_release, held_handle_op, held_then_throw, held_last, held_thrown, held_passing}
+use Rattle.hs_laws.specs.BracketPhases.{Below, no_frames, below_bind, below_catch, below_mask, below_number, below_guarded, below_throw, below_last, Held, held_ret, held_throw, held_do, held_op, held_masked, held_number, held_acquire, held_acquired, held_instance, held_keep, held_guarded, held_result, held_leave, held_leave_release, held_leave_op, held_handle, held_handle_release, held_handle_op, held_then_throw, held_last, held_thrown, held_passing}
 
 abbrev pub Goes : Option Term → List ℕ → Type 0
 Goes None o = Unit {0}

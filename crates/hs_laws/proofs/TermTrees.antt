@@ -4,11 +4,13 @@ use Rattle.hs_base.specs.declared.mask.Mask.{Mask}
 use Rattle.hs_base.specs.declared.mask.Mask.TheVariants.{Unmasked, Masked}
 use Rattle.hs_base.specs.declared.exn.Exn.{Exn}
 use Rattle.hs_base.specs.Masks.{join_of}
-use Rattle.hs_rules.specs.Values.{Name, V, Exception, Env, with_name}
-use Rattle.hs_rules.specs.Core.{Core, Code}
+use Rattle.rules_expansion.specs.Names.{Name}
+use Rattle.rules_meaning.specs.Values.{V, Exception, Env, with_name}
+use Rattle.rules_expansion.specs.Core.{Core}
+use Rattle.rules_meaning.specs.CoreMeaning.{Code}
 use Rattle.hs_rules.specs.Terms.{Part, Ret, Throw, Do, Performs, Frame, BindTo, CatchBy, MaskIn, Term, term, mask_at}
 use Rattle.hs_rules.specs.LocalRules.{first_step, ret_step, throw_step, on_top, on_term, local, locals}
-use Rattle.hs_rules.specs.TermTrees.{Tree, TreeRet, TreeThrow, TreeDo, TreeOp, TreeBind, TreeCatch, TreeMask, leaf, around, tree_of, active, mask_within, mask_of, replace, map_tree, tree_step, tree_local, on_tree, tree_locals}
+use Rattle.hs_laws.specs.TermTrees.{Tree, TreeRet, TreeThrow, TreeDo, TreeOp, TreeBind, TreeCatch, TreeMask, leaf, around, tree_of, active, mask_within, mask_of, replace, map_tree, tree_step, tree_local, on_tree, tree_locals}
 
 -- the state inside frames that stand in state s
 abbrev mask_from : List Frame → Mask → Mask

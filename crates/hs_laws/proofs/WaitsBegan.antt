@@ -6,24 +6,26 @@ use Rattle.hs_base.specs.declared.exn.Exn.{Exn}
 use Rattle.hs_rules.specs.declared.entry.Entry.{Entry}
 use Rattle.hs_rules.specs.declared.entry.Entry.TheVariants as entry
 use Rattle.hs_rules.specs.declared.entry.Entry.TheVariants.{Local}
-use Rattle.hs_rules.specs.Values as val
-use Rattle.hs_rules.specs.Values.{Hidden, Name, Written, Added, Unread, Instance, BracketResult, BracketFault, V, UnitValue, Int, Truth, Text, Nothing, Just, Left, Right, Pair, Nil, Cons, Exception, Restore, Inst, Env, with_name, value_at, Outcome, Gives, Throws, Stuck, Outcomes, AllGive, OneThrows, OneStuck}
-use Rattle.hs_rules.specs.Core.{Primitive, PutStr, PutStrLn, HPutStrLn, NewMVar, NewEmptyMVar, TakeMVar, PutMVar, TryTakeMVar, TryPutMVar, MyThreadId, GetMaskingState, ClockMicros, ThreadDelay, ThrowTo, NewTimeout, Acquired, Release, Core, Code}
+use Rattle.rules_meaning.specs.Values as val
+use Rattle.rules_expansion.specs.Names.{Hidden, Name, Written, Added, Unread, Instance, BracketResult, BracketFault}
+use Rattle.rules_meaning.specs.Values.{V, UnitValue, Int, Truth, Text, Nothing, Just, Left, Right, Pair, Nil, Cons, Exception, Restore, Inst, Env, with_name, value_at, Outcome, Gives, Throws, Stuck, Outcomes, AllGive, OneThrows, OneStuck}
+use Rattle.rules_expansion.specs.Core.{Primitive, PutStr, PutStrLn, HPutStrLn, NewMVar, NewEmptyMVar, TakeMVar, PutMVar, TryTakeMVar, TryPutMVar, MyThreadId, GetMaskingState, ClockMicros, ThreadDelay, ThrowTo, NewTimeout, Acquired, Release, Core}
+use Rattle.rules_meaning.specs.CoreMeaning.{Code}
 use Rattle.hs_rules.specs.Terms.{Operation, Calls, Forks, ForksUnmask, Part, Ret, Throw, Do, Performs, Frame, Term, mask_at}
 use Rattle.hs_rules.specs.LocalRules.{locals}
-use Rattle.hs_rules.specs.OneCell.{first_put, first_take}
-use Rattle.hs_rules.specs.Waiting.{Reason, Taking, Putting, Throwing, Sleeping, Flying, is_blocked, reason_of, line_of, flight_of, flying_to}
+use Rattle.rules_waiting.specs.OneCell.{first_put, first_take}
+use Rattle.rules_waiting.specs.Waiting.{Reason, Taking, Putting, Throwing, Sleeping, Flying, is_blocked, reason_of, line_of, flight_of, flying_to}
 use Rattle.hs_rules.specs.State.{Thread, State, resume, answer, resume_all, block, first}
 use Rattle.hs_rules.specs.Primitives.{on_none, on_one, on_two, as_text, as_number, as_cell, as_thread, as_exn, as_instance, moves_in, taken, goes_in, given, take, put, try_take, try_put, throw_at, due_in, delay, performed, operated}
 use Rattle.hs_rules.specs.Entries.{moved, local_entry, at_operation, op_entry, is_throw, is_unmasked, is_interruptible, is_open, is_receptive, received, receive_entry, woken, uncaught_line, throwers, closed, finish_entry, on_thread, next}
 use Rattle.hs_rules.specs.Entries as entries
 use Rattle.hs_rules.specs.Runs.{Run}
 use Rattle.std.proofs.lemmas.Option.{same_Some}
-use Rattle.hs_rules.specs.MaskLaw.{WaitsThrough, ThrownBy, Received}
-use Rattle.hs_rules.specs.Waiting.{first_thrown}
-use Rattle.hs_rules.specs.BracketPhases.{Fine, FineCode}
+use Rattle.hs_laws.specs.MaskLaw.{WaitsThrough, ThrownBy, Received}
+use Rattle.rules_waiting.specs.Waiting.{first_thrown}
+use Rattle.hs_laws.specs.BracketPhases.{Fine, FineCode}
 use Rattle.hs_laws.proofs.Lists.{cond_cases, cond_true, cond_false, equal_or, Each, each_more, each_left, each_changed, Found, first_found, OnReason, reason_found, first_of_kind, throws, throw_is_first, once_reason}
-use Rattle.hs_rules.specs.BracketPhases.{Blocks, OpPart, At}
+use Rattle.hs_laws.specs.BracketPhases.{Blocks, OpPart, At}
 use Rattle.hs_laws.proofs.States.{Holds, Keeps, next_kept, first_holds}
 
 -- ---- `blocked` only loses threads, and gets the one that acts

@@ -1,0 +1,5 @@
+pub mod BracketLaw
+pub mod BracketPhases
+pub mod CellLaw
+pub mod MaskLaw
+pub mod TermTrees

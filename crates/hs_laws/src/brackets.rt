@@ -2,11 +2,11 @@
 
 ghost use Rattle.std.specs.Prelude.{List};
 ghost use Rattle.hs_rules.specs.declared.entry.Entry.{Entry};
-ghost use Rattle.hs_rules.specs.Programs.{Fn};
+ghost use Rattle.rules_trees.specs.Programs.{Fn};
 ghost use Rattle.hs_rules.specs.State.{State};
 ghost use Rattle.hs_rules.specs.Runs.{IsRun};
-ghost use Rattle.hs_rules.specs.BracketLaw.{Brackets};
-ghost use Rattle.hs_rules.specs.BracketPhases.{Owing};
+ghost use Rattle.hs_laws.specs.BracketLaw.{Brackets};
+ghost use Rattle.hs_laws.specs.BracketPhases.{Owing};
 
 /// In every run of a script each use of a bracket is acquired once, and released at most once, by the thread that
 /// acquired it, and exactly once where that thread has finished. What a thread's term owes is what its thread has

@@ -2,12 +2,14 @@
 
 ghost use Rattle.std.specs.Prelude.{◌≡◌, ℕ, List, Option, Some, slice_get};
 ghost use Rattle.hs_rules.specs.declared.entry.Entry.{Entry};
-ghost use Rattle.hs_rules.specs.Values.{V};
-ghost use Rattle.hs_rules.specs.Core.{Core};
-ghost use Rattle.hs_rules.specs.Programs.{Fn};
+ghost use Rattle.rules_meaning.specs.Values.{V};
+ghost use Rattle.rules_expansion.specs.Core.{Core};
+ghost use Rattle.rules_trees.specs.Programs.{Fn};
 ghost use Rattle.hs_rules.specs.State.{State, first};
-ghost use Rattle.hs_rules.specs.Runs.{IsRun, code_of, main_of};
-ghost use Rattle.hs_rules.specs.CellLaw.{KeptCell};
+ghost use Rattle.hs_rules.specs.Runs.{IsRun};
+ghost use Rattle.rules_meaning.specs.CoreMeaning.{code_of};
+ghost use Rattle.rules_expansion.specs.Expansion.{main_of};
+ghost use Rattle.hs_laws.specs.CellLaw.{KeptCell};
 
 /// Each cell of a run was made by an Op, and from there on it does what the machine of one cell alone does by the calls
 /// of the run: the same content and line, the same threads answered the same. What came out of it, followed by its

@@ -8,6 +8,5 @@
 pub mod brackets;
 pub mod cells;
 pub mod masks;
-pub mod meaning;
 pub mod quiet;
 pub mod terms;

@@ -3,12 +3,14 @@
 ghost use Rattle.std.specs.Prelude.{◌≡◌, ℕ, List, Some};
 ghost use Rattle.hs_rules.specs.declared.entry.Entry.{Entry};
 ghost use Rattle.hs_rules.specs.declared.entry.Entry.TheVariants.{Receive};
-ghost use Rattle.hs_rules.specs.Core.{Core};
-ghost use Rattle.hs_rules.specs.Programs.{Fn};
+ghost use Rattle.rules_expansion.specs.Core.{Core};
+ghost use Rattle.rules_trees.specs.Programs.{Fn};
 ghost use Rattle.hs_rules.specs.State.{State, first};
 ghost use Rattle.hs_rules.specs.Entries.{next};
-ghost use Rattle.hs_rules.specs.Runs.{IsRun, code_of, main_of};
-ghost use Rattle.hs_rules.specs.MaskLaw.{Received};
+ghost use Rattle.hs_rules.specs.Runs.{IsRun};
+ghost use Rattle.rules_meaning.specs.CoreMeaning.{code_of};
+ghost use Rattle.rules_expansion.specs.Expansion.{main_of};
+ghost use Rattle.hs_laws.specs.MaskLaw.{Received};
 
 /// Wherever a thread of a run receives an exception, it is blocked and not masked uninterruptibly, or it isn't blocked
 /// and not masked; and the exception is the first in flight to it, thrown by a thread that has waited for that since.

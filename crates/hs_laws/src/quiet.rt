@@ -2,9 +2,10 @@
 
 ghost use Rattle.std.specs.Prelude.{List};
 ghost use Rattle.hs_rules.specs.declared.entry.Entry.{Entry};
-ghost use Rattle.hs_rules.specs.Programs.{Fn};
+ghost use Rattle.rules_trees.specs.Programs.{Fn};
 ghost use Rattle.hs_rules.specs.State.{State};
-ghost use Rattle.hs_rules.specs.Runs.{IsRun, code_of};
+ghost use Rattle.hs_rules.specs.Runs.{IsRun};
+ghost use Rattle.rules_meaning.specs.CoreMeaning.{code_of};
 ghost use Rattle.hs_rules.specs.Endings.{AllWait, IsQuiet};
 
 /// In the state of a run, where every unfinished thread is blocked, none can receive an exception in flight to it, and no

@@ -1,10 +1,10 @@
 //! Terms as trees, and as an active part in its frames.
 
 ghost use Rattle.std.specs.Prelude.{◌≡◌, ℕ};
-ghost use Rattle.hs_rules.specs.Core.{Code};
+ghost use Rattle.rules_meaning.specs.CoreMeaning.{Code};
 ghost use Rattle.hs_rules.specs.Terms.{Part, Term, term, mask_at};
 ghost use Rattle.hs_rules.specs.LocalRules.{local, locals};
-ghost use Rattle.hs_rules.specs.TermTrees.{Tree, tree_of, leaf, active, mask_of, replace, map_tree, tree_local, tree_locals};
+ghost use Rattle.hs_laws.specs.TermTrees.{Tree, tree_of, leaf, active, mask_of, replace, map_tree, tree_local, tree_locals};
 
 /// A part in its frames stands for one tree, and each tree is stood for. The local rules, the active part, its masking
 /// state and what is put in its place are the same of both.

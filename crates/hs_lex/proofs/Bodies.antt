@@ -8,7 +8,7 @@ use Rattle.std.proofs.lemmas.Str.{encodes-append}
 use Rattle.std.proofs.lemmas.Bool.{and_parts, and_from, or_from, not_from_false, ne_eqb, false≢true}
 use Rattle.std.proofs.lemmas.List.{map-append}
 use Rattle.std.proofs.lemmas.List.Folds.{list_all-append}
-use Rattle.hs_rules.specs.Tokens.{quote, backslash, line_feed, Part, Plain, Escape, may_stand, parts_text, meaning, escaped, StandFor, IsOpen}
+use Rattle.rules_tokens.specs.Tokens.{quote, backslash, line_feed, Part, Plain, Escape, may_stand, parts_text, meaning, escaped, StandFor, IsOpen}
 use Rattle.hs_lex.specs.Fronts.{IsCut, IsBody, IsClosedAt}
 use Rattle.hs_lex.proofs.Cuts.{cut_one, cut_two, cut_head, cut_end}
 use Rattle.hs_lex.proofs.Literals.{IsStuck, open_from_stuck}

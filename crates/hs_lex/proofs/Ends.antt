@@ -8,7 +8,7 @@ use Rattle.std.proofs.lemmas.Str.{encodes-append, encodes-chars, scalars-chars, 
 use Rattle.std.proofs.Math.Seq.{drop-append_seam}
 use lib.Utf8.{scalar}
 use Rattle.hs_base.specs.declared.pos.Pos.{Pos}
-use Rattle.hs_rules.specs.Tokens.{IsTextOf, IsNoText, position_after}
+use Rattle.rules_tokens.specs.Tokens.{IsTextOf, IsNoText, position_after}
 use Rattle.hs_lex.specs.declared.place.Place.{Place}
 use Rattle.hs_lex.specs.Fronts.{IsCut, IsPlace}
 use Rattle.hs_lex.proofs.Streams.{drop_cut}

@@ -2,10 +2,10 @@
 use Rattle.std.proofs.Common.{◌≡◌, ℕ, ◌<◌, ◌≤◌, List, [], ◌∷◌, ◌++◌, true, refl, sym, ap, ◌∙◌, subst, arith, inl, inr}
 use Rattle.std.specs.Prelude.{map}
 use Rattle.std.proofs.lemmas.Bool.{false≢true}
-use Rattle.hs_rules.specs.declared.token.Tok.{Tok}
-use Rattle.hs_rules.specs.declared.token.Tok.TheVariants as tok
-use Rattle.hs_rules.specs.declared.symbol.TheConstants as symbol_number
-use Rattle.hs_rules.specs.Tokens.{quote, dash, is_blank, HasForm, Blank, Comment, Lexeme, Spells, BeginsNothing, HasWrongEscape, IsOpen, IsTooBig, Fault, BadChar, OpenText, BigNumber, IsFaulty, IsNumber, Escape, literal_text, parts_text, meaning, greatest_number, number_of}
+use Rattle.rules_tokens.specs.declared.token.Tok.{Tok}
+use Rattle.rules_tokens.specs.declared.token.Tok.TheVariants as tok
+use Rattle.rules_tokens.specs.declared.symbol.TheConstants as symbol_number
+use Rattle.rules_tokens.specs.Tokens.{quote, dash, is_blank, HasForm, Blank, Comment, Lexeme, Spells, BeginsNothing, HasWrongEscape, IsOpen, IsTooBig, Fault, BadChar, OpenText, BigNumber, IsFaulty, IsNumber, Escape, literal_text, parts_text, meaning, greatest_number, number_of}
 use Rattle.hs_lex.proofs.Forms.{number, symbol, literal, form_at, form_at_literal, HasFormOf, form_first, form_not_empty}
 use Rattle.hs_lex.proofs.Literals.{literal_same}
 use Rattle.hs_lex.proofs.Spellings.{form_of_token, spelled_form, spelled_has_form, form_has, wrong_means_none, first_wrong_same}

@@ -7,7 +7,7 @@ use Rattle.std.proofs.lemmas.Bool.{and_parts, or_cases, eqb-true, false_from_ne_
 use Rattle.unicode_ident.specs.Ident.{is_xid_start}
 use Rattle.unicode_ident.proofs.Computing.{unicode_ident}
 use Rattle.unicode_ident.proofs.IdentLemmas.{is_xid_start-ascii}
-use Rattle.hs_rules.specs.Tokens.{quote, underscore, starts_word, symbols, IsWord, IsNumber, IsSymbol, IsSymbolNumber, IsLiteral, HasForm}
+use Rattle.rules_tokens.specs.Tokens.{quote, underscore, starts_word, symbols, IsWord, IsNumber, IsSymbol, IsSymbolNumber, IsLiteral, HasForm}
 
 pub data Form : Type 0 where
   word : Form

@@ -2,7 +2,7 @@
 use Rattle.std.proofs.Common.{◌≡◌, ◌≢◌, ℕ, List, [], ◌∷◌, ◌++◌, true, false, refl, sym, ap, ◌∙◌, subst, arith, ◌⊎◌, inl, inr, append_assoc}
 use Rattle.std.specs.List.{list_all}
 use Rattle.std.proofs.lemmas.Bool.{and_parts, false≢true}
-use Rattle.hs_rules.specs.Tokens.{quote, backslash, line_feed, IsLiteral, literal_text, parts_text, Part, Plain, Escape, may_stand, IsOpen}
+use Rattle.rules_tokens.specs.Tokens.{quote, backslash, line_feed, IsLiteral, literal_text, parts_text, Part, Plain, Escape, may_stand, IsOpen}
 
 plain_is_no : (c d : ℕ) → may_stand (Plain c) ≡ true → may_stand (Plain d) ≡ false → c ≡ d → ⊥
 plain_is_no c d h k e = false≢true (sym k ∙ (ap (λ z. may_stand (Plain z)) (sym e) ∙ h))

@@ -4,7 +4,7 @@ use Rattle.std.specs.Prelude.{slice_get}
 use Rattle.std.specs.List.{list_all}
 use Rattle.std.specs.Char.{is_ascii_digit}
 use Rattle.std.proofs.lemmas.Bool.{and_parts, false≢true, leb-true, cases_lt}
-use Rattle.hs_rules.specs.Tokens.{continues_word, symbols, IsWord, IsNumber, IsSymbol, IsSymbolNumber, IsLiteral, IsLongest, literal_text}
+use Rattle.rules_tokens.specs.Tokens.{continues_word, symbols, IsWord, IsNumber, IsSymbol, IsSymbolNumber, IsLiteral, IsLongest, literal_text}
 use Rattle.hs_lex.specs.Fronts.{NoneBelow}
 use Rattle.hs_lex.proofs.Forms.{Form, word, number, symbol, literal, HasFormOf, form_of, form_not_empty, same_form, list_all_at}
 use Rattle.hs_lex.proofs.Literals.{literal_same}

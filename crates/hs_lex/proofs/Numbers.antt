@@ -4,7 +4,7 @@ use Rattle.std.specs.List.{list_all}
 use Rattle.std.specs.Char.{is_ascii_digit}
 use Rattle.std.proofs.lemmas.Bool.{and_parts, leb-true}
 use Rattle.std.proofs.lemmas.List.{take_more, take-append-drop}
-use Rattle.hs_rules.specs.Tokens.{number_from, number_of, greatest_number}
+use Rattle.rules_tokens.specs.Tokens.{number_from, number_of, greatest_number}
 
 number_from-append : (n : ℕ) (xs ys : List ℕ) → number_from n (xs ++ ys) ≡ number_from (number_from n xs) ys
 number_from-append n [] ys = refl

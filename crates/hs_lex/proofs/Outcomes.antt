@@ -5,9 +5,9 @@ use Rattle.std.specs.Char.{encode_utf8}
 use Rattle.std.proofs.lemmas.Bool.{and_parts}
 use Rattle.std.proofs.lemmas.Str.{encodes_same, encode_same, length-encode, len_utf8_bounds}
 use Rattle.hs_base.specs.declared.pos.Pos.{Pos}
-use Rattle.hs_rules.specs.declared.token.Token.{Token}
-use Rattle.hs_rules.specs.declared.token.Tokens.{Tokens}
-use Rattle.hs_rules.specs.Tokens.{text_then, tokens_behind, position_after, Fault, IsFaulty, IsTextOf, HasTokens, HasFault, IsNoText, Outcome, Lexed, NotUtf8, Faulty, LexesTo}
+use Rattle.rules_tokens.specs.declared.token.Token.{Token}
+use Rattle.rules_tokens.specs.declared.token.Tokens.{Tokens}
+use Rattle.rules_tokens.specs.Tokens.{text_then, tokens_behind, position_after, Fault, IsFaulty, IsTextOf, HasTokens, HasFault, IsNoText, Outcome, Lexed, NotUtf8, Faulty, LexesTo}
 use Rattle.hs_lex.proofs.Readings.{dead_end, read_same}
 use Rattle.hs_lex.proofs.Faults.{fault_dead, fault_same, end_not_faulty}
 

@@ -5,9 +5,9 @@ use Rattle.std.specs.List.{list_all, list_any}
 use Rattle.std.specs.Char.{is_ascii_digit}
 use Rattle.std.proofs.lemmas.Bool.{and_parts, or_from, eqb-true, not-true, not-false, false≢true}
 use Rattle.unicode_ident.proofs.Computing.{unicode_ident}
-use Rattle.hs_rules.specs.declared.token.Tok.{Tok}
-use Rattle.hs_rules.specs.declared.token.Tok.TheVariants as tok
-use Rattle.hs_rules.specs.Tokens.{quote, dash, is_blank, is_line_feed, starts_word, continues_word, IsWord, IsNumber, IsSymbolNumber, HasForm, IsLongest, BeginsComment, EndsLine, Blank, Comment, Spells, Part, Escape, parts_text, literal_text, symbols, number_of, greatest_number}
+use Rattle.rules_tokens.specs.declared.token.Tok.{Tok}
+use Rattle.rules_tokens.specs.declared.token.Tok.TheVariants as tok
+use Rattle.rules_tokens.specs.Tokens.{quote, dash, is_blank, is_line_feed, starts_word, continues_word, IsWord, IsNumber, IsSymbolNumber, HasForm, IsLongest, BeginsComment, EndsLine, Blank, Comment, Spells, Part, Escape, parts_text, literal_text, symbols, number_of, greatest_number}
 use Rattle.hs_lex.specs.declared.front.Front.TheVariants as front
 use Rattle.hs_lex.specs.declared.front.Flaw.TheVariants as flaw
 use Rattle.hs_lex.specs.declared.literal.Meaning.TheVariants as meaning

@@ -9,7 +9,7 @@ use Rattle.std.proofs.lemmas.List.{take_more, take-append-drop, length-take-le}
 use Rattle.std.proofs.lemmas.List.Folds.{list_any-append}
 use Rattle.std.proofs.lemmas.Str.{encodes-append, length-encode, length-le-encodes}
 use Rattle.hs_base.specs.declared.pos.Pos.{Pos}
-use Rattle.hs_rules.specs.Tokens.{is_line_feed, line_feeds, last_line, position_after}
+use Rattle.rules_tokens.specs.Tokens.{is_line_feed, line_feeds, last_line, position_after}
 use Rattle.hs_lex.specs.declared.place.Place.{Place}
 use Rattle.hs_lex.specs.Fronts.{IsPlace}
 

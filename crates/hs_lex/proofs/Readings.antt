@@ -4,8 +4,8 @@ use Rattle.std.specs.Prelude.{◌==◌}
 use Rattle.std.specs.List.{list_any, list_all}
 use Rattle.std.proofs.lemmas.Bool.{or_parts, or_cases, not-true, false≢true, eqb-true}
 use Rattle.unicode_ident.proofs.Computing.{unicode_ident}
-use Rattle.hs_rules.specs.declared.token.Tok.{Tok}
-use Rattle.hs_rules.specs.Tokens.{dash, space, tab, carriage_return, line_feed, is_blank, is_line_feed, symbols, IsSymbolNumber, HasForm, IsLongest, EndsLine, Piece, Blank, Comment, Lexeme, piece_text, Fits, Spells, text_then, Read}
+use Rattle.rules_tokens.specs.declared.token.Tok.{Tok}
+use Rattle.rules_tokens.specs.Tokens.{dash, space, tab, carriage_return, line_feed, is_blank, is_line_feed, symbols, IsSymbolNumber, HasForm, IsLongest, EndsLine, Piece, Blank, Comment, Lexeme, piece_text, Fits, Spells, text_then, Read}
 use Rattle.hs_lex.proofs.Forms.{Form, symbol, form_at, HasFormOf, form_first, form_not_empty, list_all_at}
 use Rattle.hs_lex.proofs.Spellings.{form_of_token, spelled_form, spelled_has_form, spelled_same}
 

@@ -1,8 +1,8 @@
 -- An answer that is right is complete, since there is one outcome at most.
 use Rattle.std.proofs.Common.{◌≡◌, ℕ, List, Option, Some, None, Result}
 use Rattle.std.specs.Prelude.{MatchOption, ⊤}
-use Rattle.hs_rules.specs.declared.token.Tokens.{Tokens}
-use Rattle.hs_rules.specs.Tokens.{Outcome, LexesTo}
+use Rattle.rules_tokens.specs.declared.token.Tokens.{Tokens}
+use Rattle.rules_tokens.specs.Tokens.{Outcome, LexesTo}
 use Rattle.hs_lex.specs.declared.fault.LexFault.{LexFault}
 use Rattle.hs_lex.specs.Answers.{said, IsRight, IsComplete}
 use Rattle.hs_lex.proofs.Outcomes.{outcome_same}

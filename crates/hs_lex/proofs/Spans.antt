@@ -4,9 +4,9 @@ use Rattle.std.specs.Prelude.{IfOk, slice_range}
 use Rattle.std.specs.Str.{encode_utf8_all}
 use Rattle.std.proofs.lemmas.Str.{encodes-append, length-le-encodes}
 use Rattle.std.proofs.Math.Seq.{take-append_seam, drop-append_seam}
-use Rattle.hs_rules.specs.declared.token.Token.{Token}
-use Rattle.hs_rules.specs.declared.token.Tokens.{Tokens}
-use Rattle.hs_rules.specs.Tokens.{dash, Piece, Blank, Comment, Lexeme, Read, Fits, text_then, tokens_behind, Spells, HasTokens}
+use Rattle.rules_tokens.specs.declared.token.Token.{Token}
+use Rattle.rules_tokens.specs.declared.token.Tokens.{Tokens}
+use Rattle.rules_tokens.specs.Tokens.{dash, Piece, Blank, Comment, Lexeme, Read, Fits, text_then, tokens_behind, Spells, HasTokens}
 use Rattle.hs_lex.specs.declared.fault.LexFault.{LexFault}
 use Rattle.hs_lex.specs.Answers.{IsRight, AreRising, AreSlices}
 use Rattle.hs_lex.proofs.Forms.{form_not_empty}

@@ -5,9 +5,9 @@ use Rattle.std.specs.List.{list_any}
 use Rattle.std.specs.Str.{bytes_eq, encode_utf8_all}
 use Rattle.std.proofs.lemmas.Bool.{and_parts, or_parts, not-true, false≢true}
 use Rattle.std.proofs.lemmas.Slice.Eq.{bytes_eq-Decides}
-use Rattle.hs_rules.specs.declared.token.Tok.{Tok}
-use Rattle.hs_rules.specs.declared.token.Tok.TheVariants as tok
-use Rattle.hs_rules.specs.Tokens.{IsReserved, reserved_words, IsSymbolNumber, symbols, HasForm, Spells, Part, Escape, meaning, escaped, StandFor}
+use Rattle.rules_tokens.specs.declared.token.Tok.{Tok}
+use Rattle.rules_tokens.specs.declared.token.Tok.TheVariants as tok
+use Rattle.rules_tokens.specs.Tokens.{IsReserved, reserved_words, IsSymbolNumber, symbols, HasForm, Spells, Part, Escape, meaning, escaped, StandFor}
 use Rattle.hs_lex.proofs.Forms.{Form, word, number, symbol, literal, HasFormOf, form_not_empty, same_form}
 use Rattle.hs_lex.proofs.Literals.{literal_same}
 

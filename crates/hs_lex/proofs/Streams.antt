@@ -3,9 +3,9 @@ use Rattle.std.proofs.Common.{◌≡◌, ℕ, ◌+◌, ◌<◌, ◌≤◌, List,
 use Rattle.std.specs.Str.{encode_utf8_all}
 use Rattle.std.proofs.lemmas.List.{take-append-drop, take_all, drop_all, length-take-le}
 use Rattle.hs_base.specs.declared.pos.Pos.{Pos}
-use Rattle.hs_rules.specs.declared.token.Tok.{Tok}
-use Rattle.hs_rules.specs.declared.token.Token.{Token}
-use Rattle.hs_rules.specs.Tokens.{dash, Piece, Blank, Comment, Lexeme, piece_text, Fits, text_then, Read, token_behind, tokens_behind, position_after, IsTextOf, HasTokens, HasFault}
+use Rattle.rules_tokens.specs.declared.token.Tok.{Tok}
+use Rattle.rules_tokens.specs.declared.token.Token.{Token}
+use Rattle.rules_tokens.specs.Tokens.{dash, Piece, Blank, Comment, Lexeme, piece_text, Fits, text_then, Read, token_behind, tokens_behind, position_after, IsTextOf, HasTokens, HasFault}
 use Rattle.hs_lex.specs.declared.place.Place.{Place}
 use Rattle.hs_lex.specs.declared.front.Front.TheVariants as front
 use Rattle.hs_lex.specs.declared.front.Flaw.{Flaw}

@@ -1,9 +1,9 @@
 -- What an answer of `lex` says.
 use Rattle.std.specs.Prelude.{◌≡◌, ℕ, ◌<◌, ◌≤◌, List, [], ◌∷◌, Option, Some, None, Result, Ok, Err, MatchOption, ⊤, slice_range}
 use Rattle.std.specs.Str.{encode_utf8_all}
-use Rattle.hs_rules.specs.declared.token.Token.{Token}
-use Rattle.hs_rules.specs.declared.token.Tokens.{Tokens}
-use Rattle.hs_rules.specs.Tokens.{Outcome, Lexed, NotUtf8, Faulty, BadChar, OpenText, BigNumber, Spells, LexesTo}
+use Rattle.rules_tokens.specs.declared.token.Token.{Token}
+use Rattle.rules_tokens.specs.declared.token.Tokens.{Tokens}
+use Rattle.rules_tokens.specs.Tokens.{Outcome, Lexed, NotUtf8, Faulty, BadChar, OpenText, BigNumber, Spells, LexesTo}
 use Rattle.hs_lex.specs.declared.fault.LexFault.{LexFault}
 use Rattle.hs_lex.specs.declared.fault.LexFault.TheVariants as fault
 

@@ -4,7 +4,7 @@ use Rattle.std.specs.List.{list_all}
 use denote.Ref.{Bor}
 use Rattle.std.specs.Char.{is_ascii_digit}
 use Rattle.std.specs.Str.{encode_utf8_all}
-use Rattle.hs_rules.specs.Tokens.{Piece, Blank, Comment, Lexeme, piece_text, Fits, Fault, BadChar, OpenText, BigNumber, IsFaulty, Part, Escape, may_stand, parts_text, StandFor, escaped, position_after, is_blank, quote, starts_word, IsSymbolNumber}
+use Rattle.rules_tokens.specs.Tokens.{Piece, Blank, Comment, Lexeme, piece_text, Fits, Fault, BadChar, OpenText, BigNumber, IsFaulty, Part, Escape, may_stand, parts_text, StandFor, escaped, position_after, is_blank, quote, starts_word, IsSymbolNumber}
 use Rattle.hs_lex.specs.declared.front.Front.{Front}
 use Rattle.hs_lex.specs.declared.front.Front.TheVariants as front
 use Rattle.hs_lex.specs.declared.front.Flaw.{Flaw}

@@ -1,5 +1,5 @@
 ghost use Rattle.std.specs.Prelude.{◌≡◌};
-ghost use Rattle.hs_rules.specs.Tokens as spec;
+ghost use Rattle.rules_tokens.specs.Tokens as spec;
 
 /// A character that separates tokens.
 pub(crate) fn is_blank(c: char) -> bool

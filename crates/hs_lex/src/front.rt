@@ -9,7 +9,7 @@ use crate::number::number;
 use crate::symbols::symbol;
 use crate::words::word;
 use hs_base::NoMemory;
-use hs_rules::Tok;
+use rules_tokens::Tok;
 use std::alloc::Global;
 
 /// What is wrong at a place where no piece can be read.

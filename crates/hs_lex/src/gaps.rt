@@ -1,7 +1,7 @@
 ghost use Rattle.std.specs.Prelude.{◌≡◌, ◌↔◌, IsTrue};
 ghost use Rattle.std.specs.List.{position};
-ghost use Rattle.hs_rules.specs.Tokens.{BeginsComment};
-ghost use Rattle.hs_rules.specs.Tokens as spec;
+ghost use Rattle.rules_tokens.specs.Tokens.{BeginsComment};
+ghost use Rattle.rules_tokens.specs.Tokens as spec;
 ghost use Rattle.hs_lex.specs.Fronts.{StandsAt, Begins};
 
 use crate::characters::is_line_feed;

@@ -1,6 +1,6 @@
 ghost use Rattle.std.specs.Prelude.{◌≡◌, ◌<◌, ◌^◌, ◌-◌, List, ℕ, length, IfOk, Result, Err, Some};
 ghost use Rattle.std.specs.Str.{IsValidUpTo, chars};
-ghost use Rattle.hs_rules.specs.Tokens.{Outcome, Faulty, LexesTo, IsTextOf, IsNoText, position_after};
+ghost use Rattle.rules_tokens.specs.Tokens.{Outcome, Faulty, LexesTo, IsTextOf, IsNoText, position_after};
 ghost use Rattle.hs_lex.specs.Answers.{said, IsRight, IsComplete, AreRising, AreSlices};
 ghost use Rattle.hs_lex.specs.Fronts.{fault_of};
 
@@ -9,7 +9,7 @@ use crate::front::{Flaw, Front, read_front};
 use crate::place::Place;
 use hs_base::{NoMemory, Pos, Txt};
 use hs_items::Items;
-use hs_rules::{Tok, Token, Tokens};
+use rules_tokens::{Tok, Token, Tokens};
 use std::alloc::Global;
 
 /// At most one outcome is right of some bytes: one list of tokens, or one fault at one place.

@@ -1,11 +1,11 @@
 ghost use Rattle.std.specs.Prelude.{◌≡◌, ◌∷◌, ◌<◌, ◌==◌, List, ℕ, IfOk, MatchOption, length};
-ghost use Rattle.hs_rules.specs.Tokens.{IsOpen, Part, quote};
+ghost use Rattle.rules_tokens.specs.Tokens.{IsOpen, Part, quote};
 ghost use Rattle.hs_lex.specs.Fronts.{StandsAt, Begins, IsBody, IsClosedAt, MeansAll};
 
 use crate::characters::escaped;
 use crate::front::{Flaw, Front};
 use hs_base::{NoMemory, Txt};
-use hs_rules::Tok;
+use rules_tokens::Tok;
 use std::alloc::Global;
 
 /// What stands between the quotes of a literal.

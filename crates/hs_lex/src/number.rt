@@ -1,11 +1,11 @@
 ghost use Rattle.std.specs.Prelude.{◌≡◌, ◌<◌, ◌≤◌, IsTrue, MatchOption, pos, not};
 ghost use Rattle.std.specs.List.{position, list_all};
 ghost use Rattle.std.specs.Char.{is_ascii_digit};
-ghost use Rattle.hs_rules.specs.Tokens.{number_of, greatest_number};
+ghost use Rattle.rules_tokens.specs.Tokens.{number_of, greatest_number};
 ghost use Rattle.hs_lex.specs.Fronts.{StandsAt, Begins};
 
 use crate::front::{Flaw, Front};
-use hs_rules::Tok;
+use rules_tokens::Tok;
 
 /// Where a number ends: at the first character that is no digit, if there is one.
 fn number_end(rest: &[char]) -> Option<usize>

@@ -1,6 +1,6 @@
 ghost use Rattle.std.specs.Prelude.{◌≡◌, ◌+◌, ◌<◌, ◌≤◌, ◌^◌, ◌-◌, length};
 ghost use Rattle.std.specs.Str.{encode_utf8_all};
-ghost use Rattle.hs_rules.specs.Tokens.{position_after};
+ghost use Rattle.rules_tokens.specs.Tokens.{position_after};
 ghost use Rattle.hs_lex.specs.Fronts.{IsPlace};
 
 use crate::characters::is_line_feed;

@@ -1,9 +1,9 @@
 ghost use Rattle.std.specs.Prelude.{List, ℕ, ◌<◌, MatchOption, IfSome, length};
-ghost use Rattle.hs_rules.specs.Tokens.{BeginsComment};
+ghost use Rattle.rules_tokens.specs.Tokens.{BeginsComment};
 ghost use Rattle.hs_lex.specs.Fronts.{StandsAt, BeginsOther, IsCut, IsRow, NoneOf};
 
 use crate::front::{Flaw, Front};
-use hs_rules::{Tok, symbol as symbols};
+use rules_tokens::{Tok, symbol as symbols};
 
 /// The first text of the table that begins `rest`: its place, and how many characters it has.
 fn first_in(table: &[&[char]], rest: &[char]) -> Option<(usize, usize)>

@@ -1,7 +1,7 @@
 use crate::fault::LexFault;
 use crate::lexer::lex;
 use hs_base::Pos;
-use hs_rules::{Tok, Token, Tokens};
+use rules_tokens::{Tok, Token, Tokens};
 use std::alloc::Global;
 use std::test::Fail;
 

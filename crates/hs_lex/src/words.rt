@@ -1,14 +1,14 @@
 ghost use Rattle.std.specs.Prelude.{◌≡◌, ◌≢◌, ◌++◌, ◌∷◌, ◌↔◌, List, ℕ, IsTrue, IfOk, IfSome, MatchOption, slice_get, length, not, ◌<◌};
 ghost use Rattle.std.specs.List.{position};
 ghost use Rattle.std.specs.Str.{encode_utf8_all};
-ghost use Rattle.hs_rules.specs.Tokens.{IsWord, Spells, reserved_words};
-ghost use Rattle.hs_rules.specs.Tokens as spec;
+ghost use Rattle.rules_tokens.specs.Tokens.{IsWord, Spells, reserved_words};
+ghost use Rattle.rules_tokens.specs.Tokens as spec;
 ghost use Rattle.hs_lex.specs.Fronts.{StandsAt, Begins, IsRow};
 
 use crate::characters::continues_word;
 use crate::front::Front;
 use hs_base::{NoMemory, Txt};
-use hs_rules::{Tok, word as words};
+use rules_tokens::{Tok, word as words};
 use std::alloc::Global;
 
 /// Where a word ends: at the first character that can't go on with it, if there is one.

@@ -2,7 +2,7 @@
 use Rattle.std.proofs.Common.{◌≡◌, ℕ, ◌==◌, List, [], ◌∷◌, Bool, true, false, cond, Option, Some, None, refl, ap, ◌∙◌}
 use Rattle.std.specs.Prelude.{bytes_eq, slice_get}
 use Rattle.hs_index.specs.Indexing.{first_among, next}
-use Rattle.hs_rules.specs.declared.node.ExprId.{ExprId}
+use Rattle.rules_code.specs.declared.node.ExprId.{ExprId}
 use Rattle.hs_nodes.specs.declared.places.Place.{Place}
 use Rattle.hs_nodes.specs.Finding.{texts_of, first_of}
 use Rattle.hs_nodes.specs.Emitting.{place_of}

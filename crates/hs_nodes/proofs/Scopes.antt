@@ -1,10 +1,10 @@
 -- Names of scopes.
 use Rattle.std.proofs.Common.{◌≡◌, ℕ, ◌+◌, ◌-◌, ◌<◌, List, [], ◌∷◌, ◌++◌, length, take, get_or, Bool, true, false, cond, Option, Some, None, refl, ap, ◌∙◌, sym, arith, suc, append_assoc, length-append}
 use Rattle.std.proofs.Math.Seq.{take-suc}
-use Rattle.hs_rules.specs.Values.{Name, same_name}
+use Rattle.rules_expansion.specs.Names.{Name, same_name}
 use Rattle.hs_base.specs.declared.tree.expr.Expr.{Expr}
-use Rattle.hs_rules.specs.Trees.{exs_of}
-use Rattle.hs_rules.specs.Slots.{Scope, slot_of, count}
+use Rattle.rules_trees.specs.Trees.{exs_of}
+use Rattle.rules_code.specs.Slots.{Scope, slot_of, count}
 use Rattle.hs_nodes.specs.declared.names.Bound.{Bound}
 use Rattle.hs_nodes.specs.Names.{name_of, scope_after, scope_of}
 

@@ -1,12 +1,12 @@
 -- The nodes of an expression: its parts' nodes, and then its own as the last.
 use Rattle.std.specs.Prelude.{◌≡◌, ℕ, ◌+◌, ◌-◌, ◌==◌, List, [], ◌∷◌, ◌++◌, length, cond, Option, Some, None, bytes_eq}
-use Rattle.hs_rules.specs.declared.node.ExprId.{ExprId}
-use Rattle.hs_rules.specs.declared.node.NodeLink.{NodeLink}
-use Rattle.hs_rules.specs.declared.node.Node.{Node}
-use Rattle.hs_rules.specs.declared.node.Node.TheVariants as n
-use Rattle.hs_rules.specs.Trees.{Ex, Exs, Links, Arms, Lit, number, letters, truth, nothing_more, exception, lit, name, unary, binary, chain, conses, choose, items, empty, side, given, case, none, more, end, link, maybe_arms, either_arms, list_arms, pair_arms}
-use Rattle.hs_rules.specs.Values.{Written}
-use Rattle.hs_rules.specs.Slots.{Scope, slot_of, count}
+use Rattle.rules_code.specs.declared.node.ExprId.{ExprId}
+use Rattle.rules_code.specs.declared.node.NodeLink.{NodeLink}
+use Rattle.rules_code.specs.declared.node.Node.{Node}
+use Rattle.rules_code.specs.declared.node.Node.TheVariants as n
+use Rattle.rules_trees.specs.Trees.{Ex, Exs, Links, Arms, Lit, number, letters, truth, nothing_more, exception, lit, name, unary, binary, chain, conses, choose, items, empty, side, given, case, none, more, end, link, maybe_arms, either_arms, list_arms, pair_arms}
+use Rattle.rules_expansion.specs.Names.{Written}
+use Rattle.rules_code.specs.Slots.{Scope, slot_of, count}
 use Rattle.hs_nodes.specs.declared.places.Place.{Place}
 use Rattle.hs_nodes.specs.declared.emitter.Emitter.{Emitter}
 

@@ -1,7 +1,7 @@
 -- Which name an entry of a scope stands for.
 use Rattle.std.specs.Prelude.{List, [], ◌∷◌}
-use Rattle.hs_rules.specs.Values.{Hidden, Restorer, Given, Caught, TheCell, Content, Instance, BracketResult, BracketFault, Allowed, InTime, Owner, Expiry, Helper, HelperRestorer, Name, Written, Added}
-use Rattle.hs_rules.specs.Slots.{Scope}
+use Rattle.rules_expansion.specs.Names.{Hidden, Restorer, Given, Caught, TheCell, Content, Instance, BracketResult, BracketFault, Allowed, InTime, Owner, Expiry, Helper, HelperRestorer, Name, Written, Added}
+use Rattle.rules_code.specs.Slots.{Scope}
 use Rattle.hs_nodes.specs.declared.names.Hidden as code
 use Rattle.hs_nodes.specs.declared.names.Hidden.TheVariants as h
 use Rattle.hs_nodes.specs.declared.names.Bound.{Bound}

@@ -1,8 +1,8 @@
 -- Nodes that stand for trees: with all nodes before them, and whatever nodes come after.
 use Rattle.std.specs.Prelude.{◌≡◌, ℕ, ◌<◌, List, [], ◌∷◌, length}
-use Rattle.hs_rules.specs.declared.node.ExprId.{ExprId}
-use Rattle.hs_rules.specs.declared.node.Node.{Node}
-use Rattle.hs_rules.specs.Slots.{Sx, Sxs, s_none, s_more, Root, tree_at}
+use Rattle.rules_code.specs.declared.node.ExprId.{ExprId}
+use Rattle.rules_code.specs.declared.node.Node.{Node}
+use Rattle.rules_code.specs.Slots.{Sx, Sxs, s_none, s_more, Root, tree_at}
 use Rattle.hs_nodes.specs.declared.places.Place.{Place}
 
 pub record Stands (ns : List Node) (i : ExprId) (t : Sx) : Type 0 where

@@ -3,7 +3,7 @@ use crate::names::{Bound, Hidden};
 use crate::places::Places;
 use hs_base::{NoMemory, Txt};
 use hs_items::Items;
-use hs_rules::{ExprId, Node};
+use rules_code::{ExprId, Node};
 
 #[derive(Drop)]
 pub struct Emitter {
@@ -13,8 +13,8 @@ pub struct Emitter {
 
 impl Emitter {
     ghost use Rattle.std.specs.Prelude.{◌≡◌, ◌++◌, ◌∷◌, [], length, IfOk};
-    ghost use Rattle.hs_rules.specs.Slots.{slot_of};
-    ghost use Rattle.hs_rules.specs.Values.{Written, Added};
+    ghost use Rattle.rules_code.specs.Slots.{slot_of};
+    ghost use Rattle.rules_expansion.specs.Names.{Written, Added};
     ghost use Rattle.hs_nodes.specs.Names.{scope_of, hidden_of};
     ghost use Rattle.hs_nodes.specs.Emitting.{place_of};
 

@@ -1,8 +1,8 @@
 //! The nodes of expressions.
 ghost use Rattle.std.specs.Prelude.{◌≡◌, ◌++◌, ◌∷◌, [], ◌+◌, length, IfOk};
-ghost use Rattle.hs_rules.specs.Slots.{slot_of, count};
-ghost use Rattle.hs_rules.specs.Values.{Written};
-ghost use Rattle.hs_rules.specs.Trees.{ex_of, exs_of, arms_of, links_of, list_links_of, sum_links_of, constant_of, compare_form, sum_form, cons_form};
+ghost use Rattle.rules_code.specs.Slots.{slot_of, count};
+ghost use Rattle.rules_expansion.specs.Names.{Written};
+ghost use Rattle.rules_trees.specs.Trees.{ex_of, exs_of, arms_of, links_of, list_links_of, sum_links_of, constant_of, compare_form, sum_form, cons_form};
 ghost use Rattle.hs_nodes.specs.Emitting.{nodes_of, all_nodes, ids_of, link_nodes, node_links, arm_nodes, read_nodes, own1, literal_node, place_of, Emitted};
 ghost use Rattle.hs_nodes.specs.Names.{scope_of};
 
@@ -13,8 +13,8 @@ use hs_base::{
     CompareOp, ConsOp, Constant, Exn, Expr, ExprArms, Link, ListLink, NoMemory, SumLink, SumOp, Txt,
 };
 use hs_items::Items;
-use hs_rules::forms::{BinaryForm, EmptyForm, SideForm, UnaryForm};
-use hs_rules::{ExprId, Node, NodeLink};
+use rules_trees::forms::{BinaryForm, EmptyForm, SideForm, UnaryForm};
+use rules_code::{ExprId, Node, NodeLink};
 use std::alloc::Global;
 
 fn constant(constant: Constant) -> Node
@@ -61,7 +61,7 @@ fn cons_form(op: ConsOp) -> BinaryForm
     }
 }
 
-#[tactic(auto, using(crate::proofs::Scopes::emit_rules, hs_rules::proofs::Equations::ex_rules, hs_rules::proofs::Equations::arms_rules))]
+#[tactic(auto, using(crate::proofs::Scopes::emit_rules, rules_trees::proofs::Equations::ex_rules, rules_trees::proofs::Equations::arms_rules))]
 impl Emitter {
     /// Adds the node of a form with one part.
     fn unary(&mut self, form: UnaryForm, part: ExprId) -> Result<ExprId, NoMemory>

@@ -1,6 +1,6 @@
 //! The names of a scope: those that a script writes, and those that expansions add.
 ghost use Rattle.std.specs.Prelude.{◌≡◌, ◌++◌, ◌∷◌, [], OnOk, List, bytes_eq};
-ghost use Rattle.hs_rules.specs.Values.{Written, Added, same_name, hidden_number};
+ghost use Rattle.rules_expansion.specs.Names.{Written, Added, same_name, hidden_number};
 ghost use Rattle.hs_nodes.specs.Names.{hidden_of, name_of};
 
 use hs_base::{NoMemory, Txt};
@@ -42,7 +42,7 @@ pub enum Hidden {
 
 impl Hidden {
     ghost use Rattle.std.specs.Prelude.{◌≡◌};
-    ghost use Rattle.hs_rules.specs.Values.{hidden_number};
+    ghost use Rattle.rules_expansion.specs.Names.{hidden_number};
     ghost use Rattle.hs_nodes.specs.Names.{hidden_of};
 
     fn number(self) -> u8
@@ -76,7 +76,7 @@ pub enum Bound {
 
 impl Bound {
     ghost use Rattle.std.specs.Prelude.{◌≡◌};
-    ghost use Rattle.hs_rules.specs.Values.{Written, Added, same_name};
+    ghost use Rattle.rules_expansion.specs.Names.{Written, Added, same_name};
     ghost use Rattle.hs_nodes.specs.Names.{hidden_of, name_of};
 
     /// Whether it is this name of the script.

@@ -7,7 +7,7 @@ ghost use Rattle.hs_nodes.specs.Finding.{texts_of, first_of};
 use hs_base::{NoMemory, Txt};
 use hs_index::Index;
 use hs_items::Items;
-use hs_rules::ExprId;
+use rules_code::ExprId;
 use std::alloc::Global;
 
 /// Where the body of a pure function stands.

@@ -12,12 +12,12 @@ use Rattle.hs_base.specs.declared.tree.script.Body.{Body}
 use Rattle.hs_base.specs.declared.tree.script.Def.{Def}
 use Rattle.hs_base.specs.declared.tree.script.Param.{Param}
 use Rattle.hs_base.specs.declared.tree.ty.Written.{Written}
-use Rattle.hs_rules.specs.declared.token.Token.{Token}
-use Rattle.hs_rules.specs.Grammar as g
-use Rattle.hs_rules.specs.Grammar.{rule_of}
-use Rattle.hs_rules.specs.GrammarForms.{Rule, give, alt, within, ◌⊛◌, ◌◁◌, at}
-use Rattle.hs_rules.specs.GrammarKinds as k
-use Rattle.hs_rules.specs.GrammarParts.{Kind, block_if, block_case, block_arms, two_names}
+use Rattle.rules_tokens.specs.declared.token.Token.{Token}
+use Rattle.rules_grammar.specs.Grammar as g
+use Rattle.rules_grammar.specs.Grammar.{rule_of}
+use Rattle.rules_grammar.specs.GrammarForms.{Rule, give, alt, within, ◌⊛◌, ◌◁◌, at}
+use Rattle.rules_grammar.specs.GrammarKinds as k
+use Rattle.rules_grammar.specs.GrammarParts.{Kind, block_if, block_case, block_arms, two_names}
 use Rattle.hs_grammar.specs.Parser.{begins, firsts, Done, Parser, done, take, Inner, read, read_then, enter}
 use Rattle.hs_parse.specs.declared.halt.Halt.{Halt}
 use Rattle.hs_parse.specs.Reads.{Reads}

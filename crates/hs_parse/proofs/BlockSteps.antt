@@ -5,12 +5,12 @@ use Rattle.hs_base.specs.declared.tree.action.Action.{Action}
 use Rattle.hs_base.specs.declared.tree.action.Block.{Block}
 use Rattle.hs_base.specs.declared.tree.action.Stmt.{Stmt}
 use Rattle.hs_base.specs.declared.tree.action.Stmt.TheVariants as s
-use Rattle.hs_rules.specs.declared.token.Token.{Token}
+use Rattle.rules_tokens.specs.declared.token.Token.{Token}
 use Rattle.hs_base.specs.declared.tree.expr.Name.{Name}
-use Rattle.hs_rules.specs.Grammar as g
-use Rattle.hs_rules.specs.Grammar.{block_item, rule_of}
-use Rattle.hs_rules.specs.GrammarKinds as k
-use Rattle.hs_rules.specs.GrammarParts.{block_in_braces, name}
+use Rattle.rules_grammar.specs.Grammar as g
+use Rattle.rules_grammar.specs.Grammar.{block_item, rule_of}
+use Rattle.rules_grammar.specs.GrammarKinds as k
+use Rattle.rules_grammar.specs.GrammarParts.{block_in_braces, name}
 use Rattle.hs_grammar.specs.Parser.{begins, Why, unexpected, too_deep, Out, Done, Stop, Parser, bind, done, choose, take, turn, loop, read, read_then, enter, behind_item, after_separator}
 use Rattle.hs_grammar.proofs.Checks.{opened, plain_item, fine_item}
 use Rattle.hs_grammar.proofs.Loops.{TakesLeft, loop_eq, item_takes}

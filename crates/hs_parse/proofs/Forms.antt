@@ -3,9 +3,9 @@ use Rattle.std.proofs.Common.{rules, refl, ◌≡◌, ℕ, Bool, true, false, Li
 use Rattle.hs_base.specs.declared.pos.Pos.{Pos}
 use Rattle.hs_base.specs.declared.tree.expr.Expr.{Expr}
 use Rattle.hs_base.specs.declared.tree.expr.Expr.TheVariants as e
-use Rattle.hs_rules.specs.declared.token.Token.{Token}
-use Rattle.hs_rules.specs.Grammar as g
-use Rattle.hs_rules.specs.GrammarKinds as k
+use Rattle.rules_tokens.specs.declared.token.Token.{Token}
+use Rattle.rules_grammar.specs.Grammar as g
+use Rattle.rules_grammar.specs.GrammarKinds as k
 use Rattle.hs_grammar.specs.Parser.{firsts, may_be_empty, begins, done, read_then, read, enter}
 use Rattle.hs_parse.specs.declared.halt.Halt.{Halt}
 use Rattle.hs_parse.specs.Reads.{Reads}

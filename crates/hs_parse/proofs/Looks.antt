@@ -1,9 +1,9 @@
 -- Looks at the next token.
 use Rattle.std.proofs.Common.{◌≡◌, ℕ, ◌+◌, ◌<◌, ◌≤◌, Bool, true, false, List, [], ◌∷◌, ◌++◌, length, get_or, drop, map, refl, sym, ap, ◌∙◌}
 use Rattle.std.proofs.lemmas.List.{at_drop_more, at_drop_all}
-use Rattle.hs_rules.specs.declared.token.Token.{Token}
-use Rattle.hs_rules.specs.GrammarKinds as k
-use Rattle.hs_rules.specs.GrammarParts.{Kind}
+use Rattle.rules_tokens.specs.declared.token.Token.{Token}
+use Rattle.rules_grammar.specs.GrammarKinds as k
+use Rattle.rules_grammar.specs.GrammarParts.{Kind}
 use Rattle.hs_grammar.specs.Parser.{either, begins}
 use Rattle.hs_parse.proofs.Steps.{begins_both, or_yes, or_no}
 

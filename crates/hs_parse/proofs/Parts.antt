@@ -8,12 +8,12 @@ use Rattle.hs_base.specs.declared.tree.expr.ExprArms.{ExprArms}
 use Rattle.hs_base.specs.declared.tree.expr.ExprArms.TheVariants as arm
 use Rattle.hs_base.specs.declared.tree.expr.Name.{Name}
 use Rattle.hs_base.specs.declared.tree.ty.Written.{Written}
-use Rattle.hs_rules.specs.declared.token.Token.{Token}
-use Rattle.hs_rules.specs.Grammar as g
-use Rattle.hs_rules.specs.Grammar.{rule_of}
-use Rattle.hs_rules.specs.GrammarForms.{Rule, give, within, ◌⊛◌, ◌◁◌}
-use Rattle.hs_rules.specs.GrammarKinds as k
-use Rattle.hs_rules.specs.GrammarParts.{Kind, Part, expr_arms as arms_part, expr_case, expr_if, items_or_none, two_names}
+use Rattle.rules_tokens.specs.declared.token.Token.{Token}
+use Rattle.rules_grammar.specs.Grammar as g
+use Rattle.rules_grammar.specs.Grammar.{rule_of}
+use Rattle.rules_grammar.specs.GrammarForms.{Rule, give, within, ◌⊛◌, ◌◁◌}
+use Rattle.rules_grammar.specs.GrammarKinds as k
+use Rattle.rules_grammar.specs.GrammarParts.{Kind, Part, expr_arms as arms_part, expr_case, expr_if, items_or_none, two_names}
 use Rattle.hs_grammar.specs.Parser.{firsts, may_be_empty, begins, Done, Parser, bind, done, choose, take, on_left, loop, another, read_then, read, enter}
 use Rattle.hs_parse.specs.declared.halt.Halt.{Halt}
 use Rattle.hs_parse.specs.Exprs.{branches, compared, next_arm, rest_of_items}

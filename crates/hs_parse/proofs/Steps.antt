@@ -4,18 +4,18 @@ use Rattle.hs_base.specs.declared.pos.Pos.{Pos}
 use Rattle.hs_base.specs.declared.tree.expr.Expr.{Expr}
 use Rattle.hs_base.specs.declared.tree.expr.Name.{Name}
 use Rattle.hs_base.specs.declared.tree.ty.Written.{Written}
-use Rattle.hs_rules.specs.GrammarKinds.{at_sign}
-use Rattle.hs_rules.specs.declared.token.Token.{Token}
-use Rattle.hs_rules.specs.Grammar.{rule_of}
-use Rattle.hs_rules.specs.GrammarForms.{Rule, one, within}
-use Rattle.hs_rules.specs.GrammarParts.{Kind, name, upper, int, text, word, symbol, kind_of, Part}
+use Rattle.rules_grammar.specs.GrammarKinds.{at_sign}
+use Rattle.rules_tokens.specs.declared.token.Token.{Token}
+use Rattle.rules_grammar.specs.Grammar.{rule_of}
+use Rattle.rules_grammar.specs.GrammarForms.{Rule, one, within}
+use Rattle.rules_grammar.specs.GrammarParts.{Kind, name, upper, int, text, word, symbol, kind_of, Part}
 use Rattle.hs_grammar.specs.Parser.{same_kind, either, both, is_in, where', may_be_empty, firsts, begins, Why, unexpected, too_deep, Out, Done, Stop, Parser, bind, done, choose, take_if, take, on_left, turn, loop, another, Inner, read_then, read, enter}
 use Rattle.hs_grammar.proofs.Checks.{plain, fine, opened}
 use Rattle.hs_grammar.proofs.Loops.{TakesLeft, loop_eq, another_takes}
 use Rattle.hs_grammar.proofs.KindLists.{is_in_append}
 use Rattle.hs_grammar.proofs.Main.{takes_rule}
 use Rattle.hs_grammar.proofs.Reading.{split}
-use Rattle.hs_rules.specs.Grammar as g
+use Rattle.rules_grammar.specs.Grammar as g
 use Rattle.hs_parse.specs.declared.halt.Halt.{Halt}
 use Rattle.hs_parse.specs.declared.halt.Halt.TheVariants as h
 use Rattle.hs_parse.specs.Reads.{Reads, enter_if, open_at, many_of, prepend}

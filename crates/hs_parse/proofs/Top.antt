@@ -2,9 +2,9 @@
 use Rattle.std.proofs.Common.{◌≡◌, ℕ, zero, suc, ◌+◌, ◌-◌, ◌≤◌, ◌<◌, List, [], ◌∷◌, ◌++◌, length, Result, Ok, Err, Option, Some, None, refl, sym, ap, ◌∙◌, subst, arith, length-append, append_assoc, append-nil, slice_get}
 use Rattle.hs_base.specs.declared.pos.Pos.{Pos}
 use Rattle.hs_base.specs.declared.tree.script.Script.{Script}
-use Rattle.hs_rules.specs.declared.token.Token.{Token}
-use Rattle.hs_rules.specs.declared.token.Tokens.{Tokens}
-use Rattle.hs_rules.specs.Grammar.{SpellsWithin, IsUnexpected, IsTooDeep}
+use Rattle.rules_tokens.specs.declared.token.Token.{Token}
+use Rattle.rules_tokens.specs.declared.token.Tokens.{Tokens}
+use Rattle.rules_grammar.specs.Grammar.{SpellsWithin, IsUnexpected, IsTooDeep}
 use Rattle.hs_grammar.specs.Parser.{Why, unexpected, too_deep, Out, Done, Stop, Parser, bind, done, read, read_then, enter, at_end, whole, Means}
 use Rattle.hs_grammar.proofs.Main.{means}
 use Rattle.hs_parse.specs.declared.halt.Halt.{Halt}
@@ -13,7 +13,7 @@ use Rattle.hs_parse.specs.declared.fault.ParseFault.TheVariants as fault
 use Rattle.hs_parse.specs.Reads.{Reads, head_of, many_of}
 use Rattle.hs_parse.proofs.Steps.{reads_bind, reads_next, call_ok, call_err}
 use Rattle.hs_base.specs.declared.tree.script.Def.{Def}
-use Rattle.hs_rules.specs.Grammar as g
+use Rattle.rules_grammar.specs.Grammar as g
 use Rattle.hs_parse.specs.Parsed.{Parsed, place}
 
 module _ (tokens : Tokens) where

@@ -7,10 +7,10 @@ use Rattle.hs_base.specs.declared.tree.action.BlockArms.{BlockArms}
 use Rattle.hs_base.specs.declared.tree.action.Stmt.{Stmt}
 use Rattle.hs_base.specs.declared.tree.action.Stmt.TheVariants as s
 use Rattle.hs_base.specs.declared.tree.expr.Name.{Name}
-use Rattle.hs_rules.specs.Grammar.{block, block_item, name}
-use Rattle.hs_rules.specs.GrammarForms.{Rule, give, within, ◌⊛◌, ◌◁◌}
-use Rattle.hs_rules.specs.GrammarKinds as k
-use Rattle.hs_rules.specs.GrammarParts.{block_arms}
+use Rattle.rules_grammar.specs.Grammar.{block, block_item, name}
+use Rattle.rules_grammar.specs.GrammarForms.{Rule, give, within, ◌⊛◌, ◌◁◌}
+use Rattle.rules_grammar.specs.GrammarKinds as k
+use Rattle.rules_grammar.specs.GrammarParts.{block_arms}
 use Rattle.hs_grammar.specs.Parser.{Parser, begins, bind, choose, take, done, read, enter, behind_item, item_step}
 use Rattle.hs_parse.specs.declared.step.Step.{Step}
 use Rattle.hs_parse.specs.declared.step.Step.TheVariants as step

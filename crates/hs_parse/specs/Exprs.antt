@@ -3,9 +3,9 @@ use Rattle.std.specs.Prelude.{List}
 use Rattle.hs_base.specs.declared.pos.Pos.{Pos}
 use Rattle.hs_base.specs.declared.tree.expr.CompareOp.{CompareOp}
 use Rattle.hs_base.specs.declared.tree.expr.Expr.{Expr}
-use Rattle.hs_rules.specs.Grammar.{compare_operator, cons, expr, many, next_item}
-use Rattle.hs_rules.specs.GrammarForms.{Rule, give, ◌⊛◌, ◌◁◌}
-use Rattle.hs_rules.specs.GrammarKinds as k
+use Rattle.rules_grammar.specs.Grammar.{compare_operator, cons, expr, many, next_item}
+use Rattle.rules_grammar.specs.GrammarForms.{Rule, give, ◌⊛◌, ◌◁◌}
+use Rattle.rules_grammar.specs.GrammarKinds as k
 
 -- behind `then`: two expressions with `else` between them
 abbrev pub branches : Rule (Expr × Expr)

@@ -2,9 +2,9 @@
 use Rattle.std.specs.Prelude.{◌≡◌, List, [], ◌∷◌, ◌++◌, Result, Ok, Err}
 use Rattle.hs_base.specs.declared.pos.Pos.{Pos}
 use Rattle.hs_base.specs.declared.tree.script.Script.{Script}
-use Rattle.hs_rules.specs.declared.token.Token.{Token}
-use Rattle.hs_rules.specs.declared.token.Tokens.{Tokens}
-use Rattle.hs_rules.specs.Grammar.{SpellsWithin, IsUnexpected, IsTooDeep}
+use Rattle.rules_tokens.specs.declared.token.Token.{Token}
+use Rattle.rules_tokens.specs.declared.token.Tokens.{Tokens}
+use Rattle.rules_grammar.specs.Grammar.{SpellsWithin, IsUnexpected, IsTooDeep}
 use Rattle.hs_parse.specs.declared.fault.ParseFault.{ParseFault}
 use Rattle.hs_parse.specs.declared.fault.ParseFault.TheVariants as fault
 

@@ -1,11 +1,11 @@
 -- What a call of the code says of the parser that it is.
 use Rattle.std.specs.Prelude.{◌≡◌, ℕ, zero, suc, List, [], ◌∷◌, ◌++◌, ◌⊎◌, length, Option, Some, None, Result, Ok, Err}
 use Rattle.hs_base.specs.declared.pos.Pos.{Pos}
-use Rattle.hs_rules.specs.declared.token.Token.{Token}
-use Rattle.hs_rules.specs.GrammarParts.{Kind}
+use Rattle.rules_tokens.specs.declared.token.Token.{Token}
+use Rattle.rules_grammar.specs.GrammarParts.{Kind}
 use mathlib.Core.Logic.{inl, inr}
-use Rattle.hs_rules.specs.Grammar.{many}
-use Rattle.hs_rules.specs.GrammarForms.{Rule}
+use Rattle.rules_grammar.specs.Grammar.{many}
+use Rattle.rules_grammar.specs.GrammarForms.{Rule}
 use Rattle.hs_grammar.specs.Parser.{unexpected, too_deep, Out, Done, Stop, Parser, bind, read, enter}
 use Rattle.hs_parse.specs.declared.halt.Halt.{Halt}
 use Rattle.hs_parse.specs.declared.halt.Halt.TheVariants as h

@@ -1,8 +1,8 @@
 ghost use Rattle.std.specs.Prelude.{◌≡◌, ◌<◌, ◌≤◌, length, OnOk, [], ◌∷◌, List};
-ghost use Rattle.hs_rules.specs.Grammar as g;
-ghost use Rattle.hs_rules.specs.GrammarForms.{Rule};
-ghost use Rattle.hs_rules.specs.GrammarKinds as k;
-ghost use Rattle.hs_rules.specs.GrammarParts.{Kind, Part};
+ghost use Rattle.rules_grammar.specs.Grammar as g;
+ghost use Rattle.rules_grammar.specs.GrammarForms.{Rule};
+ghost use Rattle.rules_grammar.specs.GrammarKinds as k;
+ghost use Rattle.rules_grammar.specs.GrammarParts.{Kind, Part};
 ghost use Rattle.hs_grammar.specs.Parser as parser;
 ghost use Rattle.hs_parse.specs.Reads.{Reads};
 ghost use Rattle.hs_parse.specs.Blocks.{step_of, block_step, behind_as, two_blocks, guarded, named_block, branches, arms_behind_of};
@@ -12,7 +12,7 @@ use crate::halt::Halt;
 use crate::step::Step;
 use hs_base::{Action, Block, BlockArms, Expr, Name, Stmt};
 use hs_items::{Boxed, Items};
-use hs_rules::{symbol, word};
+use rules_tokens::{symbol, word};
 use std::alloc::Global;
 
 impl<'a> Cursor<'a> {

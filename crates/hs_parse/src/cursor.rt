@@ -1,12 +1,12 @@
 ghost use Rattle.std.specs.Prelude.{◌≡◌, ◌<◌, ◌≤◌, length, drop, ◌∷◌, [], OnOk, option_copied};
-ghost use Rattle.hs_rules.specs.GrammarParts.{Kind};
+ghost use Rattle.rules_grammar.specs.GrammarParts.{Kind};
 ghost use Rattle.hs_grammar.specs.Parser as parser;
-ghost use Rattle.hs_rules.specs.Grammar as grammar;
+ghost use Rattle.rules_grammar.specs.Grammar as grammar;
 ghost use Rattle.hs_parse.specs.Reads.{Reads, head_of, open_at};
 
 use crate::halt::Halt;
 use hs_base::{Constant, Expr, Name, Pos};
-use hs_rules::{Tok, Token};
+use rules_tokens::{Tok, Token};
 use std::alloc::Global;
 use std::marker::Model;
 
@@ -18,7 +18,7 @@ pub struct Cursor<'a> {
 
 impl<'a> Model for Cursor<'a> {
     ghost use Rattle.std.specs.Prelude.{List};
-    ghost use Rattle.hs_rules.specs.declared.token.Token.{Token};
+    ghost use Rattle.rules_tokens.specs.declared.token.Token.{Token};
 
     ghost Value = { List Token };
 

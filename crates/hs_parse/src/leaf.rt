@@ -1,15 +1,15 @@
 ghost use Rattle.std.specs.Prelude.{◌≡◌, ◌<◌, ◌≤◌, length, OnOk, [], ◌∷◌, map as list_map};
-ghost use Rattle.hs_rules.specs.Grammar as g;
-ghost use Rattle.hs_rules.specs.GrammarForms.{Rule};
-ghost use Rattle.hs_rules.specs.GrammarKinds as k;
-ghost use Rattle.hs_rules.specs.GrammarParts.{Kind, Part};
+ghost use Rattle.rules_grammar.specs.Grammar as g;
+ghost use Rattle.rules_grammar.specs.GrammarForms.{Rule};
+ghost use Rattle.rules_grammar.specs.GrammarKinds as k;
+ghost use Rattle.rules_grammar.specs.GrammarParts.{Kind, Part};
 ghost use Rattle.hs_grammar.specs.Parser as parser;
 ghost use Rattle.hs_parse.specs.Reads.{Reads};
 
 use crate::cursor::Cursor;
 use crate::halt::Halt;
 use hs_base::{CompareOp, ConsOp, Constant, Expr, Name, Pos, SumOp};
-use hs_rules::{Tok, Token, symbol, word};
+use rules_tokens::{Tok, Token, symbol, word};
 use std::alloc::Global;
 
 impl<'a> Cursor<'a> {

@@ -1,5 +1,5 @@
 ghost use Rattle.std.specs.Prelude.{◌≡◌, ◌≤◌, ◌++◌, List, length, OnErr};
-ghost use Rattle.hs_rules.specs.declared.token.Token.{Token};
+ghost use Rattle.rules_tokens.specs.declared.token.Token.{Token};
 ghost use Rattle.hs_grammar.specs.Parser as parser;
 ghost use Rattle.hs_parse.specs.Parsed.{Parsed, place};
 ghost use Rattle.hs_parse.specs.Reads.{Reads};
@@ -8,7 +8,7 @@ use crate::cursor::Cursor;
 use crate::fault::ParseFault;
 use crate::halt::Halt;
 use hs_base::{Pos, Script};
-use hs_rules::Tokens;
+use rules_tokens::Tokens;
 use std::alloc::Global;
 
 /// How many openers may nest.

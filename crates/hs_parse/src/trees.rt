@@ -1,5 +1,5 @@
 ghost use Rattle.std.specs.Prelude.{◌≡◌, [], ◌∷◌};
-ghost use Rattle.hs_rules.specs.Grammar as g;
+ghost use Rattle.rules_grammar.specs.Grammar as g;
 ghost use Rattle.hs_grammar.specs.Parser as parser;
 ghost use Rattle.hs_parse.specs.Reads.{Reads};
 

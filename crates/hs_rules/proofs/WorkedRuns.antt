@@ -5,18 +5,19 @@ use Rattle.hs_base.specs.declared.exn.Exn.TheVariants.{UserInterrupt, ThreadKill
 use Rattle.hs_base.specs.declared.tree.expr.Name.{Name}
 use Rattle.hs_rules.specs.declared.entry.Entry.{Entry}
 use Rattle.hs_rules.specs.declared.entry.Entry.TheVariants.{Local, Op, Receive, Wake, Finish, Tick}
-use Rattle.hs_rules.specs.declared.forms.UnaryForm.TheVariants.{Show, ErrorCall}
-use Rattle.hs_rules.specs.declared.forms.BinaryForm.TheVariants.{Equal}
-use Rattle.hs_rules.specs.declared.forms.MaskingAction.TheVariants as mask
-use Rattle.hs_rules.specs.declared.forms.BareAction.TheVariants.{MyThreadId, GetMaskingState}
-use Rattle.hs_rules.specs.declared.forms.UnaryAction.TheVariants.{Return, PutStrLn, TakeMVar, KillThread, ThreadDelay}
-use Rattle.hs_rules.specs.declared.forms.BinaryAction.TheVariants.{PutMVar, ThrowTo}
-use Rattle.hs_rules.specs.declared.forms.BlockAction.TheVariants.{ForkIo, MaskOnly, UninterruptibleMaskOnly}
-use Rattle.hs_rules.specs.Trees.{T, unit, Wr, Ex, lit, name, none, more, unary, binary, number, letters, nothing_more, exception}
-use Rattle.hs_rules.specs.Programs.{Act, bare, unary_act, binary_act, throw_io, new_empty, call, choose_act, scoped, masking, restore, catch, guard, bracket, timeout, case_act, maybe_acts, Bl, last, then, bind, io_body, Par, Fn}
+use Rattle.rules_trees.specs.declared.forms.UnaryForm.TheVariants.{Show, ErrorCall}
+use Rattle.rules_trees.specs.declared.forms.BinaryForm.TheVariants.{Equal}
+use Rattle.rules_trees.specs.declared.forms.MaskingAction.TheVariants as mask
+use Rattle.rules_trees.specs.declared.forms.BareAction.TheVariants.{MyThreadId, GetMaskingState}
+use Rattle.rules_trees.specs.declared.forms.UnaryAction.TheVariants.{Return, PutStrLn, TakeMVar, KillThread, ThreadDelay}
+use Rattle.rules_trees.specs.declared.forms.BinaryAction.TheVariants.{PutMVar, ThrowTo}
+use Rattle.rules_trees.specs.declared.forms.BlockAction.TheVariants.{ForkIo, MaskOnly, UninterruptibleMaskOnly}
+use Rattle.rules_trees.specs.Trees.{T, unit, Wr, Ex, lit, name, none, more, unary, binary, number, letters, nothing_more, exception}
+use Rattle.rules_trees.specs.Programs.{Act, bare, unary_act, binary_act, throw_io, new_empty, call, choose_act, scoped, masking, restore, catch, guard, bracket, timeout, case_act, maybe_acts, Bl, last, then, bind, io_body, Par, Fn}
 use Rattle.hs_rules.specs.State.{State, Mark, AcquiredBy, ReleasedBy, Thread}
 use Rattle.hs_rules.specs.Entries.{next, uncaught_line}
-use Rattle.hs_rules.specs.Runs.{code_of, first_of}
+use Rattle.rules_meaning.specs.CoreMeaning.{code_of}
+use Rattle.hs_rules.specs.Runs.{first_of}
 
 -- ---- small scripts
 

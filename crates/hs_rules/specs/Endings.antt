@@ -5,11 +5,11 @@ use Rattle.hs_rules.specs.declared.entry.Entry.{Entry}
 use Rattle.hs_rules.specs.declared.entry.Entry.TheVariants as entry
 use Rattle.hs_rules.specs.declared.entry.LimitKind.{LimitKind}
 use Rattle.hs_rules.specs.declared.entry.LimitKind.TheVariants.{Threads, Cells, Frames, Output}
-use Rattle.hs_rules.specs.Core.{Code}
+use Rattle.rules_meaning.specs.CoreMeaning.{Code}
 use Rattle.hs_rules.specs.Terms.{Part, Ret, Throw, Do, Performs}
-use Rattle.hs_rules.specs.Waiting.{Sleeping, is_blocked, reason_of, flight_of, flying_to, sleepers_of}
+use Rattle.rules_waiting.specs.Waiting.{Sleeping, is_blocked, reason_of, flight_of, flying_to, sleepers_of}
 use Rattle.hs_rules.specs.State.{Thread, State}
-use Rattle.hs_rules.specs.Entries.{is_receptive, next}
+use Rattle.hs_rules.specs.Entries.{is_receptive, stranded, IsLegal}
 use Rattle.hs_rules.specs.Primitives.{line_feed}
 
 -- ---- endings
@@ -49,21 +49,23 @@ IsTick (entry.Op t) = ⊥
 IsTick (entry.Receive t) = ⊥
 IsTick (entry.Wake t) = ⊥
 IsTick (entry.Finish t) = ⊥
+IsTick entry.Stranded = ⊥
 
 -- no entry but a Tick is legal
 abbrev pub IsQuiet : Code → State → Type 0
-IsQuiet code s = (e : Entry) → ¬ IsTick e → next code s e ≡ None
+IsQuiet code s = (e : Entry) → ¬ IsTick e → ¬ IsLegal code s e
 
 -- no entry but a Tick is legal, and nobody sleeps
 abbrev pub IsDeadlock : Code → State → Type 0
 IsDeadlock code s = IsQuiet code s × (sleepers_of s.blocked ≡ [])
 
 -- A test for that which looks at threads alone: every thread that hasn't finished is blocked, none of them can receive an
--- exception that is in flight to it, and no sleeper may wake yet.
+-- exception that is in flight to it, no sleeper may wake yet, and where nobody sleeps nobody is to be stranded.
 pub record AllWait (s : State) : Type 0 where
   pub blocked : (t : ℕ) (th : Thread) → slice_get s.threads t ≡ Some th → th.finished ≡ false → is_blocked t s.blocked ≡ true
   pub unheard : (t : ℕ) (th : Thread) → slice_get s.threads t ≡ Some th → th.finished ≡ false → is_receptive t th.term s ≡ true → flying_to t (flight_of s.blocked) ≡ []
   pub asleep : (t due : ℕ) → reason_of t s.blocked ≡ Some (Sleeping due) → s.clock < due
+  pub unstranded : sleepers_of s.blocked ≡ [] → stranded s ≡ []
 
 -- The ending of a run that has left this state after so many steps, with so much fuel: the first of the four that holds.
 abbrev pub Ends : RunEnding → Code → State → (steps fuel : ℕ) → Type 0

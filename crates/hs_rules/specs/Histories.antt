@@ -1,7 +1,7 @@
 -- The steps of a history (own): what fuel counts.
 use Rattle.std.specs.Prelude.{ℕ, ◌+◌, List, [], ◌∷◌}
 use Rattle.hs_rules.specs.declared.entry.Entry.{Entry}
-use Rattle.hs_rules.specs.declared.entry.Entry.TheVariants.{Local, Op, Receive, Wake, Finish, Tick}
+use Rattle.hs_rules.specs.declared.entry.Entry.TheVariants.{Local, Op, Receive, Wake, Finish, Tick, Stranded}
 
 -- the number of its local rules for a Local, and 1 for each other entry
 abbrev pub cost_of : Entry → ℕ
@@ -11,6 +11,7 @@ cost_of (Receive t) = 1
 cost_of (Wake t) = 1
 cost_of (Finish t) = 1
 cost_of (Tick at) = 1
+cost_of Stranded = 1
 
 abbrev pub steps_of : List Entry → ℕ
 steps_of [] = 0

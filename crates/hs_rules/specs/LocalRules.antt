@@ -9,10 +9,12 @@ use Rattle.hs_base.specs.declared.mask.Mask.{Mask}
 use Rattle.hs_base.specs.declared.mask.Mask.TheVariants.{Masked, Uninterruptible}
 use Rattle.hs_base.specs.declared.exn.Exn.{Exn}
 use Rattle.hs_base.specs.Masks.{join_of}
-use Rattle.hs_rules.specs.Meaning.{values_of_exs}
-use Rattle.hs_rules.specs.Values as v
-use Rattle.hs_rules.specs.Values.{Name, V, Env, with_name, value_at, Outcome, Gives, Throws, Stuck, Outcomes, AllGive, OneThrows, OneStuck}
-use Rattle.hs_rules.specs.Core.{Core, Return, ThrowIo, Let, Bind, If, CaseMaybe, CaseEither, CaseList, CasePair, Call, Perform, Fork, ForkUnmask, Catch, MaskWith, MaskHard, Restore, Code, ActionFunction, action_named, value_of_core, values_of_core}
+use Rattle.rules_meaning.specs.Meaning.{values_of_exs}
+use Rattle.rules_meaning.specs.Values as v
+use Rattle.rules_expansion.specs.Names.{Name}
+use Rattle.rules_meaning.specs.Values.{V, Env, with_name, value_at, Outcome, Gives, Throws, Stuck, Outcomes, AllGive, OneThrows, OneStuck}
+use Rattle.rules_expansion.specs.Core.{Core, Return, ThrowIo, Let, Bind, If, CaseMaybe, CaseEither, CaseList, CasePair, Call, Perform, Fork, ForkUnmask, Catch, MaskWith, MaskHard, Restore, ActionFunction, action_named}
+use Rattle.rules_meaning.specs.CoreMeaning.{Code, value_of_core, values_of_core}
 use Rattle.hs_rules.specs.Terms.{Calls, Forks, ForksUnmask, Part, Ret, Throw, Do, Performs, Frame, BindTo, CatchBy, MaskIn, Term, term, mask_at}
 
 -- ---- an expression, and what is done with its value

@@ -1,6 +1,7 @@
 -- What an Op does: one primitive or fork of a thread, in the masking state at its active part.
 --
--- Cells: `Control.Concurrent.MVar` (a blocked thread is served first in, first out, and the value goes straight to it).
+-- Cells: `Control.Concurrent.MVar` (a blocked thread is served first in, first out, and the value goes straight to it;
+-- `readMVar` is atomic, and blocked readers are served before takers, all at once).
 -- Threads: `Control.Concurrent` (`forkIO` inherits the masking state) and `Control.Exception` (`throwTo` blocks until the
 -- exception is received, `getMaskingState`). `putStr` is one step that can't be interrupted, `threadDelay` of no time
 -- doesn't wait, `throwTo` to a finished thread returns at once without a chance to be interrupted, and `throwTo` to
@@ -10,13 +11,13 @@ use Rattle.hs_base.specs.declared.mask.Mask.{Mask}
 use Rattle.hs_base.specs.declared.mask.Mask.TheVariants.{Unmasked, Masked, Uninterruptible}
 use Rattle.hs_base.specs.declared.exn.Exn.{Exn}
 use Rattle.hs_base.specs.declared.exn.Exn.TheVariants.{Timeout}
-use Rattle.hs_rules.specs.Values.{V, UnitValue, Int, Truth, Text, Nothing, Just, Cell, Exception, Restore, Inst, with_name}
-use Rattle.hs_rules.specs.Values as v
-use Rattle.hs_rules.specs.Core.{Primitive, PutStr, PutStrLn, HPutStrLn, NewMVar, NewEmptyMVar, TakeMVar, PutMVar, TryTakeMVar, TryPutMVar, MyThreadId, GetMaskingState, ClockMicros, ThreadDelay, ThrowTo, NewTimeout, Acquired, Release}
-use Rattle.hs_rules.specs.Terms.{Operation, Calls, Forks, ForksUnmask, Throw, Do, MaskIn, term}
-use Rattle.hs_rules.specs.OneCell.{first_put, first_take}
-use Rattle.hs_rules.specs.Waiting.{Taking, Putting, Throwing, Sleeping, line_of}
-use Rattle.hs_rules.specs.State.{Thread, State, AcquiredBy, ReleasedBy, resume, answer, block, spawn}
+use Rattle.rules_meaning.specs.Values.{V, UnitValue, Int, Truth, Text, Nothing, Just, Cell, Exception, Restore, Inst, with_name}
+use Rattle.rules_meaning.specs.Values as v
+use Rattle.rules_expansion.specs.Core.{Primitive, PutStr, PutStrLn, HPutStrLn, NewMVar, NewEmptyMVar, TakeMVar, PutMVar, ReadMVar, TryTakeMVar, TryPutMVar, MyThreadId, GetMaskingState, ClockMicros, ThreadDelay, ThrowTo, NewTimeout, Acquired, Release}
+use Rattle.hs_rules.specs.Terms.{Operation, Calls, Forks, ForksUnmask, Ret, Throw, Do, MaskIn, term}
+use Rattle.rules_waiting.specs.OneCell.{first_put, first_take, readers}
+use Rattle.rules_waiting.specs.Waiting.{Taking, Reading, Putting, Throwing, Sleeping, line_of}
+use Rattle.hs_rules.specs.State.{Thread, State, AcquiredBy, ReleasedBy, resume, resume_all, answer, block, spawn}
 
 -- ---- the values of a primitive, of the sorts that it needs
 
@@ -67,20 +68,34 @@ moves_in m (Some w) s = answer w.0 UnitValue (record s { cells = slice_set s.cel
 abbrev pub taken : ℕ → State → State
 taken m s = moves_in m (first_put (line_of m s.blocked)) s
 
--- a value comes to the empty cell m: the first that waits to take is answered it and the cell stays empty, or else it is
--- the content
+-- a value comes to the empty cell m, where nobody waits to read: the first that waits to take is answered it and the cell
+-- stays empty, or else it is the content
 abbrev pub goes_in : ℕ → V → Option ℕ → State → State
 goes_in m a None s = record s { cells = slice_set s.cells m (Some a) }
 goes_in m a (Some t) s = answer t a s
 
+abbrev pub goes_on : ℕ → V → State → State
+goes_on m a s = goes_in m a (first_take (line_of m s.blocked)) s
+
+-- all that wait to read cell m are answered its value, in order
+abbrev pub read_by_all : ℕ → V → State → State
+read_by_all m a s = resume_all (readers (line_of m s.blocked)) (Ret a) s
+
+-- a value comes to the empty cell m: to all that wait to read, and then on
 abbrev pub given : ℕ → V → State → State
-given m a s = goes_in m a (first_take (line_of m s.blocked)) s
+given m a s = goes_on m a (read_by_all m a s)
 
 -- takeMVar m of thread t, by the content
 abbrev pub take : ℕ → ℕ → Option (Option V) → State → Option State
 take t m None s = None
 take t m (Some None) s = Some (block t (Taking m) s)
 take t m (Some (Some a)) s = Some (taken m (answer t a s))
+
+-- readMVar m: an empty cell is waited for, and a full one stays as it is
+abbrev pub read : ℕ → ℕ → Option (Option V) → State → Option State
+read t m None s = None
+read t m (Some None) s = Some (block t (Reading m) s)
+read t m (Some (Some a)) s = Some (answer t a s)
 
 abbrev pub put : ℕ → ℕ → V → Option (Option V) → State → Option State
 put t m a None s = None
@@ -134,6 +149,7 @@ performed t m NewMVar vs s = on_one vs (λ a. Some (answer t (Cell (length s.cel
 performed t m NewEmptyMVar vs s = on_none vs (Some (answer t (Cell (length s.cells)) (record s { cells = s.cells ++ None ∷ [] })))
 performed t m TakeMVar vs s = on_one vs (λ a. as_cell a (λ c. take t c (slice_get s.cells c) s))
 performed t m PutMVar vs s = on_two vs (λ a b. as_cell a (λ c. put t c b (slice_get s.cells c) s))
+performed t m ReadMVar vs s = on_one vs (λ a. as_cell a (λ c. read t c (slice_get s.cells c) s))
 performed t m TryTakeMVar vs s = on_one vs (λ a. as_cell a (λ c. try_take t c (slice_get s.cells c) s))
 performed t m TryPutMVar vs s = on_two vs (λ a b. as_cell a (λ c. try_put t c b (slice_get s.cells c) s))
 performed t m MyThreadId vs s = on_none vs (Some (answer t (v.Thread t) s))

@@ -1,41 +1,30 @@
 -- Runs (own): lists of entries that are legal one after another, from the first state of a script.
-use Rattle.std.specs.Prelude.{◌≡◌, ℕ, List, [], ◌∷◌, Option, Some, None, codes}
+use Rattle.std.specs.Prelude.{◌≡◌, ℕ, List, [], ◌∷◌, Option, Some, None}
 use Rattle.hs_rules.specs.declared.entry.Entry.{Entry}
-use Rattle.hs_rules.specs.Programs.{Fn}
-use Rattle.hs_rules.specs.Meaning.{functions_of}
-use Rattle.hs_rules.specs.Core.{Core, Code, ActionFunction, action_named}
-use Rattle.hs_rules.specs.Expansion.{actions_of}
+use Rattle.rules_trees.specs.Programs.{Fn}
+use Rattle.rules_expansion.specs.Core.{Core}
+use Rattle.rules_meaning.specs.CoreMeaning.{Code, code_of}
+use Rattle.rules_expansion.specs.Expansion.{main_of}
 use Rattle.hs_rules.specs.State.{State, first}
-use Rattle.hs_rules.specs.Entries.{next}
+use Rattle.hs_rules.specs.Entries.{next, Leads}
 
 -- ---- from any state of some code
 
 -- the entries lead from the one state to the other, each legal in the state that those before it leave
 abbrev pub Run : Code → State → List Entry → State → Type 0
 Run code s [] u = s ≡ u
-Run code s (e ∷ es) u = (m : State) × (next code s e ≡ Some m) × Run code m es u
+Run code s (e ∷ es) u = (m : State) × Leads code s e m × Run code m es u
 
 abbrev pub then_next : Option State → (State → Option State) → Option State
 then_next None k = None
 then_next (Some s) k = k s
 
--- the state that the entries leave, or nothing where one isn't legal
+-- the state that the entries leave, where they are legal
 abbrev pub after_from : Code → State → List Entry → Option State
 after_from code s [] = Some s
 after_from code s (e ∷ es) = then_next (next code s e) (λ u. after_from code u es)
 
 -- ---- of a script
-
-abbrev pub code_of : List Fn → Code
-code_of ds = record { functions = functions_of ds; actions = actions_of ds }
-
-abbrev pub body_of : Option ActionFunction → Option Core
-body_of None = None
-body_of (Some d) = Some d.body
-
--- the body of `main`
-abbrev pub main_of : List Fn → Option Core
-main_of ds = body_of (action_named (codes "main") (actions_of ds))
 
 abbrev pub begun : Option Core → Option State
 begun None = None
@@ -45,13 +34,13 @@ begun (Some main) = Some (first main)
 abbrev pub first_of : List Fn → Option State
 first_of ds = begun (main_of ds)
 
--- the state that a history leaves, or nothing where it is no run of the script
+-- the state that a history leaves, where it is a run of the script
 abbrev pub after : List Fn → List Entry → Option State
 after ds es = then_next (first_of ds) (λ s. after_from (code_of ds) s es)
 
 -- a history is a run of a script that leaves this state
 abbrev pub IsRun : List Fn → List Entry → State → Type 0
-IsRun ds es u = after ds es ≡ Some u
+IsRun ds es u = (s : State) × (first_of ds ≡ Some s) × Run (code_of ds) s es u
 
 -- ---- what a run prints
 

@@ -3,10 +3,10 @@
 -- "Asynchronous Exceptions in Haskell" has a soup of threads, cells and exceptions in flight. Here they stand in lists, by
 -- number, and one list holds all blocked threads in the order in which they blocked (own).
 use Rattle.std.specs.Prelude.{ℕ, Bool, false, List, [], ◌∷◌, ◌++◌, Option, Some, None, slice_get, slice_set}
-use Rattle.hs_rules.specs.Values.{V}
-use Rattle.hs_rules.specs.Core.{Core}
+use Rattle.rules_meaning.specs.Values.{V}
+use Rattle.rules_expansion.specs.Core.{Core}
 use Rattle.hs_rules.specs.Terms.{Part, Ret, Do, Frame, Term, term}
-use Rattle.hs_rules.specs.Waiting.{Reason, Waiting, blocks, leaves}
+use Rattle.rules_waiting.specs.Waiting.{Reason, Waiting, blocks, leaves}
 
 -- one use of `bracket`, by its number, and the thread that acquired or released it
 pub data Mark : Type 0 where

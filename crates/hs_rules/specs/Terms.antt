@@ -6,8 +6,9 @@ use Rattle.std.specs.Prelude.{List, [], ◌∷◌}
 use Rattle.hs_base.specs.declared.mask.Mask.{Mask}
 use Rattle.hs_base.specs.declared.mask.Mask.TheVariants.{Unmasked}
 use Rattle.hs_base.specs.declared.exn.Exn.{Exn}
-use Rattle.hs_rules.specs.Values.{Name, V, Env}
-use Rattle.hs_rules.specs.Core.{Primitive, Core}
+use Rattle.rules_expansion.specs.Names.{Name}
+use Rattle.rules_meaning.specs.Values.{V, Env}
+use Rattle.rules_expansion.specs.Core.{Primitive, Core}
 
 -- what only an Op performs: a primitive with its values, or a fork with its block and environment
 pub data Operation : Type 0 where

@@ -13,6 +13,8 @@ pub enum Entry {
     Finish { t: u32 },
     /// The clock shows `at` microseconds.
     Tick { at: u64 },
+    /// Nothing else can go on, and every thread that waits at a cell and can be interrupted gets an exception.
+    Stranded,
 }
 
 /// What a run may use only so much of (own).

@@ -1,24 +1,15 @@
-//! The rules of scripts: tokens, grammar, typing, meaning, states, entries and runs, as definitions in `specs/`.
+//! The rules of a run: terms, local rules, states, entries and histories, as definitions in `specs/`, and the types that
+//! contracts of a run speak of.
+//!
+//! To a contract a `History` is the list of its entries. The one promise: `specs/Runs.antt` says which histories are runs
+//! of a script, and what each leaves. The laws that hold of every run are left to `hs_laws`; the types of a script that
+//! was accepted and of its code stand in `rules_typing` and `rules_code`, and are lent here too.
 #![tactic(auto)]
 
-mod act;
-mod checked;
-mod code;
 mod entry;
-pub mod forms;
 mod history;
-mod node;
-pub mod symbol;
-mod token;
-pub mod word;
 
-pub use act::{Act, ActId, Primitive};
-pub use checked::Checked;
-pub use code::{Body, Code, Fun};
 pub use entry::{Entry, LimitKind};
 pub use history::History;
-pub use node::{ExprId, Node, NodeLink};
-pub use token::{Tok, Token, Tokens};
-
-#[cfg(test)]
-mod history_tests;
+pub use rules_code::{Act, ActId, Body, Code, ExprId, Fun, Node, NodeLink, Primitive};
+pub use rules_typing::Checked;

@@ -1,7 +1,7 @@
 ghost use Rattle.std.specs.Prelude.{◌≡◌, ◌+◌, min};
-ghost use Rattle.hs_rules.specs.Trees.{ex_of, exs_of, arms_of, links_of, sum_links_of, list_links_of};
-ghost use Rattle.hs_rules.specs.Programs.{Bl, act_of, bl_of, stmt_of, act_arms_of, bd_of};
-ghost use Rattle.hs_rules.specs.Sizes.{ex_size, exs_size, links_size, arms_size, body_size};
+ghost use Rattle.rules_trees.specs.Trees.{ex_of, exs_of, arms_of, links_of, sum_links_of, list_links_of};
+ghost use Rattle.rules_trees.specs.Programs.{Bl, act_of, bl_of, stmt_of, act_arms_of, bd_of};
+ghost use Rattle.rules_expansion.specs.Sizes.{ex_size, exs_size, links_size, arms_size, body_size};
 ghost use Rattle.hs_judging.specs.Closed.{act_nodes, bl_nodes, act_arm_nodes};
 
 use crate::count::add;
@@ -9,11 +9,11 @@ use hs_base::tree::{
     Action, Block, BlockArms, Body, Expr, ExprArms, Link, ListLink, Stmt, SumLink,
 };
 use hs_items::Items;
-use hs_rules::forms::BinaryForm;
+use rules_trees::forms::BinaryForm;
 
 /// The nodes of an expression.
 #[cycle(nodes)]
-#[tactic(auto, using(hs_rules::proofs::Equations::ex_rules))]
+#[tactic(auto, using(rules_trees::proofs::Equations::ex_rules))]
 fn ex_nodes(e: &Expr) -> u32
     ensures { result ≡ min (ex_size (ex_of e.now)) 1000001 }
 {
@@ -98,7 +98,7 @@ fn list_link_nodes(ks: &Items<ListLink>) -> u32
 }
 
 #[cycle(nodes)]
-#[tactic(auto, using(hs_rules::proofs::Equations::arms_rules))]
+#[tactic(auto, using(rules_trees::proofs::Equations::arms_rules))]
 fn arm_nodes(arms: &ExprArms) -> u32
     ensures { result ≡ min (arms_size (arms_of arms.now)) 1000001 }
 {
@@ -112,7 +112,7 @@ fn arm_nodes(arms: &ExprArms) -> u32
 
 /// The nodes of an action's expansion.
 #[cycle(actions)]
-#[tactic(auto, using(hs_rules::proofs::EquationsOfActions::act_rules))]
+#[tactic(auto, using(rules_trees::proofs::EquationsOfActions::act_rules))]
 fn act_nodes(a: &Action) -> u32
     ensures { result ≡ min (act_nodes (act_of a.now)) 1000001 }
 {
@@ -164,7 +164,7 @@ fn act_nodes(a: &Action) -> u32
 }
 
 #[cycle(actions)]
-#[tactic(auto, using(hs_rules::proofs::EquationsOfActions::act_arms_rules))]
+#[tactic(auto, using(rules_trees::proofs::EquationsOfActions::act_arms_rules))]
 fn act_arm_nodes(arms: &BlockArms) -> u32
     ensures { result ≡ min (act_arm_nodes (act_arms_of arms.now)) 1000001 }
 {
@@ -178,7 +178,7 @@ fn act_arm_nodes(arms: &BlockArms) -> u32
 
 /// What a statement adds to the block behind it.
 #[cycle(actions)]
-#[tactic(auto, using(hs_rules::proofs::EquationsOfActions::stmt_rules))]
+#[tactic(auto, using(rules_trees::proofs::EquationsOfActions::stmt_rules))]
 fn stmt_nodes(st: &Stmt) -> u32
     ensures { (rest : Bl) → min (bl_nodes (stmt_of st.now rest)) 1000001 ≡ min (result + bl_nodes rest) 1000001 }
 {
@@ -190,7 +190,7 @@ fn stmt_nodes(st: &Stmt) -> u32
 }
 
 #[cycle(actions)]
-#[tactic(auto, using(hs_rules::proofs::EquationsOfActions::bl_is))]
+#[tactic(auto, using(rules_trees::proofs::EquationsOfActions::bl_is))]
 fn bl_nodes(b: &Block) -> u32
     ensures { result ≡ min (bl_nodes (bl_of b.now)) 1000001 }
 {

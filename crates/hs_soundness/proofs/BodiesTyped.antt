@@ -4,11 +4,11 @@ use Rattle.hs_base.specs.declared.tree.script.Body.{Body}
 use Rattle.hs_base.specs.declared.tree.script.Body.TheVariants as y
 use Rattle.hs_base.specs.declared.tree.script.Def.{Def}
 use Rattle.hs_base.specs.declared.tree.script.Script.{Script}
-use Rattle.hs_rules.specs.Programs.{Bd, pure_body, io_body, Fn, bd_of, fn_of, script_of}
-use Rattle.hs_rules.specs.Typing.{Fault, Need, is, Met, Bound, Ctx, Sig}
-use Rattle.hs_rules.specs.TypingFaults.{In}
-use Rattle.hs_rules.specs.TypingScripts.{result_of, params_in, head_faults, sigs_from, BodyHas, BodyBreaks, DefBreaks, AnyBreaks, Measured, unmeasured, measured_with, Accepted}
-use Rattle.hs_rules.specs.TypedMeaning.{BodyTyped, PureTyped}
+use Rattle.rules_trees.specs.Programs.{Bd, pure_body, io_body, Fn, bd_of, fn_of, script_of}
+use Rattle.rules_typing.specs.Typing.{Fault, Need, is, Met, Bound, Ctx, Sig}
+use Rattle.rules_typing.specs.TypingFaults.{In}
+use Rattle.rules_typing.specs.TypingScripts.{result_of, params_in, head_faults, sigs_from, BodyHas, BodyBreaks, DefBreaks, AnyBreaks, Measured, unmeasured, measured_with, Accepted}
+use Rattle.rules_typed.specs.TypedMeaning.{BodyTyped, PureTyped}
 use Rattle.hs_judging.specs.Judging.{met}
 use Rattle.hs_judging.specs.JudgingScripts.{judge_body}
 use Rattle.hs_judging.proofs.Laws.{Agrees, met_true, true_met}

@@ -2,18 +2,20 @@
 use Rattle.std.proofs.Common.{◌≡◌, ℕ, pos, List, [], ◌∷◌, Bool, true, false, cond, Option, Some, None, refl, sym, subst, bytes_eq}
 use Rattle.std.proofs.lemmas.Slice.Eq.{bytes_eq-Decides}
 use Rattle.hs_base.specs.declared.tree.script.Script.{Script}
-use Rattle.hs_rules.specs.declared.forms.BinaryForm.TheVariants as b
-use Rattle.hs_rules.specs.Trees.{T, int, bool, exn, maybe}
-use Rattle.hs_rules.specs.Programs.{script_of}
-use Rattle.hs_rules.specs.Values.{Name, Written, Added, same_name, V, Int, Just, Exception, Restore, Env, value_at, Outcome, Gives, Throws, Stuck}
-use Rattle.hs_rules.specs.Meaning.{Functions, binary_of, functions_of, value_of_ex}
-use Rattle.hs_rules.specs.Core.{CoreEx, OfScript, Read, JustRead, NoValue, BelowZero, IsZero, SameExn, Killed, read, value_of_core}
-use Rattle.hs_rules.specs.Fitting.{Sort, a_value, a_masking_name, an_instance, Bound, sort_at}
-use Rattle.hs_rules.specs.Typing as typing
-use Rattle.hs_rules.specs.TypingScripts.{Accepted, sigs_from}
-use Rattle.hs_rules.specs.TypedMeaning.{of_int, of_exn, HasSort, Fits, FunctionsGood, Good}
-use Rattle.hs_laws.proofs.TypesKept.{ex_good}
-use Rattle.hs_laws.proofs.FunctionsTyped.{functions_good}
+use Rattle.rules_trees.specs.declared.forms.BinaryForm.TheVariants as b
+use Rattle.rules_trees.specs.Trees.{T, int, bool, exn, maybe}
+use Rattle.rules_trees.specs.Programs.{script_of}
+use Rattle.rules_expansion.specs.Names.{Name, Written, Added, same_name}
+use Rattle.rules_meaning.specs.Values.{V, Int, Just, Exception, Restore, Env, value_at, Outcome, Gives, Throws, Stuck}
+use Rattle.rules_meaning.specs.Meaning.{Functions, binary_of, functions_of, value_of_ex}
+use Rattle.rules_expansion.specs.Core.{CoreEx, OfScript, Read, JustRead, NoValue, BelowZero, IsZero, SameExn, Killed}
+use Rattle.rules_meaning.specs.CoreMeaning.{read, value_of_core}
+use Rattle.rules_typed.specs.Sorts.{Sort, a_value, a_masking_name, an_instance, Bound, sort_at}
+use Rattle.rules_typing.specs.Typing as typing
+use Rattle.rules_typing.specs.TypingScripts.{Accepted, sigs_from}
+use Rattle.rules_typed.specs.TypedMeaning.{of_int, of_exn, HasSort, Fits, FunctionsGood, Good}
+use Rattle.hs_soundness.proofs.TypesKept.{ex_good}
+use Rattle.hs_soundness.proofs.FunctionsTyped.{functions_good}
 use Rattle.hs_soundness.specs.CoreSorts.{seen_as, with_written, written_in, IsThere, CoreHas, of_masking, OfSort, FitsAt, FitsScope, GoodSort}
 use Rattle.hs_soundness.proofs.BodiesTyped.{pure_typed}
 

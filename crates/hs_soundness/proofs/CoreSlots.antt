@@ -1,19 +1,21 @@
 -- An expression of a core action with slots means what it means with names.
 use Rattle.std.proofs.Common.{◌≡◌, ℕ, zero, suc, ◌≤◌, pos, List, [], ◌∷◌, length, false, Option, Some, None, refl, ap, ◌∙◌, arith}
 use Rattle.std.specs.Prelude.{slice_get}
-use Rattle.hs_rules.specs.declared.forms.BinaryForm.TheVariants as b
-use Rattle.hs_rules.specs.declared.forms.UnaryForm.TheVariants as u
-use Rattle.hs_rules.specs.Trees.{T}
-use Rattle.hs_rules.specs.Programs.{Fn}
-use Rattle.hs_rules.specs.Values.{Name, V, Int, Env, value_at, Outcome, Gives}
-use Rattle.hs_rules.specs.Meaning.{then, unary_of, binary_of, functions_of}
-use Rattle.hs_rules.specs.Core.{CoreEx, OfScript, Read, JustRead, NoValue, BelowZero, IsZero, SameExn, Killed, read, value_of_core}
-use Rattle.hs_rules.specs.Fitting.{Sort, Bound}
-use Rattle.hs_rules.specs.Typing as typing
-use Rattle.hs_rules.specs.Slots.{Scope, slot_of, roots_of, run, at_slot}
-use Rattle.hs_rules.specs.CodeTrees.{is_unread, slot_or_end, slot_read, slotted_core_ex}
-use Rattle.hs_rules.specs.Matching.{Seen, Matches}
-use Rattle.hs_rules.proofs.Slotted.{slots_mean}
+use Rattle.rules_trees.specs.declared.forms.BinaryForm.TheVariants as b
+use Rattle.rules_trees.specs.declared.forms.UnaryForm.TheVariants as u
+use Rattle.rules_trees.specs.Trees.{T}
+use Rattle.rules_trees.specs.Programs.{Fn}
+use Rattle.rules_expansion.specs.Names.{Name}
+use Rattle.rules_meaning.specs.Values.{V, Int, Env, value_at, Outcome, Gives}
+use Rattle.rules_meaning.specs.Meaning.{then, unary_of, binary_of, functions_of}
+use Rattle.rules_expansion.specs.Core.{CoreEx, OfScript, Read, JustRead, NoValue, BelowZero, IsZero, SameExn, Killed}
+use Rattle.rules_meaning.specs.CoreMeaning.{read, value_of_core}
+use Rattle.rules_typed.specs.Sorts.{Sort, Bound}
+use Rattle.rules_typing.specs.Typing as typing
+use Rattle.rules_code.specs.Slots.{Scope, slot_of, roots_of, run, at_slot}
+use Rattle.rules_code.specs.CodeTrees.{is_unread, slot_or_end, slot_read, slotted_core_ex}
+use Rattle.rules_code.specs.Matching.{Seen, Matches}
+use Rattle.rules_code.proofs.Slotted.{slots_mean}
 use Rattle.hs_soundness.specs.CoreSorts.{names_of, CoreHas, SlotsFit}
 
 none_at_end : (vs : List V) (n : ℕ) → length vs ≤ n → slice_get vs n ≡ None

@@ -1,14 +1,15 @@
 -- Environments that fit: with one name more, and where a cell is of every type.
 use Rattle.std.proofs.Common.{◌≡◌, ℕ, zero, suc, List, [], ◌∷◌, ◌++◌, length, Bool, true, false, cond, Option, Some, None, refl, sym, subst, arith, length-append}
 use Rattle.std.specs.Prelude.{slice_get}
-use Rattle.hs_rules.specs.Trees.{T, unit, int, bool, text, thread, exn, pair, maybe, either, list, cell}
-use Rattle.hs_rules.specs.Values as val
-use Rattle.hs_rules.specs.Values.{Name, Written, Added, Hidden, Unread, Restorer, Given, Caught, TheCell, Content, Instance, BracketResult, BracketFault, Allowed, InTime, Owner, Expiry, Helper, HelperRestorer, same_name, V, Pair, Nothing, Just, Left, Right, Nil, Cons, Env, with_name, value_at}
-use Rattle.hs_rules.specs.Fitting.{Sort, a_value, a_masking_name, an_instance, Bound, sort_at}
-use Rattle.hs_rules.specs.TypedMeaning.{of_pair, of_maybe, of_either, of_list, of_cell, HasV, any_cell}
-use Rattle.hs_rules.specs.Slots.{Scope, slot_of}
-use Rattle.hs_rules.specs.CodeTrees.{is_unread}
-use Rattle.hs_rules.specs.Matching.{Seen, Matches}
+use Rattle.rules_trees.specs.Trees.{T, unit, int, bool, text, thread, exn, pair, maybe, either, list, cell}
+use Rattle.rules_meaning.specs.Values as val
+use Rattle.rules_expansion.specs.Names.{Name, Written, Added, Hidden, Unread, Restorer, Given, Caught, TheCell, Content, Instance, BracketResult, BracketFault, Allowed, InTime, Owner, Expiry, Helper, HelperRestorer, same_name}
+use Rattle.rules_meaning.specs.Values.{V, Pair, Nothing, Just, Left, Right, Nil, Cons, Env, with_name, value_at}
+use Rattle.rules_typed.specs.Sorts.{Sort, a_value, a_masking_name, an_instance, Bound, sort_at}
+use Rattle.rules_typed.specs.TypedMeaning.{of_pair, of_maybe, of_either, of_list, of_cell, HasV, any_cell}
+use Rattle.rules_code.specs.Slots.{Scope, slot_of}
+use Rattle.rules_code.specs.CodeTrees.{is_unread}
+use Rattle.rules_code.specs.Matching.{Seen, Matches}
 use Rattle.hs_soundness.specs.CoreSorts.{names_of, FitsAt, FitsScope, SlotsFit}
 
 -- ---- cells of every type

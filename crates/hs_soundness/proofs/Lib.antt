@@ -5,3 +5,5 @@ pub mod CoreExpressions
 pub mod CoreSlots
 pub mod Growing
 pub mod WellBlocks
+pub mod TypesKept
+pub mod FunctionsTyped

@@ -1,8 +1,8 @@
 -- What acceptance says of the bodies of a script (own).
 use Rattle.std.specs.Prelude.{ℕ, ◌+◌, List, [], ◌∷◌}
-use Rattle.hs_rules.specs.Programs.{Fn}
-use Rattle.hs_rules.specs.Typing.{Sig}
-use Rattle.hs_rules.specs.TypingScripts.{params_in, result_of, BodyHas}
+use Rattle.rules_trees.specs.Programs.{Fn}
+use Rattle.rules_typing.specs.Typing.{Sig}
+use Rattle.rules_typing.specs.TypingScripts.{params_in, result_of, BodyHas}
 
 -- each body, a pure one or a block, has its definition's declared type in the scope of the parameters, from the definition with number k on
 abbrev pub BodiesTyped : List Sig → ℕ → List Fn → Type 0

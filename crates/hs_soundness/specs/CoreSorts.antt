@@ -4,15 +4,16 @@
 -- rules see those of the script alone. Which value is of which type goes by `TypedMeaning`, where `cells` says which cell
 -- is of which type.
 use Rattle.std.specs.Prelude.{◌≡◌, ℕ, false, List, [], ◌∷◌, map, Option, Some, None}
-use Rattle.hs_rules.specs.Trees.{T, int, bool, exn, maybe}
-use Rattle.hs_rules.specs.Values.{Name, Written, Added, V, Restore, Inst, Env, value_at, Outcome, Gives, Throws, Stuck}
-use Rattle.hs_rules.specs.Fitting.{Sort, a_value, a_masking_name, an_instance, Bound, sort_at}
-use Rattle.hs_rules.specs.Typing as typing
-use Rattle.hs_rules.specs.TypedMeaning.{HasV, Well}
-use Rattle.hs_rules.specs.Slots.{Scope}
-use Rattle.hs_rules.specs.CodeTrees.{is_unread}
-use Rattle.hs_rules.specs.Core.{CoreEx, OfScript, Read, JustRead, NoValue, BelowZero, IsZero, SameExn, Killed}
-use Rattle.hs_rules.specs.Matching.{Matches}
+use Rattle.rules_trees.specs.Trees.{T, int, bool, exn, maybe}
+use Rattle.rules_expansion.specs.Names.{Name, Written, Added}
+use Rattle.rules_meaning.specs.Values.{V, Restore, Inst, Env, value_at, Outcome, Gives, Throws, Stuck}
+use Rattle.rules_typed.specs.Sorts.{Sort, a_value, a_masking_name, an_instance, Bound, sort_at}
+use Rattle.rules_typing.specs.Typing as typing
+use Rattle.rules_typed.specs.TypedMeaning.{HasV, Well}
+use Rattle.rules_code.specs.Slots.{Scope}
+use Rattle.rules_code.specs.CodeTrees.{is_unread}
+use Rattle.rules_expansion.specs.Core.{CoreEx, OfScript, Read, JustRead, NoValue, BelowZero, IsZero, SameExn, Killed}
+use Rattle.rules_code.specs.Matching.{Matches}
 
 -- ---- scopes
 

@@ -4,10 +4,10 @@ ghost use Rattle.std.specs.Prelude.{ℕ};
 ghost use Rattle.hs_base.specs.declared.tree.script.Script.{Script};
 ghost use Rattle.hs_base.specs.declared.tree.expr.Expr.{Expr};
 ghost use Rattle.hs_base.specs.declared.tree.action.Block.{Block};
-ghost use Rattle.hs_rules.specs.Trees.{ex_of};
-ghost use Rattle.hs_rules.specs.Programs.{bl_of, script_of};
-ghost use Rattle.hs_rules.specs.TypingScripts.{Accepted, sigs_from};
-ghost use Rattle.hs_rules.specs.TypedMeaning.{PureTyped, Well};
+ghost use Rattle.rules_trees.specs.Trees.{ex_of};
+ghost use Rattle.rules_trees.specs.Programs.{bl_of, script_of};
+ghost use Rattle.rules_typing.specs.TypingScripts.{Accepted, sigs_from};
+ghost use Rattle.rules_typed.specs.TypedMeaning.{PureTyped, Well};
 ghost use Rattle.hs_soundness.specs.AcceptedBodies.{BodiesTyped};
 ghost use Rattle.hs_soundness.specs.WellActions.{WellBl};
 

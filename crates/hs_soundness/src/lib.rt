@@ -9,3 +9,4 @@
 pub mod bodies;
 pub mod environments;
 pub mod expressions;
+pub mod meaning;

@@ -1,11 +1,11 @@
 -- What was measured, in counts: the rules that are broken from there on are the same.
 use Rattle.std.proofs.Common.{◌≡◌, ℕ, zero, suc, ◌+◌, ◌<◌, ◌≤◌, ◌||◌, List, [], ◌∷◌, ◌++◌, Bool, true, false, cond, refl, sym, ap, ◌∙◌, arith, min, ltb}
 use Rattle.std.proofs.lemmas.Bool.{ltb-true, lt-ltb}
-use Rattle.hs_rules.specs.Programs.{Fn}
-use Rattle.hs_rules.specs.Sizes.{body_size}
-use Rattle.hs_rules.specs.Typing.{large, Sig, Ctx}
-use Rattle.hs_rules.specs.TypingSizes.{Extent, nil, worst_body, param_names}
-use Rattle.hs_rules.specs.TypingScripts.{Measured, measured_with, none_of, head_faults}
+use Rattle.rules_trees.specs.Programs.{Fn}
+use Rattle.rules_expansion.specs.Sizes.{body_size}
+use Rattle.rules_typing.specs.Typing.{large, Sig, Ctx}
+use Rattle.rules_typing.specs.TypingSizes.{Extent, nil, worst_body, param_names}
+use Rattle.rules_typing.specs.TypingScripts.{Measured, measured_with, none_of, head_faults}
 use Rattle.hs_judging.specs.JudgingScripts.{def_faults, large_faults, faults_from, is_far, is_large}
 use Rattle.hs_judging.proofs.Capped.{Same, SameTable}
 use Rattle.hs_types.proofs.Worst.{same_worst, same_called}

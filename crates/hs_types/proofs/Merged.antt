@@ -1,8 +1,8 @@
 -- The first broken rule of a list, noted alone, leaves what noting the whole list leaves.
 use Rattle.std.proofs.Common.{◌≡◌, ℕ, ◌<◌, ◌||◌, ◌⊎◌, List, [], ◌∷◌, Bool, true, false, cond, Option, Some, None, refl, sym, ap, ◌∙◌, arith, inl, inr, ltb}
 use Rattle.std.proofs.lemmas.Bool.{ltb-true, ltb-false, lt-ltb, le-ltb}
-use Rattle.hs_rules.specs.Typing.{Fault}
-use Rattle.hs_rules.specs.TypingFaults.{place, rank}
+use Rattle.rules_typing.specs.Typing.{Fault}
+use Rattle.rules_typing.specs.TypingFaults.{place, rank}
 use Rattle.hs_judging.specs.Least.{lower, before, lesser, least}
 
 lower_less : (m n : ℕ) (b : Bool) → m < n → lower m n b ≡ true

@@ -1,12 +1,12 @@
 -- A step from definition to definition.
 use Rattle.std.proofs.Common.{◌≡◌, ℕ, ◌+◌, ◌||◌, List, [], ◌∷◌, ◌++◌, true, cond, Option, Some, None, refl, sym, ap, ◌∙◌, subst, arith, min, ltb}
 use Rattle.std.proofs.lemmas.List.{append-nil}
-use Rattle.hs_rules.specs.Programs.{Bd, pure_body, io_body, Fn}
-use Rattle.hs_rules.specs.Sizes.{body_size}
-use Rattle.hs_rules.specs.Typing.{Fault, large, Sig, Ctx, Bound}
-use Rattle.hs_rules.specs.TypingSizes as rule
-use Rattle.hs_rules.specs.TypingSizes.{nil, worst_body, called_extent, param_names}
-use Rattle.hs_rules.specs.TypingScripts.{Measured, measured_with, fn_extent, none_of, head_faults, twice_faults}
+use Rattle.rules_trees.specs.Programs.{Bd, pure_body, io_body, Fn}
+use Rattle.rules_expansion.specs.Sizes.{body_size}
+use Rattle.rules_typing.specs.Typing.{Fault, large, Sig, Ctx, Bound}
+use Rattle.rules_typing.specs.TypingSizes as rule
+use Rattle.rules_typing.specs.TypingSizes.{nil, worst_body, called_extent, param_names}
+use Rattle.rules_typing.specs.TypingScripts.{Measured, measured_with, fn_extent, none_of, head_faults, twice_faults}
 use Rattle.hs_judging.specs.JudgingScripts.{def_faults, def_found, large_faults, faults_from, is_far, is_large}
 use Rattle.hs_judging.specs.Least.{least}
 use Rattle.hs_judging.proofs.Capped.{Same}

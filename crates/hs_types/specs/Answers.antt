@@ -1,6 +1,6 @@
 -- What the rules say of a script.
 use Rattle.hs_base.specs.declared.tree.script.Script.{Script}
-use Rattle.hs_rules.specs.TypingScripts.{Accepted, LacksMain, IsFirstBroken}
+use Rattle.rules_typing.specs.TypingScripts.{Accepted, LacksMain, IsFirstBroken}
 use Rattle.hs_typing.specs.Views.{broken_of}
 use Rattle.hs_types.specs.declared.answer.Answer.{Answer}
 use Rattle.hs_types.specs.declared.answer.Answer.TheVariants as a

@@ -1,9 +1,9 @@
 -- What an answer of the checker says of a script.
 use Rattle.std.specs.Prelude.{⊤}
 use Rattle.hs_base.specs.declared.tree.script.Script.{Script}
-use Rattle.hs_rules.specs.Trees.{ty_of}
-use Rattle.hs_rules.specs.Typing.{twice, unknown, kind, forward, arity, mismatch, scope, wide, large}
-use Rattle.hs_rules.specs.TypingScripts.{LacksMain, IsFirstBroken}
+use Rattle.rules_trees.specs.Trees.{ty_of}
+use Rattle.rules_typing.specs.Typing.{twice, unknown, kind, forward, arity, mismatch, scope, wide, large}
+use Rattle.rules_typing.specs.TypingScripts.{LacksMain, IsFirstBroken}
 use Rattle.hs_typing.specs.Views.{wanted_of}
 use Rattle.hs_typing.specs.declared.fault.TypeFault.{TypeFault}
 use Rattle.hs_typing.specs.declared.fault.TypeFault.TheVariants as t

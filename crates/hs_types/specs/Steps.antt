@@ -1,9 +1,9 @@
 -- What a step from definition to definition does.
 use Rattle.std.specs.Prelude.{◌≡◌, ◌+◌, List, [], ◌∷◌}
-use Rattle.hs_rules.specs.Programs.{Bd, pure_body, io_body, Fn}
-use Rattle.hs_rules.specs.Typing.{Ctx}
-use Rattle.hs_rules.specs.TypingSizes.{Extent, nil}
-use Rattle.hs_rules.specs.TypingScripts.{Measured}
+use Rattle.rules_trees.specs.Programs.{Bd, pure_body, io_body, Fn}
+use Rattle.rules_typing.specs.Typing.{Ctx}
+use Rattle.rules_typing.specs.TypingSizes.{Extent, nil}
+use Rattle.rules_typing.specs.TypingScripts.{Measured}
 use Rattle.hs_judging.specs.JudgingScripts.{faults_from}
 use Rattle.hs_judging.specs.Least.{least}
 use Rattle.hs_typing.specs.Views.{kept_of, scope_of}

@@ -1,7 +1,7 @@
 ghost use Rattle.std.specs.Prelude.{◌≡◌, None, IfOk};
 ghost use Rattle.hs_base.specs.declared.tree.script.Script.{Script};
-ghost use Rattle.hs_rules.specs.Programs.{script_of};
-ghost use Rattle.hs_rules.specs.TypingScripts.{IsFirstBroken, sigs_from};
+ghost use Rattle.rules_trees.specs.Programs.{script_of};
+ghost use Rattle.rules_typing.specs.TypingScripts.{IsFirstBroken, sigs_from};
 ghost use Rattle.hs_judging.specs.JudgingScripts.{script_faults};
 ghost use Rattle.hs_judging.specs.Least.{least};
 ghost use Rattle.hs_typing.specs.Views.{broken_of, kept_of, sigs_of};

@@ -1,8 +1,8 @@
 ghost use Rattle.std.specs.Prelude.{◌≡◌, ◌++◌, ◌∷◌, [], None, IfOk, OnOk, map};
-ghost use Rattle.hs_rules.specs.Trees.{wr_of};
-ghost use Rattle.hs_rules.specs.Programs.{par_of, bd_of, fn_of};
-ghost use Rattle.hs_rules.specs.Typing.{bound};
-ghost use Rattle.hs_rules.specs.TypingScripts.{result_of, params_in, wide_faults, room_faults, param_faults, head_faults, twice_faults, none_of};
+ghost use Rattle.rules_trees.specs.Trees.{wr_of};
+ghost use Rattle.rules_trees.specs.Programs.{par_of, bd_of, fn_of};
+ghost use Rattle.rules_typing.specs.Typing.{bound};
+ghost use Rattle.rules_typing.specs.TypingScripts.{result_of, params_in, wide_faults, room_faults, param_faults, head_faults, twice_faults, none_of};
 ghost use Rattle.hs_judging.specs.Judging.{part, with1};
 ghost use Rattle.hs_judging.specs.JudgingScripts.{judge_body, ends, def_faults};
 ghost use Rattle.hs_judging.specs.Least.{least};

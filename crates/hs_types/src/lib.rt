@@ -16,7 +16,7 @@ ghost use Rattle.hs_types.specs.Faults.{Refused};
 
 use crate::answer::{Answer, judge_script, refusal};
 use hs_base::tree::Script;
-use hs_rules::Checked;
+use rules_typing::Checked;
 pub use hs_typing::{Form, TypeFault, Want};
 use std::alloc::Global;
 

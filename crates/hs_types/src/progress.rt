@@ -1,9 +1,9 @@
 ghost use Rattle.std.specs.Prelude.{◌≡◌, ◌+◌, ◌||◌, ◌++◌, ◌∷◌, [], None, Some, IfOk, OnOk, map, min, cond, ltb};
-ghost use Rattle.hs_rules.specs.Programs.{par_of, bd_of, fn_of};
-ghost use Rattle.hs_rules.specs.Sizes.{body_size};
-ghost use Rattle.hs_rules.specs.Typing.{large};
-ghost use Rattle.hs_rules.specs.TypingSizes.{param_names, worst_body};
-ghost use Rattle.hs_rules.specs.TypingScripts.{unmeasured, fn_extent, head_faults, none_of};
+ghost use Rattle.rules_trees.specs.Programs.{par_of, bd_of, fn_of};
+ghost use Rattle.rules_expansion.specs.Sizes.{body_size};
+ghost use Rattle.rules_typing.specs.Typing.{large};
+ghost use Rattle.rules_typing.specs.TypingSizes.{param_names, worst_body};
+ghost use Rattle.rules_typing.specs.TypingScripts.{unmeasured, fn_extent, head_faults, none_of};
 ghost use Rattle.hs_judging.specs.JudgingScripts.{def_faults, faults_from, is_far};
 ghost use Rattle.hs_judging.specs.Least.{least};
 ghost use Rattle.hs_typing.specs.Views.{broken_of, kept_of, scope_of, sigs_of};

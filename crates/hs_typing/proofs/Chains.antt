@@ -7,9 +7,9 @@ use Rattle.hs_base.specs.declared.tree.expr.Link.{Link}
 use Rattle.hs_base.specs.declared.tree.expr.ListLink.{ListLink}
 use Rattle.hs_base.specs.declared.tree.expr.SumLink.{SumLink}
 use Rattle.hs_base.specs.declared.tree.ty.Ty.{Ty}
-use Rattle.hs_rules.specs.declared.forms.BinaryForm.{BinaryForm}
-use Rattle.hs_rules.specs.Trees.{T, Ex, Links, end, link, ex_of, links_of, sum_links_of, list_links_of, sum_form, cons_form}
-use Rattle.hs_rules.specs.Typing.{Fault, Ctx, Bound, row_binary}
+use Rattle.rules_trees.specs.declared.forms.BinaryForm.{BinaryForm}
+use Rattle.rules_trees.specs.Trees.{T, Ex, Links, end, link, ex_of, links_of, sum_links_of, list_links_of, sum_form, cons_form}
+use Rattle.rules_typing.specs.Typing.{Fault, Ctx, Bound, row_binary}
 use Rattle.hs_judging.specs.Judging.{Found, after, with2, own, parts2, typed, folded, judge, judge_links, operand_faults, operand_types}
 use Rattle.hs_judging.proofs.Chains.{links_after}
 use Rattle.hs_judging.specs.Least.{least}

@@ -4,7 +4,7 @@ use Rattle.std.specs.Prelude.{slice_get}
 use Rattle.std.specs.Option.{option_copied}
 use Rattle.std.specs.Str.{bytes_eq}
 use Rattle.hs_index.specs.Indexing.{first_among, next}
-use Rattle.hs_rules.specs.Typing.{Sig, find}
+use Rattle.rules_typing.specs.Typing.{Sig, find}
 use Rattle.hs_typing.specs.Views.{sig_of, sigs_of, texts_of}
 use Rattle.hs_typing.specs.declared.entry.Fun.{Fun}
 

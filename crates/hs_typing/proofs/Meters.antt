@@ -1,7 +1,7 @@
 -- The table of extents as the rules see it.
 use Rattle.std.proofs.Common.{◌≡◌, ℕ, zero, suc, List, [], ◌∷◌, Option, Some, None, refl, ap, get_or}
 use Rattle.std.specs.Prelude.{slice_get}
-use Rattle.hs_rules.specs.TypingSizes.{nil, extent_at}
+use Rattle.rules_typing.specs.TypingSizes.{nil, extent_at}
 use Rattle.hs_typing.specs.Measuring.{ext_of, exts_of}
 use Rattle.hs_typing.specs.declared.meter.Extent.{Extent}
 

@@ -2,13 +2,13 @@
 use Rattle.std.proofs.Common.{◌≡◌, ℕ, ◌+◌, suc, List, Bool, true, false, cond, [], ◌∷◌, ◌++◌, length, drop, get_or, ◌<◌, Option, Some, None, refl, ap, ◌∙◌, sym, append_assoc, arith}
 use Rattle.std.proofs.lemmas.List.{append-nil}
 use Rattle.std.proofs.Math.Seq.{drop-cons}
-use Rattle.hs_rules.specs.Trees.{T, Exs, none, more, exs_of, ex_of, ty_of}
-use Rattle.hs_rules.specs.Typing.{Fault, count, Need, refusal, Ctx, Bound}
+use Rattle.rules_trees.specs.Trees.{T, Exs, none, more, exs_of, ex_of, ty_of}
+use Rattle.rules_typing.specs.Typing.{Fault, count, Need, refusal, Ctx, Bound}
 use Rattle.hs_judging.specs.Judging.{joined, Found, Founds, judge, judges, parts_all, bad, needing, met}
 use Rattle.hs_judging.specs.Least.{least, lesser}
 use Rattle.hs_base.specs.declared.tree.ty.Ty.{Ty}
 use Rattle.hs_base.specs.declared.tree.expr.Expr.{Expr}
-use Rattle.hs_rules.proofs.Equations.{ex_rules, ty_rules, arms_rules}
+use Rattle.rules_trees.proofs.Equations.{ex_rules, ty_rules, arms_rules}
 use Rattle.hs_typing.specs.Views.{tys_of, opt_tys}
 use Rattle.hs_typing.specs.Judged.{pushed, unmet, all_met, names, kept, Judged, JudgedAll}
 use Rattle.hs_typing.specs.declared.checker.Checker.{Checker}

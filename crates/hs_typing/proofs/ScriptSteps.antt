@@ -5,11 +5,11 @@ use Rattle.std.proofs.Math.Seq.{drop-cons}
 use Rattle.hs_base.specs.declared.tree.ty.Ty.{Ty}
 use Rattle.hs_base.specs.declared.tree.script.Param.{Param}
 use Rattle.hs_base.specs.declared.tree.script.Def.{Def}
-use Rattle.hs_rules.specs.Trees.{ty_of}
-use Rattle.hs_rules.specs.Programs.{par_of, fn_of}
-use Rattle.hs_rules.specs.Typing.{Fault}
-use Rattle.hs_rules.specs.TypingFaults.{In, Precedes}
-use Rattle.hs_rules.specs.TypingScripts.{none_of, param_types, sigs_from, sig_of_fn}
+use Rattle.rules_trees.specs.Trees.{ty_of}
+use Rattle.rules_trees.specs.Programs.{par_of, fn_of}
+use Rattle.rules_typing.specs.Typing.{Fault}
+use Rattle.rules_typing.specs.TypingFaults.{In, Precedes}
+use Rattle.rules_typing.specs.TypingScripts.{none_of, param_types, sigs_from, sig_of_fn}
 use Rattle.hs_judging.specs.Least.{least}
 use Rattle.hs_judging.proofs.Least.{least_is, least_none}
 use Rattle.hs_typing.specs.Views.{sig_of, sigs_of, tys_of}

@@ -3,7 +3,7 @@ use Rattle.std.proofs.Common.{◌≡◌, ℕ, ◌+◌, ◌-◌, ◌<◌, ◌≤�
 use Rattle.std.proofs.lemmas.List.{append-nil, drop-drop}
 use Rattle.std.proofs.Math.Seq.{take-suc, drop-cons}
 use Rattle.std.specs.Str.{bytes_eq}
-use Rattle.hs_rules.specs.Typing.{Bound, look}
+use Rattle.rules_typing.specs.Typing.{Bound, look}
 use Rattle.hs_typing.specs.Views.{bound_of, onto, scope_of}
 use Rattle.hs_typing.specs.declared.entry.Entry.{Entry}
 

@@ -1,5 +1,5 @@
 -- The functions as the rules see them.
-use Rattle.hs_rules.specs.Typing.{Ctx}
+use Rattle.rules_typing.specs.Typing.{Ctx}
 use Rattle.hs_typing.specs.Views.{sigs_of}
 use Rattle.hs_typing.specs.declared.funs.Funs.{Funs}
 

@@ -2,9 +2,9 @@
 use Rattle.std.specs.Prelude.{◌≡◌, ℕ, List, [], ◌∷◌, ◌++◌, ◌-◌, ◌≤◌, length, drop, Bool, true, false, cond, Option, Some, None}
 use Rattle.hs_base.specs.declared.pos.Pos.{Pos}
 use Rattle.hs_base.specs.declared.tree.expr.Name.{Name}
-use Rattle.hs_rules.specs.Trees.{T, Links}
-use Rattle.hs_rules.specs.Typing.{Ctx, Bound, bound, Fault, Need, refusal}
-use Rattle.hs_rules.specs.Programs.{Bl}
+use Rattle.rules_trees.specs.Trees.{T, Links}
+use Rattle.rules_typing.specs.Typing.{Ctx, Bound, bound, Fault, Need, refusal}
+use Rattle.rules_trees.specs.Programs.{Bl}
 use Rattle.hs_judging.specs.Judging.{Found, Founds, met, operand_faults, operand_types}
 use Rattle.hs_judging.specs.JudgingActions.{judge_bl}
 use Rattle.hs_judging.specs.Least.{least}

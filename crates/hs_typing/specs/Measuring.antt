@@ -1,8 +1,8 @@
 -- What a step of the meter does.
 use Rattle.std.specs.Prelude.{◌≡◌, ◌+◌, ◌-◌, ◌≤◌, ℕ, List, [], ◌∷◌, length, drop, min, max}
-use Rattle.hs_rules.specs.TypingSizes as rule
-use Rattle.hs_rules.specs.Programs.{Bl}
-use Rattle.hs_rules.specs.Typing.{Sig}
+use Rattle.rules_typing.specs.TypingSizes as rule
+use Rattle.rules_trees.specs.Programs.{Bl}
+use Rattle.rules_typing.specs.Typing.{Sig}
 use Rattle.hs_typing.specs.Views.{scope_of}
 use Rattle.hs_typing.specs.declared.meter.Extent.{Extent}
 use Rattle.hs_typing.specs.declared.meter.Meter.{Meter}

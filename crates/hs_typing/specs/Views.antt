@@ -1,9 +1,9 @@
 -- Scopes, functions and faults as the rules see them.
 use Rattle.std.specs.Prelude.{ℕ, List, [], ◌∷◌, map, Option, Some, None}
 use Rattle.hs_base.specs.declared.tree.ty.Ty.{Ty}
-use Rattle.hs_rules.specs.Trees.{T, unit, int, bool, text, thread, exn, ty_of}
-use Rattle.hs_rules.specs.Typing as rule
-use Rattle.hs_rules.specs.Typing.{Sort, value, masking_name, Bound, Sig, Fault, Wanted, exactly}
+use Rattle.rules_trees.specs.Trees.{T, unit, int, bool, text, thread, exn, ty_of}
+use Rattle.rules_typing.specs.Typing as rule
+use Rattle.rules_typing.specs.Typing.{Sort, value, masking_name, Bound, Sig, Fault, Wanted, exactly}
 use Rattle.hs_typing.specs.declared.fault.Form.{Form}
 use Rattle.hs_typing.specs.declared.fault.Form.TheVariants as f
 use Rattle.hs_typing.specs.declared.fault.Want.{Want}

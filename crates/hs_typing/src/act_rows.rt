@@ -1,7 +1,7 @@
 ghost use Rattle.std.specs.Prelude.{◌≡◌, [], ◌∷◌, IfOk};
-ghost use Rattle.hs_rules.specs.Trees.{ty_of};
-ghost use Rattle.hs_rules.specs.Typing.{a_cell, inner_of, is, of, gives};
-ghost use Rattle.hs_rules.specs.TypingActions.{type_of_bare, row_unary_act, row_binary_act, row_throw, row_new_empty, row_scoped, row_masking, row_modify, row_guard, row_bracket, row_timeout};
+ghost use Rattle.rules_trees.specs.Trees.{ty_of};
+ghost use Rattle.rules_typing.specs.Typing.{a_cell, inner_of, is, of, gives};
+ghost use Rattle.rules_typing.specs.TypingActions.{type_of_bare, row_unary_act, row_binary_act, row_throw, row_new_empty, row_scoped, row_masking, row_modify, row_guard, row_bracket, row_timeout};
 ghost use Rattle.hs_judging.specs.Judging.{own, with1, with2};
 ghost use Rattle.hs_typing.specs.Views.{base_of, opt_ty};
 ghost use Rattle.hs_typing.specs.Judged.{Judged};
@@ -11,7 +11,7 @@ use crate::entry::Base;
 use crate::fault::Form;
 use crate::parts::{cell_of, inner_part, maybe_of};
 use hs_base::{NoMemory, Pos, Ty};
-use hs_rules::forms::{BareAction, BinaryAction, BlockAction, MaskingAction, UnaryAction};
+use rules_trees::forms::{BareAction, BinaryAction, BlockAction, MaskingAction, UnaryAction};
 use std::alloc::Global;
 
 /// The type of an action without parts.
@@ -25,7 +25,7 @@ pub fn bare_type(o: BareAction) -> Base
     }
 }
 
-#[tactic(auto, using(hs_rules::proofs::Equations::ty_rules))]
+#[tactic(auto, using(rules_trees::proofs::Equations::ty_rules))]
 impl Checker {
     fn row_unary_act(
         &mut self,

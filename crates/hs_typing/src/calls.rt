@@ -1,6 +1,6 @@
 ghost use Rattle.std.specs.Prelude.{◌≡◌, [], ◌∷◌, IfOk};
-ghost use Rattle.hs_rules.specs.Trees.{ty_of};
-ghost use Rattle.hs_rules.specs.Typing.{meant, meant_act, meant_args, no_mask, shown_count};
+ghost use Rattle.rules_trees.specs.Trees.{ty_of};
+ghost use Rattle.rules_typing.specs.Typing.{meant, meant_act, meant_args, no_mask, shown_count};
 ghost use Rattle.hs_judging.specs.Judging.{called};
 ghost use Rattle.hs_typing.specs.Views.{opt_ty, opt_tys, tys_of};
 ghost use Rattle.hs_typing.specs.Contexts.{ctx_of};
@@ -22,7 +22,7 @@ fn shown_count(n: usize) -> u32
     if n < 4294967295 { n as u32 } else { 4294967295 }
 }
 
-#[tactic(auto, using(hs_rules::proofs::Equations::ty_rules, crate::proofs::Noted::need_rules))]
+#[tactic(auto, using(rules_trees::proofs::Equations::ty_rules, crate::proofs::Noted::need_rules))]
 impl Checker {
     /// A name in an expression, with its arguments' types.
     pub fn close_call(

@@ -1,6 +1,6 @@
 ghost use Rattle.std.specs.Prelude.{◌≡◌, ◌+◌, IfOk, length};
-ghost use Rattle.hs_rules.specs.Trees.{list_links_of, cons_form};
-ghost use Rattle.hs_rules.specs.Typing.{row_binary};
+ghost use Rattle.rules_trees.specs.Trees.{list_links_of, cons_form};
+ghost use Rattle.rules_typing.specs.Typing.{row_binary};
 ghost use Rattle.hs_judging.specs.Judging.{folded, own, with2};
 ghost use Rattle.hs_typing.specs.Views.{opt_ty, opts_of};
 ghost use Rattle.hs_typing.specs.Judged.{Judged};
@@ -9,7 +9,7 @@ use crate::checker::Checker;
 use hs_base::tree::{ConsOp, ListLink};
 use hs_base::{NoMemory, Pos, Ty};
 use hs_items::Items;
-use hs_rules::forms::BinaryForm;
+use rules_trees::forms::BinaryForm;
 use std::alloc::Global;
 
 /// `:` or `++` as a form.

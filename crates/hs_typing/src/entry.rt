@@ -1,5 +1,5 @@
 ghost use Rattle.std.specs.Prelude.{◌≡◌};
-ghost use Rattle.hs_rules.specs.Trees.{ty_of};
+ghost use Rattle.rules_trees.specs.Trees.{ty_of};
 ghost use Rattle.hs_typing.specs.Views.{base_of};
 
 use hs_base::{Txt, Ty};
@@ -40,7 +40,7 @@ pub enum Base {
     Exn,
 }
 
-#[tactic(auto, using(hs_rules::proofs::Equations::ty_rules))]
+#[tactic(auto, using(rules_trees::proofs::Equations::ty_rules))]
 impl Base {
     pub fn ty(self) -> Ty
         ensures { ty_of result ≡ base_of self }

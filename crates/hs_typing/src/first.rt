@@ -1,5 +1,5 @@
 ghost use Rattle.std.specs.Prelude.{◌≡◌, [], ◌∷◌, ltb};
-ghost use Rattle.hs_rules.specs.TypingFaults.{place, rank};
+ghost use Rattle.rules_typing.specs.TypingFaults.{place, rank};
 ghost use Rattle.hs_judging.specs.Least.{before, least};
 ghost use Rattle.hs_typing.specs.Views.{broken_of, kept_of};
 

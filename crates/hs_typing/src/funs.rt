@@ -1,6 +1,6 @@
 ghost use Rattle.std.specs.Prelude.{◌≡◌, Some, None, MatchOption, IfOk};
 ghost use Rattle.hs_index.specs.Indexing.{Indexes};
-ghost use Rattle.hs_rules.specs.Typing.{find};
+ghost use Rattle.rules_typing.specs.Typing.{find};
 ghost use Rattle.hs_typing.specs.Views.{sig_of, sigs_of, texts_of};
 
 use crate::entry::Fun;

@@ -1,9 +1,9 @@
 ghost use Rattle.std.specs.Prelude.{◌≡◌, IfOk, Some, map, codes};
-ghost use Rattle.hs_rules.specs.Trees.{wr_of};
-ghost use Rattle.hs_rules.specs.Programs.{par_of, bd_of, fn_of};
-ghost use Rattle.hs_rules.specs.Typing.{find};
-ghost use Rattle.hs_rules.specs.TypingScripts.{sigs_from, sig_of_fn, param_types, result_of, is_none, is_unit, main_by};
-ghost use Rattle.hs_rules.specs.Trees.{ty_of};
+ghost use Rattle.rules_trees.specs.Trees.{wr_of};
+ghost use Rattle.rules_trees.specs.Programs.{par_of, bd_of, fn_of};
+ghost use Rattle.rules_typing.specs.Typing.{find};
+ghost use Rattle.rules_typing.specs.TypingScripts.{sigs_from, sig_of_fn, param_types, result_of, is_none, is_unit, main_by};
+ghost use Rattle.rules_trees.specs.Trees.{ty_of};
 ghost use Rattle.hs_typing.specs.Views.{sig_of, sigs_of, tys_of};
 
 use crate::entry::Fun;
@@ -64,7 +64,7 @@ pub fn funs_of(alloc: Global, ds: &Items<Def>) -> Result<Items<Fun>, NoMemory>
     Ok(fs)
 }
 
-#[tactic(auto, using(hs_rules::proofs::Equations::ty_rules))]
+#[tactic(auto, using(rules_trees::proofs::Equations::ty_rules))]
 fn is_unit(t: &Ty) -> bool
     ensures { result ≡ is_unit (ty_of t.now) }
 {

@@ -1,8 +1,8 @@
 ghost use Rattle.std.specs.Prelude.{◌≡◌, ◌+◌, ◌∷◌, IfOk, OnOk, min, max, drop};
-ghost use Rattle.hs_rules.specs.Trees.{ex_of, exs_of, arms_of, links_of, sum_links_of, list_links_of};
-ghost use Rattle.hs_rules.specs.Typing.{masked};
-ghost use Rattle.hs_rules.specs.TypingSizes.{extent, extents, link_extents, arm_extents, body_extent};
-ghost use Rattle.hs_rules.specs.Typing.{look};
+ghost use Rattle.rules_trees.specs.Trees.{ex_of, exs_of, arms_of, links_of, sum_links_of, list_links_of};
+ghost use Rattle.rules_typing.specs.Typing.{masked};
+ghost use Rattle.rules_typing.specs.TypingSizes.{extent, extents, link_extents, arm_extents, body_extent};
+ghost use Rattle.rules_typing.specs.Typing.{look};
 ghost use Rattle.hs_typing.specs.Views.{scope_of, sigs_of};
 ghost use Rattle.hs_typing.specs.Measuring.{Extends, exts_of};
 
@@ -12,7 +12,7 @@ use crate::table::Table;
 use hs_base::NoMemory;
 use hs_base::tree::{Expr, ExprArms, Link, ListLink, Name, SumLink};
 use hs_items::Items;
-use hs_rules::forms::BinaryForm;
+use rules_trees::forms::BinaryForm;
 use hs_sizes::{add, greater};
 use std::alloc::Global;
 
@@ -124,7 +124,7 @@ impl Meter {
 
     /// How far an expression unfolds.
     #[cycle(extents)]
-    #[tactic(auto, using(hs_rules::proofs::Equations::ex_rules))]
+    #[tactic(auto, using(rules_trees::proofs::Equations::ex_rules))]
     pub fn extent(&mut self, alloc: Global, funs: &Funs, e: &Expr) -> Result<Extent, NoMemory>
         ensures { IfOk result (λ x. Extends self.old self.new x (extent (sigs_of funs.now.sigs) (exts_of self.old.extents) (scope_of self.old.scope.items) (ex_of e.now))) }
     {
@@ -279,7 +279,7 @@ impl Meter {
     }
 
     #[cycle(extents)]
-    #[tactic(auto, using(hs_rules::proofs::Equations::arms_rules))]
+    #[tactic(auto, using(rules_trees::proofs::Equations::arms_rules))]
     fn arms(&mut self, alloc: Global, funs: &Funs, arms: &ExprArms) -> Result<Extent, NoMemory>
         ensures { IfOk result (λ x. Extends self.old self.new x (arm_extents (sigs_of funs.now.sigs) (exts_of self.old.extents) (scope_of self.old.scope.items) (arms_of arms.now))) }
     {

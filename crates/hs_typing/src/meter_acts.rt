@@ -1,8 +1,8 @@
 ghost use Rattle.std.specs.Prelude.{◌≡◌, ◌∷◌, IfOk};
-ghost use Rattle.hs_rules.specs.Trees.{exs_of};
-ghost use Rattle.hs_rules.specs.Programs.{act_of, bl_of, act_arms_of, stmt_of};
-ghost use Rattle.hs_rules.specs.Typing.{masked};
-ghost use Rattle.hs_rules.specs.TypingSizes.{worst_act, worst_bl, worst_arms, worst_exs};
+ghost use Rattle.rules_trees.specs.Trees.{exs_of};
+ghost use Rattle.rules_trees.specs.Programs.{act_of, bl_of, act_arms_of, stmt_of};
+ghost use Rattle.rules_typing.specs.Typing.{masked};
+ghost use Rattle.rules_typing.specs.TypingSizes.{worst_act, worst_bl, worst_arms, worst_exs};
 ghost use Rattle.hs_typing.specs.Views.{scope_of, sigs_of};
 ghost use Rattle.hs_typing.specs.Measuring.{Extends, Worsens, exts_of};
 
@@ -28,7 +28,7 @@ impl Meter {
 
     /// The greatest expression of an action.
     #[cycle(worst)]
-    #[tactic(auto, using(hs_rules::proofs::EquationsOfActions::act_rules))]
+    #[tactic(auto, using(rules_trees::proofs::EquationsOfActions::act_rules))]
     fn action(&mut self, alloc: Global, funs: &Funs, a: &Action) -> Result<Extent, NoMemory>
         ensures { IfOk result (λ x. Extends self.old self.new x (worst_act (sigs_of funs.now.sigs) (exts_of self.old.extents) (scope_of self.old.scope.items) (act_of a.now))) }
     {
@@ -117,7 +117,7 @@ impl Meter {
     }
 
     #[cycle(worst)]
-    #[tactic(auto, using(hs_rules::proofs::EquationsOfActions::act_arms_rules))]
+    #[tactic(auto, using(rules_trees::proofs::EquationsOfActions::act_arms_rules))]
     fn act_arms(&mut self, alloc: Global, funs: &Funs, arms: &BlockArms) -> Result<Extent, NoMemory>
         ensures { IfOk result (λ x. Extends self.old self.new x (worst_arms (sigs_of funs.now.sigs) (exts_of self.old.extents) (scope_of self.old.scope.items) (act_arms_of arms.now))) }
     {
@@ -179,7 +179,7 @@ impl Meter {
 
     /// The greatest expression of a statement; its name is bound.
     #[cycle(worst)]
-    #[tactic(auto, using(hs_rules::proofs::EquationsOfActions::stmt_rules))]
+    #[tactic(auto, using(rules_trees::proofs::EquationsOfActions::stmt_rules))]
     fn stmt(&mut self, alloc: Global, funs: &Funs, st: &Stmt) -> Result<Extent, NoMemory>
         ensures { IfOk result (λ x. Worsens (sigs_of funs.now.sigs) self.old self.new x (stmt_of st.now)) }
     {
@@ -203,7 +203,7 @@ impl Meter {
 
     /// The greatest expression of a block.
     #[cycle(worst)]
-    #[tactic(auto, using(hs_rules::proofs::EquationsOfActions::bl_is))]
+    #[tactic(auto, using(rules_trees::proofs::EquationsOfActions::bl_is))]
     pub fn block(&mut self, alloc: Global, funs: &Funs, b: &Block) -> Result<Extent, NoMemory>
         ensures { IfOk result (λ x. Extends self.old self.new x (worst_bl (sigs_of funs.now.sigs) (exts_of self.old.extents) (scope_of self.old.scope.items) (bl_of b.now))) }
     {

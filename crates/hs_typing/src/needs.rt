@@ -1,6 +1,6 @@
 ghost use Rattle.std.specs.Prelude.{◌≡◌, [], ◌∷◌, IfOk, map, true};
-ghost use Rattle.hs_rules.specs.Trees.{ty_of};
-ghost use Rattle.hs_rules.specs.Typing.{is, of, gives, is_each};
+ghost use Rattle.rules_trees.specs.Trees.{ty_of};
+ghost use Rattle.rules_typing.specs.Typing.{is, of, gives, is_each};
 ghost use Rattle.hs_judging.specs.Judging.{own, made};
 ghost use Rattle.hs_typing.specs.Views.{base_of, form_of, opt_ty, tys_of};
 ghost use Rattle.hs_typing.specs.Judged.{Judged, Needed, AllNeeded};
@@ -14,7 +14,7 @@ use crate::widths::{is_wide, same_types};
 use hs_base::{NoMemory, Pos, Ty};
 use std::alloc::Global;
 
-#[tactic(auto, using(hs_rules::proofs::Equations::ty_rules))]
+#[tactic(auto, using(rules_trees::proofs::Equations::ty_rules))]
 impl Checker {
     /// The types are the same, or a mismatch is noted.
     pub fn is(&mut self, alloc: Global, p: Pos, want: &Ty, got: &Ty) -> Result<bool, NoMemory>

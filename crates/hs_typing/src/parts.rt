@@ -1,6 +1,6 @@
 ghost use Rattle.std.specs.Prelude.{◌≡◌, IfOk, MatchOption, true, false};
-ghost use Rattle.hs_rules.specs.Trees.{ty_of, pair, maybe, either, list, cell};
-ghost use Rattle.hs_rules.specs.Typing.{first_of, second_of, inner_of};
+ghost use Rattle.rules_trees.specs.Trees.{ty_of, pair, maybe, either, list, cell};
+ghost use Rattle.rules_typing.specs.Typing.{first_of, second_of, inner_of};
 ghost use Rattle.hs_judging.specs.Judging.{has};
 ghost use Rattle.hs_typing.specs.Views.{form_of, part_of};
 
@@ -17,7 +17,7 @@ fn boxed(alloc: Global, t: Ty) -> Result<Boxed<Ty>, NoMemory>
 }
 
 /// `Maybe t`
-#[tactic(auto, using(hs_rules::proofs::Equations::ty_rules))]
+#[tactic(auto, using(rules_trees::proofs::Equations::ty_rules))]
 pub fn maybe_of(alloc: Global, t: &Ty) -> Result<Ty, NoMemory>
     ensures { IfOk result (λ b. ty_of b ≡ maybe (ty_of t.now)) }
 {
@@ -26,7 +26,7 @@ pub fn maybe_of(alloc: Global, t: &Ty) -> Result<Ty, NoMemory>
 }
 
 /// `[t]`
-#[tactic(auto, using(hs_rules::proofs::Equations::ty_rules))]
+#[tactic(auto, using(rules_trees::proofs::Equations::ty_rules))]
 pub fn list_of(alloc: Global, t: &Ty) -> Result<Ty, NoMemory>
     ensures { IfOk result (λ b. ty_of b ≡ list (ty_of t.now)) }
 {
@@ -35,7 +35,7 @@ pub fn list_of(alloc: Global, t: &Ty) -> Result<Ty, NoMemory>
 }
 
 /// `MVar t`
-#[tactic(auto, using(hs_rules::proofs::Equations::ty_rules))]
+#[tactic(auto, using(rules_trees::proofs::Equations::ty_rules))]
 pub fn cell_of(alloc: Global, t: &Ty) -> Result<Ty, NoMemory>
     ensures { IfOk result (λ b. ty_of b ≡ cell (ty_of t.now)) }
 {
@@ -51,7 +51,7 @@ fn boxed_copy(alloc: Global, t: &Ty) -> Result<Boxed<Ty>, NoMemory>
 }
 
 /// `(s, t)`
-#[tactic(auto, using(hs_rules::proofs::Equations::ty_rules))]
+#[tactic(auto, using(rules_trees::proofs::Equations::ty_rules))]
 pub fn pair_of(alloc: Global, s: &Ty, t: &Ty) -> Result<Ty, NoMemory>
     ensures { IfOk result (λ b. ty_of b ≡ pair (ty_of s.now) (ty_of t.now)) }
 {
@@ -61,7 +61,7 @@ pub fn pair_of(alloc: Global, s: &Ty, t: &Ty) -> Result<Ty, NoMemory>
 }
 
 /// `Either s t`
-#[tactic(auto, using(hs_rules::proofs::Equations::ty_rules))]
+#[tactic(auto, using(rules_trees::proofs::Equations::ty_rules))]
 pub fn either_of(alloc: Global, s: &Ty, t: &Ty) -> Result<Ty, NoMemory>
     ensures { IfOk result (λ b. ty_of b ≡ either (ty_of s.now) (ty_of t.now)) }
 {
@@ -71,7 +71,7 @@ pub fn either_of(alloc: Global, s: &Ty, t: &Ty) -> Result<Ty, NoMemory>
 }
 
 /// Whether a type is of the form.
-#[tactic(auto, using(hs_rules::proofs::Equations::ty_rules))]
+#[tactic(auto, using(rules_trees::proofs::Equations::ty_rules))]
 pub fn is_form(form: Form, a: &Ty) -> bool
     ensures { result ≡ has (form_of form) (ty_of a.now) }
 {
@@ -87,7 +87,7 @@ pub fn is_form(form: Form, a: &Ty) -> bool
     }
 }
 
-#[tactic(auto, using(hs_rules::proofs::Equations::ty_rules))]
+#[tactic(auto, using(rules_trees::proofs::Equations::ty_rules))]
 fn is_equal(a: &Ty) -> bool
     ensures { result ≡ has (form_of Form.Equal) (ty_of a.now) }
 {
@@ -106,7 +106,7 @@ fn is_equal(a: &Ty) -> bool
     }
 }
 
-#[tactic(auto, using(hs_rules::proofs::Equations::ty_rules))]
+#[tactic(auto, using(rules_trees::proofs::Equations::ty_rules))]
 fn is_order(a: &Ty) -> bool
     ensures { result ≡ has (form_of Form.Order) (ty_of a.now) }
 {
@@ -125,7 +125,7 @@ fn is_order(a: &Ty) -> bool
     }
 }
 
-#[tactic(auto, using(hs_rules::proofs::Equations::ty_rules))]
+#[tactic(auto, using(rules_trees::proofs::Equations::ty_rules))]
 fn is_shown(a: &Ty) -> bool
     ensures { result ≡ has (form_of Form.Show) (ty_of a.now) }
 {
@@ -170,7 +170,7 @@ pub fn that_part(alloc: Global, which: Part, t: &Ty) -> Result<Ty, NoMemory>
 }
 
 /// What a `Maybe`, a list or an `MVar` is of.
-#[tactic(auto, using(hs_rules::proofs::Equations::ty_rules))]
+#[tactic(auto, using(rules_trees::proofs::Equations::ty_rules))]
 pub fn inner_part(alloc: Global, a: &Ty) -> Result<Ty, NoMemory>
     ensures { IfOk result (λ b. ty_of b ≡ inner_of (ty_of a.now)) }
 {
@@ -190,7 +190,7 @@ pub fn inner_part(alloc: Global, a: &Ty) -> Result<Ty, NoMemory>
 }
 
 /// The first part of a pair or an `Either`.
-#[tactic(auto, using(hs_rules::proofs::Equations::ty_rules))]
+#[tactic(auto, using(rules_trees::proofs::Equations::ty_rules))]
 pub fn first_part(alloc: Global, a: &Ty) -> Result<Ty, NoMemory>
     ensures { IfOk result (λ b. ty_of b ≡ first_of (ty_of a.now)) }
 {
@@ -210,7 +210,7 @@ pub fn first_part(alloc: Global, a: &Ty) -> Result<Ty, NoMemory>
 }
 
 /// The second part of a pair or an `Either`.
-#[tactic(auto, using(hs_rules::proofs::Equations::ty_rules))]
+#[tactic(auto, using(rules_trees::proofs::Equations::ty_rules))]
 pub fn second_part(alloc: Global, a: &Ty) -> Result<Ty, NoMemory>
     ensures { IfOk result (λ b. ty_of b ≡ second_of (ty_of a.now)) }
 {

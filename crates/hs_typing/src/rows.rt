@@ -1,6 +1,6 @@
 ghost use Rattle.std.specs.Prelude.{◌≡◌, IfOk};
-ghost use Rattle.hs_rules.specs.Trees.{ty_of, wr_of};
-ghost use Rattle.hs_rules.specs.Typing.{row_unary, row_binary, row_empty, row_side, row_choose, row_arms, row_items};
+ghost use Rattle.rules_trees.specs.Trees.{ty_of, wr_of};
+ghost use Rattle.rules_typing.specs.Typing.{row_unary, row_binary, row_empty, row_side, row_choose, row_arms, row_items};
 ghost use Rattle.hs_judging.specs.Judging.{own, with1, with2, with3, with_all, written};
 ghost use Rattle.hs_typing.specs.Views.{opt_ty, opt_tys};
 ghost use Rattle.hs_typing.specs.Judged.{Judged};
@@ -14,10 +14,10 @@ use crate::widths::is_wide;
 use hs_base::tree::Written;
 use hs_base::{NoMemory, Pos, Ty};
 use hs_items::Items;
-use hs_rules::forms::{BinaryForm, EmptyForm, SideForm, UnaryForm};
+use rules_trees::forms::{BinaryForm, EmptyForm, SideForm, UnaryForm};
 use std::alloc::Global;
 
-#[tactic(auto, using(hs_rules::proofs::Equations::ty_rules))]
+#[tactic(auto, using(rules_trees::proofs::Equations::ty_rules))]
 impl Checker {
     fn row_unary(
         &mut self,
@@ -312,7 +312,7 @@ impl Checker {
         }
     }
 
-    #[tactic(auto, using(hs_rules::proofs::Equations::ty_rules, crate::proofs::Noted::need_rules))]
+    #[tactic(auto, using(rules_trees::proofs::Equations::ty_rules, crate::proofs::Noted::need_rules))]
     pub fn close_items(
         &mut self,
         alloc: Global,

@@ -1,6 +1,6 @@
 ghost use Rattle.std.specs.Prelude.{◌≡◌, ◌∷◌, IfOk, OnOk, drop};
-ghost use Rattle.hs_rules.specs.Trees.{ty_of};
-ghost use Rattle.hs_rules.specs.Typing.{bound, masked};
+ghost use Rattle.rules_trees.specs.Trees.{ty_of};
+ghost use Rattle.rules_typing.specs.Typing.{bound, masked};
 ghost use Rattle.hs_judging.specs.Judging.{full, scope_faults, unless};
 ghost use Rattle.hs_judging.specs.Least.{least};
 ghost use Rattle.hs_typing.specs.Views.{opt_ty, part_of};

@@ -1,6 +1,6 @@
 ghost use Rattle.std.specs.Prelude.{◌≡◌, ◌≤◌, [], ◌∷◌, length, OnOk, MatchOption, drop, ◌-◌};
 ghost use Rattle.std.specs.Str.{bytes_eq};
-ghost use Rattle.hs_rules.specs.Typing.{look};
+ghost use Rattle.rules_typing.specs.Typing.{look};
 ghost use Rattle.hs_typing.specs.Views.{bound_of, sort_of, scope_of};
 
 use crate::entry::{Entry, Sorted};

@@ -1,12 +1,12 @@
 ghost use Rattle.std.specs.Prelude.{◌≡◌, ◌+◌, ◌<◌, ltb, MatchOption};
-ghost use Rattle.hs_rules.specs.Trees.{ty_of};
-ghost use Rattle.hs_rules.specs.Typing.{nodes};
+ghost use Rattle.rules_trees.specs.Trees.{ty_of};
+ghost use Rattle.rules_typing.specs.Typing.{nodes};
 ghost use Rattle.hs_judging.specs.Judging.{same};
 
 use hs_base::Ty;
 
 /// What is left of a number after one for each node, where there are so many.
-#[tactic(auto, using(hs_rules::proofs::Equations::ty_rules))]
+#[tactic(auto, using(rules_trees::proofs::Equations::ty_rules))]
 fn spend(t: &Ty, left: u32) -> Option<u32>
     ensures { MatchOption result (left < nodes (ty_of t.now)) (λ r. r + nodes (ty_of t.now) ≡ left) }
 {
@@ -45,7 +45,7 @@ pub fn is_wide(t: &Ty) -> bool
 }
 
 /// Whether the types are the same.
-#[tactic(auto, using(hs_rules::proofs::Equations::ty_rules))]
+#[tactic(auto, using(rules_trees::proofs::Equations::ty_rules))]
 pub fn same_types(a: &Ty, b: &Ty) -> bool
     ensures { result ≡ same (ty_of a.now) (ty_of b.now) }
 {

@@ -3,7 +3,7 @@ use Rattle.std.proofs.Common.{◌≡◌, ℕ, zero, suc, ◌<◌, ◌==◌, Bool
 use Rattle.std.proofs.lemmas.Bool.{cases_eq}
 use Rattle.std.proofs.lemmas.List.{set-get_or, get_or_default, length-set, get_or-set_same, get_or-set_other}
 use Rattle.hs_base.specs.declared.value.Value.{Value}
-use Rattle.hs_rules.specs.OneCell.{To_take, To_put, Place, Cell, Call, Take, Put, Try_take, Try_put, Leave, After, Reply, Answer, Took, Gave, Tried_take, Tried_put, cell_of, after_of, reply_of, call, called, stands_in, leaves_line, first_put, first_take, moves_in, comes_in, takes_it}
+use Rattle.rules_waiting.specs.OneCell.{To_take, To_put, Place, Cell, Call, Take, Put, Try_take, Try_put, Leave, After, Reply, Answer, Took, Gave, Tried_take, Tried_put, cell_of, after_of, reply_of, call, called, stands_in, leaves_line, first_put, first_take, moves_in, comes_in, takes_it}
 use Rattle.mvar_cell.specs.Mvars.{Mvars, AllWait, IsDistinct, IsCell, AreCells}
 use Rattle.mvar_cell.specs.Calls.{stands_among, cell_at, IsCall}
 

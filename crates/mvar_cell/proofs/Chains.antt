@@ -2,7 +2,7 @@
 use Rattle.std.proofs.Common.{◌≡◌, ◌≢◌, ℕ, zero, suc, ◌<◌, ◌≤◌, List, [], ◌∷◌, ◌++◌, Option, Some, None, refl, ap, sym, subst, ◌∙◌, arith, inl, inr, ◌+◌, ◌-◌, Bool, true, false, cond, IsSome, eq-eqb}
 use Rattle.std.proofs.lemmas.Bool.{cases_eq, ne_eqb}
 use Rattle.hs_base.specs.declared.value.Value.{Value}
-use Rattle.hs_rules.specs.OneCell.{Place, stands_in}
+use Rattle.rules_waiting.specs.OneCell.{Place, stands_in}
 use Rattle.slab.specs.Slab.{Slab, get}
 use Rattle.mvar_cell.specs.declared.lines.Node.{Node}
 use Rattle.mvar_cell.specs.declared.lines.Ends.{Ends}

@@ -4,7 +4,7 @@ use Rattle.std.proofs.lemmas.Bool.{cases_eq, ne_eqb}
 use Rattle.std.proofs.lemmas.List.{get_or-set_same, get_or-set_other, length-set, length-map, get_or-map}
 use Rattle.std.proofs.lemmas.List.Sums.{sum_by-set}
 use Rattle.hs_base.specs.declared.value.Value.{Value}
-use Rattle.hs_rules.specs.OneCell.{Place, stands_in}
+use Rattle.rules_waiting.specs.OneCell.{Place, stands_in}
 use Rattle.slab.specs.Slab.{Slab, get, slab_len, Updates}
 use Rattle.mvar_cell.specs.declared.lines.Want.{Want}
 use Rattle.mvar_cell.specs.declared.lines.Node.{Node}

@@ -1,8 +1,8 @@
 -- What `Cells` means, and what its answers say in the words of one cell alone.
 use Rattle.std.specs.Prelude.{◌≡◌, ℕ, Bool, true, false, cond, List, [], ◌∷◌, Option, Some, None, slice_index_or, slice_set}
 use Rattle.hs_base.specs.declared.value.Value.{Value}
-use Rattle.hs_rules.specs.OneCell.{Place, Cell, Call, After, Reply, Gave, Tried_take, Tried_put, cell_of, call, reply_of, stands_in}
-use Rattle.hs_rules.specs.OneCell as one
+use Rattle.rules_waiting.specs.OneCell.{Place, Cell, Call, After, Reply, Gave, Tried_take, Tried_put, cell_of, call, reply_of, stands_in}
+use Rattle.rules_waiting.specs.OneCell as one
 use Rattle.mvar_cell.specs.Mvars.{Mvars}
 use Rattle.mvar_cell.specs.declared.cells.Took.{Took}
 use Rattle.mvar_cell.specs.declared.cells.Took.TheVariants as took

@@ -1,7 +1,7 @@
 -- What `Cells` means: the content and the line of each cell, by number, and how many more cells and waiters fit.
 use Rattle.std.specs.Prelude.{◌≡◌, ◌-◌, ◌^◌, ℕ, ◌<◌, Bool, false, not, is_some, min, List, [], ◌∷◌, length, Option, None, slice_index_or}
 use Rattle.hs_base.specs.declared.value.Value.{Value}
-use Rattle.hs_rules.specs.OneCell.{Place, takes_it, stands_in}
+use Rattle.rules_waiting.specs.OneCell.{Place, takes_it, stands_in}
 use Rattle.mvar_cell.specs.Lined.{Lined}
 
 pub record Mvars : Type 0 where

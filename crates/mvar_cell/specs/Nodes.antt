@@ -1,8 +1,8 @@
 -- How nodes of one pool hold lines.
 use Rattle.std.specs.Prelude.{◌≡◌, ◌≢◌, [], ◌∷◌, ℕ, zero, suc, ◌-◌, ◌<◌, ◌≤◌, min, List, length, map, sum_by, slice_index_or, slice_set, Option, Some, None, cond, ◌==◌, true, ◌++◌, ◌+◌}
 use Rattle.hs_base.specs.declared.value.Value.{Value}
-use Rattle.hs_rules.specs.OneCell.{To_take, To_put, Place, stands_in}
-use Rattle.hs_rules.specs.OneCell as one
+use Rattle.rules_waiting.specs.OneCell.{To_take, To_put, Place, stands_in}
+use Rattle.rules_waiting.specs.OneCell as one
 use Rattle.slab.specs.Slab.{Slab, get, slab_len}
 use Rattle.mvar_cell.specs.declared.lines.Want.{Want}
 use Rattle.mvar_cell.specs.declared.lines.Want.TheVariants.{Take, Put}

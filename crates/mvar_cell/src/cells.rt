@@ -1,6 +1,6 @@
 ghost use Rattle.std.specs.Prelude.{◌≡◌, ◌+◌, ◌<◌, ◌≤◌, [], ◌∷◌, ◌++◌, ℕ, length, slice_index_or, slice_set, None, OnOk, true};
 ghost use Rattle.std.specs.Option.{option_copied};
-ghost use Rattle.hs_rules.specs.OneCell.{Take, Put, Try_take, Try_put, Leave, made, stands_in};
+ghost use Rattle.rules_waiting.specs.OneCell.{Take, Put, Try_take, Try_put, Leave, made, stands_in};
 ghost use Rattle.mvar_cell.specs.Calls.{IsCall, StandsNowhere, took_replies, gave_replies, tried_take_replies, tried_put_replies, HandsBack};
 
 use crate::lines::{Lines, Want};

@@ -2,7 +2,7 @@ ghost use Rattle.std.specs.Prelude.{◌≡◌, ◌+◌, ◌<◌, ◌≤◌, [], 
 ghost use Rattle.slab.specs.Slab.{get, slab_len, ContainsKey, Updates};
 ghost use Rattle.mvar_cell.specs.Lined.{line_of};
 ghost use Rattle.mvar_cell.specs.Nodes.{place, IsLine, StandsBefore, LeavesOne, behind, last_after_leaving};
-ghost use Rattle.hs_rules.specs.OneCell.{stands_in};
+ghost use Rattle.rules_waiting.specs.OneCell.{stands_in};
 ghost use Rattle.mvar_cell.specs.declared.lines.Node.{Node};
 
 use hs_base::Value;

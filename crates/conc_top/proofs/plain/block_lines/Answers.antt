@@ -1,6 +1,6 @@
 use Rattle.std.proofs.Common.{length, get_or, ap, subst, ◌∙◌, arith}
-use Rattle.hs_rules.specs.Programs.{act_of}
-use Rattle.hs_rules.specs.PlainScripts.{PutsLine}
+use Rattle.rules_trees.specs.Programs.{act_of}
+use Rattle.conc_top.specs.PlainScripts.{PutsLine}
 use Rattle.conc_top.proofs.PlainTrees.{none_read, not_plain, went_on, last_not_plain, all_read}
 use Rattle.conc_top.proofs.plain.block_lines.Goals as goal
 

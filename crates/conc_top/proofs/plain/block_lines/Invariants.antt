@@ -1,4 +1,4 @@
-use Rattle.hs_rules.specs.Programs.{bl_of}
+use Rattle.rules_trees.specs.Programs.{bl_of}
 use Rattle.conc_top.proofs.PlainTrees.{HasRead, rest_at}
 use Rattle.conc_top.proofs.plain.block_lines.Given as goal
 

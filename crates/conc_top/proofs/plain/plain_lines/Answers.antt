@@ -1,4 +1,4 @@
-use Rattle.hs_rules.specs.Programs.{bl_of, script_of}
+use Rattle.rules_trees.specs.Programs.{bl_of, script_of}
 use Rattle.conc_top.proofs.PlainTrees.{block_found}
 use Rattle.conc_top.proofs.plain.plain_lines.Goals as goal
 

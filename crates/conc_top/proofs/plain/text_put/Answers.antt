@@ -1,5 +1,5 @@
 use Rattle.std.proofs.Common.{ap, sym, ◌∙◌}
-use Rattle.hs_rules.specs.Trees.{lit, letters}
+use Rattle.rules_trees.specs.Trees.{lit, letters}
 use Rattle.conc_top.proofs.PlainTrees.{puts}
 use Rattle.conc_top.proofs.plain.text_put.Goals as goal
 

@@ -1,5 +1,5 @@
 use Rattle.std.proofs.Common.{◌≡◌, ◌++◌, length}
-use Rattle.hs_rules.specs.PlainScripts.{later_entries, lines_of, plain_history}
+use Rattle.conc_top.specs.PlainScripts.{later_entries, lines_of, plain_history}
 use Rattle.conc_top.proofs.play.play.Given as goal
 
 -- with the entries and the texts of the lines that are left, the history and the output are those of all lines

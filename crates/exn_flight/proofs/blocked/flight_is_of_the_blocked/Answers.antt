@@ -1,4 +1,4 @@
-use Rattle.hs_rules.specs.Waiting.{Throwing}
+use Rattle.rules_waiting.specs.Waiting.{Throwing}
 use Rattle.exn_flight.proofs.OneList.{flight_blocks, flight_leaves}
 use Rattle.exn_flight.proofs.blocked.flight_is_of_the_blocked.Goals as goal
 

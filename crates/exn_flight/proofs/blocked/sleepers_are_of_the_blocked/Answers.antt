@@ -1,4 +1,4 @@
-use Rattle.hs_rules.specs.Waiting.{Sleeping}
+use Rattle.rules_waiting.specs.Waiting.{Sleeping}
 use Rattle.exn_flight.proofs.OneList.{sleepers_block, sleepers_leave}
 use Rattle.exn_flight.proofs.Sorting.{sleeps_in_order}
 use Rattle.exn_flight.proofs.SortedLeaving.{leaves_in_order}

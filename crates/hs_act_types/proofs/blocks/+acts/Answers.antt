@@ -1,10 +1,10 @@
 use Rattle.std.proofs.Common.{[], ◌∷◌, ap, ◌∙◌, sym}
 use Rattle.hs_base.specs.declared.tree.action.BlockArms.{BlockArms}
-use Rattle.hs_rules.specs.Trees.{ex_of}
-use Rattle.hs_rules.specs.Programs.{case_act, act_of, act_arms_of, bl_of, stmt_of}
-use Rattle.hs_rules.specs.Typing.{a_cell, bound, inner_of, of}
-use Rattle.hs_rules.specs.TypingActions.{form_of_acts, row_modify, row_timeout}
-use Rattle.hs_rules.proofs.EquationsOfActions.{act-NewEmptyMVar, act-ThrowIo, act-Call, act-Return, act-PutStr, act-PutStrLn, act-HPutStrLn, act-NewMVar, act-TakeMVar, act-ReadMVar, act-TryTakeMVar, act-KillThread, act-ThreadDelay, act-PutMVar, act-TryPutMVar, act-ThrowTo, act-ForkIo, act-MaskOnly, act-UninterruptibleMaskOnly, act-ForkIoWithUnmask, act-Mask, act-UninterruptibleMask, act-Restore, act-Case, act-ModifyMVar, act-Timeout, stmt-Bind, stmt-Let}
+use Rattle.rules_trees.specs.Trees.{ex_of}
+use Rattle.rules_trees.specs.Programs.{case_act, act_of, act_arms_of, bl_of, stmt_of}
+use Rattle.rules_typing.specs.Typing.{a_cell, bound, inner_of, of}
+use Rattle.rules_typing.specs.TypingActions.{form_of_acts, row_modify, row_timeout}
+use Rattle.rules_trees.proofs.EquationsOfActions.{act-NewEmptyMVar, act-ThrowIo, act-Call, act-Return, act-PutStr, act-PutStrLn, act-HPutStrLn, act-NewMVar, act-TakeMVar, act-ReadMVar, act-TryTakeMVar, act-KillThread, act-ThreadDelay, act-PutMVar, act-TryPutMVar, act-ThrowTo, act-ForkIo, act-MaskOnly, act-UninterruptibleMaskOnly, act-ForkIoWithUnmask, act-Mask, act-UninterruptibleMask, act-Restore, act-Case, act-ModifyMVar, act-Timeout, stmt-Bind, stmt-Let}
 use Rattle.hs_judging.specs.Judging.{judge, needing, own, part, unless_full}
 use Rattle.hs_judging.specs.JudgingActions.{judge_act, judge_act_arms, judge_bl}
 use Rattle.hs_typing.specs.Contexts.{ctx_of}

@@ -1,5 +1,5 @@
 use Rattle.std.proofs.Common.{◌≡◌, ◌≤◌, ◌-◌, length, drop}
-use Rattle.hs_rules.specs.Programs.{rest_of}
+use Rattle.rules_trees.specs.Programs.{rest_of}
 use Rattle.hs_judging.specs.JudgingActions.{judge_bl}
 use Rattle.hs_judging.specs.Least.{least}
 use Rattle.hs_typing.specs.Contexts.{ctx_of}

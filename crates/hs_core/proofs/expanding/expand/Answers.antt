@@ -1,6 +1,6 @@
 use Rattle.std.proofs.Common.{sym, ap, ◌∙◌, subst}
 use Rattle.std.specs.Prelude.{slice_get, codes}
-use Rattle.hs_rules.specs.CodeTrees.{StandsFor}
+use Rattle.rules_code.specs.CodeTrees.{StandsFor}
 use Rattle.hs_core.specs.Numbering.{index_among}
 use Rattle.hs_core.specs.Placing.{main_id}
 use Rattle.hs_core.proofs.Placings.{knows_all, all_stand}

@@ -1,6 +1,6 @@
 use Rattle.std.proofs.Common.{sym, ap, subst}
-use Rattle.hs_rules.specs.Codes.{body_of}
-use Rattle.hs_rules.specs.Values.{values_of}
+use Rattle.rules_code.specs.Codes.{body_of}
+use Rattle.rules_meaning.specs.Values.{values_of}
 use Rattle.hs_eval.specs.Readings.{Reading}
 use Rattle.hs_eval.proofs.SmallestCode.{smallest_reading}
 use Rattle.hs_eval.proofs.code_tests.eval_gives_what_the_smallest_code_returns.Goals as goal

@@ -1,6 +1,6 @@
 use Rattle.std.proofs.Common.{◌≡◌, ◌+◌, ◌≤◌, length, take, ap, ◌∙◌, sym, refl, arith}
 use Rattle.std.specs.Prelude.{slice_get}
-use Rattle.hs_rules.specs.Slots.{run, trees, tree_in}
+use Rattle.rules_code.specs.Slots.{run, trees, tree_in}
 use Rattle.hs_eval.specs.Founds.{out_of}
 use Rattle.hs_eval.specs.Evaluation.{slots}
 use Rattle.hs_eval.proofs.Steps.{all_step, all_throw, all_stuck, all_end}

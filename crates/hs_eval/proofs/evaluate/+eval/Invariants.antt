@@ -1,6 +1,6 @@
 use Rattle.std.proofs.Common.{◌≡◌, ◌+◌, ◌*◌, drop, take, []}
-use Rattle.hs_rules.specs.Values.{values_of, and_one, value_of}
-use Rattle.hs_rules.specs.Slots.{run_all, run_left, trees, trees_in, links_in}
+use Rattle.rules_meaning.specs.Values.{values_of, and_one, value_of}
+use Rattle.rules_code.specs.Slots.{run_all, run_left, trees, trees_in, links_in}
 use Rattle.hs_eval.specs.Founds.{out_of}
 use Rattle.hs_eval.specs.Evaluation.{slots, with_values}
 use Rattle.hs_eval.proofs.evaluate.+eval.Given as goal

@@ -1,5 +1,5 @@
 use Rattle.std.proofs.Common.{◌≡◌, take}
-use Rattle.hs_rules.specs.Values.{values_of}
+use Rattle.rules_meaning.specs.Values.{values_of}
 use Rattle.hs_eval.specs.Founds.{out_of}
 use Rattle.hs_eval.specs.Evaluation.{join_right}
 use Rattle.hs_eval.proofs.lists.join_onto.Given as goal

@@ -1,7 +1,7 @@
 use Rattle.std.proofs.Common.{ap, ◌∙◌}
-use Rattle.hs_rules.specs.Values.{values_of}
-use Rattle.hs_rules.specs.Slots.{run, tree_at}
-use Rattle.hs_rules.specs.Codes.{body_of}
+use Rattle.rules_meaning.specs.Values.{values_of}
+use Rattle.rules_code.specs.Slots.{run, tree_at}
+use Rattle.rules_code.specs.Codes.{body_of}
 use Rattle.hs_eval.specs.Founds.{out_of}
 use Rattle.hs_eval.proofs.Readings.{means, good, never_stuck}
 use Rattle.hs_eval.proofs.meaning.eval.Goals as goal

@@ -1,6 +1,6 @@
 use Rattle.std.proofs.Common.{◌≡◌, ◌+◌, length, drop, get_or, ap, ◌∙◌, sym, subst, arith, refl}
-use Rattle.hs_rules.specs.Trees.{binary, ex_of, exs_of, links_of, sum_links_of, list_links_of, compare_form, sum_form, cons_form}
-use Rattle.hs_rules.proofs.Equations.{ex-Compare}
+use Rattle.rules_trees.specs.Trees.{binary, ex_of, exs_of, links_of, sum_links_of, list_links_of, compare_form, sum_form, cons_form}
+use Rattle.rules_trees.proofs.Equations.{ex-Compare}
 use Rattle.hs_judging.specs.Judging.{judge, judges, judge_links, typed}
 use Rattle.hs_typing.specs.Contexts.{ctx_of}
 use Rattle.hs_typing.specs.Views.{opt_ty, opt_tys}

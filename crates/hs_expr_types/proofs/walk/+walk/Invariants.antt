@@ -1,5 +1,5 @@
 use Rattle.std.proofs.Common.{◌≡◌, ◌∷◌, ◌++◌, drop}
-use Rattle.hs_rules.specs.Trees.{exs_of, links_of, sum_links_of, list_links_of}
+use Rattle.rules_trees.specs.Trees.{exs_of, links_of, sum_links_of, list_links_of}
 use Rattle.hs_judging.specs.Judging.{typed, judges, judge_links, operand_faults, operand_types}
 use Rattle.hs_judging.specs.Least.{least}
 use Rattle.hs_typing.specs.Views.{opt_ty, opt_tys, opts_of}

@@ -3,7 +3,7 @@ use Rattle.std.specs.Prelude.{IfOk}
 use Rattle.std.specs.Str.{IsValidUpTo}
 use Rattle.hs_base.specs.declared.no_memory.NoMemory.{NoMemory}
 use Rattle.hs_base.specs.declared.pos.Pos.{Pos}
-use Rattle.hs_rules.specs.Tokens.{IsTextOf, IsNoText, position_after}
+use Rattle.rules_tokens.specs.Tokens.{IsTextOf, IsNoText, position_after}
 use Rattle.hs_lex.proofs.Ends.{no_text_at}
 use Rattle.hs_lex.proofs.lexer.broken_at.Goals as goal
 

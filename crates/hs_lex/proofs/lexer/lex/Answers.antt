@@ -1,6 +1,6 @@
 use Rattle.std.proofs.Common.{sym, ◌∙◌, subst}
 use Rattle.std.specs.Str.{IsUtf8}
-use Rattle.hs_rules.specs.Tokens.{NotUtf8}
+use Rattle.rules_tokens.specs.Tokens.{NotUtf8}
 use Rattle.hs_lex.specs.Answers.{IsRight}
 use Rattle.hs_lex.proofs.Ends.{text_of_chars}
 use Rattle.hs_lex.proofs.Outcomes.{outcome_same}

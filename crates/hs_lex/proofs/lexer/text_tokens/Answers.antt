@@ -1,8 +1,8 @@
 use Rattle.std.proofs.Common.{◌≡◌, ℕ, List, [], ◌∷◌, ◌++◌, ◌-◌, ◌<◌, length, take, drop, Result, Err, Some, refl, sym, ap, ◌∙◌, subst, arith}
 use Rattle.std.specs.Prelude.{MatchOption, ⊤}
 use Rattle.std.specs.Str.{encode_utf8_all}
-use Rattle.hs_rules.specs.Tokens.{Outcome, Faulty, LexesTo}
-use Rattle.hs_rules.specs.declared.token.Tokens.{Tokens}
+use Rattle.rules_tokens.specs.Tokens.{Outcome, Faulty, LexesTo}
+use Rattle.rules_tokens.specs.declared.token.Tokens.{Tokens}
 use Rattle.hs_lex.specs.declared.fault.LexFault.{LexFault}
 use Rattle.hs_lex.specs.declared.front.Front.{Front}
 use Rattle.hs_lex.specs.declared.front.Front.TheVariants as front

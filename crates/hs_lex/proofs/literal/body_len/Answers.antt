@@ -1,5 +1,5 @@
 use Rattle.std.proofs.Common.{◌≡◌, ◌<◌, ◌+◌, length, get_or, ◌∙◌, arith}
-use Rattle.hs_rules.specs.Tokens.{backslash}
+use Rattle.rules_tokens.specs.Tokens.{backslash}
 use Rattle.hs_lex.proofs.Cuts.{item_at}
 use Rattle.hs_lex.proofs.Bodies.{body_plain, body_escape, body_end, body_line, body_last, body_broken}
 use Rattle.hs_lex.proofs.literal.body_len.Goals.{then-at-inside-via-then-at-inside, then-at-inside-via-else-at-inside+then-inside-at-eq10}

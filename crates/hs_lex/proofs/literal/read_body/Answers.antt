@@ -1,7 +1,7 @@
 use Rattle.std.proofs.Common.{◌≡◌, [], ◌∷◌, ◌++◌, ◌<◌, ◌+◌, length, get_or, sym, ap, ◌∙◌}
 use Rattle.std.specs.Char.{encode_utf8}
 use Rattle.std.specs.String.{string_bytes}
-use Rattle.hs_rules.specs.Tokens.{backslash}
+use Rattle.rules_tokens.specs.Tokens.{backslash}
 use Rattle.hs_lex.proofs.Cuts.{item_at}
 use Rattle.hs_lex.proofs.Bodies.{IsNext, meant_start, meant_next, meant_plain, meant_behind, meant_escape, meant_wrong, meant_end, bytes_of_push}
 use Rattle.hs_lex.proofs.literal.read_body.Goals as goal

@@ -4,7 +4,7 @@ use Rattle.std.specs.Prelude.{not, ℤ}
 use Rattle.std.specs.List.{position}
 use Rattle.std.specs.Option.{unwrap_or}
 use Rattle.std.specs.Char.{is_ascii_digit}
-use Rattle.hs_rules.specs.Tokens.{number_of, greatest_number}
+use Rattle.rules_tokens.specs.Tokens.{number_of, greatest_number}
 use Rattle.hs_lex.specs.Fronts.{Begins}
 use Rattle.hs_lex.proofs.Runs.{IsRun, run_while}
 use Rattle.hs_lex.proofs.Pieces.{NumberFront, number_run, number_digits, number_front, big_front}

@@ -1,5 +1,5 @@
 use Rattle.std.proofs.Common.{◌≡◌, ◌<◌, ◌≤◌, ◌+◌, ◌-◌, ◌*◌, get_or, take, sym, ap, ◌∙◌, arith}
-use Rattle.hs_rules.specs.Tokens.{number_of, greatest_number}
+use Rattle.rules_tokens.specs.Tokens.{number_of, greatest_number}
 use Rattle.hs_lex.proofs.Cuts.{item_at}
 use Rattle.hs_lex.proofs.Numbers.{number_more, number_front, digit_at, too_big, still_fits}
 use Rattle.hs_lex.proofs.number.value.Goals as goal

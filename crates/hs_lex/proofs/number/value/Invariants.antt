@@ -1,5 +1,5 @@
 use Rattle.std.proofs.Common.{◌≡◌, ◌≤◌, take}
-use Rattle.hs_rules.specs.Tokens.{number_of, greatest_number}
+use Rattle.rules_tokens.specs.Tokens.{number_of, greatest_number}
 use Rattle.hs_lex.proofs.number.value.Given as goal
 
 abbrev pub invariant-loop-c : goal.invariant-loop-c

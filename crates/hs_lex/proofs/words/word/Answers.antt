@@ -3,7 +3,7 @@ use Rattle.std.specs.Prelude.{not}
 use Rattle.std.specs.List.{position}
 use Rattle.std.specs.Option.{unwrap_or}
 use Rattle.std.specs.Str.{encode_utf8_all}
-use Rattle.hs_rules.specs.Tokens.{continues_word, IsWord}
+use Rattle.rules_tokens.specs.Tokens.{continues_word, IsWord}
 use Rattle.std.proofs.lemmas.List.{take-append-drop}
 use Rattle.hs_lex.proofs.Cuts.{slice_from, cut_take}
 use Rattle.hs_lex.proofs.Runs.{IsRun, run_while}

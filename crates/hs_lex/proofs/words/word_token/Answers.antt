@@ -2,7 +2,7 @@ use Rattle.std.proofs.Common.{◌≡◌, ◌≢◌, ℕ, List, [], ◌∷◌, Bo
 use Rattle.std.specs.Prelude.{slice_get, MatchOption}
 use Rattle.std.specs.Char.{is_ascii_uppercase}
 use Rattle.std.specs.Str.{encode_utf8_all}
-use Rattle.hs_rules.specs.Tokens.{IsWord, IsReserved, reserved_words, is_capital}
+use Rattle.rules_tokens.specs.Tokens.{IsWord, IsReserved, reserved_words, is_capital}
 use Rattle.hs_lex.proofs.words.word_token.Goals as goal
 
 -- the text is not among the reserved words

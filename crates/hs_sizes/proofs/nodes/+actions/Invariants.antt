@@ -1,5 +1,5 @@
 use Rattle.std.proofs.Common.{◌≡◌, ◌+◌, min, drop}
-use Rattle.hs_rules.specs.Programs.{rest_of}
+use Rattle.rules_trees.specs.Programs.{rest_of}
 use Rattle.hs_judging.specs.Closed.{bl_nodes}
 use Rattle.hs_sizes.proofs.nodes.+actions.Given as goal
 

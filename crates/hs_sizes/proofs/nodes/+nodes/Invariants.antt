@@ -1,6 +1,6 @@
 use Rattle.std.proofs.Common.{◌≡◌, ◌+◌, ◌≤◌, min, drop}
-use Rattle.hs_rules.specs.Trees.{exs_of, links_of, sum_links_of, list_links_of}
-use Rattle.hs_rules.specs.Sizes.{exs_size, links_size}
+use Rattle.rules_trees.specs.Trees.{exs_of, links_of, sum_links_of, list_links_of}
+use Rattle.rules_expansion.specs.Sizes.{exs_size, links_size}
 use Rattle.hs_sizes.proofs.nodes.+nodes.Given as goal
 
 abbrev pub invariant-exs_nodes-parts : goal.invariant-exs_nodes-parts

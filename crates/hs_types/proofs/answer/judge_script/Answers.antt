@@ -1,7 +1,7 @@
 use Rattle.std.proofs.Common.{ap, ◌∙◌, sym, codes}
-use Rattle.hs_rules.specs.Programs.{script_of}
-use Rattle.hs_rules.specs.Typing.{find}
-use Rattle.hs_rules.specs.TypingScripts.{main_by}
+use Rattle.rules_trees.specs.Programs.{script_of}
+use Rattle.rules_typing.specs.Typing.{find}
+use Rattle.rules_typing.specs.TypingScripts.{main_by}
 use Rattle.hs_judging.specs.JudgingScripts.{script_faults}
 use Rattle.hs_judging.proofs.Scripts.{first_broken, nothing_broken}
 use Rattle.hs_typing.specs.Views.{broken_of, kept_of, sigs_of}

@@ -1,5 +1,5 @@
 use Rattle.std.proofs.Common.{subst}
-use Rattle.hs_rules.specs.TypingScripts.{IsFirstBroken}
+use Rattle.rules_typing.specs.TypingScripts.{IsFirstBroken}
 use Rattle.hs_typing.specs.Views.{broken_of}
 use Rattle.hs_types.proofs.answer.refusal.Goals as goal
 

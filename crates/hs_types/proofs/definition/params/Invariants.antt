@@ -1,6 +1,6 @@
 use Rattle.std.proofs.Common.{◌≡◌, ◌&&◌, drop, map}
-use Rattle.hs_rules.specs.Programs.{par_of}
-use Rattle.hs_rules.specs.TypingScripts.{params_in, param_faults, none_of}
+use Rattle.rules_trees.specs.Programs.{par_of}
+use Rattle.rules_typing.specs.TypingScripts.{params_in, param_faults, none_of}
 use Rattle.hs_judging.specs.Least.{least}
 use Rattle.hs_typing.specs.Judged.{names, kept}
 use Rattle.hs_types.proofs.definition.params.Given as goal

@@ -1,6 +1,6 @@
 use Rattle.std.proofs.Common.{◌≡◌, drop, map}
-use Rattle.hs_rules.specs.Programs.{par_of}
-use Rattle.hs_rules.specs.TypingSizes.{param_names}
+use Rattle.rules_trees.specs.Programs.{par_of}
+use Rattle.rules_typing.specs.TypingSizes.{param_names}
 use Rattle.hs_typing.specs.Views.{scope_of}
 use Rattle.hs_types.proofs.progress.bind_params.Given as goal
 

@@ -1,6 +1,6 @@
 use Rattle.std.proofs.Common.{◌≡◌, ◌++◌, drop, map}
-use Rattle.hs_rules.specs.Programs.{fn_of}
-use Rattle.hs_rules.specs.TypingScripts.{sigs_from}
+use Rattle.rules_trees.specs.Programs.{fn_of}
+use Rattle.rules_typing.specs.TypingScripts.{sigs_from}
 use Rattle.hs_typing.specs.Views.{sigs_of}
 use Rattle.hs_typing.proofs.heads.funs_of.Given as goal
 

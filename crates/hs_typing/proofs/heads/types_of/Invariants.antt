@@ -1,6 +1,6 @@
 use Rattle.std.proofs.Common.{◌≡◌, ◌++◌, drop, map}
-use Rattle.hs_rules.specs.Programs.{par_of}
-use Rattle.hs_rules.specs.TypingScripts.{param_types}
+use Rattle.rules_trees.specs.Programs.{par_of}
+use Rattle.rules_typing.specs.TypingScripts.{param_types}
 use Rattle.hs_typing.specs.Views.{tys_of}
 use Rattle.hs_typing.proofs.heads.types_of.Given as goal
 

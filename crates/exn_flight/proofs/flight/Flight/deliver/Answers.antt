@@ -1,6 +1,6 @@
 -- The first at the target leaves.
 use Rattle.std.proofs.Common.{◌∙◌, Some, sym, ap}
-use Rattle.hs_rules.specs.Waiting.{flying_to, first_thrown, withdrawn}
+use Rattle.rules_waiting.specs.Waiting.{flying_to, first_thrown, withdrawn}
 use Rattle.exn_flight.specs.Flights.{after_delivery}
 use Rattle.exn_flight.proofs.Flying.{first_flying, none_flying}
 use Rattle.exn_flight.proofs.flight.Flight.deliver.Goals as goal

@@ -1,7 +1,7 @@
 -- The table has the place of the first at each target.
 use Rattle.std.proofs.Common.{◌∙◌, Some, sym, ap, arith}
 use Rattle.std.proofs.lemmas.List.{get_or_read}
-use Rattle.hs_rules.specs.Waiting.{flying_to, first_thrown}
+use Rattle.rules_waiting.specs.Waiting.{flying_to, first_thrown}
 use Rattle.exn_flight.specs.Flights.{shown}
 use Rattle.exn_flight.specs.Throwing.{throw_at, no_throw}
 use Rattle.exn_flight.proofs.Growing.{live_within}

@@ -1,7 +1,7 @@
 -- A thrower has one exception in flight at most, and the table has its place.
 use Rattle.std.proofs.Common.{◌∙◌, nat_eq, sym, ap}
 use Rattle.std.specs.HashMap.{get}
-use Rattle.hs_rules.specs.Waiting.{Flying, thrown_by, is_throwing}
+use Rattle.rules_waiting.specs.Waiting.{Flying, thrown_by, is_throwing}
 use Rattle.exn_flight.proofs.Numbers.{without_absent}
 use Rattle.exn_flight.proofs.Flying.{none_by, only_at, thrown_none, thrown_live, throwing_none}
 use Rattle.exn_flight.proofs.flight.Flight.withdraw.Goals as goal

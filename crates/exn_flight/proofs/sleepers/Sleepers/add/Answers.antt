@@ -1,7 +1,7 @@
 -- The new sleeper is at the first free place.
 use Rattle.std.proofs.Common.{◌≡◌, ◌≤◌, ◌<◌, ◌-◌, ◌∙◌, length, set, nat_eq, Some, sym, ap, subst, arith, false}
 use Rattle.std.specs.HashMap.{get}
-use Rattle.hs_rules.specs.Waiting.{Sleeper, is_sleeping, sorted_sleepers, sleeper_added}
+use Rattle.rules_waiting.specs.Waiting.{Sleeper, is_sleeping, sorted_sleepers, sleeper_added}
 use Rattle.exn_flight.specs.Asleep.{sleepers_at, ArePlaced}
 use Rattle.exn_flight.proofs.Sorting.{sorted_append}
 use Rattle.exn_flight.proofs.Order.{has_unsorted, sorted_in_order}

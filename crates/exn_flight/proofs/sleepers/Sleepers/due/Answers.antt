@@ -2,7 +2,7 @@
 use Rattle.std.proofs.Common.{◌<◌, ◌≤◌, ◌∙◌, nat_eq, Some, sym, ap, arith}
 use Rattle.std.specs.HashMap.{get}
 use Rattle.std.specs.Option.{option_copied}
-use Rattle.hs_rules.specs.Waiting.{first_awake, sorted_sleepers}
+use Rattle.rules_waiting.specs.Waiting.{first_awake, sorted_sleepers}
 use Rattle.exn_flight.specs.Asleep.{sleepers_at}
 use Rattle.exn_flight.proofs.Order.{none_asleep, one_awake, none_awake, sorted_in_order}
 use Rattle.exn_flight.proofs.Placing.{head_sorted, distinct_once, once_placed}

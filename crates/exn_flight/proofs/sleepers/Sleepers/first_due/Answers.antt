@@ -1,7 +1,7 @@
 -- The first of the tournament is the first in order.
 use Rattle.std.proofs.Common.{◌∙◌, Some, sym, ap}
 use Rattle.std.specs.Option.{option_copied}
-use Rattle.hs_rules.specs.Waiting.{earliest, sorted_sleepers}
+use Rattle.rules_waiting.specs.Waiting.{earliest, sorted_sleepers}
 use Rattle.exn_flight.specs.Asleep.{sleepers_at}
 use Rattle.exn_flight.proofs.Order.{earliest_head, earliest_none}
 use Rattle.exn_flight.proofs.Placing.{head_sorted}

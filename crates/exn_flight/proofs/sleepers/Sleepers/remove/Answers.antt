@@ -1,7 +1,7 @@
 -- A thread sleeps once at most, and the table has its place.
 use Rattle.std.proofs.Common.{◌∙◌, nat_eq, sym, ap, subst}
 use Rattle.std.specs.HashMap.{get}
-use Rattle.hs_rules.specs.Waiting.{Sleeper, is_sleeping, sorted_sleepers, still_asleep}
+use Rattle.rules_waiting.specs.Waiting.{Sleeper, is_sleeping, sorted_sleepers, still_asleep}
 use Rattle.exn_flight.specs.Asleep.{sleepers_at, ArePlaced, AreInOrder}
 use Rattle.exn_flight.proofs.Numbers.{without_absent}
 use Rattle.exn_flight.proofs.SortedLeaving.{sorted_leaves}

@@ -3,7 +3,7 @@ use Rattle.std.proofs.Common.{◌≡◌, ◌<◌, ◌≤◌, ◌∙◌, [], take
 use Rattle.std.proofs.lemmas.List.{take_all}
 use Rattle.std.specs.HashMap.{get}
 use Rattle.std.specs.Option.{option_copied}
-use Rattle.hs_rules.specs.Waiting.{Sleeper, is_sleeping, sleeper_added, sorted_sleepers}
+use Rattle.rules_waiting.specs.Waiting.{Sleeper, is_sleeping, sleeper_added, sorted_sleepers}
 use Rattle.exn_flight.specs.Asleep.{Asleep, with_sleeper, sleepers_at}
 use Rattle.exn_flight.specs.Tournaments.{node}
 use Rattle.exn_flight.proofs.Placing.{distinct_once, once_placed}

@@ -1,5 +1,5 @@
 use Rattle.std.proofs.Common.{◌≡◌, ◌≤◌, ◌+◌, take, length}
-use Rattle.hs_rules.specs.Waiting.{sorted_sleepers}
+use Rattle.rules_waiting.specs.Waiting.{sorted_sleepers}
 use Rattle.exn_flight.specs.Asleep.{sleepers_at}
 use Rattle.exn_flight.proofs.sleepers.Sleepers.roomier.Given as goal
 

@@ -1,5 +1,5 @@
 use Rattle.std.proofs.Common.{ap}
-use Rattle.hs_rules.specs.Waiting.{sorted_sleepers}
+use Rattle.rules_waiting.specs.Waiting.{sorted_sleepers}
 use Rattle.exn_flight.proofs.Placing.{nobody}
 use Rattle.exn_flight.proofs.sleepers.Sleepers.with_room.Goals as goal
 

@@ -1,7 +1,7 @@
 -- One throw more is moved, or is over.
 use Rattle.std.proofs.Common.{◌+◌, ◌<◌, ◌∙◌, ◌++◌, ◌∷◌, [], length, None, sym, ap, subst, refl, arith}
 use Rattle.std.proofs.lemmas.List.{get_or_read}
-use Rattle.hs_rules.specs.Waiting.{is_throwing}
+use Rattle.rules_waiting.specs.Waiting.{is_throwing}
 use Rattle.exn_flight.specs.declared.throws.Throw.{Throw}
 use Rattle.exn_flight.specs.declared.throws.Throws.{Throws}
 use Rattle.exn_flight.specs.Throwing.{throw_at, no_throw, flying, spare_of, Refills}

@@ -1,12 +1,12 @@
 use Rattle.std.proofs.Common.{refl, ap, sym, ◌∙◌, ◌∷◌, length, get_or, arith}
-use Rattle.hs_rules.specs.declared.forms.GuardAction.TheVariants as g
-use Rattle.hs_rules.specs.declared.act.Act.TheVariants as k
-use Rattle.hs_rules.specs.Trees.{ex_of}
-use Rattle.hs_rules.specs.Values.{Written, Added, Restorer}
-use Rattle.hs_rules.specs.Programs.{choose_act, case_act, modify, catch, guard, bracket, timeout, bind, let_in, then, maybe_acts, either_acts, list_acts, pair_acts, act_of, bl_of, stmt_of, act_arms_of}
-use Rattle.hs_rules.proofs.EquationsOfActions.{act-If, act-Case, act-ModifyMVar, act-Catch, act-OnException, act-Finally, act-Bracket, act-Timeout, stmt-Bind, stmt-Let, stmt-Do, acts-OfMaybe, acts-OfEither, acts-OfList, acts-OfPair}
-use Rattle.hs_rules.specs.Slots.{slot_of}
-use Rattle.hs_rules.specs.CodeTrees.{a_if, a_maybe, a_either, a_list, a_pair, a_bind, a_fork, a_fork_unmask, a_catch, a_mask, a_mask_hard, a_restore, slot_or_end}
+use Rattle.rules_trees.specs.declared.forms.GuardAction.TheVariants as g
+use Rattle.rules_code.specs.declared.act.Act.TheVariants as k
+use Rattle.rules_trees.specs.Trees.{ex_of}
+use Rattle.rules_expansion.specs.Names.{Written, Added, Restorer}
+use Rattle.rules_trees.specs.Programs.{choose_act, case_act, modify, catch, guard, bracket, timeout, bind, let_in, then, maybe_acts, either_acts, list_acts, pair_acts, act_of, bl_of, stmt_of, act_arms_of}
+use Rattle.rules_trees.proofs.EquationsOfActions.{act-If, act-Case, act-ModifyMVar, act-Catch, act-OnException, act-Finally, act-Bracket, act-Timeout, stmt-Bind, stmt-Let, stmt-Do, acts-OfMaybe, acts-OfEither, acts-OfList, acts-OfPair}
+use Rattle.rules_code.specs.Slots.{slot_of}
+use Rattle.rules_code.specs.CodeTrees.{a_if, a_maybe, a_either, a_list, a_pair, a_bind, a_fork, a_fork_unmask, a_catch, a_mask, a_mask_hard, a_restore, slot_or_end}
 use Rattle.hs_nodes.specs.declared.names.Bound.TheVariants as w
 use Rattle.hs_core.specs.Opening.{arms_tree, added}
 use Rattle.hs_core.specs.Forms as form

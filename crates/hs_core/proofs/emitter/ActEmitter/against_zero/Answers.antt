@@ -1,4 +1,4 @@
-use Rattle.hs_rules.specs.Slots.{s_binary}
+use Rattle.rules_code.specs.Slots.{s_binary}
 use Rattle.hs_core.proofs.Steps.{ex_after2}
 use Rattle.hs_core.proofs.emitter.ActEmitter.against_zero.Goals as goal
 

@@ -1,4 +1,4 @@
-use Rattle.hs_rules.specs.CodeTrees.{a_mask, a_bind}
+use Rattle.rules_code.specs.CodeTrees.{a_mask, a_bind}
 use Rattle.hs_core.proofs.Steps.{after_one}
 use Rattle.hs_core.proofs.emitter.ActEmitter.bracket_whole.Goals as goal
 

@@ -1,5 +1,5 @@
 use Rattle.std.proofs.Common.{List, drop}
-use Rattle.hs_rules.specs.CodeTrees.{Sa}
+use Rattle.rules_code.specs.CodeTrees.{Sa}
 use Rattle.hs_core.specs.Emits.{DoneIn, Emits}
 use Rattle.hs_core.specs.Opening.{Opened, wrap_all, HoldAll}
 use Rattle.hs_core.proofs.emitter.ActEmitter.closed.Given as goal

@@ -1,6 +1,6 @@
 use Rattle.std.proofs.Common.{ap, ◌∙◌}
-use Rattle.hs_rules.specs.declared.node.Node.TheVariants as n
-use Rattle.hs_rules.specs.Slots.{s_binary, tree_at}
+use Rattle.rules_code.specs.declared.node.Node.TheVariants as n
+use Rattle.rules_code.specs.Slots.{s_binary, tree_at}
 use Rattle.hs_core.proofs.Steps.{leaf}
 use Rattle.hs_core.proofs.emitter.ActEmitter.compare.Goals as goal
 

@@ -1,8 +1,8 @@
-use Rattle.hs_rules.specs.declared.act.Primitive.TheVariants as p
+use Rattle.rules_code.specs.declared.act.Primitive.TheVariants as p
 use Rattle.hs_base.specs.declared.exn.Exn.TheVariants as x
-use Rattle.hs_rules.specs.Trees.{exception}
-use Rattle.hs_rules.specs.Slots.{s_none, s_more, s_literal}
-use Rattle.hs_rules.specs.CodeTrees.{a_perform, primitive_of}
+use Rattle.rules_trees.specs.Trees.{exception}
+use Rattle.rules_code.specs.Slots.{s_none, s_more, s_literal}
+use Rattle.rules_code.specs.CodeTrees.{a_perform, primitive_of}
 use Rattle.hs_core.proofs.Steps.{after_ex}
 use Rattle.hs_core.proofs.emitter.ActEmitter.kill_thread.Goals as goal
 

@@ -1,6 +1,6 @@
 use Rattle.std.proofs.Common.{refl}
-use Rattle.hs_rules.specs.declared.act.Act.TheVariants as k
-use Rattle.hs_rules.specs.CodeTrees.{a_catch}
+use Rattle.rules_code.specs.declared.act.Act.TheVariants as k
+use Rattle.rules_code.specs.CodeTrees.{a_catch}
 use Rattle.hs_core.proofs.Steps.{first}
 use Rattle.hs_core.proofs.emitter.ActEmitter.on_exception.Goals as goal
 

@@ -1,5 +1,5 @@
 use Rattle.std.proofs.Common.{sym, subst}
-use Rattle.hs_rules.specs.Slots.{s_none}
+use Rattle.rules_code.specs.Slots.{s_none}
 use Rattle.hs_core.specs.Emits.{AllStandIn}
 use Rattle.hs_core.proofs.Steps.{weaken}
 use Rattle.hs_core.proofs.emitter.ActEmitter.perform_none.Goals as goal

@@ -1,5 +1,5 @@
-use Rattle.hs_rules.specs.Slots.{s_none, s_more}
-use Rattle.hs_rules.specs.CodeTrees.{a_perform, primitive_of}
+use Rattle.rules_code.specs.Slots.{s_none, s_more}
+use Rattle.rules_code.specs.CodeTrees.{a_perform, primitive_of}
 use Rattle.hs_core.proofs.ActArena.{knows_on}
 use Rattle.hs_core.proofs.Steps.{after_ex2}
 use Rattle.hs_core.proofs.emitter.ActEmitter.primitive_two.Goals as goal

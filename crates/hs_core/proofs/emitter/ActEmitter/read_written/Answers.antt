@@ -1,8 +1,8 @@
 use Rattle.std.proofs.Common.{ap}
-use Rattle.hs_rules.specs.declared.node.Node.TheVariants as n
-use Rattle.hs_rules.specs.Slots.{s_slot}
-use Rattle.hs_rules.specs.Values.{Written}
-use Rattle.hs_rules.specs.CodeTrees.{slot_read}
+use Rattle.rules_code.specs.declared.node.Node.TheVariants as n
+use Rattle.rules_code.specs.Slots.{s_slot}
+use Rattle.rules_expansion.specs.Names.{Written}
+use Rattle.rules_code.specs.CodeTrees.{slot_read}
 use Rattle.hs_core.proofs.Steps.{leaf}
 use Rattle.hs_core.proofs.emitter.ActEmitter.read_written.Goals as goal
 

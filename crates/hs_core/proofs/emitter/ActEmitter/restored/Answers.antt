@@ -1,6 +1,6 @@
-use Rattle.hs_rules.specs.Values.{Added}
-use Rattle.hs_rules.specs.Slots.{slot_of}
-use Rattle.hs_rules.specs.CodeTrees.{slot_or_end}
+use Rattle.rules_expansion.specs.Names.{Added}
+use Rattle.rules_code.specs.Slots.{slot_of}
+use Rattle.rules_code.specs.CodeTrees.{slot_or_end}
 use Rattle.hs_nodes.specs.Names.{hidden_of}
 use Rattle.hs_core.proofs.Steps.{restores}
 use Rattle.hs_core.proofs.emitter.ActEmitter.restored.Goals as goal

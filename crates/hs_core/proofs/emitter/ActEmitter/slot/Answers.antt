@@ -1,5 +1,5 @@
 use Rattle.std.proofs.Common.{ap, ◌∙◌, sym}
-use Rattle.hs_rules.specs.CodeTrees.{slot_or_end}
+use Rattle.rules_code.specs.CodeTrees.{slot_or_end}
 use Rattle.hs_nodes.specs.Names.{scope_of}
 use Rattle.hs_nodes.proofs.Scopes.{scope-length}
 use Rattle.hs_core.proofs.emitter.ActEmitter.slot.Goals as goal

@@ -1,6 +1,6 @@
 use Rattle.std.proofs.Common.{refl}
-use Rattle.hs_rules.specs.declared.act.Act.TheVariants as k
-use Rattle.hs_rules.specs.CodeTrees.{a_throw}
+use Rattle.rules_code.specs.declared.act.Act.TheVariants as k
+use Rattle.rules_code.specs.CodeTrees.{a_throw}
 use Rattle.hs_core.proofs.Steps.{of_ex}
 use Rattle.hs_core.proofs.emitter.ActEmitter.throw_read.Goals as goal
 

@@ -1,6 +1,6 @@
 use Rattle.hs_nodes.specs.declared.names.Hidden.TheVariants as h
 use Rattle.hs_nodes.specs.declared.names.Bound.TheVariants as w
-use Rattle.hs_rules.specs.CodeTrees.{a_mask, a_bind}
+use Rattle.rules_code.specs.CodeTrees.{a_mask, a_bind}
 use Rattle.hs_core.proofs.Steps.{under, goes, kept, after2}
 use Rattle.hs_core.proofs.emitter.ActEmitter.timed_bracket.Goals as goal
 

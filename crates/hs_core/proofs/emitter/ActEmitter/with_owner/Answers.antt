@@ -1,8 +1,8 @@
 use Rattle.std.proofs.Common.{refl}
-use Rattle.hs_rules.specs.declared.act.Act.TheVariants as k
+use Rattle.rules_code.specs.declared.act.Act.TheVariants as k
 use Rattle.hs_nodes.specs.declared.names.Hidden.TheVariants as h
 use Rattle.hs_nodes.specs.declared.names.Bound.TheVariants as w
-use Rattle.hs_rules.specs.CodeTrees.{a_bind}
+use Rattle.rules_code.specs.CodeTrees.{a_bind}
 use Rattle.hs_core.proofs.Steps.{two, under, goes, kept}
 use Rattle.hs_core.proofs.emitter.ActEmitter.with_owner.Goals as goal
 

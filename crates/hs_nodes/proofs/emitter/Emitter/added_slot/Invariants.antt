@@ -1,6 +1,6 @@
 use Rattle.std.proofs.Common.{◌≡◌, take}
-use Rattle.hs_rules.specs.Slots.{slot_of}
-use Rattle.hs_rules.specs.Values.{Added}
+use Rattle.rules_code.specs.Slots.{slot_of}
+use Rattle.rules_expansion.specs.Names.{Added}
 use Rattle.hs_nodes.specs.Names.{scope_of, hidden_of}
 use Rattle.hs_nodes.proofs.emitter.Emitter.added_slot.Given as goal
 

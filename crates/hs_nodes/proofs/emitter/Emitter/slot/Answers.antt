@@ -1,5 +1,5 @@
 use Rattle.std.proofs.Common.{◌≡◌, ◌-◌, ◌+◌, ◌<◌, ◌≤◌, Bool, true, false, take, length, length-take-le, cond, Some, ap, ◌∙◌, sym, arith}
-use Rattle.hs_rules.specs.Values.{Written, same_name}
+use Rattle.rules_expansion.specs.Names.{Written, same_name}
 use Rattle.hs_nodes.specs.Names.{scope_of, name_of}
 use Rattle.hs_nodes.proofs.Scopes.{slot-step, scope-length}
 use Rattle.hs_nodes.proofs.emitter.Emitter.slot.Goals as goal

@@ -1,6 +1,6 @@
 use Rattle.std.proofs.Common.{◌≡◌, take}
-use Rattle.hs_rules.specs.Slots.{slot_of}
-use Rattle.hs_rules.specs.Values.{Written}
+use Rattle.rules_code.specs.Slots.{slot_of}
+use Rattle.rules_expansion.specs.Names.{Written}
 use Rattle.hs_nodes.specs.Names.{scope_of}
 use Rattle.hs_nodes.proofs.emitter.Emitter.slot.Given as goal
 

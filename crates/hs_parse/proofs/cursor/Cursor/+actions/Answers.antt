@@ -1,13 +1,13 @@
 use Rattle.std.proofs.Common.{rules, arith, refl}
 use Rattle.std.proofs.lemmas.Result.{err_from_is_err_and}
 use Rattle.hs_grammar.specs.Parser.{firsts, may_be_empty, read_then}
-use Rattle.hs_rules.specs.Grammar.{bare_arm, named_arm, empty_arm, cons_arm, maybe_arms, either_arms, list_arms, pair_arm, block, block_item, items, rule_of, action, after_name, cell_action, guard_action, mask_action, modify_form, bracket_form, other_action, thread_action}
+use Rattle.rules_grammar.specs.Grammar.{bare_arm, named_arm, empty_arm, cons_arm, maybe_arms, either_arms, list_arms, pair_arm, block, block_item, items, rule_of, action, after_name, cell_action, guard_action, mask_action, modify_form, bracket_form, other_action, thread_action}
 use Rattle.hs_parse.proofs.Steps.{steps}
 use Rattle.hs_parse.proofs.BlockSteps.{step_err, at_stmt, at_sep, at_last, item_next, item_last, block_fault, block_steps}
 use Rattle.hs_base.specs.declared.tree.action.Action.TheVariants as a
 use Rattle.hs_base.specs.declared.tree.action.BlockArms.TheVariants as arm
-use Rattle.hs_rules.specs.Grammar as g
-use Rattle.hs_rules.specs.GrammarKinds as k
+use Rattle.rules_grammar.specs.Grammar as g
+use Rattle.rules_grammar.specs.GrammarKinds as k
 use Rattle.hs_parse.proofs.Parts.{part_steps}
 use Rattle.hs_parse.proofs.ActionForms.{new_mvar_ok, new_mvar_err, take_mvar_ok, take_mvar_err, put_mvar_ok, put_mvar_err, read_mvar_ok, read_mvar_err, try_take_mvar_ok, try_take_mvar_err, try_put_mvar_ok, try_put_mvar_err}
 use Rattle.hs_parse.proofs.ActionSteps.{form_steps, modify_ok, modify_parts, bracket_ok, bracket_parts, bracket_body, guarded_all, guarded_handler, if_test, if_branches, if_all, case_subject, case_arms, case_all, of_arms, braces_arms, braces_semicolon, braces_close, braces_ok, arms_last, arms_both, pair_arrow}

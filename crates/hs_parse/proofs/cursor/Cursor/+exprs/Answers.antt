@@ -2,9 +2,9 @@ use Rattle.std.proofs.Common.{rules, arith, refl, sym}
 use Rattle.std.proofs.lemmas.Result.{err_from_is_err_and}
 use Rattle.hs_base.specs.declared.tree.expr.ExprArms.TheVariants as arm
 use Rattle.hs_grammar.specs.Parser.{firsts, may_be_empty, read_then}
-use Rattle.hs_rules.specs.Grammar as g
-use Rattle.hs_rules.specs.GrammarKinds as k
-use Rattle.hs_rules.specs.Grammar.{side_types, bare_arm, named_arm, empty_arm, cons_arm, maybe_arms, either_arms, list_arms, pair_arm, and, and_link, app, arg, atom, call, comparison, cons, cons_link, constructed, expr, expr_end, first_term, list_form, list_or_empty, next_item, or, or_link, plain_atom, product, product_link, rule_of, sum, sum_link}
+use Rattle.rules_grammar.specs.Grammar as g
+use Rattle.rules_grammar.specs.GrammarKinds as k
+use Rattle.rules_grammar.specs.Grammar.{side_types, bare_arm, named_arm, empty_arm, cons_arm, maybe_arms, either_arms, list_arms, pair_arm, and, and_link, app, arg, atom, call, comparison, cons, cons_link, constructed, expr, expr_end, first_term, list_form, list_or_empty, next_item, or, or_link, plain_atom, product, product_link, rule_of, sum, sum_link}
 use Rattle.hs_parse.proofs.Forms.{just_ok, just_err, error_call_ok, error_call_err, not_ok, not_err, fst_ok, fst_err, snd_ok, snd_err, show_ok, show_err, div_ok, div_err, mod_ok, mod_err}
 use Rattle.hs_parse.proofs.Parts.{part_steps, apart_ok, apart_first, apart_last, arms_symbol, bracket_closed, bracket_at, bracket_type, bracket_items, bracket_fault, bracket_open, case_ok, compare_ok, compare_err, if_ok, if_first, if_then, if_branches, items_ok, items_first, items_rest, pair_symbol}
 use Rattle.hs_parse.proofs.Steps.{steps, choose_yes, choose_no, turn_more, turn_stop, turn_fault, item-arg, item-next_item, item-product_link, item-sum_link, item-cons_link, item-and_link, item-or_link}

@@ -1,5 +1,5 @@
 use Rattle.std.proofs.Common.{rules, arith}
-use Rattle.hs_rules.specs.GrammarParts.{symbol}
+use Rattle.rules_grammar.specs.GrammarParts.{symbol}
 use Rattle.hs_parse.proofs.Looks.{any_found, any_next, any_none}
 use Rattle.hs_parse.proofs.cursor.Cursor.at_any_symbol.Goals as goal
 

@@ -1,5 +1,5 @@
 use Rattle.std.proofs.Common.{◌≡◌, drop, map}
-use Rattle.hs_rules.specs.GrammarParts.{symbol}
+use Rattle.rules_grammar.specs.GrammarParts.{symbol}
 use Rattle.hs_grammar.specs.Parser.{begins}
 use Rattle.hs_parse.proofs.cursor.Cursor.at_any_symbol.Given as goal
 

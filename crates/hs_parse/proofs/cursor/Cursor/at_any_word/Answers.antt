@@ -1,5 +1,5 @@
 use Rattle.std.proofs.Common.{rules, arith}
-use Rattle.hs_rules.specs.GrammarParts.{word}
+use Rattle.rules_grammar.specs.GrammarParts.{word}
 use Rattle.hs_parse.proofs.Looks.{any_found, any_next, any_none}
 use Rattle.hs_parse.proofs.cursor.Cursor.at_any_word.Goals as goal
 

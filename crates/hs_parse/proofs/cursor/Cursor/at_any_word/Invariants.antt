@@ -1,5 +1,5 @@
 use Rattle.std.proofs.Common.{◌≡◌, drop, map}
-use Rattle.hs_rules.specs.GrammarParts.{word}
+use Rattle.rules_grammar.specs.GrammarParts.{word}
 use Rattle.hs_grammar.specs.Parser.{begins}
 use Rattle.hs_parse.proofs.cursor.Cursor.at_any_word.Given as goal
 

@@ -1,6 +1,6 @@
 use Rattle.std.proofs.Common.{rules}
 use Rattle.hs_grammar.specs.Parser.{firsts, may_be_empty}
-use Rattle.hs_rules.specs.Grammar.{arg, atom, plain_atom}
+use Rattle.rules_grammar.specs.Grammar.{arg, atom, plain_atom}
 use Rattle.hs_parse.proofs.Looks.{look_yes, look_no, constant_yes, constant_no}
 use Rattle.hs_parse.proofs.cursor.Cursor.at_arg.Goals as goal
 

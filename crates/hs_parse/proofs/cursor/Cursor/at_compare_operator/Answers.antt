@@ -1,5 +1,5 @@
 use Rattle.hs_grammar.specs.Parser.{firsts, may_be_empty}
-use Rattle.hs_rules.specs.Grammar.{compare_end, compare_operator}
+use Rattle.rules_grammar.specs.Grammar.{compare_end, compare_operator}
 use Rattle.hs_parse.proofs.cursor.Cursor.at_compare_operator.Goals as goal
 
 pub returns : goal.returns

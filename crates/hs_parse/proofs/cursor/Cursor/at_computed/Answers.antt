@@ -1,5 +1,5 @@
 use Rattle.hs_grammar.specs.Parser.{firsts, may_be_empty}
-use Rattle.hs_rules.specs.Grammar.{computed}
+use Rattle.rules_grammar.specs.Grammar.{computed}
 use Rattle.hs_parse.proofs.cursor.Cursor.at_computed.Goals as goal
 
 pub returns : goal.returns

@@ -1,5 +1,5 @@
 use Rattle.hs_grammar.specs.Parser.{firsts, may_be_empty}
-use Rattle.hs_rules.specs.Grammar.{constructed, side_types}
+use Rattle.rules_grammar.specs.Grammar.{constructed, side_types}
 use Rattle.hs_parse.proofs.cursor.Cursor.at_constructed.Goals as goal
 
 pub returns : goal.returns

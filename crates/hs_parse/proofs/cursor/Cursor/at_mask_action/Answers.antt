@@ -1,5 +1,5 @@
 use Rattle.hs_grammar.specs.Parser.{firsts, may_be_empty}
-use Rattle.hs_rules.specs.Grammar.{mask_action}
+use Rattle.rules_grammar.specs.Grammar.{mask_action}
 use Rattle.hs_parse.proofs.cursor.Cursor.at_mask_action.Goals as goal
 
 pub returns : goal.returns

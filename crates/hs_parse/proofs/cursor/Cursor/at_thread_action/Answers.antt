@@ -1,5 +1,5 @@
 use Rattle.hs_grammar.specs.Parser.{firsts, may_be_empty}
-use Rattle.hs_rules.specs.Grammar.{thread_action, other_thread_action}
+use Rattle.rules_grammar.specs.Grammar.{thread_action, other_thread_action}
 use Rattle.hs_parse.proofs.cursor.Cursor.at_thread_action.Goals as goal
 
 pub returns : goal.returns

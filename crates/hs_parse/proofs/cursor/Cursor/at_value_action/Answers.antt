@@ -1,5 +1,5 @@
 use Rattle.hs_grammar.specs.Parser.{firsts, may_be_empty}
-use Rattle.hs_rules.specs.Grammar.{value_action}
+use Rattle.rules_grammar.specs.Grammar.{value_action}
 use Rattle.hs_parse.proofs.cursor.Cursor.at_value_action.Goals as goal
 
 pub returns : goal.returns

@@ -1,7 +1,7 @@
 use Rattle.std.proofs.Common.{rules}
 use Rattle.std.proofs.lemmas.Result.{err_from_is_err_and}
 use Rattle.hs_grammar.specs.Parser.{firsts, may_be_empty, read_then}
-use Rattle.hs_rules.specs.Grammar.{def}
+use Rattle.rules_grammar.specs.Grammar.{def}
 use Rattle.hs_parse.proofs.Steps.{steps}
 use Rattle.hs_parse.proofs.ActionSteps.{def_end}
 use Rattle.hs_parse.proofs.cursor.Cursor.def.Goals as goal

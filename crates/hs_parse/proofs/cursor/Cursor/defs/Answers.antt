@@ -1,8 +1,8 @@
 use Rattle.std.proofs.Common.{arith, sym}
 use Rattle.std.proofs.lemmas.Result.{err_from_is_err_and}
 use Rattle.hs_grammar.specs.Parser.{firsts, may_be_empty, read_then}
-use Rattle.hs_rules.specs.Grammar as g
-use Rattle.hs_rules.specs.Grammar.{items, def}
+use Rattle.rules_grammar.specs.Grammar as g
+use Rattle.rules_grammar.specs.Grammar.{items, def}
 use Rattle.hs_parse.proofs.Steps.{turn_more, turn_stop, turn_fault, item-def}
 use Rattle.hs_parse.proofs.cursor.Cursor.defs.Goals as goal
 

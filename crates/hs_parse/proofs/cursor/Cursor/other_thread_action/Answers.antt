@@ -1,10 +1,10 @@
 use Rattle.std.proofs.Common.{rules}
 use Rattle.std.proofs.lemmas.Result.{err_from_is_err_and}
 use Rattle.hs_grammar.specs.Parser.{firsts, may_be_empty, read_then}
-use Rattle.hs_rules.specs.Grammar.{other_thread_action}
+use Rattle.rules_grammar.specs.Grammar.{other_thread_action}
 use Rattle.hs_parse.proofs.Steps.{steps}
 use Rattle.hs_base.specs.declared.tree.action.Action.TheVariants as a
-use Rattle.hs_rules.specs.GrammarKinds as k
+use Rattle.rules_grammar.specs.GrammarKinds as k
 use Rattle.hs_parse.proofs.ActionForms.{throw_to_ok, throw_to_err, kill_thread_ok, kill_thread_err, thread_delay_ok, thread_delay_err}
 use Rattle.hs_parse.proofs.ActionSteps.{form_steps}
 use Rattle.hs_parse.proofs.cursor.Cursor.other_thread_action.Goals as goal

@@ -1,5 +1,5 @@
 use Rattle.std.proofs.Common.{rules}
-use Rattle.hs_rules.specs.Grammar.{param}
+use Rattle.rules_grammar.specs.Grammar.{param}
 use Rattle.hs_parse.proofs.Steps.{steps}
 use Rattle.hs_parse.proofs.cursor.Cursor.param.Goals as goal
 

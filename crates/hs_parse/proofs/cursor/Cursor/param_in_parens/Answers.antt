@@ -1,6 +1,6 @@
 use Rattle.std.proofs.Common.{rules}
 use Rattle.hs_grammar.specs.Parser.{firsts, may_be_empty, read_then}
-use Rattle.hs_rules.specs.Grammar.{rule_of}
+use Rattle.rules_grammar.specs.Grammar.{rule_of}
 use Rattle.hs_parse.proofs.Steps.{steps}
 use Rattle.hs_parse.proofs.cursor.Cursor.param_in_parens.Goals as goal
 

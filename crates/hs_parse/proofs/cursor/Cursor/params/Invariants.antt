@@ -1,5 +1,5 @@
 use Rattle.std.proofs.Common.{◌≡◌, ◌≤◌, length}
-use Rattle.hs_rules.specs.Grammar as g
+use Rattle.rules_grammar.specs.Grammar as g
 use Rattle.hs_parse.specs.Reads.{many_of, prepend}
 use Rattle.hs_parse.proofs.cursor.Cursor.params.Given as goal
 

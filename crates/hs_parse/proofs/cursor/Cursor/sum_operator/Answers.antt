@@ -1,6 +1,6 @@
 use Rattle.std.proofs.Common.{rules}
 use Rattle.hs_grammar.specs.Parser.{firsts, may_be_empty, read_then}
-use Rattle.hs_rules.specs.Grammar.{sum_operator}
+use Rattle.rules_grammar.specs.Grammar.{sum_operator}
 use Rattle.hs_parse.proofs.Steps.{steps}
 use Rattle.hs_parse.proofs.cursor.Cursor.sum_operator.Goals as goal
 

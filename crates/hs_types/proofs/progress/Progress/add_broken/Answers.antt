@@ -1,6 +1,6 @@
 use Rattle.std.proofs.Common.{[], ◌∷◌, ◌++◌, ap, ◌∙◌}
-use Rattle.hs_rules.specs.Programs.{fn_of}
-use Rattle.hs_rules.specs.TypingScripts.{fn_extent}
+use Rattle.rules_trees.specs.Programs.{fn_of}
+use Rattle.rules_typing.specs.TypingScripts.{fn_extent}
 use Rattle.hs_typing.specs.Views.{broken_of, kept_of, scope_of}
 use Rattle.hs_typing.specs.Contexts.{ctx_of}
 use Rattle.hs_typing.specs.Measuring.{exts_of}

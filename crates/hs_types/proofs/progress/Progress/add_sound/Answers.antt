@@ -1,7 +1,7 @@
 use Rattle.std.proofs.Common.{[], ◌∷◌, ◌++◌, ◌||◌, cond, ltb, ap, ◌∙◌}
-use Rattle.hs_rules.specs.Programs.{fn_of}
-use Rattle.hs_rules.specs.Typing.{large}
-use Rattle.hs_rules.specs.TypingSizes.{param_names, worst_body}
+use Rattle.rules_trees.specs.Programs.{fn_of}
+use Rattle.rules_typing.specs.Typing.{large}
+use Rattle.rules_typing.specs.TypingSizes.{param_names, worst_body}
 use Rattle.hs_judging.specs.JudgingScripts.{is_far}
 use Rattle.hs_judging.specs.Least.{least}
 use Rattle.hs_typing.specs.Views.{kept_of, scope_of}

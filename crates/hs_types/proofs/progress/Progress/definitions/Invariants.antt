@@ -1,5 +1,5 @@
 use Rattle.std.proofs.Common.{◌≡◌, [], drop, map}
-use Rattle.hs_rules.specs.Programs.{fn_of}
+use Rattle.rules_trees.specs.Programs.{fn_of}
 use Rattle.hs_judging.specs.JudgingScripts.{faults_from}
 use Rattle.hs_judging.specs.Least.{least}
 use Rattle.hs_typing.specs.Views.{kept_of, scope_of, sigs_of}

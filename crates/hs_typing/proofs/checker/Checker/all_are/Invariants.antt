@@ -1,6 +1,6 @@
 use Rattle.std.proofs.Common.{◌≡◌, drop, map}
-use Rattle.hs_rules.specs.Trees.{ty_of}
-use Rattle.hs_rules.specs.Typing.{is}
+use Rattle.rules_trees.specs.Trees.{ty_of}
+use Rattle.rules_typing.specs.Typing.{is}
 use Rattle.hs_judging.specs.Least.{least}
 use Rattle.hs_typing.specs.Views.{tys_of}
 use Rattle.hs_typing.specs.Judged.{names, kept, unmet, all_met}

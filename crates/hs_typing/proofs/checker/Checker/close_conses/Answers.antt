@@ -1,6 +1,6 @@
 use Rattle.std.proofs.Common.{◌≡◌, ◌-◌, ◌+◌, length, drop, ap, ◌∙◌, sym, arith}
-use Rattle.hs_rules.specs.Trees.{list_links_of, cons_form}
-use Rattle.hs_rules.specs.Typing.{row_binary}
+use Rattle.rules_trees.specs.Trees.{list_links_of, cons_form}
+use Rattle.rules_typing.specs.Typing.{row_binary}
 use Rattle.hs_judging.specs.Judging.{Found, folded, own, with2}
 use Rattle.hs_judging.specs.Least.{least}
 use Rattle.hs_typing.specs.Views.{opt_ty, opts_of}

@@ -1,5 +1,5 @@
 use Rattle.std.proofs.Common.{◌≡◌, ◌≤◌, length, drop}
-use Rattle.hs_rules.specs.Trees.{list_links_of}
+use Rattle.rules_trees.specs.Trees.{list_links_of}
 use Rattle.hs_judging.specs.Judging.{folded}
 use Rattle.hs_judging.specs.Least.{least}
 use Rattle.hs_typing.specs.Views.{opt_ty, opts_of}

@@ -1,5 +1,5 @@
 use Rattle.std.proofs.Common.{◌≡◌, drop}
-use Rattle.hs_rules.specs.Typing.{is_each}
+use Rattle.rules_typing.specs.Typing.{is_each}
 use Rattle.hs_judging.specs.Least.{least}
 use Rattle.hs_typing.specs.Views.{tys_of}
 use Rattle.hs_typing.specs.Judged.{names, kept, unmet, all_met}

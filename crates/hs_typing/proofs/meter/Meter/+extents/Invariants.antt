@@ -1,6 +1,6 @@
 use Rattle.std.proofs.Common.{◌≡◌, ◌+◌, ◌≤◌, min, max, drop}
-use Rattle.hs_rules.specs.Trees.{exs_of, links_of, sum_links_of, list_links_of}
-use Rattle.hs_rules.specs.TypingSizes.{Extent, extents, link_extents}
+use Rattle.rules_trees.specs.Trees.{exs_of, links_of, sum_links_of, list_links_of}
+use Rattle.rules_typing.specs.TypingSizes.{Extent, extents, link_extents}
 use Rattle.hs_typing.specs.Views.{scope_of, sigs_of}
 use Rattle.hs_typing.specs.Measuring.{exts_of, Sofar}
 use Rattle.hs_typing.proofs.meter.Meter.+extents.Given as goal

@@ -1,6 +1,6 @@
 use Rattle.std.proofs.Common.{◌≡◌, ◌≤◌, ◌-◌, min, max, length, drop}
-use Rattle.hs_rules.specs.Programs.{rest_of}
-use Rattle.hs_rules.specs.TypingSizes.{worst_bl}
+use Rattle.rules_trees.specs.Programs.{rest_of}
+use Rattle.rules_typing.specs.TypingSizes.{worst_bl}
 use Rattle.hs_typing.specs.Views.{scope_of, sigs_of}
 use Rattle.hs_typing.specs.Measuring.{exts_of}
 use Rattle.hs_typing.proofs.meter.Meter.+worst.Given as goal

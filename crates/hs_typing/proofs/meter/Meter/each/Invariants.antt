@@ -1,6 +1,6 @@
 use Rattle.std.proofs.Common.{◌≡◌, drop}
-use Rattle.hs_rules.specs.Trees.{exs_of}
-use Rattle.hs_rules.specs.TypingSizes.{worst_exs}
+use Rattle.rules_trees.specs.Trees.{exs_of}
+use Rattle.rules_typing.specs.TypingSizes.{worst_exs}
 use Rattle.hs_typing.specs.Views.{scope_of, sigs_of}
 use Rattle.hs_typing.specs.Measuring.{exts_of, Worst}
 use Rattle.hs_typing.proofs.meter.Meter.each.Given as goal

@@ -1,5 +1,5 @@
 use Rattle.std.proofs.Common.{◌≡◌, ◌≤◌, length, take}
-use Rattle.hs_rules.specs.Typing.{look}
+use Rattle.rules_typing.specs.Typing.{look}
 use Rattle.hs_typing.specs.Views.{scope_of}
 use Rattle.hs_typing.proofs.table.Table.look.Given as goal
 

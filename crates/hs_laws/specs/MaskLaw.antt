@@ -1,0 +1,44 @@
+-- The law of masks: what is true wherever a thread receives an exception ("Asynchronous Exceptions in Haskell"; the
+-- documentation of `Control.Exception` on interruptible operations).
+use Rattle.std.specs.Prelude.{◌≡◌, ◌≢◌, ℕ, true, false, List, [], ◌∷◌, ◌++◌, Option, Some, None, ◌⊎◌, slice_get}
+use Rattle.hs_base.specs.declared.mask.Mask.TheVariants.{Unmasked, Uninterruptible}
+use Rattle.hs_base.specs.declared.exn.Exn.{Exn}
+use Rattle.hs_rules.specs.declared.entry.Entry.{Entry}
+use Rattle.hs_rules.specs.declared.entry.Entry.TheVariants as entry
+use Rattle.rules_meaning.specs.Values.{V, Exception}
+use Rattle.rules_meaning.specs.Values as val
+use Rattle.rules_expansion.specs.Core.{ThrowTo}
+use Rattle.rules_meaning.specs.CoreMeaning.{Code}
+use Rattle.hs_rules.specs.Terms.{Calls, Performs, mask_at}
+use Rattle.rules_waiting.specs.Waiting.{Reason, Throwing, Flying, is_blocked, reason_of, flight_of, flying_to, first_thrown}
+use Rattle.hs_rules.specs.State.{Thread, State}
+use Rattle.hs_rules.specs.Entries.{next}
+use Rattle.hs_rules.specs.Runs.{Run}
+
+-- from a state on, and through all these entries, thread w waits for this reason
+abbrev pub WaitsThrough : Code → State → List Entry → ℕ → Reason V → Type 0
+WaitsThrough code s [] w r = reason_of w s.blocked ≡ Some r
+WaitsThrough code s (e ∷ es) w r = (reason_of w s.blocked ≡ Some r) × (e ≢ entry.Receive w) × ((m : State) → next code s e ≡ Some m → WaitsThrough code m es w r)
+
+-- an Op of `throwTo t e` by thread w stands in the run and blocked w, which has waited for it to be received ever since
+pub record ThrownBy (code : Code) (s : State) (es : List Entry) (w t : ℕ) (e : Exn) : Type 0 where
+  pub front : List Entry
+  pub back : List Entry
+  pub split : es ≡ front ++ entry.Op w ∷ back
+  pub state : State
+  pub run : Run code s front state
+  pub thread : Thread
+  pub is : slice_get state.threads w ≡ Some thread
+  pub part : thread.term.part ≡ Performs (Calls ThrowTo (val.Thread t ∷ Exception e ∷ []))
+  pub through : (m : State) → next code state (entry.Op w) ≡ Some m → WaitsThrough code m back w (Throwing t e)
+
+-- At a Receive of thread t in state u: t is blocked and not masked uninterruptibly, or it isn't blocked and not masked;
+-- and the exception that it receives is the first in flight to it, and was thrown by a thread that waits for that ever since.
+pub record Received (code : Code) (s : State) (es : List Entry) (u : State) (t : ℕ) : Type 0 where
+  pub thread : Thread
+  pub is : slice_get u.threads t ≡ Some thread
+  pub open_now : ((is_blocked t u.blocked ≡ true) × (mask_at thread.term.frames ≢ Uninterruptible)) ⊎ ((is_blocked t u.blocked ≡ false) × (mask_at thread.term.frames ≡ Unmasked))
+  pub w : ℕ
+  pub e : Exn
+  pub first : first_thrown (flying_to t (flight_of u.blocked)) ≡ Some (w, e)
+  pub thrown : ThrownBy code s es w t e

@@ -1,8 +1,0 @@
--- What a handle on a code stands for.
-use Rattle.std.specs.Arc.{arc_value}
-use Rattle.hs_rules.specs.declared.code.Body.{Body}
-use Rattle.hs_rules.specs.declared.code.Code.{Code}
-
--- Two codes are equal where these are.
-abbrev pub body_of : Code → Body
-body_of c = arc_value c.body

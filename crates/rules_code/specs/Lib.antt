@@ -1,0 +1,4 @@
+pub mod CodeTrees
+pub mod Codes
+pub mod Matching
+pub mod Slots

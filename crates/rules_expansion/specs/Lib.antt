@@ -1,0 +1,4 @@
+pub mod Core
+pub mod Expansion
+pub mod Names
+pub mod Sizes

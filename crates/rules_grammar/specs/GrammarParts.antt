@@ -1,0 +1,58 @@
+-- What the grammar sees of a token, and the parts of a script that stand in an opener (own).
+use Rattle.std.specs.Prelude.{◌⊎◌, ℕ, List}
+use Rattle.hs_base.specs.declared.pos.Pos.{Pos}
+use Rattle.hs_base.specs.declared.tree.action.Block.{Block}
+use Rattle.hs_base.specs.declared.tree.action.BlockArms.{BlockArms}
+use Rattle.hs_base.specs.declared.tree.expr.Expr.{Expr}
+use Rattle.hs_base.specs.declared.tree.expr.ExprArms.{ExprArms}
+use Rattle.hs_base.specs.declared.tree.expr.Name.{Name}
+use Rattle.hs_base.specs.declared.tree.script.Param.{Param}
+use Rattle.hs_base.specs.declared.tree.ty.Ty.{Ty}
+use Rattle.rules_tokens.specs.declared.token.Tok.{Tok}
+use Rattle.rules_tokens.specs.declared.token.Tok.TheVariants as tok
+
+-- what the grammar sees of a token: a reserved word and a symbol go by their numbers
+pub data Kind : Type 0 where
+  name : Kind
+  upper : Kind
+  int : Kind
+  text : Kind
+  word : ℕ → Kind
+  symbol : ℕ → Kind
+
+abbrev pub kind_of : Tok → Kind
+kind_of (tok.Name x) = name
+kind_of tok.Upper = upper
+kind_of (tok.Int n) = int
+kind_of (tok.Text x) = text
+kind_of (tok.Word w) = word w
+kind_of (tok.Sym s) = symbol s
+
+-- What stands in an opener, up to its closing bracket or to the end of its form, with the values that it gives. A value
+-- that waits for the opener's position is a function of it.
+pub data Part : Type 0 → Type 1 where
+  -- in ( and [ of a type
+  type_in_parens : Part Ty
+  type_in_brackets : Part Ty
+  -- in ( of a parameter
+  param_in_parens : Part Param
+  -- in { of a block
+  block_in_braces : Part Block
+  -- behind if and case of an action, and in { of the case's arms
+  block_if : Part (Expr × Block × Block)
+  block_case : Part (Expr × BlockArms)
+  block_arms : Part BlockArms
+  -- behind let of a statement
+  let_stmt : Part (Name × Expr)
+  -- in [ and ( of a pattern
+  no_items : Part (Unit {0})
+  two_names : Part (Name × Name)
+  -- behind if, case and let of an expression, and in { of the case's arms
+  expr_if : Part (Expr × Expr × Expr)
+  expr_case : Part (Expr × ExprArms)
+  expr_arms : Part ExprArms
+  expr_let : Part (Name × Expr × Expr)
+  -- in ( and [ of an expression; and in a [ where the list may be empty
+  expr_in_parens : Part (Pos → Expr)
+  items_in_brackets : Part (List Expr)
+  items_or_none : Part (Unit {0} ⊎ List Expr)

@@ -1,0 +1,4 @@
+pub mod Grammar
+pub mod GrammarForms
+pub mod GrammarKinds
+pub mod GrammarParts

@@ -1,0 +1,2 @@
+pub mod MeaningRows
+pub mod Values

@@ -1,0 +1,3 @@
+pub mod CoreMeaning
+pub mod Meaning
+pub mod Values

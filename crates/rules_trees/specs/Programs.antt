@@ -1,0 +1,168 @@
+-- The abstract syntax of actions, blocks and scripts as the rules see it (own), beside that of expressions in `Trees`.
+use Rattle.std.specs.Prelude.{ℕ, List, [], ◌∷◌, map}
+use Rattle.hs_base.specs.declared.pos.Pos.{Pos}
+use Rattle.hs_base.specs.declared.tree.expr.Name.{Name}
+use Rattle.hs_base.specs.declared.tree.action.Action.{Action}
+use Rattle.hs_base.specs.declared.tree.action.Block.{Block}
+use Rattle.hs_base.specs.declared.tree.action.BlockArms.{BlockArms}
+use Rattle.hs_base.specs.declared.tree.action.Stmt.{Stmt}
+use Rattle.hs_base.specs.declared.tree.action.Action.TheOpen.{Action-F, Block-F, BlockArms-F, Stmt-F}
+use Rattle.hs_base.specs.declared.tree.action.Action.TheFolds.{fold-Action, fold-Block, fold-BlockArms, fold-Stmt}
+use Rattle.hs_base.specs.declared.tree.script.Param.{Param}
+use Rattle.hs_base.specs.declared.tree.script.Body.{Body}
+use Rattle.hs_base.specs.declared.tree.script.Body.TheVariants as y
+use Rattle.hs_base.specs.declared.tree.script.Def.{Def}
+use Rattle.hs_base.specs.declared.tree.script.Script.{Script}
+use Rattle.rules_trees.specs.Trees.{Wr, wr_of, Ex, Exs, ex_of, exs_of}
+use Rattle.rules_trees.specs.declared.forms.BareAction.{BareAction}
+use Rattle.rules_trees.specs.declared.forms.BareAction.TheVariants as z
+use Rattle.rules_trees.specs.declared.forms.UnaryAction.{UnaryAction}
+use Rattle.rules_trees.specs.declared.forms.UnaryAction.TheVariants as u
+use Rattle.rules_trees.specs.declared.forms.BinaryAction.{BinaryAction}
+use Rattle.rules_trees.specs.declared.forms.BinaryAction.TheVariants as b
+use Rattle.rules_trees.specs.declared.forms.BlockAction.{BlockAction}
+use Rattle.rules_trees.specs.declared.forms.BlockAction.TheVariants as k
+use Rattle.rules_trees.specs.declared.forms.MaskingAction.{MaskingAction}
+use Rattle.rules_trees.specs.declared.forms.MaskingAction.TheVariants as m
+use Rattle.rules_trees.specs.declared.forms.GuardAction.{GuardAction}
+use Rattle.rules_trees.specs.declared.forms.GuardAction.TheVariants as g
+
+-- ---- actions and blocks
+
+mutual
+  pub data Act : Type 0 where
+    bare : BareAction → Pos → Act
+    unary_act : UnaryAction → Pos → Ex → Act
+    binary_act : BinaryAction → Pos → Ex → Ex → Act
+    throw_io : Pos → Wr → Ex → Act
+    new_empty : Pos → Wr → Act
+    call : Name → Exs → Act
+    choose_act : Pos → Ex → Bl → Bl → Act
+    case_act : Pos → Ex → ActArms → Act
+    -- modifyMVar_ m x B
+    modify : Pos → Ex → Name → Bl → Act
+    scoped : BlockAction → Pos → Bl → Act
+    masking : MaskingAction → Pos → Name → Bl → Act
+    restore : Pos → Name → Bl → Act
+    catch : Pos → Bl → Name → Bl → Act
+    guard : GuardAction → Pos → Bl → Bl → Act
+    bracket : Pos → Bl → Name → Bl → Bl → Act
+    timeout : Pos → Ex → Bl → Act
+
+  pub data Bl : Type 0 where
+    last : Act → Bl
+    then : Act → Bl → Bl
+    -- x <- a; the rest
+    bind : Name → Act → Bl → Bl
+    -- let x = e; the rest
+    let_in : Name → Ex → Bl → Bl
+
+  pub data ActArms : Type 0 where
+    maybe_acts : Bl → Name → Bl → ActArms
+    either_acts : Name → Bl → Name → Bl → ActArms
+    list_acts : Bl → Name → Name → Bl → ActArms
+    pair_acts : Name → Name → Bl → ActArms
+
+-- statements in front of a block
+abbrev pub before : List (Bl → Bl) → Bl → Bl
+before [] c = c
+before (s ∷ ss) c = s (before ss c)
+
+abbrev pub act_step : Action-F Act ActArms (Bl → Bl) Bl → Act
+act_step (Action-F.Return p e) = unary_act u.Return p (ex_of e)
+act_step (Action-F.ThrowIo p w e) = throw_io p (wr_of w) (ex_of e)
+act_step (Action-F.If p e a c) = choose_act p (ex_of e) a c
+act_step (Action-F.Case p e arms) = case_act p (ex_of e) arms
+act_step (Action-F.Call f es) = call f (exs_of es)
+act_step (Action-F.PutStr p e) = unary_act u.PutStr p (ex_of e)
+act_step (Action-F.PutStrLn p e) = unary_act u.PutStrLn p (ex_of e)
+act_step (Action-F.HPutStrLn p e) = unary_act u.HPutStrLn p (ex_of e)
+act_step (Action-F.NewMVar p e) = unary_act u.NewMVar p (ex_of e)
+act_step (Action-F.NewEmptyMVar p w) = new_empty p (wr_of w)
+act_step (Action-F.TakeMVar p e) = unary_act u.TakeMVar p (ex_of e)
+act_step (Action-F.PutMVar p e f) = binary_act b.PutMVar p (ex_of e) (ex_of f)
+act_step (Action-F.ReadMVar p e) = unary_act u.ReadMVar p (ex_of e)
+act_step (Action-F.TryTakeMVar p e) = unary_act u.TryTakeMVar p (ex_of e)
+act_step (Action-F.TryPutMVar p e f) = binary_act b.TryPutMVar p (ex_of e) (ex_of f)
+act_step (Action-F.ModifyMVar p e x a) = modify p (ex_of e) x a
+act_step (Action-F.ForkIo p a) = scoped k.ForkIo p a
+act_step (Action-F.ForkIoWithUnmask p x a) = masking m.ForkIoWithUnmask p x a
+act_step (Action-F.MyThreadId p) = bare z.MyThreadId p
+act_step (Action-F.ThrowTo p e f) = binary_act b.ThrowTo p (ex_of e) (ex_of f)
+act_step (Action-F.KillThread p e) = unary_act u.KillThread p (ex_of e)
+act_step (Action-F.ThreadDelay p e) = unary_act u.ThreadDelay p (ex_of e)
+act_step (Action-F.ClockMicros p) = bare z.ClockMicros p
+act_step (Action-F.GetMaskingState p) = bare z.GetMaskingState p
+act_step (Action-F.Catch p a x c) = catch p a x c
+act_step (Action-F.Mask p x a) = masking m.Mask p x a
+act_step (Action-F.MaskOnly p a) = scoped k.MaskOnly p a
+act_step (Action-F.UninterruptibleMask p x a) = masking m.UninterruptibleMask p x a
+act_step (Action-F.UninterruptibleMaskOnly p a) = scoped k.UninterruptibleMaskOnly p a
+act_step (Action-F.Restore p x a) = restore p x a
+act_step (Action-F.OnException p a c) = guard g.OnException p a c
+act_step (Action-F.Finally p a c) = guard g.Finally p a c
+act_step (Action-F.Bracket p a x c e) = bracket p a x c e
+act_step (Action-F.Timeout p e a) = timeout p (ex_of e) a
+
+abbrev pub stmt_step : Stmt-F Act ActArms (Bl → Bl) Bl → Bl → Bl
+stmt_step (Stmt-F.Bind x a) c = bind x a c
+stmt_step (Stmt-F.Let x e) c = let_in x (ex_of e) c
+stmt_step (Stmt-F.Do a) c = then a c
+
+abbrev pub block_step : Block-F Act ActArms (Bl → Bl) Bl → Bl
+block_step c = before c.stmts (last c.last)
+
+abbrev pub act_arms_step : BlockArms-F Act ActArms (Bl → Bl) Bl → ActArms
+act_arms_step (BlockArms-F.OfMaybe a x c) = maybe_acts a x c
+act_arms_step (BlockArms-F.OfEither x a y c) = either_acts x a y c
+act_arms_step (BlockArms-F.OfList a x y c) = list_acts a x y c
+act_arms_step (BlockArms-F.OfPair x y a) = pair_acts x y a
+
+abbrev pub act_of : Action → Act
+act_of = fold-Action Act ActArms (Bl → Bl) Bl act_step act_arms_step stmt_step block_step
+
+abbrev pub stmt_of : Stmt → Bl → Bl
+stmt_of = fold-Stmt Act ActArms (Bl → Bl) Bl act_step act_arms_step stmt_step block_step
+
+abbrev pub bl_of : Block → Bl
+bl_of = fold-Block Act ActArms (Bl → Bl) Bl act_step act_arms_step stmt_step block_step
+
+abbrev pub act_arms_of : BlockArms → ActArms
+act_arms_of = fold-BlockArms Act ActArms (Bl → Bl) Bl act_step act_arms_step stmt_step block_step
+
+-- these statements and a last action
+abbrev pub rest_of : List Stmt → Action → Bl
+rest_of ss a = before (map stmt_of ss) (last (act_of a))
+
+-- ---- scripts
+
+-- a parameter
+pub record Par : Type 0 where
+  pub name : Name
+  pub ty : Wr
+
+pub data Bd : Type 0 where
+  -- t = e
+  pure_body : Wr → Ex → Bd
+  -- IO t = A
+  io_body : Wr → Bl → Bd
+
+-- a definition
+pub record Fn : Type 0 where
+  pub name : Name
+  pub params : List Par
+  pub body : Bd
+
+abbrev pub par_of : Param → Par
+par_of p = record { name = p.name; ty = wr_of p.ty }
+
+abbrev pub bd_of : Body → Bd
+bd_of (y.Pure w e) = pure_body (wr_of w) (ex_of e)
+bd_of (y.Action w a) = io_body (wr_of w) (bl_of a)
+
+abbrev pub fn_of : Def → Fn
+fn_of d = record { name = d.name; params = map par_of d.params; body = bd_of d.body }
+
+-- the definitions in order
+abbrev pub script_of : Script → List Fn
+script_of s = map fn_of s.defs
