@@ -8,32 +8,22 @@ use Rattle.std.proofs.Math.Seq.{drop-append_seam}
 use Rattle.hs_io.specs.Causes.{HasCause, Rose}
 use Rattle.hs_io.specs.Outside.{Puts}
 use Rattle.hs_rules.specs.declared.entry.Entry.{Entry}
-use Rattle.rules_tokens.specs.declared.token.Tokens.{Tokens}
-use Rattle.rules_tokens.specs.Tokens.{HasTokens}
 use Rattle.hs_base.specs.declared.tree.script.Script.{Script}
 use Rattle.rules_trees.specs.Programs.{Fn, script_of}
 use Rattle.conc_top.specs.PlainScripts.{PlainScript, plain_history, lines_of, plain_end}
-use Rattle.hs_rules.specs.Runs.{after}
+use Rattle.hs_rules.specs.Runs.{IsRun}
 use Rattle.conc_top.proofs.PlainRuns.{plain_runs}
 use Rattle.conc_top.specs.declared.ending.RunEnd.{RunEnd}
 use Rattle.conc_top.specs.declared.ending.RunEnd.TheVariants as end
-use Rattle.conc_top.specs.declared.ending.Refusal.{Refusal}
-use Rattle.conc_top.specs.declared.ending.Refusal.TheVariants.{TooLong, Lex, Parse, Types, NotYet}
+use Rattle.hs_compile.specs.declared.refusal.Refusal.{Refusal}
+use Rattle.hs_compile.specs.declared.refusal.Refusal.TheVariants.{TooLong, Lex, Parse, Types, NotYet}
 use Rattle.conc_top.specs.declared.ending.Ending.{Ending}
 use Rattle.conc_top.specs.declared.ending.Ending.TheVariants.{Ran, Accepted, Words, Refused, Read, Memory, Write}
-use Rattle.conc_top.specs.Answers.{script_limit, Comes, ErrorsFailed, IsDue, IsIdle, IsLeft, Keeps, OutputFailed, RunsScript, Tells}
-use Rattle.conc_top.specs.Answers.{HasLines, IsAccepted, IsFirstFault, IsMisspelled, IsMistyped, IsSpelled}
-use Rattle.hs_types.specs.Faults as types
-use Rattle.hs_typing.specs.declared.fault.TypeFault.{TypeFault}
-use Rattle.hs_typing.specs.declared.fault.TypeFault.TheVariants as fault
-use Rattle.hs_parse.specs.Parsed.{Parsed}
-use Rattle.hs_parse.specs.declared.fault.ParseFault.{ParseFault}
-use Rattle.hs_parse.specs.declared.fault.ParseFault.TheVariants as parse
+use Rattle.hs_compile.specs.Verdicts.{script_limit, IsAccepted}
+use Rattle.conc_top.specs.Inputs.{IsWhole}
+use Rattle.conc_top.specs.Answers.{Comes, ErrorsFailed, HasLines, IsDue, IsIdle, IsLeft, IsRefused, Keeps, OutputFailed, RunsScript, Tells}
 use Rattle.conc_top.specs.Lines.{HasPlace}
-use Rattle.hs_lex.specs.Answers.{IsRight}
-use Rattle.hs_lex.specs.declared.fault.LexFault.{LexFault}
-use Rattle.hs_lex.specs.declared.fault.LexFault.TheVariants as lex
-use Rattle.conc_top.specs.Outcomes.{IsJudged, IsToldFor, WasPlayed, WasRefused}
+use Rattle.conc_top.specs.Outcomes.{IsJudged, IsToldFor, WasPlayed}
 
 -- ---- what is told
 
@@ -80,7 +70,7 @@ plain_ran bytes s ds lines history output spelled is plain same printed = record
   script = ds;
   spelled = (s, spelled, is, lines, plain);
   state = plain_end (lines_of lines);
-  run = ap (λ h. after ds h) same ∙ plain_runs plain;
+  run = subst (λ h. IsRun ds h (plain_end (lines_of lines))) (sym same) (plain_runs plain);
   done = refl;
   output_is = printed;
   errors_is = refl;
@@ -106,7 +96,7 @@ played_comes : (good fault : Type 0) (before now : Option (List ℕ)) (taken : L
 played_comes good fault before now taken end.Done history output is_good short consumed end played = record {
   bytes = taken;
   left = known_left before now taken consumed end;
-  due = (is_good, (short, played.0, played.1));
+  due = (is_good, (played.0, played.1));
   kept = script_ran taken played.0 history output played.1 played.2 played.3;
   through = end_through before now taken short consumed end;
 }
@@ -118,34 +108,12 @@ played_comes good fault before now taken end.Write history output is_good short 
 played_comes good fault before now taken (end.Limit kind entry) history output is_good short consumed end played = absurd played
 
 refused_comes : (good fault : Type 0) (before now : Option (List ℕ)) (taken : List ℕ) (r : Refusal) (history : List Entry) (output : List ℕ) → good
-    → length taken ≤ script_limit → Consumes before now taken → IsAtEnd now → WasRefused r taken → history ≡ [] → output ≡ []
+    → length taken ≤ script_limit → Consumes before now taken → IsAtEnd now → IsRefused r taken → history ≡ [] → output ≡ []
     → Comes good fault before now (Refused r) history output [] 0
-refused_comes good fault before now taken TooLong history output is_good short consumed end why none nothing = absurd why
-refused_comes good fault before now taken (Lex f) history output is_good short consumed end why none nothing = record {
+refused_comes good fault before now taken r history output is_good short consumed end why none nothing = record {
   bytes = taken;
   left = known_left before now taken consumed end;
-  due = (is_good, (short, why));
-  kept = idle history output none nothing;
-  through = end_through before now taken short consumed end;
-}
-refused_comes good fault before now taken (Parse f) history output is_good short consumed end why none nothing = record {
-  bytes = taken;
-  left = known_left before now taken consumed end;
-  due = (is_good, (short, why));
-  kept = idle history output none nothing;
-  through = end_through before now taken short consumed end;
-}
-refused_comes good fault before now taken (Types f) history output is_good short consumed end why none nothing = record {
-  bytes = taken;
-  left = known_left before now taken consumed end;
-  due = (is_good, (short, why));
-  kept = idle history output none nothing;
-  through = end_through before now taken short consumed end;
-}
-refused_comes good fault before now taken NotYet history output is_good short consumed end why none nothing = record {
-  bytes = taken;
-  left = known_left before now taken consumed end;
-  due = (is_good, (short, why));
+  due = (is_good, why);
   kept = idle history output none nothing;
   through = end_through before now taken short consumed end;
 }
@@ -181,34 +149,73 @@ long_left None now taken long consumed = (taken, tt, omega (arith, long))
 long_left (Some known) None taken long consumed = absurd consumed
 long_left (Some known) (Some left) taken long consumed = (known, refl, longer known left taken consumed long)
 
-pub too_long_comes : (good fault : Type 0) (before now : Option (List ℕ)) (e : Ending) (history : List Entry) (output taken : List ℕ) → good
-    → length taken ≡ script_limit + 1 → Consumes before now taken → e ≡ Refused TooLong → history ≡ [] → output ≡ [] → Comes good fault before now e history output [] 0
-too_long_comes good fault before now e history output taken is_good long consumed is none nothing =
+-- ---- more bytes than a script may have
+
+too_long_comes : (good fault : Type 0) (before now : Option (List ℕ)) (history : List Entry) (output taken : List ℕ) → good
+    → length taken ≡ script_limit + 1 → Consumes before now taken → history ≡ [] → output ≡ [] → Comes good fault before now (Refused TooLong) history output [] 0
+too_long_comes good fault before now history output taken is_good long consumed none nothing =
     let found = long_left before now taken long consumed in
-    subst (λ e. Comes good fault before now e history output [] 0) (sym is)
-    (record {
+    record {
       bytes = found.0;
       left = found.1;
       due = (is_good, found.2);
       kept = idle history output none nothing;
       through = cut_through before now taken long consumed;
-    })
+    }
+
+-- so many bytes are no script, and no other refusal of them is due
+not_short : (taken : List ℕ) → length taken ≡ script_limit + 1 → length taken ≤ script_limit → ⊥
+not_short taken long short = omega (arith, long, short)
+
+long_refused : (good fault : Type 0) (before now : Option (List ℕ)) (taken : List ℕ) (r : Refusal) (history : List Entry) (output : List ℕ) → good
+    → length taken ≡ script_limit + 1 → Consumes before now taken → IsRefused r taken → history ≡ [] → output ≡ [] → Comes good fault before now (Refused r) history output [] 0
+long_refused good fault before now taken TooLong history output is_good long consumed why none nothing = too_long_comes good fault before now history output taken is_good long consumed none nothing
+long_refused good fault before now taken (Lex f) history output is_good long consumed why none nothing = absurd (not_short taken long why.0)
+long_refused good fault before now taken (Parse f) history output is_good long consumed why none nothing = absurd (not_short taken long why.0)
+long_refused good fault before now taken (Types f) history output is_good long consumed why none nothing = absurd (not_short taken long why.1.0)
+long_refused good fault before now taken NotYet history output is_good long consumed why none nothing = absurd (not_short taken long why.1.0.0)
+
+long_played : (taken : List ℕ) (r : RunEnd) (history : List Entry) (output : List ℕ) → length taken ≡ script_limit + 1 → WasPlayed r taken history output → ⊥
+long_played taken end.Done history output long played = not_short taken long played.1.1.0.0
+long_played taken end.Uncaught history output long played = absurd played
+long_played taken end.Deadlock history output long played = absurd played
+long_played taken end.Fuel history output long played = absurd played
+long_played taken end.Memory history output long played = absurd played
+long_played taken end.Write history output long played = absurd played
+long_played taken (end.Limit kind entry) history output long played = absurd played
+
+-- ---- what the bytes that were read come to
+
+whole : (good fault : Type 0) (before now : Option (List ℕ)) (taken : List ℕ) (e : Ending) (history : List Entry) (output : List ℕ) → good
+    → length taken ≤ script_limit → Consumes before now taken → IsAtEnd now → IsJudged e taken history output → Comes good fault before now e history output [] 0
+whole good fault before now taken (Ran r) history output is_good short consumed end is = played_comes good fault before now taken r history output is_good short consumed end is
+whole good fault before now taken (Refused r) history output is_good short consumed end is =
+    refused_comes good fault before now taken r history output is_good short consumed end is.0 is.1 is.2
+whole good fault before now taken Memory history output is_good short consumed end is = memory_comes good fault before now Memory history output is_good refl is.0 is.1
+whole good fault before now taken Accepted history output is_good short consumed end is = absurd is
+whole good fault before now taken Words history output is_good short consumed end is = absurd is
+whole good fault before now taken Read history output is_good short consumed end is = absurd is
+whole good fault before now taken Write history output is_good short consumed end is = absurd is
+
+cut : (good fault : Type 0) (before now : Option (List ℕ)) (taken : List ℕ) (e : Ending) (history : List Entry) (output : List ℕ) → good
+    → length taken ≡ script_limit + 1 → Consumes before now taken → IsJudged e taken history output → Comes good fault before now e history output [] 0
+cut good fault before now taken (Ran r) history output is_good long consumed is = absurd (long_played taken r history output long is)
+cut good fault before now taken (Refused r) history output is_good long consumed is = long_refused good fault before now taken r history output is_good long consumed is.0 is.1 is.2
+cut good fault before now taken Memory history output is_good long consumed is = memory_comes good fault before now Memory history output is_good refl is.0 is.1
+cut good fault before now taken Accepted history output is_good long consumed is = absurd is
+cut good fault before now taken Words history output is_good long consumed is = absurd is
+cut good fault before now taken Read history output is_good long consumed is = absurd is
+cut good fault before now taken Write history output is_good long consumed is = absurd is
 
 judged : (good fault : Type 0) (before now : Option (List ℕ)) (taken : List ℕ) (e : Ending) (history : List Entry) (output : List ℕ) → good
-    → length taken ≤ script_limit → Consumes before now taken → IsAtEnd now → IsJudged e taken history output → Comes good fault before now e history output [] 0
-judged good fault before now taken (Ran r) history output is_good short consumed end is = played_comes good fault before now taken r history output is_good short consumed end is
-judged good fault before now taken (Refused r) history output is_good short consumed end is =
-    refused_comes good fault before now taken r history output is_good short consumed end is.0 is.1 is.2
-judged good fault before now taken Memory history output is_good short consumed end is = memory_comes good fault before now Memory history output is_good refl is.0 is.1
-judged good fault before now taken Accepted history output is_good short consumed end is = absurd is
-judged good fault before now taken Words history output is_good short consumed end is = absurd is
-judged good fault before now taken Read history output is_good short consumed end is = absurd is
-judged good fault before now taken Write history output is_good short consumed end is = absurd is
+    → Consumes before now taken → IsWhole taken now → IsJudged e taken history output → Comes good fault before now e history output [] 0
+judged good fault before now taken e history output is_good consumed (inl all) is = whole good fault before now taken e history output is_good all.0 consumed all.1 is
+judged good fault before now taken e history output is_good consumed (inr long) is = cut good fault before now taken e history output is_good long consumed is
 
 pub judged_comes : (good fault : Type 0) (before now : Option (List ℕ)) (taken lent : List ℕ) (e : Ending) (history : List Entry) (output : List ℕ) → good
-    → length taken ≤ script_limit → Consumes before now taken → IsAtEnd now → lent ≡ taken → IsJudged e lent history output → Comes good fault before now e history output [] 0
-judged_comes good fault before now taken lent e history output is_good short consumed end same is =
-    judged good fault before now taken e history output is_good short consumed end (subst (λ b. IsJudged e b history output) same is)
+    → Consumes before now taken → IsWhole taken now → lent ≡ taken → IsJudged e lent history output → Comes good fault before now e history output [] 0
+judged_comes good fault before now taken lent e history output is_good consumed read same is =
+    judged good fault before now taken e history output is_good consumed read (subst (λ b. IsJudged e b history output) same is)
 
 -- ---- a later reading is no lower
 
@@ -324,24 +331,3 @@ told_comes good fault before now came told history told_history output told_outp
     (subst (λ e. Comes good fault before now e history output [] 0) (sym same.0) comes))
 told_comes good fault before now came told history told_history output told_output comes (inr none) =
     given_up good fault before now came told history told_history output told_output [] 0 comes none.0 none.1 none.2 none.3
-
--- ---- the lexer's answer
-
-pub first_fault : (bytes : List ℕ) (f : LexFault) → (f ≡ lex.NoMemory → ⊥) → IsRight bytes (Err f) → IsFirstFault f bytes
-first_fault bytes (lex.NotUtf8 at) other right = right
-first_fault bytes (lex.BadChar at) other right = right
-first_fault bytes (lex.OpenText at) other right = right
-first_fault bytes (lex.BigNumber at) other right = right
-first_fault bytes lex.NoMemory other right = absurd (other refl)
-
--- ---- the parser's answer
-
-pub misspelled : (bytes : List ℕ) (tokens : Tokens) (f : ParseFault) → (f ≡ parse.NoMemory → ⊥) → HasTokens bytes tokens → Parsed tokens (Err f) → IsMisspelled f bytes
-misspelled bytes tokens (parse.Unexpected at) other has parsed = (tokens, has, parsed)
-misspelled bytes tokens (parse.Deep at) other has parsed = (tokens, has, parsed)
-misspelled bytes tokens parse.NoMemory other has parsed = absurd (other refl)
-
--- ---- the checker's answer
-
-pub mistyped : (bytes : List ℕ) (s : Script) (f : TypeFault) → (f ≡ fault.NoMemory → ⊥) → IsSpelled bytes s → types.Refused f s → IsMistyped f bytes
-mistyped bytes s f other spelled refused = (s, spelled, refused, other)

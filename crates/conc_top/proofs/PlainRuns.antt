@@ -15,9 +15,9 @@ use Rattle.hs_rules.specs.Terms.{Calls, Part, Ret, Performs, Frame, BindTo, Term
 use Rattle.hs_rules.specs.LocalRules.{on_values, on_top, on_term}
 use Rattle.hs_rules.specs.State.{State, first, move}
 use Rattle.hs_rules.specs.Entries.{moved}
-use Rattle.hs_rules.specs.Runs.{then_next, after_from, after, out, err, output_of, errors_of}
+use Rattle.hs_rules.specs.Runs.{then_next, after_from, IsRun}
+use Rattle.hs_rules.proofs.Following.{AllOrdinary, is_run_of}
 use Rattle.rules_meaning.specs.CoreMeaning.{code_of}
-use Rattle.hs_rules.specs.Endings.{Ends, Done}
 use Rattle.conc_top.specs.PlainScripts.{puts_line, PlainBlock, plain_last, plain_then, PlainScript, plain_script, bind_steps, later_entries, plain_history, lines_of, plain_end, main_script}
 
 -- a literal of at most 65,536 bytes is its text
@@ -88,16 +88,14 @@ block_runs code (plain_then {a = a} {b = b} {xs = xs} (puts_line {x = x} h) r) =
     ∙ (rest_runs code (x ++ 10 ∷ []) r
     ∙ ap (λ ys. Some (plain_end ys)) (in_order [] x (lines_of xs))))
 
+later_ordinary : (xs : List (List ℕ)) → AllOrdinary (later_entries xs)
+later_ordinary [] = (tt, tt)
+later_ordinary (x ∷ xs) = (tt, tt, later_ordinary xs)
+
+plain_ordinary : (xs : List (List ℕ)) → AllOrdinary (plain_history xs)
+plain_ordinary [] = tt
+plain_ordinary (x ∷ xs) = (tt, tt, later_ordinary xs)
+
 -- the history of a plain script is a run of it, and prints its texts
-pub plain_runs : {ds : List Fn} {xs : List (List ℕ)} → PlainScript ds xs → after ds (plain_history xs) ≡ Some (plain_end (lines_of xs))
-plain_runs (plain_script {p = p} {q = q} {b = b} r) = block_runs (code_of (main_script p q b)) r
-
--- what a plain script's history prints, and that its main thread ends by a value
-pub plain_out : {ds : List Fn} {xs : List (List ℕ)} → PlainScript ds xs → out ds (plain_history xs) ≡ lines_of xs
-plain_out h = ap output_of (plain_runs h)
-
-pub plain_err : {ds : List Fn} {xs : List (List ℕ)} → PlainScript ds xs → err ds (plain_history xs) ≡ []
-plain_err h = ap errors_of (plain_runs h)
-
-pub plain_done : (code : Code) (ys : List ℕ) (steps fuel : ℕ) → Ends Done code (plain_end ys) steps fuel
-plain_done code ys steps fuel = refl
+pub plain_runs : {ds : List Fn} {xs : List (List ℕ)} → PlainScript ds xs → IsRun ds (plain_history xs) (plain_end (lines_of xs))
+plain_runs {xs = xs} (plain_script {p = p} {q = q} {b = b} r) = is_run_of (main_script p q b) (plain_end (lines_of xs)) (plain_history xs) (plain_ordinary xs) (block_runs (code_of (main_script p q b)) r)

@@ -1,52 +1,26 @@
 -- What the top call answers, when, and what it tells (own).
-use Rattle.std.specs.Prelude.{◌≡◌, ◌⊎◌, Result, Err, ◌≤◌, ◌<◌, ◌+◌, ℕ, List, [], ◌∷◌, length, take, drop, Option, Some, None, IfSome, codes, ⊤}
+use Rattle.std.specs.Prelude.{◌≡◌, ◌⊎◌, ◌≤◌, ◌+◌, ℕ, List, [], ◌∷◌, take, drop, Option, Some, None, IfSome, codes, ⊤}
 use Rattle.std.specs.Io.KnownBytes.{Appends}
 use Rattle.hs_io.specs.Causes.{Rose}
 use Rattle.hs_rules.specs.declared.entry.Entry.{Entry}
 use Rattle.hs_base.specs.declared.tree.script.Script.{Script}
-use Rattle.rules_grammar.specs.Grammar.{SpellsWithin}
 use Rattle.rules_trees.specs.Programs.{Fn, script_of}
 use Rattle.conc_top.specs.PlainScripts.{PlainScript}
 use Rattle.hs_rules.specs.State.{State}
 use Rattle.hs_rules.specs.Runs.{IsRun}
 use Rattle.hs_rules.specs.Endings.{IsDone}
-use Rattle.rules_tokens.specs.declared.token.Tokens.{Tokens}
-use Rattle.rules_tokens.specs.Tokens.{HasTokens, LexesTo, NotUtf8, Faulty, BadChar, OpenText, BigNumber}
-use Rattle.hs_lex.specs.declared.fault.LexFault.{LexFault}
-use Rattle.hs_lex.specs.declared.fault.LexFault.TheVariants as lex
-use Rattle.rules_typing.specs.TypingScripts as typing
-use Rattle.hs_parse.specs.Parsed.{Parsed}
-use Rattle.hs_parse.specs.declared.fault.ParseFault.{ParseFault}
-use Rattle.hs_parse.specs.declared.fault.ParseFault.TheVariants as parse
-use Rattle.hs_types.specs.Faults as types
-use Rattle.hs_typing.specs.declared.fault.TypeFault.{TypeFault}
-use Rattle.hs_typing.specs.declared.fault.TypeFault.TheVariants as fault
 use Rattle.conc_top.specs.declared.ending.RunEnd.{RunEnd}
 use Rattle.conc_top.specs.declared.ending.RunEnd.TheVariants as end
-use Rattle.conc_top.specs.declared.ending.Refusal.{Refusal}
-use Rattle.conc_top.specs.declared.ending.Refusal.TheVariants.{TooLong, Lex, Parse, Types, NotYet}
+use Rattle.hs_compile.specs.Verdicts as verdict
+use Rattle.hs_compile.specs.Verdicts.{script_limit, IsAccepted}
+use Rattle.hs_compile.specs.declared.refusal.Refusal.{Refusal}
+use Rattle.hs_compile.specs.declared.refusal.Refusal.TheVariants.{TooLong, Lex, Parse, Types, NotYet}
 use Rattle.conc_top.specs.declared.ending.Ending.{Ending}
 use Rattle.conc_top.specs.declared.ending.Ending.TheVariants.{Ran, Accepted, Words, Refused, Read, Memory, Write}
 
 -- The only good words are the one word `run`.
 abbrev pub AreGood : List (List ℕ) → Type 0
 AreGood words = words ≡ codes "run" ∷ []
-
--- A script has at most so many bytes.
-abbrev pub script_limit : ℕ
-script_limit = 1048576
-
--- How many openers may nest.
-abbrev pub depth_limit : ℕ
-depth_limit = 200
-
--- The tokens of these bytes spell this script.
-abbrev pub IsSpelled : List ℕ → Script → Type 0
-IsSpelled bytes s = (tokens : Tokens) × HasTokens bytes tokens × SpellsWithin depth_limit s tokens.list
-
--- These bytes are this script, which the typing rules accept.
-abbrev pub IsAccepted : List ℕ → Script → Type 0
-IsAccepted bytes s = IsSpelled bytes s × typing.Accepted s
 
 -- These bytes are a plain script with these lines.
 abbrev pub HasLines : List ℕ → List (List ℕ) → Type 0
@@ -58,42 +32,21 @@ IsScript bytes ds = (s : Script) × IsAccepted bytes s × (ds ≡ script_of s) �
 
 -- ---- when each answer comes
 
--- the first fault of bytes that have no tokens; want of memory is none
-abbrev pub IsFirstFault : LexFault → List ℕ → Type 0
-IsFirstFault (lex.NotUtf8 at) bytes = LexesTo bytes (NotUtf8 at)
-IsFirstFault (lex.BadChar at) bytes = LexesTo bytes (Faulty BadChar at)
-IsFirstFault (lex.OpenText at) bytes = LexesTo bytes (Faulty OpenText at)
-IsFirstFault (lex.BigNumber at) bytes = LexesTo bytes (Faulty BigNumber at)
-IsFirstFault lex.NoMemory bytes = ⊥
-
--- the fault of tokens that spell no script; want of memory is none
-abbrev pub IsParseFault : ParseFault → Tokens → Type 0
-IsParseFault (parse.Unexpected at) tokens = Parsed tokens (Err (parse.Unexpected at))
-IsParseFault (parse.Deep at) tokens = Parsed tokens (Err (parse.Deep at))
-IsParseFault parse.NoMemory tokens = ⊥
-
--- the bytes have tokens, and these spell no script
-abbrev pub IsMisspelled : ParseFault → List ℕ → Type 0
-IsMisspelled fault bytes = (tokens : Tokens) × HasTokens bytes tokens × IsParseFault fault tokens
-
--- the bytes are a script that breaks a typing rule: the one that is named comes before all others; want of memory is none
-abbrev pub IsMistyped : TypeFault → List ℕ → Type 0
-IsMistyped f bytes = (s : Script) × IsSpelled bytes s × types.Refused f s × (f ≡ fault.NoMemory → ⊥)
-
 -- the bytes are an accepted script, and no plain one
 abbrev pub IsNotYet : List ℕ → Type 0
 IsNotYet bytes = (s : Script) × IsAccepted bytes s × ((lines : List (List ℕ)) → PlainScript (script_of s) lines → ⊥)
 
+-- the cause of a refusal
 abbrev pub IsRefused : Refusal → List ℕ → Type 0
-IsRefused TooLong bytes = script_limit < length bytes
-IsRefused (Lex fault) bytes = (length bytes ≤ script_limit) × IsFirstFault fault bytes
-IsRefused (Parse fault) bytes = (length bytes ≤ script_limit) × IsMisspelled fault bytes
-IsRefused (Types f) bytes = (length bytes ≤ script_limit) × IsMistyped f bytes
-IsRefused NotYet bytes = (length bytes ≤ script_limit) × IsNotYet bytes
+IsRefused NotYet bytes = IsNotYet bytes
+IsRefused TooLong bytes = verdict.IsRefused TooLong bytes
+IsRefused (Lex fault) bytes = verdict.IsRefused (Lex fault) bytes
+IsRefused (Parse fault) bytes = verdict.IsRefused (Parse fault) bytes
+IsRefused (Types fault) bytes = verdict.IsRefused (Types fault) bytes
 
 -- what a run has ended with; a plain script always ends by a value
 abbrev pub MayEnd : RunEnd → List ℕ → Type 0
-MayEnd end.Done bytes = (length bytes ≤ script_limit) × (lines : List (List ℕ)) × HasLines bytes lines
+MayEnd end.Done bytes = (lines : List (List ℕ)) × HasLines bytes lines
 MayEnd end.Uncaught bytes = ⊥
 MayEnd end.Deadlock bytes = ⊥
 MayEnd end.Fuel bytes = ⊥

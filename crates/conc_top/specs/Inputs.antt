@@ -1,17 +1,20 @@
 -- What reading the source gives.
-use Rattle.std.specs.Prelude.{◌≡◌, ◌<◌, ◌≤◌, ◌+◌, ◌++◌, ℕ, List, [], length, Option, ⊤}
+use Rattle.std.specs.Prelude.{◌≡◌, ◌<◌, ◌≤◌, ◌+◌, ◌++◌, ◌⊎◌, ℕ, List, [], length, Option, ⊤}
 use Rattle.std.specs.Io.KnownBytes.{Consumes, IsAtEnd}
 use Rattle.hs_io.specs.Causes.{Rose}
-use Rattle.conc_top.specs.Answers.{script_limit}
+use Rattle.hs_compile.specs.Verdicts.{script_limit}
 use Rattle.conc_top.specs.declared.input.Input.{Input}
-use Rattle.conc_top.specs.declared.input.Input.TheVariants.{Whole, TooLong, Fault, NoMemory}
+use Rattle.conc_top.specs.declared.input.Input.TheVariants.{Bytes, Fault, NoMemory}
 use Rattle.conc_top.specs.declared.input.More.{More}
 use Rattle.conc_top.specs.declared.input.More.TheVariants as more
 
--- all that the source had left, or the first bytes of more than a script may have
+-- these bytes are all, or one more than a script may have
+abbrev pub IsWhole : List ℕ → (now : Option (List ℕ)) → Type 0
+IsWhole bytes now = ((length bytes ≤ script_limit) × IsAtEnd now) ⊎ (length bytes ≡ script_limit + 1)
+
+-- all that the source had left, or the first bytes, one more than a script may have
 abbrev pub Reads : Input → (before now : Option (List ℕ)) (fault : Type 0) → Type 0
-Reads (Whole bytes) before now fault = (length bytes.items ≤ script_limit) × Consumes before now bytes.items × IsAtEnd now
-Reads TooLong before now fault = (bytes : List ℕ) × (length bytes ≡ script_limit + 1) × Consumes before now bytes
+Reads (Bytes bytes) before now fault = Consumes before now bytes.items × IsWhole bytes.items now
 Reads Fault before now fault = fault
 Reads NoMemory before now fault = ⊤
 

@@ -12,8 +12,8 @@ use Rattle.hs_rules.specs.Primitives.{line_feed}
 use Rattle.hs_rules.specs.Endings.{limit_line, memory_line}
 use Rattle.conc_top.specs.declared.ending.RunEnd.{RunEnd}
 use Rattle.conc_top.specs.declared.ending.RunEnd.TheVariants as end
-use Rattle.conc_top.specs.declared.ending.Refusal.{Refusal}
-use Rattle.conc_top.specs.declared.ending.Refusal.TheVariants as refusal
+use Rattle.hs_compile.specs.declared.refusal.Refusal.{Refusal}
+use Rattle.hs_compile.specs.declared.refusal.Refusal.TheVariants as refusal
 use Rattle.conc_top.specs.declared.ending.Line.{Line}
 use Rattle.conc_top.specs.declared.ending.Line.TheVariants.{Fixed, Made}
 use Rattle.conc_top.specs.declared.ending.Ending.{Ending}

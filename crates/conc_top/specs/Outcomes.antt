@@ -1,13 +1,13 @@
 -- What the steps of the top call come to.
 use Rattle.std.specs.Prelude.{◌≡◌, ◌⊎◌, ℕ, List, []}
 use Rattle.hs_rules.specs.declared.entry.Entry.{Entry}
-use Rattle.conc_top.specs.Answers.{HasLines, IsFirstFault, IsMisspelled, IsMistyped, IsNotYet}
+use Rattle.conc_top.specs.Answers.{HasLines, IsRefused}
 use Rattle.conc_top.specs.PlainScripts.{lines_of, plain_history}
 use Rattle.conc_top.specs.Lines.{HasPlace}
 use Rattle.conc_top.specs.declared.ending.RunEnd.{RunEnd}
 use Rattle.conc_top.specs.declared.ending.RunEnd.TheVariants as end
-use Rattle.conc_top.specs.declared.ending.Refusal.{Refusal}
-use Rattle.conc_top.specs.declared.ending.Refusal.TheVariants.{TooLong, Lex, Parse, Types, NotYet}
+use Rattle.hs_compile.specs.declared.refusal.Refusal.{Refusal}
+use Rattle.hs_compile.specs.declared.refusal.Refusal.TheVariants.{TooLong, Lex, Parse, Types, NotYet}
 use Rattle.conc_top.specs.declared.ending.Ending.{Ending}
 use Rattle.conc_top.specs.declared.ending.Ending.TheVariants.{Ran, Accepted, Words, Refused, Read, Memory, Write}
 
@@ -16,17 +16,10 @@ WasPlayed end.Done bytes history output =
     (lines : List (List ℕ)) × HasLines bytes lines × (history ≡ plain_history lines) × (output ≡ lines_of lines)
 WasPlayed _ bytes history output = ⊥
 
-abbrev pub WasRefused : Refusal → List ℕ → Type 0
-WasRefused TooLong bytes = ⊥
-WasRefused (Lex fault) bytes = IsFirstFault fault bytes
-WasRefused (Parse fault) bytes = IsMisspelled fault bytes
-WasRefused (Types fault) bytes = IsMistyped fault bytes
-WasRefused NotYet bytes = IsNotYet bytes
-
 -- what is made of the bytes of a script
 abbrev pub IsJudged : Ending → List ℕ → List Entry → List ℕ → Type 0
 IsJudged (Ran r) bytes history output = WasPlayed r bytes history output
-IsJudged (Refused r) bytes history output = WasRefused r bytes × (history ≡ []) × (output ≡ [])
+IsJudged (Refused r) bytes history output = IsRefused r bytes × (history ≡ []) × (output ≡ [])
 IsJudged Memory bytes history output = (history ≡ []) × (output ≡ [])
 IsJudged Accepted bytes history output = ⊥
 IsJudged Words bytes history output = ⊥

@@ -2,6 +2,7 @@ ghost use Rattle.std.specs.Prelude.{◌≡◌, IfOk, OnErr};
 ghost use Rattle.conc_top.specs.Lines.{HasPlace, line_of, placed_line, PlacesTypeFault, refusal_line, RefusesAPlace, run_line, run_status, status_of, text_of, types_line};
 
 use hs_base::{NoMemory, Pos};
+use hs_compile::Refusal;
 use hs_lex::LexFault;
 use hs_parse::ParseFault;
 use hs_rules::{Entry, History, LimitKind};
@@ -28,21 +29,6 @@ pub enum RunEnd {
     Write,
     /// This entry would exceed this limit. It is not in the history.
     Limit(LimitKind, Entry),
-}
-
-/// Why a script is not run.
-#[derive(Debug, Drop)]
-pub enum Refusal {
-    /// More than 1,048,576 bytes.
-    TooLong,
-    /// The bytes have no tokens.
-    Lex(LexFault),
-    /// The tokens are no script.
-    Parse(ParseFault),
-    /// The script breaks a typing rule.
-    Types(TypeFault),
-    /// An accepted script, but no plain one.
-    NotYet,
 }
 
 /// How a call of `run` ended.
@@ -101,7 +87,7 @@ impl Ending {
             Ending::Ran(end) => Ok(Line::Fixed(end.line())),
             Ending::Accepted | Ending::Write => Ok(Line::Fixed("")),
             Ending::Words => Ok(Line::Fixed("words not understood\n")),
-            Ending::Refused(refusal) => refusal.line(alloc),
+            Ending::Refused(refusal) => refusal_line(alloc, refusal),
             Ending::Memory => Ok(Line::Fixed(OUT_OF_MEMORY)),
             Ending::Read => Ok(Line::Fixed("read fault\n")),
         }
@@ -157,24 +143,22 @@ impl RunEnd {
     }
 }
 
-impl Refusal {
-    fn line(&self, alloc: Global) -> Result<Line, NoMemory>
-        ensures line { IfOk result (λ line. text_of line ≡ refusal_line self.now) }
-        ensures err { OnErr result (RefusesAPlace self.now) }
-    {
-        match self {
-            Refusal::TooLong => Ok(Line::Fixed("refused: TooLong\n")),
-            Refusal::NotYet => Ok(Line::Fixed("refused: NotYet\n")),
-            Refusal::Lex(LexFault::NotUtf8(at)) => line_at(alloc, "NotUtf8", *at),
-            Refusal::Lex(LexFault::BadChar(at)) => line_at(alloc, "BadChar", *at),
-            Refusal::Lex(LexFault::OpenText(at)) => line_at(alloc, "OpenText", *at),
-            Refusal::Lex(LexFault::BigNumber(at)) => line_at(alloc, "BigNumber", *at),
-            Refusal::Lex(LexFault::NoMemory) => Ok(Line::Fixed(OUT_OF_MEMORY)),
-            Refusal::Parse(ParseFault::Unexpected(at)) => line_at(alloc, "Unexpected", *at),
-            Refusal::Parse(ParseFault::Deep(at)) => line_at(alloc, "Deep", *at),
-            Refusal::Parse(ParseFault::NoMemory) => Ok(Line::Fixed(OUT_OF_MEMORY)),
-            Refusal::Types(fault) => types_line(alloc, fault),
-        }
+fn refusal_line(alloc: Global, refusal: &Refusal) -> Result<Line, NoMemory>
+    ensures line { IfOk result (λ line. text_of line ≡ refusal_line refusal.now) }
+    ensures err { OnErr result (RefusesAPlace refusal.now) }
+{
+    match refusal {
+        Refusal::TooLong => Ok(Line::Fixed("refused: TooLong\n")),
+        Refusal::NotYet => Ok(Line::Fixed("refused: NotYet\n")),
+        Refusal::Lex(LexFault::NotUtf8(at)) => line_at(alloc, "NotUtf8", *at),
+        Refusal::Lex(LexFault::BadChar(at)) => line_at(alloc, "BadChar", *at),
+        Refusal::Lex(LexFault::OpenText(at)) => line_at(alloc, "OpenText", *at),
+        Refusal::Lex(LexFault::BigNumber(at)) => line_at(alloc, "BigNumber", *at),
+        Refusal::Lex(LexFault::NoMemory) => Ok(Line::Fixed(OUT_OF_MEMORY)),
+        Refusal::Parse(ParseFault::Unexpected(at)) => line_at(alloc, "Unexpected", *at),
+        Refusal::Parse(ParseFault::Deep(at)) => line_at(alloc, "Deep", *at),
+        Refusal::Parse(ParseFault::NoMemory) => Ok(Line::Fixed(OUT_OF_MEMORY)),
+        Refusal::Types(fault) => types_line(alloc, fault),
     }
 }
 

@@ -11,10 +11,8 @@ const SCRIPT_LIMIT: usize = 1_048_576;
 /// What the source had.
 #[derive(Drop)]
 pub enum Input {
-    /// All its bytes, at most as many as a script may have.
-    Whole(Vec<u8>),
-    /// More bytes than that.
-    TooLong,
+    /// All its bytes, or the first ones where there are more than a script may have.
+    Bytes(Vec<u8>),
     /// A read failed.
     Fault,
     NoMemory,
@@ -29,12 +27,12 @@ pub fn read_input<S: Source>(alloc: Global, source: &mut S) -> Input
         let most = chunk.len().min(SCRIPT_LIMIT + 1 - bytes.len());
         match read_more(source, &mut chunk[..most], &mut bytes) {
             More::Taken => {}
-            More::End => return Input::Whole(bytes),
+            More::End => return Input::Bytes(bytes),
             More::Fault => return Input::Fault,
             More::NoMemory => return Input::NoMemory,
         }
     }
-    Input::TooLong
+    Input::Bytes(bytes)
 }
 
 enum More {

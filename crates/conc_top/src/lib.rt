@@ -6,23 +6,16 @@
 //! source had, from its first state to its end, and the sinks were told exactly what that run printed and the line of the
 //! ending. Which bytes a real stream gives or takes is left to `hs_io`, and what a run is to `hs_rules`.
 //!
-//! Only plain scripts run yet (`hs_rules/specs/PlainScripts`): the bytes have to have tokens (`hs_lex`) that spell a script
-//! (`hs_parse`) which the typing rules accept (`hs_types`), and `plain` reads the lines from its tree.
+//! Which bytes are a script, and why others are refused, is said by `hs_compile`. Only plain scripts run yet
+//! (`specs/PlainScripts`): `plain` reads the lines from the tree of an accepted script.
 #![tactic(auto)]
 
-#[cfg(test)]
-mod code_tests;
 mod ending;
-#[cfg(test)]
-mod grammar_tests;
 mod input;
 mod plain;
 mod play;
-#[cfg(test)]
-mod tests;
 mod top;
-#[cfg(test)]
-mod types_tests;
 
-pub use ending::{Done, Ending, Refusal, RunEnd};
+pub use ending::{Done, Ending, RunEnd};
+pub use hs_compile::Refusal;
 pub use top::run;

@@ -1,22 +1,20 @@
-ghost use Rattle.std.specs.Prelude.{◌≡◌, ◌⊎◌, ◌↔◌, ◌++◌, ◌≤◌, ℕ, List, length, IsTrue, OnErr, OnOk, [], map, string_bytes};
+ghost use Rattle.std.specs.Prelude.{◌≡◌, ◌⊎◌, ◌↔◌, ◌++◌, ℕ, List, IsTrue, OnErr, OnOk, [], map, string_bytes};
 ghost use Rattle.std.specs.Io.KnownBytes.{Appends};
 ghost use Rattle.hs_io.specs.Causes.{HasCause, Rose};
 ghost use Rattle.hs_io.specs.Outside.{Puts};
 ghost use Rattle.conc_top.specs.declared.ending.Ending.{Ending};
 ghost use Rattle.conc_top.specs.declared.ending.Ending.TheVariants.{Memory, Write};
-ghost use Rattle.conc_top.specs.Answers.{AreGood, Comes, ErrorsFailed, IsDue, IsLeft, OutputFailed, script_limit, Tells, WasToldNothing};
+ghost use Rattle.conc_top.specs.Answers.{AreGood, Comes, ErrorsFailed, IsDue, IsLeft, OutputFailed, Tells, WasToldNothing};
 ghost use Rattle.conc_top.specs.Lines.{line_of, status_of, text_of};
 ghost use Rattle.conc_top.specs.Outcomes.{IsJudged, IsToldFor};
 
-use crate::ending::{Done, Ending, Line, OUT_OF_MEMORY, Refusal, RunEnd};
+use crate::ending::{Done, Ending, Line, OUT_OF_MEMORY, RunEnd};
 use crate::input::{Input, read_input};
 use crate::plain::plain_lines;
 use crate::play::play;
+use hs_compile::{CompileFault, Refusal, accept};
 use hs_io::{Clock, Failed, Gate, Sink, Source};
-use hs_lex::{LexFault, lex};
-use hs_parse::{ParseFault, parse};
 use hs_rules::History;
-use hs_types::{TypeFault, check};
 use std::alloc::Global;
 
 /// Does all that the program does: reads the words, reads the script from the source, runs it, and tells what it
@@ -134,8 +132,7 @@ fn come_to<S: Source>(alloc: Global, words: &[String], source: &mut S) -> Outcom
         return Outcome::idle(alloc, Ending::Words);
     }
     match read_input(alloc, source) {
-        Input::Whole(bytes) => judge(alloc, &bytes),
-        Input::TooLong => Outcome::idle(alloc, Ending::Refused(Refusal::TooLong)),
+        Input::Bytes(bytes) => judge(alloc, &bytes),
         Input::Fault => Outcome::idle(alloc, Ending::Read),
         Input::NoMemory => Outcome::idle(alloc, Ending::Memory),
     }
@@ -143,23 +140,14 @@ fn come_to<S: Source>(alloc: Global, words: &[String], source: &mut S) -> Outcom
 
 // Reads the script from the bytes and runs it.
 fn judge(alloc: Global, bytes: &[u8]) -> Outcome
-    requires { length bytes.now ≤ script_limit }
     ensures { IsJudged result.ending bytes.now result.history result.output.items }
 {
-    let tokens = match lex(alloc, bytes) {
-        Ok(tokens) => tokens,
-        Err(LexFault::NoMemory) => return Outcome::idle(alloc, Ending::Memory),
-        Err(fault) => return Outcome::idle(alloc, Ending::Refused(Refusal::Lex(fault))),
-    };
-    let script = match parse(alloc, &tokens) {
-        Ok(script) => script,
-        Err(ParseFault::NoMemory) => return Outcome::idle(alloc, Ending::Memory),
-        Err(fault) => return Outcome::idle(alloc, Ending::Refused(Refusal::Parse(fault))),
-    };
-    let checked = match check(alloc, script) {
+    let checked = match accept(alloc, bytes) {
         Ok(checked) => checked,
-        Err(TypeFault::NoMemory) => return Outcome::idle(alloc, Ending::Memory),
-        Err(fault) => return Outcome::idle(alloc, Ending::Refused(Refusal::Types(fault))),
+        Err(CompileFault::NoMemory) => return Outcome::idle(alloc, Ending::Memory),
+        Err(CompileFault::Refused(refusal)) => {
+            return Outcome::idle(alloc, Ending::Refused(refusal));
+        }
     };
     let lines = match plain_lines(alloc, checked.script()) {
         Ok(Some(lines)) => lines,

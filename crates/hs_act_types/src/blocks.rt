@@ -18,12 +18,12 @@ use crate::simple::{applied, binary, empty_cell, throw, unary};
 use hs_base::tree::{Action, Block, BlockArms, Name, Stmt};
 use hs_base::{NoMemory, Pos, Ty};
 use hs_expr_types::type_of;
-use rules_trees::forms::{BareAction, BinaryAction, BlockAction, MaskingAction, UnaryAction};
 use hs_typing::Form;
 use hs_typing::act_rows::bare_type;
 use hs_typing::checker::Checker;
 use hs_typing::funs::Funs;
 use hs_typing::parts::Part;
+use rules_trees::forms::{BareAction, BinaryAction, BlockAction, MaskingAction, UnaryAction};
 use std::alloc::Global;
 
 /// The type of an action, where it has one.

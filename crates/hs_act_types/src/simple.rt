@@ -12,9 +12,9 @@ use hs_base::tree::{Expr, Name, Written};
 use hs_base::{NoMemory, Pos, Ty};
 use hs_expr_types::{type_of, types_of};
 use hs_items::Items;
-use rules_trees::forms::{BinaryAction, UnaryAction};
 use hs_typing::checker::Checker;
 use hs_typing::funs::Funs;
+use rules_trees::forms::{BinaryAction, UnaryAction};
 use std::alloc::Global;
 
 /// An action with one expression.

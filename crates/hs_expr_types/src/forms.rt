@@ -5,8 +5,8 @@ ghost use Rattle.rules_typing.specs.Typing.{form_of_arms};
 ghost use Rattle.hs_typing.specs.Views.{form_of};
 
 use hs_base::tree::{CompareOp, ExprArms, SumOp};
-use rules_trees::forms::BinaryForm;
 use hs_typing::Form;
+use rules_trees::forms::BinaryForm;
 
 /// A comparison as a form.
 pub fn compare_form(op: CompareOp) -> BinaryForm

@@ -10,11 +10,11 @@ ghost use Rattle.hs_expr_types.specs.Entering.{Entered};
 use hs_base::tree::{Constant, Name, Written};
 use hs_base::{NoMemory, Pos, Ty};
 use hs_items::Items;
-use rules_trees::forms::EmptyForm;
 use hs_typing::Form;
 use hs_typing::checker::Checker;
 use hs_typing::first::Broken;
 use hs_typing::parts::Part;
+use rules_trees::forms::EmptyForm;
 use std::alloc::Global;
 
 /// The type of an atom that is one word.

@@ -13,10 +13,10 @@ use crate::leaves::{added, alone, constant_type, empty, enter, fitting};
 use hs_base::tree::{Expr, ExprArms, Link, ListLink, Name, SumLink, Written};
 use hs_base::{NoMemory, Pos, Ty};
 use hs_items::Items;
-use rules_trees::forms::{BinaryForm, EmptyForm, SideForm, UnaryForm};
 use hs_typing::checker::Checker;
 use hs_typing::funs::Funs;
 use hs_typing::parts::Part;
+use rules_trees::forms::{BinaryForm, EmptyForm, SideForm, UnaryForm};
 use std::alloc::Global;
 
 /// The type of an expression, where it has one.

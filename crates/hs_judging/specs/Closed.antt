@@ -14,8 +14,7 @@ unary_nodes u.PutStrLn = 1
 unary_nodes u.HPutStrLn = 1
 unary_nodes u.NewMVar = 1
 unary_nodes u.TakeMVar = 1
--- let $m = a; mask $r { $x <- takeMVar $m; putMVar $m $x; return $x }
-unary_nodes u.ReadMVar = 11
+unary_nodes u.ReadMVar = 1
 unary_nodes u.TryTakeMVar = 1
 -- throwTo a ThreadKilled
 unary_nodes u.KillThread = 2

@@ -3,5 +3,5 @@
 //!
 //! Its promise: a rule is in the list exactly where it is broken, a part has the type that the function gives exactly
 //! where it has that type, and the least of a list comes before every other rule of it. The rules themselves are left
-//! to `hs_rules`, and the checker to `hs_typing`.
+//! to `rules_typing`, and the checker to `hs_typing`.
 #![tactic(auto)]

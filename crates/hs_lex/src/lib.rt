@@ -1,7 +1,7 @@
 //! The lexer: the tokens of a script, or the first thing that is wrong with it.
 //!
 //! To a contract a token is plain data, and `Tokens` is the list of them, the bytes of the source and the position
-//! behind the last byte. What it means that some bytes have these tokens stands in `hs_rules`, over whole texts.
+//! behind the last byte. What it means that some bytes have these tokens stands in `rules_tokens`, over whole texts.
 //!
 //! The promise is that of `lex`: its answer is the one right outcome of the bytes. That two outcomes can't both be right
 //! is the contract of `one_outcome`. Grammar, names and types are left to the crates above.

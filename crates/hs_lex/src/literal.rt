@@ -56,7 +56,8 @@ fn read_body(alloc: Global, body: &[char]) -> Result<Meaning, NoMemory>
             at += 1;
         }
     }
-    Ok(Meaning::Text(Txt::from_string(text)))
+    let text = Txt::from_string(text)?;
+    Ok(Meaning::Text(text))
 }
 
 /// A text literal: it goes up to its closing quote.

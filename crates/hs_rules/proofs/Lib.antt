@@ -1,3 +1,4 @@
 pub mod Histories
 mod RunRows
 mod WorkedRuns
+pub mod Following

@@ -128,7 +128,7 @@ fn act_nodes(a: &Action) -> u32
         Action::HPutStrLn(_, e) => add(1, ex_nodes(e)),
         Action::NewMVar(_, e) => add(1, ex_nodes(e)),
         Action::TakeMVar(_, e) => add(1, ex_nodes(e)),
-        Action::ReadMVar(_, e) => add(11, ex_nodes(e)),
+        Action::ReadMVar(_, e) => add(1, ex_nodes(e)),
         Action::TryTakeMVar(_, e) => add(1, ex_nodes(e)),
         Action::KillThread(_, e) => add(2, ex_nodes(e)),
         Action::ThreadDelay(_, e) => add(1, ex_nodes(e)),

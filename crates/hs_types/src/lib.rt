@@ -1,6 +1,6 @@
 //! The checker of types: which scripts the typing rules accept, and the first rule that another breaks.
 //!
-//! To a contract a fault is the broken rule of `hs_rules` that it names (`specs/Faults`). The one promise: `check` answers
+//! To a contract a fault is the broken rule of `rules_typing` that it names (`specs/Faults`). The one promise: `check` answers
 //! the script exactly where the typing rules accept it, and else the broken rule that comes before all others, or
 //! `NoMain` where nothing is broken.
 #![tactic(auto)]
@@ -16,8 +16,8 @@ ghost use Rattle.hs_types.specs.Faults.{Refused};
 
 use crate::answer::{Answer, judge_script, refusal};
 use hs_base::tree::Script;
-use rules_typing::Checked;
 pub use hs_typing::{Form, TypeFault, Want};
+use rules_typing::Checked;
 use std::alloc::Global;
 
 /// Accepts a script, or says which broken rule comes first.

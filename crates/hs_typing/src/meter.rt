@@ -12,8 +12,8 @@ use crate::table::Table;
 use hs_base::NoMemory;
 use hs_base::tree::{Expr, ExprArms, Link, ListLink, Name, SumLink};
 use hs_items::Items;
-use rules_trees::forms::BinaryForm;
 use hs_sizes::{add, greater};
+use rules_trees::forms::BinaryForm;
 use std::alloc::Global;
 
 /// How far an expression unfolds, in counts.

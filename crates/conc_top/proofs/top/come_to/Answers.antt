@@ -1,5 +1,5 @@
 use Rattle.std.proofs.Common.{rules, sym, ◌∙◌}
-use Rattle.conc_top.proofs.Answered.{fault_comes, judged_comes, memory_comes, too_long_comes, words_come}
+use Rattle.conc_top.proofs.Answered.{fault_comes, judged_comes, memory_comes, words_come}
 use Rattle.conc_top.proofs.top.come_to.Goals as goal
 
 pub returns-then-not-are_good-clause-comes : goal.returns-then-not-are_good-clause-comes
@@ -7,16 +7,10 @@ returns-then-not-are_good-clause-comes g c =
     words_come _ _ _ _ c.idle.result.ending c.idle.result.history c.idle.result.output.items
     (λ good. search (rules, sym c.if-not-are_good.true ∙ c.are_good.ensures.1 good)) c.idle.ensures.ending c.idle.ensures.history c.idle.ensures.output
 
-pub returns-in-Whole-clause-comes : goal.returns-in-Whole-clause-comes
-returns-in-Whole-clause-comes g c =
-    judged_comes _ _ _ _ c.in-Whole.bytes.items c.deref.result.now c.judge.result.ending c.judge.result.history c.judge.result.output.items
-    (c.are_good.ensures.0 c.if-not-are_good.false) c.in-Whole.ensures.0 c.in-Whole.ensures.1 c.in-Whole.ensures.2 c.deref.ensures.value c.judge.ensures
-
-pub returns-in-TooLong-clause-comes : goal.returns-in-TooLong-clause-comes
-returns-in-TooLong-clause-comes g c =
-    let idle = c.idle-in-TooLong in
-    too_long_comes _ _ _ _ idle.result.ending idle.result.history idle.result.output.items c.in-TooLong.ensures.0
-    (c.are_good.ensures.0 c.if-not-are_good.false) c.in-TooLong.ensures.1 c.in-TooLong.ensures.2 idle.ensures.ending idle.ensures.history idle.ensures.output
+pub returns-in-Bytes-clause-comes : goal.returns-in-Bytes-clause-comes
+returns-in-Bytes-clause-comes g c =
+    judged_comes _ _ _ _ c.in-Bytes.bytes.items c.deref.result.now c.judge.result.ending c.judge.result.history c.judge.result.output.items
+    (c.are_good.ensures.0 c.if-not-are_good.false) c.in-Bytes.ensures.0 c.in-Bytes.ensures.1 c.deref.ensures.value c.judge.ensures
 
 pub returns-in-Fault-clause-comes : goal.returns-in-Fault-clause-comes
 returns-in-Fault-clause-comes g c =

@@ -53,4 +53,4 @@ pub returns : goal.returns
 returns c =
     let (meant, m, text) = c.parts.invariant in
     let (ps, body, stands) = meant_end c.args.body.now c.parts.at meant m c.parts-test.false in
-    (ps, meant, body, stands, c.from_string.ensures ∙ text)
+    (ps, meant, body, stands, c.in_ok-text.ensures ∙ text)
