@@ -10,9 +10,9 @@ use hs_eval::{Found, eval_node};
 use hs_items::Items;
 use hs_lex::lex;
 use hs_parse::parse;
-use rules_trees::forms::{BinaryForm, EmptyForm, UnaryForm};
-use rules_code::{Act, ActId, Body, Code, ExprId, Node, Primitive};
 use hs_types::check;
+use rules_code::{Act, ActId, Body, Code, ExprId, Node, Primitive};
+use rules_trees::forms::{BinaryForm, EmptyForm, UnaryForm};
 use std::alloc::Global;
 use std::test::Fail;
 

@@ -18,11 +18,7 @@ pub fn problem_of(alloc: Global, row: &Row) -> Result<Option<String>, Flaw> {
     }
 }
 
-fn problem_of_bytes(
-    alloc: Global,
-    row: &Row,
-    ranges: &[(u8, u8)],
-) -> Result<Option<String>, Flaw> {
+fn problem_of_bytes(alloc: Global, row: &Row, ranges: &[(u8, u8)]) -> Result<Option<String>, Flaw> {
     for (first, last) in ranges {
         for byte in *first..=*last {
             let input = row.input.spell(byte)?;

@@ -58,36 +58,57 @@ impl Draft {
 
     /// The row, where its lines say what it gives in one way.
     pub fn finish(self) -> Result<Row, Flaw> {
-        let words = match self.words {
-            Some(words) => words,
-            None => only_run(self.alloc)?,
-        };
-        let told = Outcome {
-            out: self.out,
-            err: self.err,
-            status: self.status,
-            entries: self.entries,
-            steps: self.steps,
-            limit_at: self.limit_at,
-        };
-        let wanted = wanted(told, self.only_status, self.refusals, self.accepted)?;
-        Ok(Row {
-            name: self.name,
-            later: self.later,
+        let Draft {
+            alloc,
+            name,
+            later,
             words,
-            input: self.input,
-            cases: self.cases,
-            source: self.source,
-            out: self.out_sink,
-            err: self.err_sink,
-            clock: self.clock,
+            input,
+            cases,
+            source,
+            out_sink,
+            err_sink,
+            clock,
+            out,
+            err,
+            status,
+            only_status,
+            entries,
+            steps,
+            limit_at,
+            refusals,
+            accepted,
+        } = self;
+        let told = Outcome {
+            out,
+            err,
+            status,
+            entries,
+            steps,
+            limit_at,
+        };
+        let words = words_or_run(alloc, words)?;
+        let wanted = wanted(told, only_status, refusals, accepted)?;
+        Ok(Row {
+            name,
+            later,
+            words,
+            input,
+            cases,
+            source,
+            out: out_sink,
+            err: err_sink,
+            clock,
             wanted,
         })
     }
 }
 
-// The words of a row that names none.
-fn only_run(alloc: Global) -> Result<Vec<String>, AllocError> {
+// The words of a row, which are the one word `run` where it names none.
+fn words_or_run(alloc: Global, words: Option<Vec<String>>) -> Result<Vec<String>, AllocError> {
+    if let Some(words) = words {
+        return Ok(words);
+    }
     let mut words = Vec::new(alloc);
     words.push(String::from_str(alloc, "run")?)?;
     Ok(words)

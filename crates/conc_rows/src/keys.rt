@@ -2,7 +2,9 @@
 
 use crate::draft::Draft;
 use crate::flaw::Flaw;
-use crate::plans::{byte_ranges, entry_of, entries_of, number_of, refusal_of, sink_of, source_of, words_of};
+use crate::plans::{
+    byte_ranges, entries_of, entry_of, number_of, refusal_of, sink_of, source_of, words_of,
+};
 use crate::row::{Cases, ClockPlan};
 use crate::text::Text;
 

@@ -158,5 +158,9 @@ pub fn byte_ranges(alloc: Global, value: &str) -> Result<Vec<(u8, u8)>, Flaw> {
 }
 
 fn byte_of(high: u8, low: u8) -> Result<u8, Flaw> {
-    Ok(hex_digit(high)?.wrapping_mul(16).wrapping_add(hex_digit(low)?))
+    Ok(
+        hex_digit(high)?
+            .wrapping_mul(16)
+            .wrapping_add(hex_digit(low)?),
+    )
 }

@@ -166,14 +166,18 @@ fn refusal_difference(
             }
         }
     }
-    let (status, out, err) = (came.status, shown(alloc, &came.out)?, shown(alloc, &came.err)?);
+    let (status, out, err) = (
+        came.status,
+        shown(alloc, &came.out)?,
+        shown(alloc, &came.err)?,
+    );
     let wanted = match refusals {
         [first, ..] => shown_refusal(alloc, first)?,
         [] => String::new(alloc),
     };
-    Ok(Some(
-        format!(in alloc; "wanted refused: {wanted}, came status {status}, out {out}, err {err}")?,
-    ))
+    Ok(Some(format!(in alloc;
+        "wanted refused: {wanted}, came status {status}, out {out}, err {err}"
+    )?))
 }
 
 fn shown_refusal(alloc: Global, refusal: &Refusal) -> Result<String, AllocError> {
