@@ -93,7 +93,7 @@ impl SinkPlan {
     /// Room for what most rows print, and no fault.
     pub fn ample(alloc: Global) -> SinkPlan {
         SinkPlan {
-            room: 200_000,
+            room: 10_000,
             fails: Vec::new(alloc),
         }
     }
