@@ -1,14 +1,16 @@
 mod TermTrees
-mod Lists
-mod Marks
+pub mod Lists
+pub mod Marks
 mod Held
 mod Owes
 mod Steps
-mod Ends
-mod States
-mod Expanded
-mod WaitsBegan
-mod CellSteps
+pub mod Ends
+pub mod States
+pub mod Runs
+pub mod Stranding
+pub mod WaitsBegan
+pub mod CellSteps
 mod CellRuns
 mod CellHistories
 mod NothingLegal
+pub mod Expanded

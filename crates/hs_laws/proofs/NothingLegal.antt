@@ -6,14 +6,15 @@ use Rattle.rules_meaning.specs.Values.{V, UnitValue}
 use Rattle.rules_meaning.specs.CoreMeaning.{Code}
 use Rattle.hs_rules.specs.Terms.{Part, Ret, Throw, Do, Performs, Frame, mask_at}
 use Rattle.hs_rules.specs.LocalRules.{locals}
-use Rattle.rules_waiting.specs.Waiting.{Reason, Taking, Putting, Throwing, Sleeping, Waiting, is_blocked, reason_of, flight_of, flying_to}
+use Rattle.rules_waiting.specs.Waiting.{Reason, Taking, Reading, Putting, Throwing, Sleeping, Waiting, Sleeper, is_blocked, reason_of, flight_of, flying_to, sleepers_of}
 use Rattle.hs_rules.specs.State.{Thread, State, answer}
 use Rattle.hs_rules.specs.Primitives.{operated}
-use Rattle.hs_rules.specs.Entries.{moved, local_entry, at_operation, op_entry, is_receptive, received, receive_entry, woken, finish_entry, on_thread, next}
+use Rattle.hs_rules.specs.Entries.{moved, local_entry, at_operation, op_entry, is_receptive, received, receive_entry, woken, finish_entry, stranded, strand, strand_entry, on_thread, next, IsLegal}
 use Rattle.hs_rules.specs.Entries as entries
 use Rattle.hs_rules.specs.Endings.{IsTick, IsQuiet, AllWait}
 use Rattle.hs_laws.specs.BracketPhases.{Blocks, OpPart, At, Owing}
 use Rattle.hs_laws.proofs.Lists.{cond_cases, cond_true, cond_false, equal_or}
+use Rattle.hs_laws.proofs.Stranding.{blocked_reason}
 use Rattle.std.proofs.lemmas.Bool.{lt-leb}
 
 -- a test that is false makes no state
@@ -44,6 +45,7 @@ module _ (code : Code) (s : State) (w : AllWait s) (o : Owing s) where
   no_wake : (t : ℕ) (r : Option (Reason V)) → reason_of t s.blocked ≡ r → woken t r s ≡ None
   no_wake t None e = refl
   no_wake t (Some (Taking m)) e = refl
+  no_wake t (Some (Reading m)) e = refl
   no_wake t (Some (Putting m a)) e = refl
   no_wake t (Some (Throwing u x)) e = refl
   no_wake t (Some (Sleeping due)) e = no_state (nat_le due s.clock) (Some (answer t UnitValue s)) (late due s.clock (w.asleep t due e))
@@ -55,20 +57,14 @@ module _ (code : Code) (s : State) (w : AllWait s) (o : Owing s) where
   no_end t th [] (Performs op) r h = refl
   no_end t th (f ∷ fs) p r h = refl
 
-  reason_is : (t : ℕ) (ws : List (Waiting V)) → is_blocked t ws ≡ true → (r : Reason V) × (reason_of t ws ≡ Some r)
-  reason_is t [] b = absurd (cc b)
-  reason_is t (x ∷ ws) b =
-      ⊎_elim
-      (λ e. (x.reason, cond_true (x.thread == t) (Some x.reason) (reason_of t ws) e.0))
-      (λ e.
-      let k = reason_is t ws (sym (cond_false (x.thread == t) true (is_blocked t ws) e.0) ∙ b) in
-      (k.0, cond_false (x.thread == t) (Some x.reason) (reason_of t ws) e.0 ∙ k.1))
-      (equal_or x.thread t)
-
   no_finish : (t : ℕ) (th : Thread) → slice_get s.threads t ≡ Some th → is_blocked t s.blocked ≡ true → finish_entry t th th.term.frames th.term.part s ≡ None
   no_finish t th is b =
-      let r = reason_is t s.blocked b in
+      let r = blocked_reason t s.blocked b in
       no_end t th th.term.frames th.term.part r.0 (subst (At (Blocks r.0)) is (o.blocked t r.0 r.1))
+
+  no_strand : (ss : List Sleeper) → sleepers_of s.blocked ≡ ss → strand_entry ss s ≡ None
+  no_strand [] e = ap (λ ts. strand ts s) (w.unstranded e)
+  no_strand (r ∷ rs) e = refl
 
   no_entry : (e : Entry) → (IsTick e → ⊥) → entries.entered code s e ≡ None
   no_entry (entry.Local t k) n = on_none_thread (slice_get s.threads t) _ (λ th is f. no_local t k th (w.blocked t th is f))
@@ -77,6 +73,10 @@ module _ (code : Code) (s : State) (w : AllWait s) (o : Owing s) where
   no_entry (entry.Wake t) n = no_wake t (reason_of t s.blocked) refl
   no_entry (entry.Finish t) n = on_none_thread (slice_get s.threads t) _ (λ th is f. no_finish t th is (w.blocked t th is f))
   no_entry (entry.Tick at) n = absurd (n tt)
+  no_entry entry.Stranded n = no_strand (sleepers_of s.blocked) refl
+
+  none_next : (e : Entry) → (IsTick e → ⊥) → next code s e ≡ None
+  none_next e n = on_none_thread (slice_get s.threads 0) (λ th. entries.entered code s e) (λ th is f. no_entry e n)
 
   pub quiet : IsQuiet code s
-  quiet e n = on_none_thread (slice_get s.threads 0) (λ th. entries.entered code s e) (λ th is f. no_entry e n)
+  quiet e n l = let z : ◌≡◌ {A = Option State} None (Some l.0) = sym (none_next e n) ∙ l.1.0 in cc z

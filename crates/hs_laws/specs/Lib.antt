@@ -3,3 +3,4 @@ pub mod BracketPhases
 pub mod CellLaw
 pub mod MaskLaw
 pub mod TermTrees
+pub mod Standing
