@@ -1,5 +1,5 @@
 -- Each expansion is a fine action, and what follows for the runs of a script.
-use Rattle.std.proofs.Common.{◌≡◌, ℕ, List, [], ◌∷◌, Option, Some, None, refl, sym, subst, codes}
+use Rattle.std.proofs.Common.{◌≡◌, ℕ, List, [], ◌∷◌, Option, Some, None, refl, sym, ap, subst, arith, ◌≤◌, ◌+◌, codes}
 use Rattle.hs_rules.specs.declared.entry.Entry.{Entry}
 use Rattle.rules_trees.specs.declared.forms.BareAction.{BareAction}
 use Rattle.rules_trees.specs.declared.forms.BareAction.TheVariants as z
@@ -34,9 +34,11 @@ use Rattle.hs_laws.proofs.NothingLegal.{quiet}
 use Rattle.hs_laws.proofs.WaitsBegan.{mask_law}
 use Rattle.hs_laws.specs.CellLaw.{calls, CellsKept}
 use Rattle.hs_laws.proofs.CellHistories.{Tracks, tracks, kept_cell, answers_calls}
-use Rattle.hs_laws.proofs.Runs.{prefix_runs}
+use Rattle.hs_laws.proofs.RunParts.{prefix_runs}
 use Rattle.hs_laws.proofs.Stranding.{are_stranded}
-use Rattle.hs_laws.specs.Standing.{Standing}
+use Rattle.hs_laws.specs.Standing.{Standing, made_so_far}
+use Rattle.hs_rules.specs.Histories.{steps_of}
+use Rattle.hs_laws.proofs.Growing.{run_most}
 use Rattle.std.proofs.lemmas.Option.{same_Some}
 use Rattle.hs_laws.proofs.States.{Holds, first_holds, run_kept, brackets, owing, standing}
 
@@ -168,6 +170,11 @@ owing_of ds es s r = owing s (run_holds ds es s r)
 
 pub standing_of : (ds : List Fn) (es : List Entry) (s : State) → IsRun ds es s → Standing s
 standing_of ds es s r = standing s (run_holds ds es s r)
+
+pub made_of : (ds : List Fn) (es : List Entry) (s : State) → IsRun ds es s → made_so_far s ≤ steps_of es + 1
+made_of ds es s r =
+    let k = begun_is (main_of ds) r.0 r.1 in
+    omega (arith, run_most (code_of ds) es r.0 s r.2, ap made_so_far (sym k.2))
 
 -- where a thread receives an exception in a run
 pub received_of : (ds : List Fn) (es : List Entry) (u v : State) (t : ℕ) → IsRun ds es u → next (code_of ds) u (entry.Receive t) ≡ Some v → ReceivedAfter ds es u t

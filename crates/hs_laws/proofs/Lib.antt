@@ -6,11 +6,14 @@ mod Owes
 mod Steps
 pub mod Ends
 pub mod States
-pub mod Runs
+pub mod RunParts
 pub mod Stranding
 pub mod WaitsBegan
 pub mod CellSteps
 mod CellRuns
 mod CellHistories
-mod NothingLegal
+pub mod NothingLegal
+pub mod Growing
+pub mod Ticking
+pub mod HowItEnds
 pub mod Expanded

@@ -4,3 +4,5 @@ pub mod CellLaw
 pub mod MaskLaw
 pub mod TermTrees
 pub mod Standing
+pub mod ClockLaw
+pub mod HistoryEndings

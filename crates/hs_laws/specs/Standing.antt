@@ -1,5 +1,5 @@
 -- What is true of every state of a run, for whoever keeps one (own): how its blocked and its finished threads stand.
-use Rattle.std.specs.Prelude.{◌≡◌, ◌≢◌, ℕ, true, false, List, [], ◌∷◌, Some, slice_get}
+use Rattle.std.specs.Prelude.{◌≡◌, ◌≢◌, ℕ, ◌+◌, true, false, List, [], ◌∷◌, length, Some, slice_get}
 use Rattle.hs_base.specs.declared.exn.Exn.{Exn}
 use Rattle.rules_meaning.specs.Values.{V}
 use Rattle.hs_rules.specs.Terms.{Part, Ret, Throw, Do, Performs}
@@ -37,3 +37,7 @@ pub record Standing (s : State) : Type 0 where
   pub blocked : (t : ℕ) (r : Reason V) → reason_of t s.blocked ≡ Some r → StandsBlocked s t r
   pub apart : (t u : ℕ) (e : Exn) → reason_of t s.blocked ≡ Some (Throwing u e) → t ≢ u
   pub finished : (t : ℕ) (th : Thread) → slice_get s.threads t ≡ Some th → th.finished ≡ true → IsBare th
+
+-- how many threads, cells, uses of `bracket` and uses of `timeout` there have been
+abbrev pub made_so_far : State → ℕ
+made_so_far s = length s.threads + length s.cells + s.next_instance + s.next_timeout

@@ -7,6 +7,10 @@
 
 pub mod brackets;
 pub mod cells;
+pub mod clock;
+pub mod endings;
 pub mod masks;
 pub mod quiet;
+pub mod runs;
+pub mod standing;
 pub mod terms;
