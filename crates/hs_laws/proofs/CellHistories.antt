@@ -1,5 +1,5 @@
 -- Over a history: each cell follows its calls, and values come out in the order in which they went in.
-use Rattle.std.proofs.Common.{◌≡◌, ◌≢◌, ℕ, List, [], ◌∷◌, ◌++◌, slice_get, true, Option, Some, None, refl, sym, ap, ◌∙◌, subst, ◌⊎◌, inl, inr, ⊎_elim}
+use Rattle.std.proofs.Common.{◌≡◌, ℕ, List, [], ◌∷◌, ◌++◌, slice_get, true, Option, Some, None, refl, sym, ap, ◌∙◌, subst, ◌⊎◌, inl, inr, ⊎_elim}
 use Rattle.std.proofs.Common.{append-nil, append_assoc}
 use Rattle.hs_rules.specs.declared.entry.Entry.{Entry}
 use Rattle.rules_trees.specs.Programs.{Fn}
@@ -11,7 +11,6 @@ use Rattle.hs_rules.specs.Entries.{next}
 use Rattle.hs_rules.specs.Runs.{Run, first_of}
 use Rattle.rules_waiting.specs.OneCell as one
 use Rattle.rules_waiting.specs.OneCell.{Place, Cell, Call, Make, Take, Read, Put, Try_take, Try_put, Leave, Took, Saw, Gave, Tried_take, Tried_put, Reply, cell_of, reply_of, first_put, first_take, readers, leave_line, shown, comes_on, comes_in, made, call}
-use Rattle.rules_waiting.specs.Waiting.{line_of}
 use Rattle.hs_laws.specs.BracketPhases.{FineCode}
 use Rattle.hs_laws.specs.CellLaw.{Shows, calls_of, after_calls, AnswersCalls, held, put_in, came_in, taken_by, went_out, ins_by, outs_by, calls_from, calls_after, calls, unmade, alone, IsMake, NoMake, KeptCell}
 use Rattle.hs_laws.proofs.States.{Holds, Keeps, next_kept}

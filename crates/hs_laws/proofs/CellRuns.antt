@@ -18,7 +18,7 @@ use Rattle.hs_rules.specs.State.{AcquiredBy, ReleasedBy, Thread, State, move, re
 use Rattle.hs_rules.specs.Primitives.{on_none, on_one, on_two, as_text, as_number, as_cell, as_thread, as_exn, as_instance, take, read, put, try_take, try_put, throw_at, due_in, delay, line_feed, performed, operated}
 use Rattle.hs_rules.specs.Entries.{moved, local_entry, at_operation, op_entry, is_receptive, received, receive_entry, woken, uncaught_line, closed, finish_entry, stranded, strand, strand_entry, on_thread, next}
 use Rattle.hs_rules.specs.Entries as entries
-use Rattle.rules_waiting.specs.OneCell.{Want, Place, Cell, Call, Make, Take, Read, Put, Try_take, Try_put, Leave, leaves_line, made, call}
+use Rattle.rules_waiting.specs.OneCell.{Want, Cell, Call, Make, Take, Read, Put, Try_take, Try_put, Leave, leaves_line, made, call}
 use Rattle.hs_laws.specs.Standing.{Once}
 use Rattle.hs_laws.specs.CellLaw.{Shows, answered, call_if, with_none, with_one, with_two, primitive_calls, operation_calls, part_calls, thread_calls, leave_if, leave_call, leave_calls, calls_of, after_calls, IsAnswered, AnswersCalls, IsMake, NoMake}
 use Rattle.hs_laws.proofs.Lists.{item_append, item_below, cond_cases, cond_true, cond_false, equal_or, Each, each_changed, Found, first_found, Absent_in, Distinct, those, throws, throws_at, throw_is_first, throwers_are, once_left, once_reason}

@@ -17,11 +17,10 @@ use Rattle.rules_trees.specs.Programs as tree
 use Rattle.rules_trees.specs.Programs.{Act, Bl, ActArms, Par, Bd, Fn}
 use Rattle.rules_expansion.specs.Names.{Name}
 use Rattle.rules_expansion.specs.Core.{CoreEx, Core, ActionFunction, action_named}
-use Rattle.rules_meaning.specs.CoreMeaning.{Code}
 use Rattle.rules_expansion.specs.Expansion.{in_time, timeout_helper, timeout_end, timed, timeout, bare_core, unary_core, binary_core, scoped_core, masking_core, guard_core, core, block_core, arms_core, with_action, actions_of}
 use Rattle.hs_rules.specs.State.{State, first}
 use Rattle.hs_rules.specs.Entries.{next}
-use Rattle.hs_rules.specs.Runs.{Run, then_next, after_from, begun, first_of, IsRun}
+use Rattle.hs_rules.specs.Runs.{Run, begun, first_of, IsRun}
 use Rattle.rules_meaning.specs.CoreMeaning.{code_of}
 use Rattle.rules_expansion.specs.Expansion.{body_of, main_of}
 use Rattle.hs_laws.specs.BracketLaw.{Brackets}

@@ -1,5 +1,5 @@
 -- Each entry makes at most one new thread, cell, use of `bracket` or use of `timeout`.
-use Rattle.std.proofs.Common.{◌≡◌, ℕ, zero, suc, ◌+◌, ◌≤◌, ◌==◌, ℤ, pos, negsuc, List, [], ◌∷◌, ◌++◌, length, slice_get, slice_set, Bool, true, false, cond, nat_le, Option, Some, None, refl, sym, ap, ◌∙◌, subst, arith, length-append}
+use Rattle.std.proofs.Common.{◌≡◌, ℕ, zero, suc, ◌+◌, ◌≤◌, ◌==◌, ℤ, pos, negsuc, List, [], ◌∷◌, ◌++◌, length, slice_get, slice_set, Bool, true, false, cond, nat_le, Option, Some, None, refl, subst, arith, length-append}
 use Rattle.hs_base.specs.declared.mask.Mask.{Mask}
 use Rattle.hs_base.specs.declared.mask.Mask.TheVariants.{Unmasked}
 use Rattle.hs_base.specs.declared.exn.Exn.{Exn}
@@ -13,9 +13,9 @@ use Rattle.rules_meaning.specs.CoreMeaning.{Code}
 use Rattle.hs_rules.specs.Terms.{Operation, Calls, Forks, ForksUnmask, Part, Ret, Throw, Do, Performs, Frame, MaskIn, Term, term, mask_at}
 use Rattle.hs_rules.specs.LocalRules.{locals}
 use Rattle.rules_waiting.specs.OneCell.{first_put, first_take, readers}
-use Rattle.rules_waiting.specs.Waiting.{Reason, Taking, Reading, Putting, Throwing, Sleeping, Flying, Sleeper, is_blocked, reason_of, line_of, flight_of, flying_to, sleepers_of}
-use Rattle.hs_rules.specs.State.{AcquiredBy, ReleasedBy, Thread, State, with_term, move, frames_of, resume, answer, resume_all, block, spawn, first}
-use Rattle.hs_rules.specs.Primitives.{on_none, on_one, on_two, as_text, as_number, as_cell, as_thread, as_exn, as_instance, moves_in, taken, goes_in, goes_on, read_by_all, given, take, read, put, try_take, try_put, throw_at, due_in, delay, masking_text, clock_value, line_feed, performed, operated}
+use Rattle.rules_waiting.specs.Waiting.{Reason, Sleeping, Flying, Sleeper, is_blocked, reason_of, line_of, flight_of, flying_to, sleepers_of}
+use Rattle.hs_rules.specs.State.{AcquiredBy, ReleasedBy, Thread, State, with_term, frames_of, resume, answer, resume_all, spawn, first}
+use Rattle.hs_rules.specs.Primitives.{on_none, on_one, on_two, as_text, as_number, as_cell, as_thread, as_exn, as_instance, moves_in, taken, goes_in, read_by_all, given, take, read, put, try_take, try_put, throw_at, delay, masking_text, clock_value, performed, operated}
 use Rattle.hs_rules.specs.Entries.{moved, local_entry, at_operation, op_entry, is_receptive, received, receive_entry, woken, uncaught_line, throwers, closed, finish_entry, stranded, strand, strand_entry, on_thread, next}
 use Rattle.hs_rules.specs.Entries as entries
 use Rattle.hs_rules.specs.Histories.{cost_of, steps_of}

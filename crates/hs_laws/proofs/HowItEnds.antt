@@ -7,11 +7,10 @@ use Rattle.hs_rules.specs.declared.entry.LimitKind.{LimitKind}
 use Rattle.hs_rules.specs.declared.entry.LimitKind.TheVariants.{Threads, Cells, Frames, Output}
 use Rattle.rules_trees.specs.Programs.{Fn}
 use Rattle.rules_meaning.specs.CoreMeaning.{Code, code_of}
-use Rattle.hs_rules.specs.Terms.{Part}
 use Rattle.hs_rules.specs.State.{Thread, State}
 use Rattle.hs_rules.specs.Entries.{on_thread, next}
 use Rattle.hs_rules.specs.Entries as entries
-use Rattle.hs_rules.specs.Runs.{after, IsRun, first_of}
+use Rattle.hs_rules.specs.Runs.{after}
 use Rattle.hs_rules.specs.Histories.{steps_of}
 use Rattle.hs_rules.specs.Endings.{RunEnding, Done, Uncaught, Deadlock, Fuel, is_ret, result_of, ended_by, IsDone, IsUncaught, Ends, IsWithin, FirstExceeded}
 use Rattle.hs_laws.specs.HistoryEndings.{HasEnding, StaysWithin}

@@ -387,15 +387,15 @@ absent_above n t [] le h = tt
 absent_above n t (u ∷ us) le h = ((λ e. absurd (omega (arith, e, h.0))), absent_above n t us le h.1)
 
 -- a number stands in a list
-abbrev pub Stands_in : ℕ → List ℕ → Type 0
-Stands_in t [] = ⊥
-Stands_in t (u ∷ us) = (u ≡ t) ⊎ Stands_in t us
+abbrev pub StandsIn : ℕ → List ℕ → Type 0
+StandsIn t [] = ⊥
+StandsIn t (u ∷ us) = (u ≡ t) ⊎ StandsIn t us
 
-pub stands_before : (t : ℕ) (us vs : List ℕ) → Stands_in t us → Stands_in t (us ++ vs)
+pub stands_before : (t : ℕ) (us vs : List ℕ) → StandsIn t us → StandsIn t (us ++ vs)
 stands_before t [] vs h = absurd h
 stands_before t (u ∷ us) vs (inl e) = inl e
 stands_before t (u ∷ us) vs (inr h) = inr (stands_before t us vs h)
 
-pub stands_behind : (t : ℕ) (us vs : List ℕ) → Stands_in t vs → Stands_in t (us ++ vs)
+pub stands_behind : (t : ℕ) (us vs : List ℕ) → StandsIn t vs → StandsIn t (us ++ vs)
 stands_behind t [] vs h = h
 stands_behind t (u ∷ us) vs h = inr (stands_behind t us vs h)

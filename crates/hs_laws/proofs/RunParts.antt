@@ -1,5 +1,5 @@
 -- Runs: one more entry, what comes before, and the state after.
-use Rattle.std.proofs.Common.{◌≡◌, ℕ, List, [], ◌∷◌, ◌++◌, Option, Some, None, refl, sym, ap, ◌∙◌, subst}
+use Rattle.std.proofs.Common.{◌≡◌, List, [], ◌∷◌, ◌++◌, Option, Some, None, refl, sym, ap, ◌∙◌, subst}
 use Rattle.std.proofs.lemmas.Option.{same_Some}
 use Rattle.hs_rules.specs.declared.entry.Entry.{Entry}
 use Rattle.rules_trees.specs.Programs.{Fn}

@@ -8,14 +8,13 @@ use Rattle.hs_rules.specs.declared.entry.Entry.{Entry}
 use Rattle.hs_rules.specs.declared.entry.Entry.TheVariants as entry
 use Rattle.hs_rules.specs.declared.entry.Entry.TheVariants.{Local}
 use Rattle.rules_meaning.specs.Values as val
-use Rattle.rules_expansion.specs.Names.{Hidden, Name, Written, Added, Unread, Instance, BracketResult, BracketFault}
 use Rattle.rules_meaning.specs.Values.{V, UnitValue, Int, Truth, Text, Nothing, Just, Left, Right, Pair, Nil, Cons, Exception, Restore, Inst, Env, with_name, value_at, Outcome, Gives, Throws, Stuck, Outcomes, AllGive, OneThrows, OneStuck}
 use Rattle.rules_expansion.specs.Core.{Primitive, PutStr, PutStrLn, HPutStrLn, NewMVar, NewEmptyMVar, TakeMVar, PutMVar, ReadMVar, TryTakeMVar, TryPutMVar, MyThreadId, GetMaskingState, ClockMicros, ThreadDelay, ThrowTo, NewTimeout, Acquired, Release, Core}
 use Rattle.rules_meaning.specs.CoreMeaning.{Code}
 use Rattle.hs_rules.specs.Terms.{Operation, Calls, Forks, ForksUnmask, Part, Ret, Throw, Do, Performs, Frame, MaskIn, Term, term, mask_at}
 use Rattle.hs_rules.specs.LocalRules.{locals}
-use Rattle.rules_waiting.specs.OneCell.{first_put, first_take, readers}
-use Rattle.rules_waiting.specs.Waiting.{Reason, Taking, Reading, Putting, Throwing, Sleeping, Waiting, Flying, Sleeper, leaves, is_blocked, reason_of, line_of, flight_of, flying_to, sleepers_of, at_cell}
+use Rattle.rules_waiting.specs.OneCell.{first_put}
+use Rattle.rules_waiting.specs.Waiting.{Reason, Taking, Reading, Putting, Throwing, Sleeping, Waiting, Flying, Sleeper, leaves, is_blocked, reason_of, line_of, flight_of, flying_to, sleepers_of}
 use Rattle.hs_rules.specs.State.{Mark, AcquiredBy, ReleasedBy, Thread, State, with_term, move, frames_of, resume, answer, resume_all, block, spawn, first}
 use Rattle.hs_rules.specs.Primitives.{on_none, on_one, on_two, as_text, as_number, as_cell, as_thread, as_exn, as_instance, moves_in, taken, goes_in, goes_on, read_by_all, given, take, read, put, try_take, try_put, throw_at, due_in, delay, clock_value, masking_text, line_feed, performed, operated}
 use Rattle.hs_rules.specs.Entries.{moved, local_entry, at_operation, op_entry, is_throw, is_unmasked, is_interruptible, is_open, is_receptive, received, receive_entry, woken, uncaught_line, throwers, closed, finish_entry, mask_of, is_stranded, stranded_below, stranded, strand, strand_entry, on_thread, next}
@@ -25,7 +24,7 @@ use Rattle.rules_waiting.specs.Waiting.{first_thrown}
 use Rattle.hs_laws.specs.BracketLaw.{mine, IsMasked, Brackets, count, Numbered}
 use Rattle.hs_laws.specs.BracketPhases.{Blocks, OpPart, At, Owing, Fine, FineCode}
 use Rattle.hs_laws.specs.BracketPhases.{FineOp, Below, no_frames, below_mask, Held, held_ret, held_throw, held_do}
-use Rattle.hs_laws.specs.Standing.{Once, IsResult, IsBare, StandsBlocked, Standing}
+use Rattle.hs_laws.specs.Standing.{Once, IsResult, IsBare, Standing}
 use Rattle.std.proofs.Common.{append-nil}
 use Rattle.hs_laws.proofs.Lists.{cond_cases, equal_or, item_same, item_other, item_more, Each, each_more, each_left, each_apart, each_changed, Found, first_found, OnReason, reason_found, blocked_found, once_left, once_more, Distinct, Ones, ones_apart, ones_both, ones_changed, distinct_last, distinct_those, ones_those, Absent_in, absent_above, first_of_kind, those, takes, puts, throws, throws_at, reads_at, readers_are, only_thread, put_is_first, take_is_first, throw_is_first, throwers_are}
 use Rattle.hs_laws.proofs.Marks.{Proper, numbered_more, mine_acquired, mine_acquired_other, mine_released, mine_released_other, once_acquired, once_released, own_release, all_released, AllBelow, mine_below, open_once}

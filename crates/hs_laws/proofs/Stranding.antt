@@ -1,20 +1,19 @@
 -- What a Stranded does: to those who are to be stranded, and to nobody else.
-use Rattle.std.proofs.Common.{◌≡◌, ◌≢◌, ℕ, zero, suc, ◌<◌, ◌==◌, List, [], ◌∷◌, ◌++◌, length, slice_get, Bool, true, false, cond, ◌&&◌, Option, Some, None, refl, sym, ap, ◌∙◌, subst, arith, ◌⊎◌, inl, inr, ⊎_elim}
+use Rattle.std.proofs.Common.{◌≡◌, ◌≢◌, ℕ, zero, suc, ◌<◌, ◌==◌, List, [], ◌∷◌, length, slice_get, Bool, true, false, cond, ◌&&◌, Option, Some, None, refl, sym, ap, ◌∙◌, subst, arith, inl, ⊎_elim}
 use Rattle.hs_base.specs.declared.mask.Mask.{Mask}
 use Rattle.hs_base.specs.declared.mask.Mask.TheVariants.{Unmasked, Masked, Uninterruptible}
 use Rattle.hs_base.specs.declared.exn.Exn.TheVariants.{BlockedIndefinitely}
 use Rattle.hs_rules.specs.declared.entry.Entry.TheVariants as entry
 use Rattle.rules_meaning.specs.Values.{V}
 use Rattle.rules_meaning.specs.CoreMeaning.{Code}
-use Rattle.hs_rules.specs.Terms.{Part, Throw, Term, term, mask_at}
+use Rattle.hs_rules.specs.Terms.{Part, Throw, term, mask_at}
 use Rattle.rules_waiting.specs.Waiting.{Reason, Waiting, Sleeper, leaves, is_blocked, reason_of, at_cell, sleepers_of}
 use Rattle.hs_rules.specs.State.{Thread, State, with_term, frames_of, resume, resume_all}
 use Rattle.hs_rules.specs.Entries.{is_interruptible, mask_of, is_stranded, stranded_below, stranded, strand, strand_entry, on_thread, next}
 use Rattle.hs_rules.specs.Entries as entries
-use Rattle.hs_laws.specs.BracketPhases.{Blocks, At}
 use Rattle.hs_laws.specs.MaskLaw.{WaitsOpen, WasRemoved, thrown_out, AreStranded}
-use Rattle.hs_laws.proofs.Lists.{cond_true, cond_false, equal_or, item_same, item_below, OnReason, reason_found, Absent_in, Distinct, Ones, Stands_in, stands_before, stands_behind}
-use Rattle.hs_laws.proofs.States.{Holds, Waits, other_thread, Strands, strands_each, stranded_distinct}
+use Rattle.hs_laws.proofs.Lists.{cond_true, cond_false, equal_or, item_same, item_below, Absent_in, Distinct, Ones, StandsIn, stands_before, stands_behind}
+use Rattle.hs_laws.proofs.States.{other_thread, Strands, strands_each, stranded_distinct}
 use Rattle.hs_laws.proofs.CellSteps.{reason_left, not_blocked_reason}
 use Rattle.hs_laws.proofs.WaitsBegan.{thread_is}
 
@@ -66,7 +65,7 @@ with_part p th = record { term = term p th.term.frames; finished = th.finished }
 own_part : (ts : List Thread) (t : ℕ) (p : Part) (th : Thread) → slice_get ts t ≡ Some th → slice_get (with_term t (slice_get ts t) (term p (frames_of (slice_get ts t))) ts) t ≡ Some (with_part p th)
 own_part ts t p th e = subst (λ o. slice_get (with_term t o (term p (frames_of o)) ts) t ≡ Some (with_part p th)) (sym e) (item_same ts t th (with_part p th) e)
 
-touched : (t : ℕ) (ts : List ℕ) (p : Part) (s : State) (th : Thread) → Distinct ts → Stands_in t ts → slice_get s.threads t ≡ Some th →
+touched : (t : ℕ) (ts : List ℕ) (p : Part) (s : State) (th : Thread) → Distinct ts → StandsIn t ts → slice_get s.threads t ≡ Some th →
     (slice_get (resume_all ts p s).threads t ≡ Some (with_part p th)) × (reason_of t (resume_all ts p s).blocked ≡ None)
 touched t [] p s th d h e = absurd h
 touched t (u ∷ us) p s th d h e =
@@ -79,12 +78,12 @@ touched t (u ∷ us) p s th d h e =
     let free : reason_of t (resume u p s).blocked ≡ None = subst (λ v. reason_of t (leaves v s.blocked) ≡ None) (sym q.1) (not_blocked_reason t (leaves t s.blocked) (left_free t s.blocked)) in
     (k.0 ∙ own, k.1 ∙ free))
     (λ q.
-    let stands : Stands_in t us = ⊎_elim (λ x. absurd (q.1 x)) (λ x. x) h in
+    let stands : StandsIn t us = ⊎_elim (λ x. absurd (q.1 x)) (λ x. x) h in
     touched t us p (resume u p s) th d.1 stands (other_thread s.threads u t (slice_get s.threads u) (term p (frames_of (slice_get s.threads u))) (λ x. q.1 (sym x)) ∙ e))
     (equal_or u t)
 
 -- ---- who is to be stranded
-among : (n t : ℕ) (s : State) → t < n → Strands s t → Stands_in t (stranded_below n s)
+among : (n t : ℕ) (s : State) → t < n → Strands s t → StandsIn t (stranded_below n s)
 among zero t s l h = absurd (omega arith)
 among (suc n) t s l h =
     ⊎_elim
@@ -92,8 +91,8 @@ among (suc n) t s l h =
     (λ q. stands_before t (stranded_below n s) _ (among n t s (omega (arith, q.1)) h))
     (equal_or n t)
   where
-    by : n ≡ t → Stands_in t (cond (is_stranded (slice_get s.threads n) (reason_of n s.blocked)) (n ∷ []) [])
-    by e = subst (Stands_in t) (sym (cond_true (is_stranded (slice_get s.threads n) (reason_of n s.blocked)) (n ∷ []) [] (subst (Strands s) (sym e) h))) (inl e)
+    by : n ≡ t → StandsIn t (cond (is_stranded (slice_get s.threads n) (reason_of n s.blocked)) (n ∷ []) [])
+    by e = subst (StandsIn t) (sym (cond_true (is_stranded (slice_get s.threads n) (reason_of n s.blocked)) (n ∷ []) [] (subst (Strands s) (sym e) h))) (inl e)
 
 apart_from : (P : ℕ → Type 0) (t : ℕ) (us : List ℕ) → Ones P us → (P t → ⊥) → Absent_in t us
 apart_from P t [] h n = tt

@@ -8,7 +8,6 @@ use Rattle.hs_rules.specs.declared.entry.Entry.{Entry}
 use Rattle.hs_rules.specs.declared.entry.Entry.TheVariants as entry
 use Rattle.hs_rules.specs.declared.entry.Entry.TheVariants.{Local}
 use Rattle.rules_meaning.specs.Values as val
-use Rattle.rules_expansion.specs.Names.{Hidden, Name, Written, Added, Unread, Instance, BracketResult, BracketFault}
 use Rattle.rules_meaning.specs.Values.{V, UnitValue, Int, Truth, Text, Nothing, Just, Left, Right, Pair, Nil, Cons, Exception, Restore, Inst, Env, with_name, value_at, Outcome, Gives, Throws, Stuck, Outcomes, AllGive, OneThrows, OneStuck}
 use Rattle.rules_expansion.specs.Core.{Primitive, PutStr, PutStrLn, HPutStrLn, NewMVar, NewEmptyMVar, TakeMVar, PutMVar, ReadMVar, TryTakeMVar, TryPutMVar, MyThreadId, GetMaskingState, ClockMicros, ThreadDelay, ThrowTo, NewTimeout, Acquired, Release, Core}
 use Rattle.rules_meaning.specs.CoreMeaning.{Code}

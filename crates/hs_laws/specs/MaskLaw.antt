@@ -1,6 +1,6 @@
 -- The law of masks: what is true wherever a thread receives an exception ("Asynchronous Exceptions in Haskell"; the
 -- documentation of `Control.Exception` on interruptible operations), and wherever threads are stranded (own).
-use Rattle.std.specs.Prelude.{◌≡◌, ◌≢◌, ℕ, true, false, List, [], ◌∷◌, ◌++◌, Option, Some, None, ◌⊎◌, ◌↔◌, slice_get}
+use Rattle.std.specs.Prelude.{◌≡◌, ◌≢◌, ℕ, true, false, List, [], ◌∷◌, ◌++◌, Some, ◌⊎◌, ◌↔◌, slice_get}
 use Rattle.hs_base.specs.declared.mask.Mask.TheVariants.{Unmasked, Uninterruptible}
 use Rattle.hs_base.specs.declared.exn.Exn.{Exn}
 use Rattle.hs_base.specs.declared.exn.Exn.TheVariants.{BlockedIndefinitely}
@@ -11,8 +11,8 @@ use Rattle.rules_meaning.specs.Values.{V, Exception}
 use Rattle.rules_meaning.specs.Values as val
 use Rattle.rules_expansion.specs.Core.{ThrowTo}
 use Rattle.rules_meaning.specs.CoreMeaning.{Code, code_of}
-use Rattle.hs_rules.specs.Terms.{Calls, Throw, Performs, Term, term, mask_at}
-use Rattle.rules_waiting.specs.Waiting.{Reason, Throwing, Flying, is_blocked, reason_of, at_cell, flight_of, flying_to, first_thrown}
+use Rattle.hs_rules.specs.Terms.{Calls, Throw, Performs, term, mask_at}
+use Rattle.rules_waiting.specs.Waiting.{Reason, Throwing, is_blocked, reason_of, at_cell, flight_of, flying_to, first_thrown}
 use Rattle.hs_rules.specs.State.{Thread, State}
 use Rattle.hs_rules.specs.Entries.{next}
 use Rattle.hs_rules.specs.Runs.{Run, first_of, after}
