@@ -17,3 +17,4 @@ pub mod Growing
 pub mod Ticking
 pub mod HowItEnds
 pub mod Expanded
+pub mod Later
