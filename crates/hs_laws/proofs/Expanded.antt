@@ -1,5 +1,5 @@
 -- Each expansion is a fine action, and what follows for the runs of a script.
-use Rattle.std.proofs.Common.{◌≡◌, ℕ, List, [], ◌∷◌, Option, Some, None, refl, sym, ap, subst, arith, ◌≤◌, ◌+◌, codes}
+use Rattle.std.proofs.Common.{◌≡◌, ℕ, List, [], ◌∷◌, Option, Some, None, false, slice_get, refl, sym, ap, subst, arith, ◌≤◌, ◌+◌, codes}
 use Rattle.hs_rules.specs.declared.entry.Entry.{Entry}
 use Rattle.rules_trees.specs.declared.forms.BareAction.{BareAction}
 use Rattle.rules_trees.specs.declared.forms.BareAction.TheVariants as z
@@ -18,8 +18,11 @@ use Rattle.rules_trees.specs.Programs.{Act, Bl, ActArms, Par, Bd, Fn}
 use Rattle.rules_expansion.specs.Names.{Name}
 use Rattle.rules_expansion.specs.Core.{CoreEx, Core, ActionFunction, action_named}
 use Rattle.rules_expansion.specs.Expansion.{in_time, timeout_helper, timeout_end, timed, timeout, bare_core, unary_core, binary_core, scoped_core, masking_core, guard_core, core, block_core, arms_core, with_action, actions_of}
-use Rattle.hs_rules.specs.State.{State, first}
-use Rattle.hs_rules.specs.Entries.{next}
+use Rattle.hs_rules.specs.State.{Thread, State, resume_all, first}
+use Rattle.hs_rules.specs.Entries.{stranded, next, IsIdle, Leads}
+use Rattle.hs_rules.specs.Terms.{Throw}
+use Rattle.rules_waiting.specs.Waiting.{sleepers_of}
+use Rattle.hs_base.specs.declared.exn.Exn.TheVariants.{BlockedIndefinitely}
 use Rattle.hs_rules.specs.Runs.{Run, begun, first_of, IsRun}
 use Rattle.rules_meaning.specs.CoreMeaning.{code_of}
 use Rattle.rules_expansion.specs.Expansion.{body_of, main_of}
@@ -29,13 +32,13 @@ use Rattle.hs_laws.proofs.Steps.{FineDef, def_fine}
 use Rattle.hs_rules.specs.declared.entry.Entry.TheVariants as entry
 use Rattle.hs_laws.specs.MaskLaw.{Received, ReceivedAfter, MasksKept}
 use Rattle.hs_rules.specs.Endings.{AllWait, IsQuiet}
-use Rattle.hs_laws.proofs.NothingLegal.{quiet}
+use Rattle.hs_laws.proofs.NothingLegal.{quiet, idle, may_strand}
 use Rattle.hs_laws.proofs.WaitsBegan.{mask_law}
 use Rattle.hs_laws.specs.CellLaw.{calls, CellsKept}
 use Rattle.hs_laws.proofs.CellHistories.{Tracks, tracks, kept_cell, answers_calls}
 use Rattle.hs_laws.proofs.RunParts.{prefix_runs}
 use Rattle.hs_laws.proofs.Stranding.{are_stranded}
-use Rattle.hs_laws.specs.Standing.{Standing, made_so_far}
+use Rattle.hs_laws.specs.Standing.{Standing, NoneWorks, made_so_far}
 use Rattle.hs_rules.specs.Histories.{steps_of}
 use Rattle.hs_laws.proofs.Growing.{run_most}
 use Rattle.std.proofs.lemmas.Option.{same_Some}
@@ -188,6 +191,14 @@ received_of ds es u v t r n =
 -- in a run's state where all wait, nothing but a Tick is legal
 pub quiet_of : (ds : List Fn) (es : List Entry) (s : State) → IsRun ds es s → AllWait s → IsQuiet (code_of ds) s
 quiet_of ds es s r w = quiet (code_of ds) s w (owing_of ds es s r)
+
+-- in one where they wait so, there is no work, and who is to be stranded may be
+pub idle_of : (ds : List Fn) (es : List Entry) (s : State) → IsRun ds es s → NoneWorks s → IsIdle (code_of ds) s
+idle_of ds es s r w = idle (code_of ds) s w (owing_of ds es s r)
+
+pub strands_of : (ds : List Fn) (es : List Entry) (s : State) → IsRun ds es s → NoneWorks s → (main : Thread) → slice_get s.threads 0 ≡ Some main → main.finished ≡ false → sleepers_of s.blocked ≡ [] →
+    (t : ℕ) (ts : List ℕ) → stranded s ≡ t ∷ ts → Leads (code_of ds) s entry.Stranded (resume_all (stranded s) (Throw BlockedIndefinitely) s)
+strands_of ds es s r w = may_strand (code_of ds) s w (owing_of ds es s r)
 
 -- ---- the laws of a history
 

@@ -1,5 +1,5 @@
 -- What is legal stays legal when the clock goes on, and where the first sleeper is due it may wake.
-use Rattle.std.proofs.Common.{◌≡◌, ◌≢◌, ℕ, zero, suc, ◌<◌, ◌≤◌, ◌==◌, ℤ, pos, negsuc, List, [], ◌∷◌, ◌++◌, length, slice_get, slice_set, Bool, true, false, cond, nat_le, Option, Some, None, refl, sym, ap, ◌∙◌, subst, arith, ◌⊎◌, inl, inr, ⊎_elim, append_assoc}
+use Rattle.std.proofs.Common.{◌≡◌, ◌≢◌, ℕ, zero, suc, ◌≤◌, ◌==◌, ℤ, pos, negsuc, List, [], ◌∷◌, ◌++◌, length, slice_get, Bool, true, false, cond, nat_le, Option, Some, None, refl, sym, ap, ◌∙◌, subst, arith, ◌⊎◌, inl, inr, ⊎_elim, append_assoc}
 use Rattle.std.specs.Prelude.{Contains}
 use Rattle.std.proofs.lemmas.Bool.Decides.{leb_tells}
 use Rattle.std.proofs.lemmas.Option.{same_Some}
@@ -22,8 +22,8 @@ use Rattle.hs_rules.specs.Entries as entries
 use Rattle.hs_rules.specs.Endings.{IsTick, IsQuiet}
 use Rattle.hs_rules.specs.Runs.{Run, IsRun, after}
 use Rattle.hs_laws.specs.Standing.{Once}
-use Rattle.hs_laws.specs.ClockLaw.{ClockAsked, first_due, IsFrom, EndsInTick, TickStands, IsPunctual, ClockKept}
-use Rattle.hs_laws.proofs.Lists.{cond_cases, cond_true, Each, each_changed, once_reason}
+use Rattle.hs_laws.specs.ClockLaw.{IsFrom, TickStands, IsPunctual, ClockKept}
+use Rattle.hs_laws.proofs.Lists.{cond_cases, cond_true, Each, once_reason}
 use Rattle.hs_laws.proofs.RunParts.{is_after, run_before, run_more}
 use Rattle.hs_laws.proofs.Expanded.{standing_of}
 use Rattle.hs_laws.proofs.WaitsBegan.{thread_is}

@@ -10,7 +10,7 @@ ghost use Rattle.hs_rules.specs.State.{Thread, State};
 ghost use Rattle.hs_rules.specs.Entries.{next};
 ghost use Rattle.hs_rules.specs.Runs.{after};
 ghost use Rattle.hs_rules.specs.Endings.{RunEnding, IsDone, IsUncaught, IsWithin, FirstExceeded};
-ghost use Rattle.hs_laws.specs.HistoryEndings.{HasEnding, StaysWithin};
+ghost use Rattle.hs_laws.specs.HistoryEndings.{HasEnding, HasLimit, StaysWithin};
 
 /// A history has at most one ending, and a state exceeds at most one limit first. Where main has finished the ending is Done
 /// or Uncaught, and nothing is legal any more.
@@ -25,4 +25,9 @@ pub fn endings_are_one()
 pub fn limits_are_kept()
     ensures begins { (limits : Limits) (ds : List Fn) → ((s : State) → after ds [] ≡ Some s → IsWithin limits s) → StaysWithin limits ds [] }
     ensures more { (limits : Limits) (ds : List Fn) (es : List Entry) (e : Entry) (u : State) → StaysWithin limits ds es → after ds (es ++ e ∷ []) ≡ Some u → IsWithin limits u → StaysWithin limits ds (es ++ e ∷ []) }
+{}
+
+/// A history that stays within limits has an ending or was ended at a limit, not both.
+pub fn an_ending_or_a_limit()
+    ensures { (a : RunEnding) (kind : LimitKind) (e : Entry) (limits : Limits) (ds : List Fn) (es : List Entry) (fuel : ℕ) → StaysWithin limits ds es → HasLimit kind e limits ds es fuel → ¬ HasEnding a ds es fuel }
 {}
