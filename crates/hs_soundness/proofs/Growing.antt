@@ -3,7 +3,7 @@ use Rattle.std.proofs.Common.{◌≡◌, ℕ, zero, suc, List, [], ◌∷◌, �
 use Rattle.std.specs.Prelude.{slice_get}
 use Rattle.rules_trees.specs.Trees.{T, unit, int, bool, text, thread, exn, pair, maybe, either, list, cell}
 use Rattle.rules_meaning.specs.Values as val
-use Rattle.rules_expansion.specs.Names.{Name, Written, Added, Hidden, Unread, Restorer, Given, Caught, TheCell, Content, Instance, BracketResult, BracketFault, Allowed, InTime, Owner, Expiry, Helper, HelperRestorer, same_name}
+use Rattle.rules_expansion.specs.Names.{Name, Written, Added, Hidden, Unread, Restorer, Given, Caught, TheCell, Instance, BracketResult, BracketFault, Allowed, InTime, Owner, Expiry, Helper, HelperRestorer, same_name}
 use Rattle.rules_meaning.specs.Values.{V, Pair, Nothing, Just, Left, Right, Nil, Cons, Env, with_name, value_at}
 use Rattle.rules_typed.specs.Sorts.{Sort, a_value, a_masking_name, an_instance, Bound, sort_at}
 use Rattle.rules_typed.specs.TypedMeaning.{of_pair, of_maybe, of_either, of_list, of_cell, HasV, any_cell}
@@ -75,7 +75,6 @@ kept_hidden Restorer v env h = refl
 kept_hidden Given v env h = refl
 kept_hidden Caught v env h = refl
 kept_hidden TheCell v env h = refl
-kept_hidden Content v env h = refl
 kept_hidden Instance v env h = refl
 kept_hidden BracketResult v env h = refl
 kept_hidden BracketFault v env h = refl

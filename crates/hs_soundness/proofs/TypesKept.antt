@@ -20,7 +20,7 @@ use Rattle.rules_meaning.specs.Meaning.{has_no_quotient, floor_quotient, floor_r
 use Rattle.rules_typing.specs.Typing as typing
 use Rattle.rules_typing.specs.Typing.{Has, equal, order, first_of, second_of, inner_of, row_unary, row_binary}
 use Rattle.rules_typed.specs.TypedMeaning.{of_int, of_bool, of_text, of_thread, of_exn, of_pair, of_maybe, of_either, of_list, HasV, Good, AllOf, AllGood, HasSort, Fits, FunctionsGood, IsStrict, Well, WellAll, WellLinks, WellConses, WellArms}
-use Rattle.hs_laws.proofs.Lists.{cond_cases, cond_true, cond_false, equal_or}
+use Rattle.hs_soundness.proofs.Conditions.{cond_cases, cond_true, cond_false, equal_or}
 use Rattle.std.proofs.lemmas.Slice.Eq.{bytes_eq-Decides}
 use Rattle.hs_base.specs.declared.pos.Pos.{Pos}
 
