@@ -1,10 +1,10 @@
-ghost use Rattle.std.specs.Prelude.{◌≡◌, ◌⊎◌, ◌↔◌, ◌++◌, ℕ, List, IsTrue, OnErr, OnOk, [], map, string_bytes};
+ghost use Rattle.std.specs.Prelude.{◌≡◌, ◌<◌, ◌⊎◌, ◌↔◌, ◌++◌, ℕ, List, IsTrue, OnErr, OnOk, [], map, string_bytes};
 ghost use Rattle.std.specs.Io.KnownBytes.{Appends};
 ghost use Rattle.hs_io.specs.Causes.{HasCause, Rose};
 ghost use Rattle.hs_io.specs.Outside.{Puts};
 ghost use Rattle.conc_top.specs.declared.ending.Ending.{Ending};
 ghost use Rattle.conc_top.specs.declared.ending.Ending.TheVariants.{Memory, Write};
-ghost use Rattle.conc_top.specs.Answers.{AreGood, Comes, ErrorsFailed, IsDue, IsLeft, OutputFailed, Tells, WasToldNothing};
+ghost use Rattle.conc_top.specs.Answers.{AreGood, Comes, ErrorsFailed, IsDue, IsFaulty, IsLeft, OutputFailed, Tells, WasToldNothing};
 ghost use Rattle.conc_top.specs.Lines.{line_of, status_of, text_of};
 ghost use Rattle.conc_top.specs.Outcomes.{IsJudged, IsToldFor};
 
@@ -47,6 +47,9 @@ pub fn run<S: Source, O: Sink, E: Sink, K: Clock, G: Gate>(
         × Comes (AreGood (map (λ word. string_bytes word) words.now)) (Rose (S.faults source.old) (S.faults source.new))
         (S.left source.old) (S.left source.new) came result.history.list output errors (K.last result.clock)
         × Tells O.told O.faults E.told E.faults came result.ending output (errors ++ line_of came) out result.out err result.err }
+
+    // A read that failed is told.
+    ensures rose { S.faults source.old < S.faults source.new → IsFaulty result.ending }
 
     // The source is not read where the words are not good.
     ensures unread { ¬ AreGood (map (λ word. string_bytes word) words.now) → source.new ≡ source.old }
@@ -126,6 +129,7 @@ fn are_good(words: &[String]) -> bool
 fn come_to<S: Source>(alloc: Global, words: &[String], source: &mut S) -> Outcome
     ensures comes { Comes (AreGood (map (λ word. string_bytes word) words.now)) (Rose (S.faults source.old) (S.faults source.new))
         (S.left source.old) (S.left source.new) result.ending result.history.list result.output.items [] 0 }
+    ensures rose { S.faults source.old < S.faults source.new → IsFaulty result.ending }
     ensures unread { ¬ AreGood (map (λ word. string_bytes word) words.now) → source.new ≡ source.old }
 {
     if !are_good(words) {

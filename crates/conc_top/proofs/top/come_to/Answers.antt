@@ -1,5 +1,5 @@
 use Rattle.std.proofs.Common.{rules, sym, ◌∙◌}
-use Rattle.conc_top.proofs.Answered.{fault_comes, judged_comes, memory_comes, words_come}
+use Rattle.conc_top.proofs.Answered.{fault_comes, judged_comes, memory_comes, took_few, words_come}
 use Rattle.conc_top.proofs.top.come_to.Goals as goal
 
 pub returns-then-not-are_good-clause-comes : goal.returns-then-not-are_good-clause-comes
@@ -16,10 +16,10 @@ pub returns-in-Fault-clause-comes : goal.returns-in-Fault-clause-comes
 returns-in-Fault-clause-comes g c =
     let idle = c.idle-in-Fault in
     fault_comes _ _ _ _ idle.result.ending idle.result.history.list idle.result.output.items
-    (c.are_good.ensures.0 c.if-not-are_good.false) c.in-Fault.ensures idle.ensures.ending idle.ensures.history idle.ensures.output
+    (c.are_good.ensures.0 c.if-not-are_good.false) c.in-Fault.ensures.0 (took_few _ _ c.in-Fault.ensures.1 c.in-Fault.ensures.2) idle.ensures.ending idle.ensures.history idle.ensures.output
 
 pub returns-in-NoMemory-clause-comes : goal.returns-in-NoMemory-clause-comes
 returns-in-NoMemory-clause-comes g c =
     let idle = c.idle-in-NoMemory in
     memory_comes _ _ _ _ idle.result.ending idle.result.history.list idle.result.output.items
-    (c.are_good.ensures.0 c.if-not-are_good.false) idle.ensures.ending idle.ensures.history idle.ensures.output
+    (c.are_good.ensures.0 c.if-not-are_good.false) (took_few _ _ c.in-NoMemory.ensures.0 c.in-NoMemory.ensures.1) idle.ensures.ending idle.ensures.history idle.ensures.output
