@@ -20,6 +20,3 @@ mod words;
 
 pub use fault::LexFault;
 pub use lexer::{lex, one_outcome};
-
-#[cfg(test)]
-mod tests;

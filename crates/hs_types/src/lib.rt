@@ -8,8 +8,6 @@
 mod answer;
 mod definition;
 mod progress;
-#[cfg(test)]
-mod tests;
 
 ghost use Rattle.std.specs.Prelude.{◌≡◌, MatchResult};
 ghost use Rattle.hs_types.specs.Faults.{Refused};

@@ -1,6 +1,7 @@
-use crate::fault::LexFault;
-use crate::lexer::lex;
+//! Rows of tokens: texts, and the tokens that they have, with their places.
+
 use hs_base::Pos;
+use hs_lex::{LexFault, lex};
 use rules_tokens::{Tok, Token, Tokens};
 use std::alloc::Global;
 use std::test::Fail;
@@ -47,56 +48,7 @@ fn shown(alloc: Global, bytes: &[u8]) -> Result<String, Fail> {
 }
 
 #[test]
-fn first_faults(rt: HostRuntime) -> Result<(), Fail> {
-    let rows: [(&[u8], &str); 30] = [
-        (b"main :: IO () = { putStrLn \"hel", "OpenText at 1:28"),
-        (
-            b"main :: IO () = { putStrLn (show 9223372036854775808) };",
-            "BigNumber at 1:34",
-        ),
-        (b"--\xff", "NotUtf8 at 1:3"),
-        (b"main :: IO () = { putStrLn \"a\\q\" };", "BadChar at 1:30"),
-        (b"\"a\\", "OpenText at 1:1"),
-        (b"\"a\\\n\"", "OpenText at 1:1"),
-        (b"x \"a\nb\"", "OpenText at 1:3"),
-        (b"\"a\\q", "OpenText at 1:1"),
-        (b"\"\\q\" \"open", "BadChar at 1:2"),
-        (b"\"\\\\\\x\\y\"", "BadChar at 1:4"),
-        (b"&x", "BadChar at 1:1"),
-        (b"a | b", "BadChar at 1:3"),
-        (b"/ #", "BadChar at 1:1"),
-        (b"'x", "BadChar at 1:1"),
-        (b"x\n\t#", "BadChar at 2:2"),
-        (b"x\r#", "BadChar at 1:3"),
-        (b"x\r\n#", "BadChar at 2:1"),
-        (
-            b"00009223372036854775807 09223372036854775808",
-            "BigNumber at 1:25",
-        ),
-        (b"99999999999999999999999999999999 #", "BigNumber at 1:1"),
-        (b"# 99999999999999999999999999999999", "BadChar at 1:1"),
-        (
-            "-- \u{1f600}\n\"\u{1f600}\" \u{1f600}".as_bytes(),
-            "BadChar at 2:5",
-        ),
-        ("\u{301}a".as_bytes(), "BadChar at 1:1"),
-        ("\u{3b1}\u{221e}".as_bytes(), "BadChar at 1:2"),
-        (b"# \xff", "NotUtf8 at 1:3"),
-        (b"a\n\xe4\xb8", "NotUtf8 at 2:1"),
-        (b"\xc0\x80", "NotUtf8 at 1:1"),
-        (b"\xe0\x80\x80", "NotUtf8 at 1:1"),
-        (b"\xed\xa0\x80", "NotUtf8 at 1:1"),
-        (b"\xf0\x9f\x98\x80\xf4\x90\x80\x80", "NotUtf8 at 1:2"),
-        (b"\xe4\xb8\xad\x80", "NotUtf8 at 1:2"),
-    ];
-    for (bytes, want) in rows {
-        assert_eq!(rt; shown(rt.alloc(), bytes)?.as_str(), want);
-    }
-    Ok(())
-}
-
-#[test]
-fn tokens(rt: HostRuntime) -> Result<(), Fail> {
+fn texts_have_their_tokens(rt: HostRuntime) -> Result<(), Fail> {
     let rows: [(&[u8], &str); 26] = [
         (b"", "end at 1:1"),
         (b"-- only a comment", "end at 1:18"),

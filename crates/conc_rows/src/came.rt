@@ -1,0 +1,83 @@
+//! One call of the top call, and what it left.
+
+use crate::clock::StandingClock;
+use crate::flaw::Flaw;
+use crate::row::{ClockPlan, Row};
+use conc_top::{Done, Ending, Refusal, RunEnd, run};
+use hs_io::{Clock, MemSink, MemSource, OpenGate, PlainSource, Source, VirtualClock};
+use hs_rules::{Entry, History};
+use std::alloc::Global;
+
+/// What a call left.
+#[derive(Debug, Drop)]
+pub struct Came {
+    pub out: Vec<u8>,
+    pub err: Vec<u8>,
+    pub status: u8,
+    pub history: History,
+    /// Whether the script was accepted.
+    pub accepted: bool,
+    /// The entry that would exceed a limit.
+    pub limit_at: Option<Entry>,
+}
+
+/// Calls the top call as the row says, on this input.
+pub fn call(alloc: Global, row: &Row, input: &[u8]) -> Result<Came, Flaw> {
+    match &row.source {
+        None => call_with(alloc, row, &mut PlainSource::of(alloc, input)?),
+        Some(plan) => {
+            let piece = plan.piece.max(1);
+            let mut source = MemSource::of(alloc, input, piece, &plan.fails)?;
+            call_with(alloc, row, &mut source)
+        }
+    }
+}
+
+fn call_with<S: Source>(alloc: Global, row: &Row, source: &mut S) -> Result<Came, Flaw> {
+    match row.clock {
+        ClockPlan::Virtual => call_at(alloc, row, source, VirtualClock::new()),
+        ClockPlan::Standing => call_at(alloc, row, source, StandingClock::new()),
+    }
+}
+
+fn call_at<S: Source, K: Clock + Drop>(
+    alloc: Global,
+    row: &Row,
+    source: &mut S,
+    clock: K,
+) -> Result<Came, Flaw> {
+    let out = MemSink::of(alloc, row.out.room, &row.out.fails)?;
+    let err = MemSink::of(alloc, row.err.room, &row.err.fails)?;
+    let Done {
+        status,
+        ending,
+        history,
+        out,
+        err,
+        clock: _,
+    } = run(alloc, &row.words, source, out, err, clock, &OpenGate);
+    Ok(Came {
+        out: out.told().to_vec(alloc)?,
+        err: err.told().to_vec(alloc)?,
+        status,
+        history,
+        accepted: is_accepted(&ending),
+        limit_at: limit_at(&ending),
+    })
+}
+
+// Whether the ending says that the rules accept the script.
+fn is_accepted(ending: &Ending) -> bool {
+    match ending {
+        Ending::Ran(RunEnd::Memory | RunEnd::Write) => false,
+        Ending::Ran(_) | Ending::Accepted | Ending::Refused(Refusal::NotYet) => true,
+        _ => false,
+    }
+}
+
+fn limit_at(ending: &Ending) -> Option<Entry> {
+    match ending {
+        Ending::Ran(RunEnd::Limit(_, entry)) => Some(*entry),
+        _ => None,
+    }
+}

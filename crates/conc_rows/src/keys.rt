@@ -1,0 +1,124 @@
+//! The lines of a row.
+
+use crate::draft::Draft;
+use crate::flaw::Flaw;
+use crate::plans::{
+    byte_ranges, entries_of, entry_of, number_of, refusal_of, sink_of, source_of, words_of,
+};
+use crate::row::{Cases, ClockPlan};
+use crate::text::Text;
+
+/// Adds what a line says to a row.
+pub fn read_line(draft: &mut Draft, line: &str) -> Result<(), Flaw> {
+    if let Some(text) = line.strip_prefix("|") {
+        if !draft.input.is_empty() {
+            draft.input.add(b"\n")?;
+        }
+        draft.input.add(after_blank(text).as_bytes())?;
+        return Ok(());
+    }
+    if let Some(text) = line.strip_prefix("+") {
+        draft.input.add(after_blank(text).as_bytes())?;
+        return Ok(());
+    }
+    if let Some(rest) = line.strip_prefix("out ") {
+        if is_quoted(rest) {
+            return add_quoted(&mut draft.out, rest);
+        }
+    }
+    if let Some(rest) = line.strip_prefix("err ") {
+        if is_quoted(rest) {
+            return add_quoted(&mut draft.err, rest);
+        }
+    }
+    if is_quoted(line) {
+        return add_quoted(&mut draft.input, line);
+    }
+    match line.split_once(':') {
+        Some((key, value)) => read_key(draft, key, after_blank(value)),
+        None => read_mark(draft, line),
+    }
+}
+
+// A blank after a mark is not part of the text.
+fn after_blank(text: &str) -> &str {
+    match text.strip_prefix(" ") {
+        Some(rest) => rest,
+        None => text,
+    }
+}
+
+fn is_quoted(line: &str) -> bool {
+    line.starts_with("bytes ") || line.starts_with("repeat ")
+}
+
+// `bytes "TEXT"` or `repeat N "TEXT"`
+fn add_quoted(text: &mut Text, line: &str) -> Result<(), Flaw> {
+    if let Some(quoted) = line.strip_prefix("bytes ") {
+        return text.add_quoted(1, quoted);
+    }
+    let Some(rest) = line.strip_prefix("repeat ") else {
+        return Err(Flaw::Says("`bytes` or `repeat` is wanted here"));
+    };
+    match rest.split_once(' ') {
+        Some((times, quoted)) => text.add_quoted(number_of(times)?, quoted),
+        None => Err(Flaw::Says("`repeat` has a number and a text in quotes")),
+    }
+}
+
+// A line of one word or two.
+fn read_mark(draft: &mut Draft, line: &str) -> Result<(), Flaw> {
+    match line {
+        "later" => draft.later = true,
+        "accepted" => draft.accepted = true,
+        "each part" => draft.cases = Cases::Parts,
+        _ => return Err(Flaw::Says("this is no line of a row")),
+    }
+    Ok(())
+}
+
+// A line `key: value`.
+fn read_key(draft: &mut Draft, key: &str, value: &str) -> Result<(), Flaw> {
+    let alloc = draft.alloc;
+    match key {
+        "words" => draft.words = Some(words_of(alloc, value)?),
+        "source" => draft.source = Some(source_of(alloc, value)?),
+        "out sink" => draft.out_sink = sink_of(alloc, value)?,
+        "err sink" => draft.err_sink = sink_of(alloc, value)?,
+        "clock" => draft.clock = clock_of(value)?,
+        "each byte" => draft.cases = Cases::Bytes(byte_ranges(alloc, value)?),
+        _ => return read_wanted(draft, key, value),
+    }
+    Ok(())
+}
+
+// A line of what the row gives.
+fn read_wanted(draft: &mut Draft, key: &str, value: &str) -> Result<(), Flaw> {
+    let alloc = draft.alloc;
+    match key {
+        "out" => add_line(&mut draft.out, value)?,
+        "err" => add_line(&mut draft.err, value)?,
+        "status" => draft.status = Some(number_of(value)?),
+        "only status" => draft.only_status = Some(number_of(value)?),
+        "entries" => draft.entries = Some(entries_of(alloc, value)?),
+        "steps" => draft.steps = Some(number_of(value)?),
+        "limit at" => draft.limit_at = Some(entry_of(alloc, value)?),
+        "refused" | "or refused" => draft.refusals.push(refusal_of(alloc, value)?)?,
+        _ => return Err(Flaw::Says("there is no such key")),
+    }
+    Ok(())
+}
+
+fn add_line(text: &mut Text, line: &str) -> Result<(), Flaw> {
+    text.add(line.as_bytes())?;
+    text.add(b"\n")?;
+    Ok(())
+}
+
+fn clock_of(value: &str) -> Result<ClockPlan, Flaw> {
+    match value {
+        "virtual" => Ok(ClockPlan::Virtual),
+        "standing" => Ok(ClockPlan::Standing),
+        _ => Err(Flaw::Says("a clock is `virtual` or `standing`")),
+    }
+}

@@ -1,0 +1,106 @@
+//! The rows: scripts and what they give, read from files and tried one after the other.
+//!
+//! Each row of the files in `data/` is a call of the top call, with a source, sinks and a clock in memory, and what it is to
+//! tell and to keep (`docs/ROWS.md` has the form). A line is printed for each row that gives something else, and a last line
+//! with the counts. No clause says anything: the rows show that what is proved is what was meant, and a new one costs no
+//! proof.
+#![tactic(auto)]
+
+mod came;
+mod cases;
+mod clock;
+mod draft;
+mod flaw;
+mod keys;
+mod plans;
+mod reader;
+mod row;
+mod text;
+mod wanted;
+
+use crate::cases::problem_of;
+use crate::flaw::{Fault, Flaw};
+use crate::reader::read_rows;
+use crate::row::Row;
+use std::fs;
+use std::process::ExitCode;
+
+/// The files of rows, by topic.
+const FILES: [&str; 6] = [
+    "tokens.rows",
+    "grammar.rows",
+    "typing.rows",
+    "limits.rows",
+    "plain.rows",
+    "running.rows",
+];
+
+const FAILED: u8 = 1;
+
+/// How many rows there are, how many gave something else, and how many can't run yet.
+#[derive(Clone, Copy, Debug, PartialEq, Eq)]
+struct Count {
+    rows: usize,
+    failed: usize,
+    later: usize,
+}
+
+fn main(rt: HostRuntime) -> ExitCode {
+    let mut count = Count {
+        rows: 0,
+        failed: 0,
+        later: 0,
+    };
+    for name in FILES {
+        if let Err(fault) = try_file(&rt, name, &mut count) {
+            let _ = println!(rt; "{name}: {fault}");
+            return ExitCode::from(FAILED);
+        }
+    }
+    let Count {
+        rows,
+        failed,
+        later,
+    } = count;
+    let told = println!(rt; "{rows} rows, {failed} failed, {later} later");
+    if told.is_err() || failed != 0 {
+        return ExitCode::from(FAILED);
+    }
+    ExitCode::from(0)
+}
+
+// Tries the rows of a file, and prints those that give something else.
+fn try_file(rt: &HostRuntime, name: &'static str, count: &mut Count) -> Result<(), Fault> {
+    let Ok(file) = fs::read_to_string(rt, name) else {
+        return Err(Fault::NoFile(name));
+    };
+    let rows = read_rows(rt.alloc(), file.as_str())?;
+    for row in &rows {
+        count.rows = count.rows.saturating_add(1);
+        if row.later {
+            count.later = count.later.saturating_add(1);
+            continue;
+        }
+        if !passes(rt, name, row)? {
+            count.failed = count.failed.saturating_add(1);
+        }
+    }
+    Ok(())
+}
+
+// Tries a row, and prints what it gives where that is something else.
+fn passes(rt: &HostRuntime, file: &'static str, row: &Row) -> Result<bool, Fault> {
+    match problem_of(rt.alloc(), row) {
+        Ok(None) => Ok(true),
+        Ok(Some(problem)) => {
+            let name = row.name.as_str();
+            let text = problem.as_str();
+            match println!(rt; "{file}: {name}: {text}") {
+                Ok(()) => Ok(false),
+                Err(_) => Err(Fault::NoOutput),
+            }
+        }
+        Err(Flaw::NoMemory) => Err(Fault::NoMemory),
+        Err(Flaw::Says(says)) => Err(Fault::Row(says)),
+    }
+}

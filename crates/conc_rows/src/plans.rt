@@ -1,0 +1,166 @@
+//! What the values of a row's keys say.
+
+use crate::flaw::Flaw;
+use crate::row::{Place, Refusal, SinkPlan, SourcePlan};
+use crate::text::{Letter, hex_digit, letters_of};
+use hs_rules::Entry;
+use std::alloc::Global;
+use std::str::FromStr;
+
+pub fn number_of<N: FromStr>(text: &str) -> Result<N, Flaw>
+where
+    N::Err: Drop,
+{
+    match text.parse::<N>() {
+        Ok(number) => Ok(number),
+        Err(_) => Err(Flaw::Says("a number is wanted here, and it has to fit")),
+    }
+}
+
+fn parts_of(alloc: Global, text: &str) -> Result<Vec<&str>, Flaw> {
+    Ok(text.split_whitespace().collect(alloc)?)
+}
+
+/// Words with blanks between them; one that has a blank stands in quotes.
+pub fn words_of(alloc: Global, value: &str) -> Result<Vec<String>, Flaw> {
+    let mut words = Vec::new(alloc);
+    if value.starts_with("\"") {
+        words.push(quoted_word(alloc, value)?)?;
+        return Ok(words);
+    }
+    for word in value.split_whitespace() {
+        words.push(String::from_str(alloc, word)?)?;
+    }
+    Ok(words)
+}
+
+// A word in quotes, of ASCII alone.
+fn quoted_word(alloc: Global, value: &str) -> Result<String, Flaw> {
+    let mut word = String::new(alloc);
+    for letter in &letters_of(alloc, value)? {
+        match letter {
+            Letter::Byte(byte) if byte.is_ascii() => word.push(char::from(*byte))?,
+            _ => return Err(Flaw::Says("a word in quotes has ASCII alone")),
+        }
+    }
+    Ok(word)
+}
+
+/// `piece 8 fails 2 5`
+pub fn source_of(alloc: Global, value: &str) -> Result<SourcePlan, Flaw> {
+    let parts = parts_of(alloc, value)?;
+    match parts.as_slice() {
+        ["piece", piece] => Ok(SourcePlan {
+            piece: piece_of(piece)?,
+            fails: Vec::new(alloc),
+        }),
+        ["piece", piece, "fails", calls @ ..] => {
+            let mut fails = Vec::new(alloc);
+            for call in calls {
+                fails.push(number_of(call)?)?;
+            }
+            Ok(SourcePlan {
+                piece: piece_of(piece)?,
+                fails,
+            })
+        }
+        _ => Err(Flaw::Says("a source is `piece N` or `piece N fails CALL ..`")),
+    }
+}
+
+fn piece_of(text: &str) -> Result<usize, Flaw> {
+    match number_of(text)? {
+        0 => Err(Flaw::Says("a piece has a byte or more")),
+        piece => Ok(piece),
+    }
+}
+
+/// `room 100 fails 2:1 3:0`
+pub fn sink_of(alloc: Global, value: &str) -> Result<SinkPlan, Flaw> {
+    let parts = parts_of(alloc, value)?;
+    match parts.as_slice() {
+        ["room", room] => Ok(SinkPlan {
+            room: number_of(room)?,
+            fails: Vec::new(alloc),
+        }),
+        ["room", room, "fails", puts @ ..] => {
+            let mut fails = Vec::new(alloc);
+            for put in puts {
+                let Some((call, told)) = put.split_once(':') else {
+                    return Err(Flaw::Says("a failing put is `CALL:BYTES`"));
+                };
+                fails.push((number_of(call)?, number_of(told)?))?;
+            }
+            Ok(SinkPlan {
+                room: number_of(room)?,
+                fails,
+            })
+        }
+        _ => Err(Flaw::Says("a sink is `room N` or `room N fails CALL:BYTES ..`")),
+    }
+}
+
+/// Entries with commas between them, or `none`.
+pub fn entries_of(alloc: Global, value: &str) -> Result<Vec<Entry>, Flaw> {
+    let mut entries = Vec::new(alloc);
+    if value == "none" {
+        return Ok(entries);
+    }
+    for text in value.split(',') {
+        entries.push(entry_of(alloc, text)?)?;
+    }
+    Ok(entries)
+}
+
+pub fn entry_of(alloc: Global, text: &str) -> Result<Entry, Flaw> {
+    let parts = parts_of(alloc, text)?;
+    match parts.as_slice() {
+        ["L", t, k] => Ok(Entry::Local {
+            t: number_of(t)?,
+            k: number_of(k)?,
+        }),
+        ["O", t] => Ok(Entry::Op { t: number_of(t)? }),
+        ["R", t] => Ok(Entry::Receive { t: number_of(t)? }),
+        ["W", t] => Ok(Entry::Wake { t: number_of(t)? }),
+        ["F", t] => Ok(Entry::Finish { t: number_of(t)? }),
+        ["T", at] => Ok(Entry::Tick { at: number_of(at)? }),
+        ["S"] => Ok(Entry::Stranded),
+        _ => Err(Flaw::Says("an entry is `L T K`, `O T`, `R T`, `W T`, `F T`, `T AT` or `S`")),
+    }
+}
+
+/// `KIND`, `KIND at L:C`, `KIND at end` or `KIND at cut`
+pub fn refusal_of(alloc: Global, value: &str) -> Result<Refusal, Flaw> {
+    let (kind, place) = match value.split_once(" at ") {
+        None => (value, Place::Told(String::new(alloc))),
+        Some((kind, "end")) => (kind, Place::End),
+        Some((kind, "cut")) => (kind, Place::Cut),
+        Some((kind, place)) => (kind, Place::Told(String::from_str(alloc, place)?)),
+    };
+    Ok(Refusal {
+        kind: String::from_str(alloc, kind)?,
+        place,
+    })
+}
+
+/// Ranges of bytes as `00-09 0B-21`, or single ones as `0A`.
+pub fn byte_ranges(alloc: Global, value: &str) -> Result<Vec<(u8, u8)>, Flaw> {
+    let mut ranges = Vec::new(alloc);
+    for text in value.split_whitespace() {
+        let range = match text.as_bytes() {
+            [a, b] => (byte_of(*a, *b)?, byte_of(*a, *b)?),
+            [a, b, b'-', c, d] => (byte_of(*a, *b)?, byte_of(*c, *d)?),
+            _ => return Err(Flaw::Says("bytes are `HH` or `HH-HH`, with blanks between")),
+        };
+        ranges.push(range)?;
+    }
+    Ok(ranges)
+}
+
+fn byte_of(high: u8, low: u8) -> Result<u8, Flaw> {
+    Ok(
+        hex_digit(high)?
+            .wrapping_mul(16)
+            .wrapping_add(hex_digit(low)?),
+    )
+}

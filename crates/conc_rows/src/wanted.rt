@@ -1,0 +1,266 @@
+//! What a row wants beside what came.
+
+use crate::came::Came;
+use crate::flaw::Flaw;
+use crate::row::{Place, Refusal, Told, Wanted};
+use crate::text::Text;
+use hs_rules::{Entry, History};
+use std::alloc::{AllocError, Global};
+
+/// One case of a row.
+#[derive(Clone, Copy, Debug)]
+pub enum Case<'a> {
+    Whole,
+    Byte(u8),
+    /// A part of the input, and what follows it there.
+    Part(&'a [u8], &'a [u8]),
+}
+
+/// The words that are not understood, a refused script and a read fault: nothing ran.
+const IDLE: [u8; 3] = [2, 3, 7];
+
+/// How much of a text is shown.
+const SHOWN: usize = 120;
+
+/// The first difference between what is wanted and what came.
+pub fn difference(
+    alloc: Global,
+    wanted: &Wanted,
+    case: &Case<'_>,
+    came: &Came,
+) -> Result<Option<String>, Flaw> {
+    if IDLE.contains(&came.status) && came.history.len() != 0 {
+        return says(alloc, "nothing ran, but there is a history");
+    }
+    match wanted {
+        Wanted::Told(told) => told_difference(alloc, told, case, came),
+        Wanted::Refused(refusals) => refusal_difference(alloc, refusals, case, came),
+        Wanted::Accepted if came.accepted => Ok(None),
+        Wanted::Accepted => {
+            let err = shown(alloc, &came.err)?;
+            Ok(Some(format!(in alloc; "wanted an accepted script, came {err}")?))
+        }
+        Wanted::Status(status) => status_difference(alloc, *status, came),
+    }
+}
+
+fn says(alloc: Global, text: &str) -> Result<Option<String>, Flaw> {
+    Ok(Some(String::from_str(alloc, text)?))
+}
+
+fn status_difference(alloc: Global, status: u8, came: &Came) -> Result<Option<String>, Flaw> {
+    let got = came.status;
+    if got == status {
+        return Ok(None);
+    }
+    Ok(Some(format!(in alloc; "wanted status {status}, came {got}")?))
+}
+
+fn told_difference(
+    alloc: Global,
+    told: &Told,
+    case: &Case<'_>,
+    came: &Came,
+) -> Result<Option<String>, Flaw> {
+    if let Some(text) = text_difference(alloc, "out", &told.out, case, &came.out)? {
+        return Ok(Some(text));
+    }
+    if let Some(text) = text_difference(alloc, "err", &told.err, case, &came.err)? {
+        return Ok(Some(text));
+    }
+    if let Some(text) = status_difference(alloc, told.status, came)? {
+        return Ok(Some(text));
+    }
+    kept_difference(alloc, told, came)
+}
+
+fn text_difference(
+    alloc: Global,
+    sink: &str,
+    wanted: &Text,
+    case: &Case<'_>,
+    came: &[u8],
+) -> Result<Option<String>, Flaw> {
+    let byte = match case {
+        Case::Byte(byte) => *byte,
+        _ => 0,
+    };
+    let wanted = wanted.spell(byte)?;
+    if wanted.as_slice() == came {
+        return Ok(None);
+    }
+    let (wanted, came) = (shown(alloc, &wanted)?, shown(alloc, came)?);
+    Ok(Some(format!(in alloc; "wanted {sink} {wanted}, came {came}")?))
+}
+
+// The history, its steps and the entry that an ending carries, where the row names them.
+fn kept_difference(alloc: Global, told: &Told, came: &Came) -> Result<Option<String>, Flaw> {
+    if let Some(entries) = &told.entries {
+        if !is_history(&came.history, entries) {
+            let history = shown_history(alloc, &came.history)?;
+            return Ok(Some(format!(in alloc; "other entries were wanted, came {history}")?));
+        }
+    }
+    if let Some(steps) = told.steps {
+        let got = came.history.steps();
+        if got != steps {
+            return Ok(Some(format!(in alloc; "wanted {steps} steps, came {got}")?));
+        }
+    }
+    if told.limit_at != came.limit_at && told.limit_at.is_some() {
+        return says(alloc, "the ending carries another entry");
+    }
+    Ok(None)
+}
+
+fn is_history(history: &History, entries: &[Entry]) -> bool {
+    if history.len() != entries.len() {
+        return false;
+    }
+    for (at, entry) in entries.iter().enumerate() {
+        if history.at(at) != Some(*entry) {
+            return false;
+        }
+    }
+    true
+}
+
+// The first entries.
+fn shown_history(alloc: Global, history: &History) -> Result<String, AllocError> {
+    let mut text = String::new(alloc);
+    for at in 0..history.len().min(20) {
+        let entry = match history.at(at) {
+            None => String::new(alloc),
+            Some(entry) => shown_entry(alloc, entry)?,
+        };
+        if at > 0 {
+            text.push_str(", ")?;
+        }
+        text.push_str(entry.as_str())?;
+    }
+    Ok(text)
+}
+
+fn shown_entry(alloc: Global, entry: Entry) -> Result<String, AllocError> {
+    match entry {
+        Entry::Local { t, k } => format!(in alloc; "L {t} {k}"),
+        Entry::Op { t } => format!(in alloc; "O {t}"),
+        Entry::Receive { t } => format!(in alloc; "R {t}"),
+        Entry::Wake { t } => format!(in alloc; "W {t}"),
+        Entry::Finish { t } => format!(in alloc; "F {t}"),
+        Entry::Tick { at } => format!(in alloc; "T {at}"),
+        Entry::Stranded => String::from_str(alloc, "S"),
+    }
+}
+
+fn refusal_difference(
+    alloc: Global,
+    refusals: &[Refusal],
+    case: &Case<'_>,
+    came: &Came,
+) -> Result<Option<String>, Flaw> {
+    if came.status == 3 && came.out.is_empty() {
+        for refusal in refusals {
+            if is_told(alloc, refusal, case, &came.err)? {
+                return Ok(None);
+            }
+        }
+    }
+    let (status, out, err) = (
+        came.status,
+        shown(alloc, &came.out)?,
+        shown(alloc, &came.err)?,
+    );
+    let wanted = match refusals {
+        [first, ..] => shown_refusal(alloc, first)?,
+        [] => String::new(alloc),
+    };
+    Ok(Some(format!(in alloc;
+        "wanted refused: {wanted}, came status {status}, out {out}, err {err}"
+    )?))
+}
+
+fn shown_refusal(alloc: Global, refusal: &Refusal) -> Result<String, AllocError> {
+    let kind = refusal.kind.as_str();
+    match &refusal.place {
+        Place::Told(place) if place.is_empty() => String::from_str(alloc, kind),
+        Place::Told(place) => format!(in alloc; "{kind} at {place}"),
+        Place::End => format!(in alloc; "{kind} at the end"),
+        Place::Cut => format!(in alloc; "{kind} at the word that is cut"),
+    }
+}
+
+// Whether this refusal is what was told.
+fn is_told(alloc: Global, refusal: &Refusal, case: &Case<'_>, told: &[u8]) -> Result<bool, Flaw> {
+    let place = match (&refusal.place, case) {
+        (Place::Told(place), _) => place.clone()?,
+        (Place::End, Case::Part(part, _)) => place_after(alloc, part)?,
+        (Place::Cut, Case::Part(part, rest)) => match cut_word(part, rest) {
+            Some(before) => place_after(alloc, before)?,
+            None => return Ok(false),
+        },
+        _ => return Err(Flaw::Says("`at end` and `at cut` stand in rows of each part")),
+    };
+    let kind = refusal.kind.as_str();
+    let line = if place.is_empty() {
+        format!(in alloc; "refused: {kind}\n")?
+    } else {
+        let place = place.as_str();
+        format!(in alloc; "refused: {kind} at {place}\n")?
+    };
+    Ok(line.as_bytes() == told)
+}
+
+// What stands before the word that a part of the input ends in, where it ends in one.
+fn cut_word<'a>(part: &'a [u8], rest: &[u8]) -> Option<&'a [u8]> {
+    let goes_on = rest.first().is_some_and(|byte| !is_blank(*byte));
+    let begun = part.last().is_some_and(|byte| !is_blank(*byte));
+    if !goes_on || !begun {
+        return None;
+    }
+    let before = match part.iter().rposition(|byte| is_blank(*byte)) {
+        Some(at) => at.saturating_add(1),
+        None => 0,
+    };
+    part.get(..before)
+}
+
+fn is_blank(byte: u8) -> bool {
+    matches!(byte, b' ' | b'\n')
+}
+
+// The line and the column after these bytes, of which each is a character.
+fn place_after(alloc: Global, bytes: &[u8]) -> Result<String, AllocError> {
+    let mut line = 1usize;
+    let mut column = 1usize;
+    for byte in bytes {
+        if *byte == b'\n' {
+            line = line.saturating_add(1);
+            column = 1;
+        } else {
+            column = column.saturating_add(1);
+        }
+    }
+    format!(in alloc; "{line}:{column}")
+}
+
+// Bytes as a text in quotes, of which the first are shown.
+fn shown(alloc: Global, bytes: &[u8]) -> Result<String, AllocError> {
+    let mut text = String::new(alloc);
+    text.push('"')?;
+    for byte in bytes.iter().take(SHOWN) {
+        match *byte {
+            b'\n' => text.push_str("\\n")?,
+            b'"' => text.push_str("\\\"")?,
+            b'\\' => text.push_str("\\\\")?,
+            b' '..=b'~' => text.push(char::from(*byte))?,
+            byte => text.push_str(format!(in alloc; "\\x{byte:02X}")?.as_str())?,
+        }
+    }
+    text.push('"')?;
+    if bytes.len() > SHOWN {
+        let length = bytes.len();
+        text.push_str(format!(in alloc; " and on to {length} bytes")?.as_str())?;
+    }
+    Ok(text)
+}

@@ -1,0 +1,10 @@
+//! Tests of what the front answers and the top call does not tell: the exact tokens of a text, where the parts of a tree
+//! stand, and what a refusal carries. What the top call tells is shown by the rows (`docs/ROWS.md`).
+#![tactic(auto)]
+
+#[cfg(test)]
+mod carried;
+#[cfg(test)]
+mod spelled;
+#[cfg(test)]
+mod trees;
