@@ -1,4 +1,5 @@
-use crate::{Flight, Sleepers};
+//! Exceptions in flight, and sleepers.
+use exn_flight::{Flight, Sleepers};
 use hs_base::Exn;
 use std::test::Fail;
 

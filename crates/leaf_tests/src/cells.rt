@@ -1,5 +1,6 @@
-use crate::{Cells, Gave, Took, Tried};
+//! Cells and those that wait at them.
 use hs_base::Value;
+use mvar_cell::{Cells, Gave, Saw, Took, Tried};
 use std::test::Fail;
 
 /// The number in an integer value.
@@ -87,5 +88,46 @@ fn a_waiter_leaves(rt: HostRuntime) -> Result<(), Fail> {
     assert_eq!(rt; took(cells.take(0, 1)), (-1, -1));
     cells.drop_waiter(0, 1);
     assert_eq!(rt; tried(cells.try_put(0, Value::Int(7))), (-1, -1));
+    Ok(())
+}
+
+/// The value that was seen, or -1 where the call blocked.
+fn saw(answer: Saw) -> i64 {
+    match answer {
+        Saw::Blocks => -1,
+        Saw::Done(value) => int_of(value),
+    }
+}
+
+#[test]
+fn readers_leave_before_a_put(rt: HostRuntime) -> Result<(), Fail> {
+    let mut cells = Cells::new(rt.alloc());
+    cells.room(6)?;
+    assert_eq!(rt; cells.fresh(None), 0);
+    assert_eq!(rt; saw(cells.read(0, 1)?), -1);
+    assert_eq!(rt; took(cells.take(0, 2)), (-1, -1));
+    assert_eq!(rt; cells.next_reader(0), Some(1));
+    assert_eq!(rt; cells.next_reader(0), None);
+    assert_eq!(rt; gave(cells.put(0, 3, Value::Int(7))), (2, 7));
+    assert_eq!(rt; gave(cells.put(0, 3, Value::Int(8))), (0, 0));
+    assert_eq!(rt; saw(cells.read(0, 4)?), 8);
+    assert!(rt; matches!(cells.content(0), Some(Value::Int(8))));
+    Ok(())
+}
+
+#[test]
+fn readers_behind_takers_come_first(rt: HostRuntime) -> Result<(), Fail> {
+    let mut cells = Cells::new(rt.alloc());
+    cells.room(8)?;
+    assert_eq!(rt; cells.fresh(None), 0);
+    assert_eq!(rt; took(cells.take(0, 1)), (-1, -1));
+    assert_eq!(rt; saw(cells.read(0, 2)?), -1);
+    assert_eq!(rt; took(cells.take(0, 3)), (-1, -1));
+    assert_eq!(rt; saw(cells.read(0, 4)?), -1);
+    assert_eq!(rt; cells.next_reader(0), Some(2));
+    assert_eq!(rt; cells.next_reader(0), Some(4));
+    assert_eq!(rt; cells.next_reader(0), None);
+    assert_eq!(rt; tried(cells.try_put(0, Value::Int(5))), (5, 1));
+    assert_eq!(rt; tried(cells.try_put(0, Value::Int(6))), (6, 3));
     Ok(())
 }

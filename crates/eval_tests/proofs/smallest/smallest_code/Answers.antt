@@ -1,6 +1,6 @@
 use Rattle.std.proofs.Common.{◌∙◌}
-use Rattle.hs_eval.proofs.SmallestCode.{stands_where}
-use Rattle.hs_eval.proofs.code_tests.smallest_code.Goals as goal
+use Rattle.eval_tests.proofs.SmallestCode.{stands_where}
+use Rattle.eval_tests.proofs.smallest.smallest_code.Goals as goal
 
 pub invariant_of-new : goal.invariant_of-new
 invariant_of-new c = record {

@@ -1,5 +1,5 @@
--- The smallest script and its code, `main :: IO () = { return () }`. Only tests speak of it: one shows with it that the
--- premise of `eval` can be met.
+-- The smallest script and its code, `main :: IO () = { return () }`, by which a test shows that the premise of `eval` can
+-- be met.
 use Rattle.std.specs.Prelude.{List, [], ◌∷◌, codes}
 use Rattle.hs_base.specs.declared.pos.Pos.{Pos}
 use Rattle.hs_base.specs.declared.tree.action.Action.TheVariants as a

@@ -2,8 +2,8 @@ use Rattle.std.proofs.Common.{sym, ap, subst}
 use Rattle.rules_code.specs.Codes.{body_of}
 use Rattle.rules_meaning.specs.Values.{values_of}
 use Rattle.hs_eval.specs.Readings.{Reading}
-use Rattle.hs_eval.proofs.SmallestCode.{smallest_reading}
-use Rattle.hs_eval.proofs.code_tests.eval_gives_what_the_smallest_code_returns.Goals as goal
+use Rattle.eval_tests.proofs.SmallestCode.{smallest_reading}
+use Rattle.eval_tests.proofs.smallest.eval_gives_what_the_smallest_code_returns.Goals as goal
 
 pub eval-requires : goal.eval-requires
 eval-requires g c =

@@ -1,5 +1,6 @@
-use crate::{Found, eval_node, slots_mean};
-use hs_base::{Exn, Txt, Value, Values};
+//! Rows: what nodes give.
+use hs_base::{Exn, NoMemory, Split, Txt, Value, ValueList, Values};
+use hs_eval::{Found, eval_node, slots_mean};
 use hs_items::Items;
 use rules_trees::forms::{BinaryForm, EmptyForm, SideForm, UnaryForm};
 use rules_code::{ExprId, Node, NodeLink};
@@ -253,7 +254,7 @@ fn nested_calls(rt: HostRuntime) -> Result<(), Fail> {
 fn joined_with(alloc: Global, text: &str) -> Result<Found, Fail> {
     let long = "a".repeat(alloc, 65_536)?;
     let mut env = Values::new(alloc);
-    env.add(Value::Text(Txt::from_string(long)))?;
+    env.add(Value::Text(Txt::from_string(long)?))?;
     let mut links = Items::new(alloc);
     links.add(NodeLink {
         form: BinaryForm::Append,
@@ -269,7 +270,7 @@ fn joined_with(alloc: Global, text: &str) -> Result<Found, Fail> {
 /// What a literal of that many bytes gives.
 fn literal_of(alloc: Global, bytes: usize) -> Result<Found, Fail> {
     let mut nodes = Items::new(alloc);
-    nodes.add(Node::Text(Txt::from_string("a".repeat(alloc, bytes)?)))?;
+    nodes.add(Node::Text(Txt::from_string("a".repeat(alloc, bytes)?)?))?;
     Ok(eval_node(alloc, &nodes, ExprId(0), &Items::new(alloc))?)
 }
 
@@ -286,15 +287,27 @@ fn texts_have_a_limit(rt: HostRuntime) -> Result<(), Fail> {
     Ok(())
 }
 
-/// How many items a list has, where its last is 7.
-fn sevens(found: &Found) -> usize {
-    match found {
-        Found::Value(Value::List(items)) => match items.as_slice().last() {
-            Some(Value::Int(7)) => items.len(),
-            _ => 0,
-        },
-        _ => 0,
+/// The rest of a list whose first item is 7.
+fn after_seven(list: &ValueList) -> Result<Option<ValueList>, NoMemory> {
+    match list.split()? {
+        Split::Of(Value::Int(7), rest) => Ok(Some(rest)),
+        _ => Ok(None),
     }
+}
+
+/// How many items a list has, up to so many, where all are 7.
+fn sevens(found: &Found, most: usize) -> Result<usize, NoMemory> {
+    let Found::Value(Value::List(items)) = found else {
+        return Ok(0);
+    };
+    let mut rest = items.copy()?;
+    for count in 0..most {
+        match after_seven(&rest)? {
+            Some(more) => rest = more,
+            None => return Ok(count),
+        }
+    }
+    Ok(most)
 }
 
 #[test]
@@ -305,6 +318,42 @@ fn a_long_list(rt: HostRuntime) -> Result<(), Fail> {
     let ids = vec![in rt.alloc(); ExprId(0); 50_000]?;
     nodes.add(Node::List(Items::from_vec(ids)))?;
     let found = eval_node(rt.alloc(), &nodes, ExprId(1), &Items::new(rt.alloc()))?;
-    assert_eq!(rt; sevens(&found), 50_000);
+    assert_eq!(rt; sevens(&found, 50_001)?, 50_000);
+    Ok(())
+}
+
+/// `case $0 of { [] -> 0; x : xs -> x }` and `7 : $0`, at 3 and at 5.
+fn reading(alloc: Global) -> Result<Items<Node>, Fail> {
+    let mut links = Items::new(alloc);
+    links.add(NodeLink {
+        form: BinaryForm::Cons,
+        operand: ExprId(0),
+    })?;
+    let mut nodes = Items::new(alloc);
+    nodes.add(Node::Slot(0))?;
+    nodes.add(Node::Int(0))?;
+    nodes.add(Node::Slot(1))?;
+    nodes.add(Node::CaseList(ExprId(0), ExprId(1), ExprId(2)))?;
+    nodes.add(Node::Int(7))?;
+    nodes.add(Node::Conses(ExprId(4), links))?;
+    Ok(nodes)
+}
+
+#[test]
+fn a_long_list_is_read_many_times(rt: HostRuntime) -> Result<(), Fail> {
+    let alloc = rt.alloc();
+    let mut list = ValueList::new();
+    for k in 0..100_000 {
+        list = ValueList::cons(alloc, Value::Int(k), list)?;
+    }
+    let mut env = Values::new(alloc);
+    env.add(Value::List(list))?;
+    let nodes = reading(alloc)?;
+    for _time in 0..100_000 {
+        let first = eval_node(alloc, &nodes, ExprId(3), &env)?;
+        assert!(rt; matches!(&first, Found::Value(Value::Int(99_999))));
+        let longer = eval_node(alloc, &nodes, ExprId(5), &env)?;
+        assert!(rt; matches!(&longer, Found::Value(Value::List(_))));
+    }
     Ok(())
 }

@@ -3,11 +3,11 @@ ghost use Rattle.std.specs.Prelude.{◌≡◌, IfOk, [], ◌∷◌};
 ghost use Rattle.hs_base.specs.declared.tree.action.Action.TheVariants as a;
 ghost use Rattle.hs_base.specs.declared.tree.expr.Expr.TheVariants as e;
 ghost use Rattle.rules_code.specs.Codes.{body_of};
-ghost use Rattle.hs_eval.specs.SmallestCode.{smallest_script, smallest_nodes};
+ghost use Rattle.eval_tests.specs.SmallestCode.{smallest_script, smallest_nodes};
 
-use crate::{Outcome, eval};
 use hs_base::tree::{Action, Block, Body as DefBody, Def, Expr, Name, Script, Ty, Written};
 use hs_base::{NoMemory, Pos, Txt, Value};
+use hs_eval::{Outcome, eval};
 use hs_items::{Boxed, Items};
 use rules_code::{Act, ActId, Body, Code, ExprId, Fun, Node};
 use std::alloc::Global;

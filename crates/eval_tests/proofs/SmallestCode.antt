@@ -11,7 +11,6 @@ use Rattle.rules_code.specs.declared.code.Fun.{Fun}
 use Rattle.rules_code.specs.declared.code.Body.{Body}
 use Rattle.rules_trees.specs.Trees.{T, unit, lit, nothing_more}
 use Rattle.rules_trees.specs.Programs.{Bl, last, unary_act, bl_of, io_body, Fn, script_of}
-use Rattle.conc_top.specs.PlainScripts.{main_script}
 use Rattle.rules_typed.specs.Sorts.{a_value}
 use Rattle.rules_typing.specs.TypingScripts.{Accepted, NothingBroken, has_main}
 use Rattle.rules_typed.specs.TypedMeaning.{any_cell}
@@ -23,7 +22,7 @@ use Rattle.rules_trees.proofs.EquationsOfActions.{bl_is, act-Return}
 use Rattle.hs_judging.proofs.Scripts.{script_breaks}
 use Rattle.hs_soundness.proofs.Growing.{fits_none}
 use Rattle.hs_eval.specs.Readings.{Reading}
-use Rattle.hs_eval.specs.SmallestCode.{smallest_script, smallest_nodes, smallest_acts, smallest_funs}
+use Rattle.eval_tests.specs.SmallestCode.{smallest_script, smallest_nodes, smallest_acts, smallest_funs}
 
 abbrev returns_unit : Pos → Bl
 returns_unit p = last (unary_act u.Return p (lit p nothing_more))
@@ -35,12 +34,12 @@ block_is p = bl_is _ ∙ ap last (act-Return p (e.Unit p) ∙ ap (unary_act u.Re
 abbrev with_parts : Pos → T → Bl → List Fn
 with_parts p t c = record { name = record { text = codes "main"; pos = p }; params = []; body = io_body (record { ty = t; pos = p }) c } ∷ []
 
-script_is : (p : Pos) → script_of (smallest_script p) ≡ main_script p p (returns_unit p)
+script_is : (p : Pos) → script_of (smallest_script p) ≡ with_parts p unit (returns_unit p)
 script_is p = ap (λ z. with_parts p z (bl_of (record { stmts = []; last = a.Return p (e.Unit p) }))) ty-Unit ∙ ap (with_parts p unit) (block_is p)
 
 pub smallest_accepted : (p : Pos) → Accepted (smallest_script p)
 smallest_accepted p = (
-  subst NothingBroken (sym (script_is p)) (λ f h. script_breaks (main_script p p (returns_unit p)) f h),
+  subst NothingBroken (sym (script_is p)) (λ f h. script_breaks (with_parts p unit (returns_unit p)) f h),
   subst (λ ds. has_main ds ≡ true) (sym (script_is p)) refl,
 )
 
