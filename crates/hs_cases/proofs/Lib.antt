@@ -1,0 +1,4 @@
+pub mod Options
+pub mod Lines
+pub mod Performing
+pub mod Entering
