@@ -245,7 +245,7 @@ goes_on_holds : (m : ℕ) (v : V) (s : State) → Holds s → Holds (goes_on m v
 goes_on_holds m v s h =
     subst (λ o. Holds (goes_in m v o s)) (sym (take_is_first m s.blocked)) (goes_in_holds m v s (first_of_kind (takes m) s.blocked) h (first_found (Waits s.threads) (takes m) s.blocked h.waits))
 
-reads_hold : (m : ℕ) (v : V) (s : State) → Holds s → Holds (read_by_all m v s)
+pub reads_hold : (m : ℕ) (v : V) (s : State) → Holds s → Holds (read_by_all m v s)
 reads_hold m v s h = subst (λ us. Holds (resume_all us (Ret v) s)) (sym (readers_are m s.blocked)) (those_hold (λ u. reads_at m) (Ret v) s tt h)
 
 given_holds : (m : ℕ) (v : V) (s : State) → Holds s → Holds (given m v s)

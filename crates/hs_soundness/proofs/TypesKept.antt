@@ -84,7 +84,7 @@ module _ (cells : ℕ → T → Type 0) where
       by_bool (Truth m) h = tt
       by_bool _ h = absurd h
 
-      by_thread : (v : V) → of_thread v → Good cells text (as_text (shown v))
+      by_thread : (v : V) → of_thread (λ m. cells m thread) v → Good cells text (as_text (shown v))
       by_thread (val.Thread m) h = tt
       by_thread _ h = absurd h
 
@@ -128,7 +128,7 @@ module _ (cells : ℕ → T → Type 0) where
   two_texts P f (Text m) _ h g = absurd g
   two_texts P f _ c h g = absurd h
 
-  two_threads : (P : V → V → Type 0) → ((m k : ℕ) → P (val.Thread m) (val.Thread k)) → (a c : V) → of_thread a → of_thread c → P a c
+  two_threads : (P : V → V → Type 0) → ((m k : ℕ) → P (val.Thread m) (val.Thread k)) → (a c : V) → of_thread (λ m. cells m thread) a → of_thread (λ m. cells m thread) c → P a c
   two_threads P f (val.Thread m) (val.Thread k) h g = f m k
   two_threads P f (val.Thread m) _ h g = absurd g
   two_threads P f _ c h g = absurd h
