@@ -1,4 +1,4 @@
-use crate::Index;
+use hs_index::Index;
 use hs_base::Txt;
 use std::test::Fail;
 
