@@ -13,8 +13,8 @@ use crate::lists::{Parted, id_at, joined, one, operand_ids, split_first};
 use crate::read::as_truth;
 use hs_base::{NoMemory, Value, Values};
 use hs_items::Items;
-use rules_trees::forms::BinaryForm;
 use rules_code::{ExprId, Node, NodeLink};
+use rules_trees::forms::BinaryForm;
 use std::alloc::Global;
 
 /// Evaluates the node of a number.

@@ -12,8 +12,8 @@ use crate::binary::binary;
 use crate::found::{Found, FoundAll};
 use hs_base::{NoMemory, Value, ValueList, Values};
 use hs_items::Items;
-use rules_trees::forms::{BinaryForm, EmptyForm};
 use rules_code::{ExprId, Node};
+use rules_trees::forms::{BinaryForm, EmptyForm};
 use std::alloc::Global;
 
 /// The node of a number.
