@@ -2,3 +2,5 @@ pub mod Options
 pub mod Lines
 pub mod Performing
 pub mod Entering
+pub mod Driving
+mod LateRuns

@@ -1,11 +1,11 @@
 -- Lines of cells after answers.
 use Rattle.std.proofs.Common.{◌≡◌, ℕ, ◌==◌, List, [], ◌∷◌, Bool, true, false, Option, Some, None, refl, sym, ap, ◌∙◌}
 use Rattle.rules_meaning.specs.Values.{V}
-use Rattle.rules_waiting.specs.OneCell.{Place, Want, leaves_line, leave_line, readers}
+use Rattle.rules_waiting.specs.OneCell.{Place, Want, first_put, first_take, leaves_line, leave_line, readers}
 use Rattle.rules_waiting.specs.Waiting.{Waiting, is_blocked, leaves, want_at, with_place, line_of}
 use Rattle.hs_rules.specs.Terms.{Part, Ret}
-use Rattle.hs_rules.specs.State.{State, resume, resume_all}
-use Rattle.hs_cases.specs.Cases.{read_there}
+use Rattle.hs_rules.specs.State.{State, answer, resume, resume_all}
+use Rattle.hs_cases.specs.Cases.{putter, taker, read_there}
 use Rattle.hs_cases.proofs.Options.{cond_true, cond_false}
 
 pub free_stays : (t : ℕ) (ws : List (Waiting V)) → is_blocked t ws ≡ false → leaves t ws ≡ ws
@@ -42,3 +42,11 @@ all_left k (t ∷ ts) p s = all_left k ts p (resume t p s) ∙ ap (leave_line ts
 
 pub read_line : (c k : ℕ) (a : V) (s : State) → line_of k (read_there c a s).blocked ≡ leave_line (readers (line_of c s.blocked)) (line_of k s.blocked)
 read_line c k a s = all_left k (readers (line_of c s.blocked)) (Ret a) s
+
+pub same_putter : (t c : ℕ) (a : V) (s : State) → is_blocked t s.blocked ≡ false → putter c (answer t a s) ≡ putter c s
+same_putter t c a s h = ap (λ ws. first_put (line_of c ws)) (free_stays t s.blocked h)
+
+pub taker_after : (t c : ℕ) (a b : V) (s : State) → is_blocked t s.blocked ≡ false → taker c (read_there c a (answer t b s)) ≡ first_take (leave_line (readers (line_of c s.blocked)) (line_of c s.blocked))
+taker_after t c a b s h =
+    ap first_take (read_line c c a (answer t b s))
+    ∙ ap (λ ws. first_take (leave_line (readers (line_of c ws)) (line_of c ws))) (free_stays t s.blocked h)

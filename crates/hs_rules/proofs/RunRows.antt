@@ -31,10 +31,6 @@ abbrev seen : Option State → Option Seen
 seen None = None
 seen (Some s) = Some (record { out = s.output; err = s.errors; marks = s.marks; finished = ended s.threads })
 
-abbrev lines : List (List ℕ) → List ℕ
-lines [] = []
-lines (x ∷ xs) = x ++ 10 ∷ lines xs
-
 -- ---- given histories
 
 -- main :: IO () = { putStrLn "hello" };
