@@ -1,5 +1,5 @@
 -- Every entry keeps a state typed, and a thread of a typed state that runs has a legal entry.
-use Rattle.std.proofs.Common.{◌≡◌, ◌≢◌, ◌==◌, ⊎_elim, ℕ, zero, suc, List, [], ◌∷◌, slice_get, nat_le, true, false, Option, Some, None, refl, sym, ap, ◌∙◌, subst, arith}
+use Rattle.std.proofs.Common.{◌≡◌, ◌≢◌, ◌==◌, ⊎_elim, ℕ, zero, suc, ◌≤◌, List, [], ◌∷◌, length, slice_get, nat_le, true, false, Option, Some, None, refl, sym, ap, ◌∙◌, subst, arith}
 use Rattle.hs_base.specs.declared.tree.script.Script.{Script}
 use Rattle.hs_rules.specs.declared.entry.Entry.{Entry}
 use Rattle.hs_rules.specs.declared.entry.Entry.TheVariants as entry
@@ -22,7 +22,7 @@ use Rattle.hs_base.specs.declared.exn.Exn.TheVariants.{BlockedIndefinitely}
 use Rattle.hs_laws.specs.BracketLaw.{mine}
 use Rattle.hs_laws.specs.Standing.{IsResult, IsBare}
 use Rattle.hs_laws.specs.BracketPhases.{Held}
-use Rattle.hs_laws.proofs.Lists.{cond_cases, cond_false, equal_or, Found, first_found, OnReason, reason_found, throws, throws_at, those, throw_is_first, throwers_are}
+use Rattle.hs_laws.proofs.Lists.{cond_cases, cond_false, equal_or, Found, first_found, OnReason, reason_found, throws, throws_at, those, throw_is_first, throwers_are, some_item}
 use Rattle.hs_laws.proofs.States.{Holds, Waits, thread_held, ended, ended_holds, run_kept, first_holds}
 use Rattle.hs_laws.proofs.Ends.{ret_owes_nothing, throw_owes_nothing}
 use Rattle.hs_laws.proofs.Expanded.{fine_actions, fine_main, run_from_main, run_holds}
@@ -212,6 +212,18 @@ module _ (script : Script) (accepted : Accepted script) (heads : HeadsKept (scri
       let f : Follows ds d.store (Stays e) r.0 = subst (Keeps d.store (Stays e)) r.1.0 (next_typed s g d.store d.sound e) in
       run_typed es r.0 u r.2 k (record { store = f.store; sound = f.sound })
 
+  -- no thread is lost
+  run_lasts : (es : List Entry) (s u : State) → Run code s es u → Holds s → TypedState ds s → length s.threads ≤ length u.threads
+  run_lasts [] s u r g d = subst (λ z. length s.threads ≤ length z.threads) r (omega arith)
+  run_lasts (e ∷ es) s u r g d =
+      let k : Holds r.0 = run_kept code (fine_actions ds) (e ∷ []) s r.0 (r.0, r.1, refl) g in
+      let f : Follows ds d.store (Stays e) r.0 = subst (Keeps d.store (Stays e)) r.1.0 (next_typed s g d.store d.sound e) in
+      let rest : length r.0.threads ≤ length u.threads = run_lasts es r.0 u r.2 k (record { store = f.store; sound = f.sound }) in
+      let old : d.store.count ≡ length s.threads = d.sound.counted in
+      let new : f.store.count ≡ length r.0.threads = f.sound.counted in
+      let more : d.store.count ≤ f.store.count = f.count in
+      omega (arith, rest, old, new, more)
+
   first_typed : (main : Core) → Runs (stored [] 1) ds main [] (a_value unit) → TypedState ds (first main)
   first_typed main r = record { store = record { cells = []; count = 1; sorts = λ t. a_value unit }; sound = record { threads = threads; contents = λ m. tt; counted = refl } }
     where
@@ -219,14 +231,26 @@ module _ (script : Script) (accepted : Accepted script) (heads : HeadsKept (scri
       threads zero = (do_typed r, no_frames)
       threads (suc t) = tt
 
--- the state of a run of an accepted script is typed
-pub runs_are_typed : (script : Script) → Accepted script → (es : List Entry) (u : State) → IsRun (script_of script) es u → TypedState (script_of script) u
-runs_are_typed script accepted es u r =
+-- the state of a run of an accepted script is typed, and the main thread is there
+begins_typed : (script : Script) → Accepted script → (es : List Entry) (u : State) → IsRun (script_of script) es u → (main : Core) × Run (code_of (script_of script)) (first main) es u × Holds (first main) × TypedState (script_of script) (first main)
+begins_typed script accepted es u r =
     let k = run_from_main (script_of script) es u r in
     let m = main_runs script accepted in
-    let same : m.0 ≡ k.0 = let q : ◌≡◌ {A = Option Core} (Some m.0) (Some k.0) = sym m.1 ∙ k.1 in cc q in
-    run_typed script accepted (heads_kept script accepted) es (first k.0) u k.2 (first_holds k.0 (fine_main (script_of script) k.0 k.1))
-    (first_typed script accepted (heads_kept script accepted) k.0 (subst (λ a. Runs (stored [] 1) (script_of script) a [] (a_value unit)) same (m.2 (stored [] 1))))
+    let same : m.0 ≡ k.0 = let q : ◌≡◌ {A = Option Core} (Some m.0) (Some k.0) = sym m.1 ∙ k.1 in cc q in (
+      k.0,
+      k.2,
+      first_holds k.0 (fine_main (script_of script) k.0 k.1),
+      first_typed script accepted (heads_kept script accepted) k.0 (subst (λ a. Runs (stored [] 1) (script_of script) a [] (a_value unit)) same (m.2 (stored [] 1))),
+    )
+
+pub runs_are_typed : (script : Script) → Accepted script → (es : List Entry) (u : State) → IsRun (script_of script) es u → TypedState (script_of script) u
+runs_are_typed script accepted es u r = let b = begins_typed script accepted es u r in run_typed script accepted (heads_kept script accepted) es (first b.0) u b.1 b.2 b.3
+
+pub main_is_there : (script : Script) → Accepted script → (es : List Entry) (u : State) → IsRun (script_of script) es u → (th : Thread) × (slice_get u.threads 0 ≡ Some th)
+main_is_there script accepted es u r =
+    let b = begins_typed script accepted es u r in
+    let long : 1 ≤ length u.threads = run_lasts script accepted (heads_kept script accepted) es (first b.0) u b.1 b.2 b.3 in
+    some_item u.threads 0 (omega (arith, long))
 
 pub types_follow : (script : Script) → Accepted script → (es : List Entry) (u v : State) (e : Entry) → IsRun (script_of script) es u → next (code_of (script_of script)) u e ≡ Some v → (d : TypedState (script_of script) u) → Follows (script_of script) d.store (Stays e) v
 types_follow script accepted es u v e r n d =

@@ -16,14 +16,15 @@ use Rattle.hs_rules.specs.State.{Thread, State, resume, answer, resume_all}
 use Rattle.hs_rules.specs.Entries.{is_receptive, received, receive_entry, woken, stranded, strand, strand_entry, on_thread, next, IsWork, IsIdle, IsTimely, IsLegal}
 use Rattle.hs_rules.specs.Entries as entries
 use Rattle.hs_rules.specs.Runs.{IsRun}
-use Rattle.hs_rules.specs.Endings.{IsTick, IsQuiet, IsDeadlock, AllWait}
+use Rattle.hs_rules.specs.Endings.{IsDone, IsUncaught, IsTick, IsQuiet, IsDeadlock, AllWait}
 use Rattle.hs_laws.specs.BracketPhases.{Owing}
 use Rattle.hs_laws.specs.Standing.{NoneWorks}
 use Rattle.hs_laws.proofs.Lists.{cond_true, cond_false}
 use Rattle.hs_laws.proofs.NothingLegal.{idle, may_strand, quiet}
+use Rattle.hs_laws.proofs.HowItEnds.{main_ends}
 use Rattle.hs_laws.proofs.Expanded.{owing_of}
 use Rattle.hs_progress.specs.GoingOn.{MainRuns, IsRunning, own_entry, MayStrand}
-use Rattle.hs_progress.proofs.Entries.{runs_go_on}
+use Rattle.hs_progress.proofs.Entries.{main_is_there, runs_go_on}
 
 isnt_state : (u : State) → None ≡ Some u → ⊥
 isnt_state u e = let z : ◌≡◌ {A = Option State} None (Some u) = e in cc z
@@ -156,3 +157,14 @@ module _ (script : Script) (accepted : Accepted script) (es : List Entry) (u : S
 
   pub stranded_exactly : IsLegal (code_of (script_of script)) u entry.Stranded ↔ MayStrand u
   stranded_exactly = (may (code_of (script_of script)) u idle_waits, λ m. strands (code_of (script_of script)) u (owing_of (script_of script) es u r) m (stranded u) refl)
+
+  -- until main has finished, by a value or by an exception, it runs
+  pub main_runs_on : ¬ IsDone u → ¬ IsUncaught u → MainRuns u
+  main_runs_on d x = by k.0.finished refl
+    where
+      k : (th : Thread) × (slice_get u.threads 0 ≡ Some th)
+      k = main_is_there script accepted es u r
+
+      by : (b : Bool) → k.0.finished ≡ b → MainRuns u
+      by true e = absurd (⊎_elim (λ y. d y) (λ y. x y) (main_ends u k.0 k.1 e))
+      by false e = record { main = k.0; there = k.1; unfinished = e }

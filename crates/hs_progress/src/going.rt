@@ -11,13 +11,16 @@ ghost use Rattle.hs_rules.specs.State.{State, Thread};
 ghost use Rattle.hs_rules.specs.Primitives.{operated};
 ghost use Rattle.hs_rules.specs.Entries.{next, IsLegal};
 ghost use Rattle.hs_rules.specs.Runs.{IsRun};
+ghost use Rattle.hs_rules.specs.Endings.{IsDone, IsUncaught};
 ghost use Rattle.hs_progress.specs.GoingOn.{MainRuns, IsRunning, own_entry};
 ghost use Rattle.hs_progress.specs.TypedStates.{TypedState, Follows, Stays};
 
 /// In each state of a run of an accepted script, where the main thread hasn't finished, a thread that hasn't finished and
 /// isn't blocked has a legal entry of its own: the Op of the operation that it stands at, its Finish, or one local rule.
-/// An operation of such a thread leaves a state, whether main has finished or not.
+/// An operation of such a thread leaves a state, whether main has finished or not. Main hasn't finished where the run has
+/// ended neither by its value nor by an exception that nothing catches.
 pub fn runs_go_on()
+    ensures main { (s : Script) → Accepted s → (es : List Entry) (u : State) → IsRun (script_of s) es u → ¬ IsDone u → ¬ IsUncaught u → MainRuns u }
     ensures own { (s : Script) → Accepted s → (es : List Entry) (u : State) → IsRun (script_of s) es u → MainRuns u → (t : ℕ) (th : Thread) → IsRunning u t th → IsLegal (code_of (script_of s)) u (own_entry t th.term.part th.term.frames) }
     ensures operation { (s : Script) → Accepted s → (es : List Entry) (u : State) → IsRun (script_of s) es u → (t : ℕ) (th : Thread) → IsRunning u t th → (op : Operation) → th.term.part ≡ Performs op → (v : State) × (operated t (mask_at th.term.frames) op u ≡ Some v) }
 {}

@@ -6,3 +6,6 @@ returns-clause-may a = runs_may_evaluate
 
 pub returns-clause-answer : goal.returns-clause-answer
 returns-clause-answer a = answers
+
+pub returns-clause-slots : goal.returns-clause-slots
+returns-clause-slots a ds x env m vs h = record { slots = h; sorts = m.fits }
