@@ -20,8 +20,8 @@ use Rattle.hs_compile.specs.declared.refusal.Refusal.TheVariants.{TooLong, Lex, 
 use Rattle.conc_top.specs.declared.ending.Ending.{Ending}
 use Rattle.conc_top.specs.declared.ending.Ending.TheVariants.{Ran, Accepted, Words, Refused, Read, Memory, Write}
 use Rattle.hs_compile.specs.Verdicts.{script_limit, IsAccepted}
-use Rattle.conc_top.specs.Inputs.{IsWhole}
-use Rattle.conc_top.specs.Answers.{Comes, ErrorsFailed, HasLines, IsDue, IsIdle, IsLeft, IsRefused, Keeps, OutputFailed, RunsScript, Tells}
+use Rattle.conc_top.specs.Inputs.{IsWhole, Took}
+use Rattle.conc_top.specs.Answers.{Comes, ErrorsFailed, HasLines, IsDue, IsIdle, IsLeft, IsReadThrough, IsRefused, Keeps, OutputFailed, RunsScript, Tells, TookFew}
 use Rattle.conc_top.specs.Lines.{HasPlace}
 use Rattle.conc_top.specs.Outcomes.{IsJudged, IsToldFor, WasPlayed}
 
@@ -122,11 +122,23 @@ any_left : (before : Option (List ℕ)) → (bytes : List ℕ) × IsLeft before 
 any_left None = ([], tt)
 any_left (Some known) = (known, refl)
 
-pub memory_comes : (good fault : Type 0) (before now : Option (List ℕ)) (e : Ending) (history : List Entry) (output : List ℕ) → good → e ≡ Memory
+few_left : (known left taken : List ℕ) → known ≡ taken ++ left → Some left ≡ Some (drop (length taken) known)
+few_left known left taken whole = ap Some (sym (ap (λ k. drop (length taken) k) whole ∙ drop-append_seam taken left))
+
+pub took_few : (before now : Option (List ℕ)) (taken : List ℕ) → Took before now taken → TookFew before now
+took_few None now taken took = tt
+took_few (Some known) None taken took = absurd took.consumed
+took_few (Some known) (Some left) taken took = (length taken, took.few, few_left known left taken took.consumed)
+
+few_through : (before now : Option (List ℕ)) → IfSome before (λ bytes. now ≡ Some (drop (script_limit + 1) bytes)) → TookFew before now
+few_through None now through = tt
+few_through (Some known) now through = (script_limit + 1, omega arith, through)
+
+pub memory_comes : (good fault : Type 0) (before now : Option (List ℕ)) (e : Ending) (history : List Entry) (output : List ℕ) → good → TookFew before now → e ≡ Memory
     → history ≡ [] → output ≡ [] → Comes good fault before now e history output [] 0
-memory_comes good fault before now e history output is_good is none nothing =
+memory_comes good fault before now e history output is_good few is none nothing =
     subst (λ e. Comes good fault before now e history output [] 0) (sym is)
-    (record { bytes = (any_left before).0; left = (any_left before).1; due = is_good; kept = idle history output none nothing; through = tt })
+    (record { bytes = (any_left before).0; left = (any_left before).1; due = is_good; kept = idle history output none nothing; through = few })
 
 pub words_come : (good fault : Type 0) (before now : Option (List ℕ)) (e : Ending) (history : List Entry) (output : List ℕ) → ¬ good → e ≡ Words
     → history ≡ [] → output ≡ [] → Comes good fault before now e history output [] 0
@@ -134,11 +146,11 @@ words_come good fault before now e history output bad is none nothing =
     subst (λ e. Comes good fault before now e history output [] 0) (sym is)
     (record { bytes = (any_left before).0; left = (any_left before).1; due = bad; kept = idle history output none nothing; through = tt })
 
-pub fault_comes : (good fault : Type 0) (before now : Option (List ℕ)) (e : Ending) (history : List Entry) (output : List ℕ) → good → fault → e ≡ Read
+pub fault_comes : (good fault : Type 0) (before now : Option (List ℕ)) (e : Ending) (history : List Entry) (output : List ℕ) → good → fault → TookFew before now → e ≡ Read
     → history ≡ [] → output ≡ [] → Comes good fault before now e history output [] 0
-fault_comes good fault before now e history output is_good rose is none nothing =
+fault_comes good fault before now e history output is_good rose few is none nothing =
     subst (λ e. Comes good fault before now e history output [] 0) (sym is)
-    (record { bytes = (any_left before).0; left = (any_left before).1; due = (is_good, rose); kept = idle history output none nothing; through = tt })
+    (record { bytes = (any_left before).0; left = (any_left before).1; due = (is_good, rose); kept = idle history output none nothing; through = few })
 
 longer : (known left taken : List ℕ) → known ≡ taken ++ left → length taken ≡ script_limit + 1 → script_limit < length known
 longer known left taken whole long = omega (arith, ap (λ k. length k) whole, length-append taken left, long)
@@ -191,7 +203,8 @@ whole : (good fault : Type 0) (before now : Option (List ℕ)) (taken : List ℕ
 whole good fault before now taken (Ran r) history output is_good short consumed end is = played_comes good fault before now taken r history output is_good short consumed end is
 whole good fault before now taken (Refused r) history output is_good short consumed end is =
     refused_comes good fault before now taken r history output is_good short consumed end is.0 is.1 is.2
-whole good fault before now taken Memory history output is_good short consumed end is = memory_comes good fault before now Memory history output is_good refl is.0 is.1
+whole good fault before now taken Memory history output is_good short consumed end is =
+    memory_comes good fault before now Memory history output is_good (took_few before now taken (record { consumed = consumed; few = omega (arith, short) })) refl is.0 is.1
 whole good fault before now taken Accepted history output is_good short consumed end is = absurd is
 whole good fault before now taken Words history output is_good short consumed end is = absurd is
 whole good fault before now taken Read history output is_good short consumed end is = absurd is
@@ -201,7 +214,8 @@ cut : (good fault : Type 0) (before now : Option (List ℕ)) (taken : List ℕ) 
     → length taken ≡ script_limit + 1 → Consumes before now taken → IsJudged e taken history output → Comes good fault before now e history output [] 0
 cut good fault before now taken (Ran r) history output is_good long consumed is = absurd (long_played taken r history output long is)
 cut good fault before now taken (Refused r) history output is_good long consumed is = long_refused good fault before now taken r history output is_good long consumed is.0 is.1 is.2
-cut good fault before now taken Memory history output is_good long consumed is = memory_comes good fault before now Memory history output is_good refl is.0 is.1
+cut good fault before now taken Memory history output is_good long consumed is =
+    memory_comes good fault before now Memory history output is_good (took_few before now taken (record { consumed = consumed; few = omega (arith, long) })) refl is.0 is.1
 cut good fault before now taken Accepted history output is_good long consumed is = absurd is
 cut good fault before now taken Words history output is_good long consumed is = absurd is
 cut good fault before now taken Read history output is_good long consumed is = absurd is
@@ -316,11 +330,20 @@ good_of good fault bytes Memory has due = absurd has
 good_of good fault bytes Read has due = absurd has
 good_of good fault bytes Write has due = absurd has
 
+through_of : (before now : Option (List ℕ)) (e : Ending) → HasPlace e → IsReadThrough e before now → TookFew before now
+through_of before now (Ran r) has through = absurd has
+through_of before now Accepted has through = absurd has
+through_of before now Words has through = absurd has
+through_of before now (Refused r) has through = few_through before now through
+through_of before now Memory has through = absurd has
+through_of before now Read has through = absurd has
+through_of before now Write has through = absurd has
+
 pub given_up : (good fault : Type 0) (before now : Option (List ℕ)) (came e : Ending) (history idle_history : List Entry) (output idle_output errors : List ℕ) (last : ℕ)
     → Comes good fault before now came history output errors last → HasPlace came → e ≡ Memory → idle_history ≡ [] → idle_output ≡ []
     → Comes good fault before now e idle_history idle_output [] 0
 given_up good fault before now came e history idle_history output idle_output errors last comes has is none nothing =
-    memory_comes good fault before now e idle_history idle_output (good_of good fault comes.bytes came has comes.due) is none nothing
+    memory_comes good fault before now e idle_history idle_output (good_of good fault comes.bytes came has comes.due) (through_of before now came has comes.through) is none nothing
 
 pub told_comes : (good fault : Type 0) (before now : Option (List ℕ)) (came told : Ending) (history told_history : List Entry) (output told_output : List ℕ)
     → Comes good fault before now came history output [] 0 → IsToldFor came history output told told_history told_output

@@ -1,3 +1,4 @@
 pub mod PlainTrees
 pub mod Answered
 pub mod PlainRuns
+pub mod Taking

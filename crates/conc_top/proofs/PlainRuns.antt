@@ -90,11 +90,11 @@ block_runs code (plain_then {a = a} {b = b} {xs = xs} (puts_line {x = x} h) r) =
 
 later_ordinary : (xs : List (List ℕ)) → AllOrdinary (later_entries xs)
 later_ordinary [] = (tt, tt)
-later_ordinary (x ∷ xs) = (tt, tt, later_ordinary xs)
+later_ordinary (x ∷ xs) = (tt, (tt, later_ordinary xs))
 
 plain_ordinary : (xs : List (List ℕ)) → AllOrdinary (plain_history xs)
 plain_ordinary [] = tt
-plain_ordinary (x ∷ xs) = (tt, tt, later_ordinary xs)
+plain_ordinary (x ∷ xs) = (tt, (tt, later_ordinary xs))
 
 -- the history of a plain script is a run of it, and prints its texts
 pub plain_runs : {ds : List Fn} {xs : List (List ℕ)} → PlainScript ds xs → IsRun ds (plain_history xs) (plain_end (lines_of xs))

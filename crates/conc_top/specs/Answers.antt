@@ -70,6 +70,16 @@ IsDue good bytes read_fault write_fault Memory = good
 IsDue good bytes read_fault write_fault Write = write_fault
 IsDue good bytes read_fault write_fault Accepted = ⊥
 
+-- the answers of a call in which a read failed
+abbrev pub IsFaulty : Ending → Type 0
+IsFaulty Read = ⊤
+IsFaulty Memory = ⊤
+IsFaulty Write = ⊤
+IsFaulty (Ran r) = ⊥
+IsFaulty (Refused r) = ⊥
+IsFaulty Accepted = ⊥
+IsFaulty Words = ⊥
+
 -- ---- what is kept and told
 
 -- This history is a run of the script that these bytes are, from its first state to its end. It printed this output and
@@ -100,14 +110,18 @@ Keeps bytes Read history output errors last = IsIdle history output errors
 Keeps bytes Memory history output errors last = IsIdle history output errors
 Keeps bytes Write history output errors last = IsIdle history output errors
 
+-- at most one byte more than a script may have was taken from the source
+abbrev pub TookFew : (before now : Option (List ℕ)) → Type 0
+TookFew before now = IfSome before (λ bytes. (n : ℕ) × (n ≤ script_limit + 1) × (now ≡ Some (drop n bytes)))
+
 -- The source was read to its end, or to the first byte past the limit, before a script was refused or run.
 abbrev pub IsReadThrough : Ending → (before now : Option (List ℕ)) → Type 0
 IsReadThrough (Ran r) before now = IfSome before (λ bytes. now ≡ Some (drop (script_limit + 1) bytes))
 IsReadThrough (Refused r) before now = IfSome before (λ bytes. now ≡ Some (drop (script_limit + 1) bytes))
 IsReadThrough Accepted before now = ⊤
 IsReadThrough Words before now = ⊤
-IsReadThrough Read before now = ⊤
-IsReadThrough Memory before now = ⊤
+IsReadThrough Read before now = TookFew before now
+IsReadThrough Memory before now = TookFew before now
 IsReadThrough Write before now = ⊤
 
 -- What a call came to, before it told anything: one answer that is due, and what it kept. A write fault is none.

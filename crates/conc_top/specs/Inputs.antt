@@ -12,22 +12,28 @@ use Rattle.conc_top.specs.declared.input.More.TheVariants as more
 abbrev pub IsWhole : List ℕ → (now : Option (List ℕ)) → Type 0
 IsWhole bytes now = ((length bytes ≤ script_limit) × IsAtEnd now) ⊎ (length bytes ≡ script_limit + 1)
 
--- all that the source had left, or the first bytes, one more than a script may have
-abbrev pub Reads : Input → (before now : Option (List ℕ)) (fault : Type 0) → Type 0
-Reads (Bytes bytes) before now fault = Consumes before now bytes.items × IsWhole bytes.items now
-Reads Fault before now fault = fault
-Reads NoMemory before now fault = ⊤
-
--- What one read adds to the bytes that were taken: a piece that is not empty and fits, or nothing at the end.
-abbrev pub Adds : More → (most : ℕ) (before now : Option (List ℕ)) (old new : List ℕ) (faults_before faults_now : ℕ) → Type 0
-Adds more.Taken most before now old new faults_before faults_now =
-    (piece : List ℕ) × (new ≡ old ++ piece) × Consumes before now piece × (0 < length piece) × (length piece ≤ most) × (faults_before ≤ faults_now)
-Adds more.End most before now old new faults_before faults_now = (new ≡ old) × Consumes before now [] × IsAtEnd now × (faults_before ≤ faults_now)
-Adds more.Fault most before now old new faults_before faults_now = Rose faults_before faults_now
-Adds more.NoMemory most before now old new faults_before faults_now = ⊤
-
--- These bytes were taken from a source, at most one more than a script may have, and its count of faults has not fallen.
-pub record HasTaken (before now : Option (List ℕ)) (taken : List ℕ) (faults_before faults_now : ℕ) : Type 0 where
+-- these bytes were taken, at most one more than a script may have
+pub record Took (before now : Option (List ℕ)) (taken : List ℕ) : Type 0 where
   pub consumed : Consumes before now taken
   pub few : length taken ≤ script_limit + 1
-  pub steady : faults_before ≤ faults_now
+
+-- All that the source had left, or the first bytes, one more than a script may have. Only where a read failed the count of
+-- faults rose, and in every case so many bytes at most were taken.
+abbrev pub Reads : Input → (before now : Option (List ℕ)) (faults_before faults_now : ℕ) → Type 0
+Reads (Bytes bytes) before now faults_before faults_now = Consumes before now bytes.items × IsWhole bytes.items now × (faults_now ≡ faults_before)
+Reads Fault before now faults_before faults_now = Rose faults_before faults_now × (taken : List ℕ) × Took before now taken
+Reads NoMemory before now faults_before faults_now = (taken : List ℕ) × Took before now taken
+
+-- What one read adds to the bytes that were taken: a piece that is not empty and fits, or nothing at the end. Where there is
+-- no memory for the piece it was taken all the same.
+abbrev pub Adds : More → (most : ℕ) (before now : Option (List ℕ)) (old new : List ℕ) (faults_before faults_now : ℕ) → Type 0
+Adds more.Taken most before now old new faults_before faults_now =
+    (piece : List ℕ) × (new ≡ old ++ piece) × Consumes before now piece × (0 < length piece) × (length piece ≤ most) × (faults_now ≡ faults_before)
+Adds more.End most before now old new faults_before faults_now = (new ≡ old) × Consumes before now [] × IsAtEnd now × (faults_now ≡ faults_before)
+Adds more.Fault most before now old new faults_before faults_now = Rose faults_before faults_now × Consumes before now []
+Adds more.NoMemory most before now old new faults_before faults_now = (piece : List ℕ) × Consumes before now piece × (length piece ≤ most)
+
+-- These bytes were taken from a source, at most one more than a script may have, and its count of faults is as it was.
+pub record HasTaken (before now : Option (List ℕ)) (taken : List ℕ) (faults_before faults_now : ℕ) : Type 0 where
+  pub took : Took before now taken
+  pub steady : faults_now ≡ faults_before

@@ -1,7 +1,6 @@
 //! Reading the source to its end, or to the first byte past the limit.
 ghost use Rattle.std.specs.Prelude.{◌<◌, length};
 ghost use Rattle.conc_top.specs.Inputs.{Adds, Reads};
-ghost use Rattle.hs_io.specs.Causes.{Rose};
 
 use hs_io::Source;
 use std::alloc::Global;
@@ -19,7 +18,7 @@ pub enum Input {
 }
 
 pub fn read_input<S: Source>(alloc: Global, source: &mut S) -> Input
-    ensures { Reads result (S.left source.old) (S.left source.new) (Rose (S.faults source.old) (S.faults source.new)) }
+    ensures { Reads result (S.left source.old) (S.left source.new) (S.faults source.old) (S.faults source.new) }
 {
     let mut chunk = [0u8; 4096];
     let mut bytes = Vec::new(alloc);

@@ -17,7 +17,7 @@ pub struct Played {
 
 /// The only thread goes to each `putStrLn` in turn, performs it, and finishes.
 pub fn play(alloc: Global, lines: &[Items<u8>]) -> Result<Played, NoMemory>
-    ensures history { IfOk result (λ played. played.history ≡ plain_history lines.now) }
+    ensures history { IfOk result (λ played. played.history.list ≡ plain_history lines.now) }
     ensures output { IfOk result (λ played. played.output.items ≡ lines_of lines.now) }
 {
     let mut history = History::new(alloc);
@@ -49,7 +49,7 @@ fn put_line(
     steps: u32,
     line: &Items<u8>,
 ) -> Result<(), NoMemory>
-    ensures history { OnOk result (history.new ≡ history.old ++ Local 0 steps ∷ Op 0 ∷ []) }
+    ensures history { OnOk result (history.new.list ≡ history.old.list ++ Local 0 steps ∷ Op 0 ∷ []) }
     ensures output { OnOk result (output.new.items ≡ output.old.items ++ (line.now ++ 10 ∷ [])) }
 {
     history.push(Entry::Local { t: 0, k: steps })?;

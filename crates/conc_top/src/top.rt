@@ -1,10 +1,10 @@
-ghost use Rattle.std.specs.Prelude.{◌≡◌, ◌⊎◌, ◌↔◌, ◌++◌, ℕ, List, IsTrue, OnErr, OnOk, [], map, string_bytes};
+ghost use Rattle.std.specs.Prelude.{◌≡◌, ◌<◌, ◌⊎◌, ◌↔◌, ◌++◌, ℕ, List, IsTrue, OnErr, OnOk, [], map, string_bytes};
 ghost use Rattle.std.specs.Io.KnownBytes.{Appends};
 ghost use Rattle.hs_io.specs.Causes.{HasCause, Rose};
 ghost use Rattle.hs_io.specs.Outside.{Puts};
 ghost use Rattle.conc_top.specs.declared.ending.Ending.{Ending};
 ghost use Rattle.conc_top.specs.declared.ending.Ending.TheVariants.{Memory, Write};
-ghost use Rattle.conc_top.specs.Answers.{AreGood, Comes, ErrorsFailed, IsDue, IsLeft, OutputFailed, Tells, WasToldNothing};
+ghost use Rattle.conc_top.specs.Answers.{AreGood, Comes, ErrorsFailed, IsDue, IsFaulty, IsLeft, OutputFailed, Tells, WasToldNothing};
 ghost use Rattle.conc_top.specs.Lines.{line_of, status_of, text_of};
 ghost use Rattle.conc_top.specs.Outcomes.{IsJudged, IsToldFor};
 
@@ -45,8 +45,11 @@ pub fn run<S: Source, O: Sink, E: Sink, K: Clock, G: Gate>(
     // The answer that the call came to, what it kept and what it told; where a put failed, Write stands in its place.
     ensures told { (came : Ending) × (output errors : List ℕ)
         × Comes (AreGood (map (λ word. string_bytes word) words.now)) (Rose (S.faults source.old) (S.faults source.new))
-        (S.left source.old) (S.left source.new) came result.history output errors (K.last result.clock)
+        (S.left source.old) (S.left source.new) came result.history.list output errors (K.last result.clock)
         × Tells O.told O.faults E.told E.faults came result.ending output (errors ++ line_of came) out result.out err result.err }
+
+    // A read that failed is told.
+    ensures rose { S.faults source.old < S.faults source.new → IsFaulty result.ending }
 
     // The source is not read where the words are not good.
     ensures unread { ¬ AreGood (map (λ word. string_bytes word) words.now) → source.new ≡ source.old }
@@ -71,7 +74,7 @@ impl Outcome {
     // Nothing ran.
     fn idle(alloc: Global, ending: Ending) -> Outcome
         ensures ending { result.ending ≡ ending }
-        ensures history { result.history ≡ [] }
+        ensures history { result.history.list ≡ [] }
         ensures output { result.output.items ≡ [] }
     {
         Outcome {
@@ -85,7 +88,7 @@ impl Outcome {
 // The outcome and its line, or want of memory where there is none for a line with a place in it.
 fn with_line(alloc: Global, outcome: Outcome) -> (Outcome, Line)
     ensures line { text_of result.1 ≡ line_of result.0.ending }
-    ensures outcome { IsToldFor outcome.ending outcome.history outcome.output.items result.0.ending result.0.history result.0.output.items }
+    ensures outcome { IsToldFor outcome.ending outcome.history.list outcome.output.items result.0.ending result.0.history.list result.0.output.items }
 {
     match outcome.ending.line(alloc) {
         Ok(line) => (outcome, line),
@@ -96,7 +99,7 @@ fn with_line(alloc: Global, outcome: Outcome) -> (Outcome, Line)
 // Want of memory in place of an outcome, which is let go.
 fn memory_for(alloc: Global, _outcome: Outcome) -> Outcome
     ensures ending { result.ending ≡ Memory }
-    ensures history { result.history ≡ [] }
+    ensures history { result.history.list ≡ [] }
     ensures output { result.output.items ≡ [] }
 {
     Outcome::idle(alloc, Ending::Memory)
@@ -125,7 +128,8 @@ fn are_good(words: &[String]) -> bool
 // What the call comes to.
 fn come_to<S: Source>(alloc: Global, words: &[String], source: &mut S) -> Outcome
     ensures comes { Comes (AreGood (map (λ word. string_bytes word) words.now)) (Rose (S.faults source.old) (S.faults source.new))
-        (S.left source.old) (S.left source.new) result.ending result.history result.output.items [] 0 }
+        (S.left source.old) (S.left source.new) result.ending result.history.list result.output.items [] 0 }
+    ensures rose { S.faults source.old < S.faults source.new → IsFaulty result.ending }
     ensures unread { ¬ AreGood (map (λ word. string_bytes word) words.now) → source.new ≡ source.old }
 {
     if !are_good(words) {
@@ -140,7 +144,7 @@ fn come_to<S: Source>(alloc: Global, words: &[String], source: &mut S) -> Outcom
 
 // Reads the script from the bytes and runs it.
 fn judge(alloc: Global, bytes: &[u8]) -> Outcome
-    ensures { IsJudged result.ending bytes.now result.history result.output.items }
+    ensures { IsJudged result.ending bytes.now result.history.list result.output.items }
 {
     let checked = match accept(alloc, bytes) {
         Ok(checked) => checked,
@@ -177,7 +181,7 @@ fn tell<O: Sink, E: Sink, K: Clock>(
     ensures status { result.status ≡ status_of result.ending }
     ensures tells { Tells O.told O.faults E.told E.faults come.ending result.ending come.output.items ([] ++ line_of come.ending)
         out result.out err result.err }
-    ensures history { result.history ≡ come.history }
+    ensures history { result.history.list ≡ come.history.list }
     ensures clock { result.clock ≡ clock }
 {
     let Outcome {

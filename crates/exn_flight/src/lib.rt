@@ -4,7 +4,7 @@
 //! before `room` is called again. `Sleepers` is the list of sleeping threads, by due and of one due by thread, and its
 //! `spare`.
 //!
-//! The promise: each call is what the one list of blocked threads (`hs_rules`, `Waiting`) says of throwers and of
+//! The promise: each call is what the one list of blocked threads (`rules_waiting`, `Waiting`) says of throwers and of
 //! sleepers; once room was made no call takes memory. Delivering and waking are left to the caller.
 //!
 //! A throw that is over, and a place that a sleeper left, stay until `room` finds too little room: it then moves what is
@@ -21,6 +21,3 @@ mod tournament;
 
 pub use flight::Flight;
 pub use sleepers::Sleepers;
-
-#[cfg(test)]
-mod tests;

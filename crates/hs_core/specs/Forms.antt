@@ -1,7 +1,7 @@
 -- The expansions of forms with blocks, with slots: what stands for a block in its own scope is given.
 use Rattle.std.specs.Prelude.{[], ◌∷◌}
 use Rattle.rules_trees.specs.declared.forms.UnaryForm.TheVariants as u
-use Rattle.rules_expansion.specs.Names.{Name, Added, Hidden, Restorer, Given, Caught, TheCell, Content, Instance, BracketResult, BracketFault, Allowed, InTime, Owner, Expiry, Helper}
+use Rattle.rules_expansion.specs.Names.{Name, Added, Hidden, Restorer, Given, Caught, TheCell, Instance, BracketResult, BracketFault, Allowed, InTime, Owner, Expiry, Helper}
 use Rattle.rules_expansion.specs.Core.{ThreadDelay, ThrowTo, TakeMVar, PutMVar, Acquired, Release, MyThreadId, NewTimeout, CoreEx, Read, NoValue, BelowZero, IsZero, SameExn, Core, Return, ThrowIo, If}
 use Rattle.rules_expansion.specs.Expansion.{timeout_helper, timeout_end}
 use Rattle.rules_code.specs.Slots.{Sx, Scope, s_unary, s_none, s_more, slot_of}
@@ -64,18 +64,6 @@ modify_cell s x b = a_mask (modify_masked (Added Restorer ∷ s) x b)
 
 abbrev pub modify : Scope → Sx → Name → Sa → Sa
 modify s e x b = a_let e (modify_cell (Added TheCell ∷ s) x b)
-
-abbrev pub read_content : Scope → Sa
-read_content s = returned_after Content s (put s (Added Content))
-
-abbrev pub read_masked : Scope → Sa
-read_masked s = a_bind (take s) (read_content (Added Content ∷ s))
-
-abbrev pub read_cell : Scope → Sa
-read_cell s = a_mask (read_masked (Added Restorer ∷ s))
-
-abbrev pub read_mvar : Scope → Sx → Sa
-read_mvar s e = a_let e (read_cell (Added TheCell ∷ s))
 
 -- ---- brackets
 

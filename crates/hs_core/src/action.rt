@@ -72,7 +72,7 @@ impl ActEmitter {
             Action::NewEmptyMVar(_, _) => self.primitive(alloc, defs, Primitive::NewEmptyMVar),
             Action::TakeMVar(_, e) => self.primitive_one(alloc, defs, Primitive::TakeMVar, e),
             Action::PutMVar(_, e, f) => self.primitive_two(alloc, defs, Primitive::PutMVar, e, f),
-            Action::ReadMVar(_, e) => self.read_cell_of(alloc, defs, e),
+            Action::ReadMVar(_, e) => self.primitive_one(alloc, defs, Primitive::ReadMVar, e),
             Action::TryTakeMVar(_, e) => self.primitive_one(alloc, defs, Primitive::TryTakeMVar, e),
             Action::TryPutMVar(_, e, f) => self.primitive_two(
                 alloc,

@@ -7,7 +7,7 @@ use std::alloc::Global;
 
 impl ActEmitter {
     ghost use Rattle.std.specs.Prelude.{IfOk, ◌∷◌};
-    ghost use Rattle.rules_expansion.specs.Names.{Written, Added, Caught, TheCell, Content, Restorer, Instance, BracketFault, BracketResult, Helper};
+    ghost use Rattle.rules_expansion.specs.Names.{Written, Added, Caught, TheCell, Restorer, Instance, BracketFault, BracketResult, Helper};
     ghost use Rattle.rules_code.specs.Slots.{Sx, s_none, s_more, s_unary, slot_of};
     ghost use Rattle.rules_expansion.specs.Core.{ThrowTo, Return, NoValue, Read};
     ghost use Rattle.rules_expansion.specs.Expansion.{timeout_helper, timeout_end, kill_thread};
@@ -88,49 +88,6 @@ impl ActEmitter {
     {
         bind_added(&mut self.emitter.scope, Hidden::TheCell)?;
         let m = self.modify_cell(alloc, x, b)?;
-        off(&mut self.emitter.scope);
-        let id = self.act(Act::Let(e, m))?;
-        Ok(id)
-    }
-
-    /// `putMVar $m $x; return $x`
-    pub fn read_content(&mut self, alloc: Global) -> Result<ActId, NoMemory>
-        ensures { IfOk result (λ id. Emits Nothing_given self.old self.new id (λ s. form.read_content s)) }
-    {
-        let b = self.perform_read_two(alloc, Primitive::PutMVar, Hidden::TheCell, Hidden::Content)?;
-        let id = self.then_return(b, Hidden::Content)?;
-        Ok(id)
-    }
-
-    /// What a `readMVar` masks.
-    pub fn read_masked(&mut self, alloc: Global) -> Result<ActId, NoMemory>
-        ensures { IfOk result (λ id. Emits Nothing_given self.old self.new id (λ s. form.read_masked s)) }
-    {
-        let t = self.perform_read(alloc, Primitive::TakeMVar, Hidden::TheCell)?;
-        bind_added(&mut self.emitter.scope, Hidden::Content)?;
-        let m = self.read_content(alloc)?;
-        off(&mut self.emitter.scope);
-        let id = self.act(Act::Bind(t, m))?;
-        Ok(id)
-    }
-
-    /// A `readMVar` of the cell that is read already.
-    pub fn read_cell(&mut self, alloc: Global) -> Result<ActId, NoMemory>
-        ensures { IfOk result (λ id. Emits Nothing_given self.old self.new id (λ s. form.read_cell s)) }
-    {
-        bind_added(&mut self.emitter.scope, Hidden::Restorer)?;
-        let m = self.read_masked(alloc)?;
-        off(&mut self.emitter.scope);
-        let id = self.act(Act::Mask(m))?;
-        Ok(id)
-    }
-
-    /// `readMVar e`
-    pub fn read_mvar(&mut self, alloc: Global, e: ExprId) -> Result<ActId, NoMemory>
-        ensures { (t : Sx) → IfOk result (λ id. Emits (StandsIn self.old e t) self.old self.new id (λ s. form.read_mvar s t)) }
-    {
-        bind_added(&mut self.emitter.scope, Hidden::TheCell)?;
-        let m = self.read_cell(alloc)?;
         off(&mut self.emitter.scope);
         let id = self.act(Act::Let(e, m))?;
         Ok(id)

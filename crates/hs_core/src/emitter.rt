@@ -4,8 +4,8 @@ use hs_base::{Exn, Expr, NoMemory, Txt};
 use hs_items::Items;
 use hs_nodes::Emitter;
 use hs_nodes::names::Hidden;
-use rules_trees::forms::{BinaryForm, EmptyForm, UnaryForm};
 use rules_code::{Act, ActId, ExprId, Node, Primitive};
+use rules_trees::forms::{BinaryForm, EmptyForm, UnaryForm};
 use std::alloc::Global;
 
 /// The nodes of expressions with the names of the scope, and the nodes of actions.

@@ -8,7 +8,7 @@ use std::alloc::Global;
 
 impl ActEmitter {
     ghost use Rattle.std.specs.Prelude.{IfOk, ◌∷◌, []};
-    ghost use Rattle.rules_expansion.specs.Names.{Written, Added, Caught, TheCell, Content, Restorer, Instance, BracketFault, BracketResult, Helper};
+    ghost use Rattle.rules_expansion.specs.Names.{Written, Added, Caught, TheCell, Restorer, Instance, BracketFault, BracketResult, Helper};
     ghost use Rattle.rules_code.specs.Slots.{Sx, s_none, s_more, s_unary, slot_of};
     ghost use Rattle.rules_expansion.specs.Core.{ThrowTo, Killed, Return, NoValue, Read};
     ghost use Rattle.rules_expansion.specs.Expansion.{timeout_helper, timeout_end, kill_thread};

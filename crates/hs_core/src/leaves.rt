@@ -88,15 +88,6 @@ impl ActEmitter {
         Ok(id)
     }
 
-    /// `readMVar e`
-    pub fn read_cell_of(&mut self, alloc: Global, defs: &Defs, e: &Expr) -> Result<ActId, NoMemory>
-        ensures { IfOk result (λ id. Emits (Knows self.old.emitter.nodes defs.now) self.old self.new id (λ s. form.read_mvar s (slotted (roots defs.now) s (ex_of e.now)))) }
-    {
-        let i = self.expr(alloc, defs, e)?;
-        let id = self.read_mvar(alloc, i)?;
-        Ok(id)
-    }
-
     /// The nodes of expressions in a row.
     fn exprs(
         &mut self,

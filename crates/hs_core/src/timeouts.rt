@@ -2,13 +2,13 @@
 use crate::emitter::ActEmitter;
 use hs_base::NoMemory;
 use hs_nodes::names::{Hidden, bind_added, off};
-use rules_trees::forms::BinaryForm;
 use rules_code::{Act, ActId, ExprId, Primitive};
+use rules_trees::forms::BinaryForm;
 use std::alloc::Global;
 
 impl ActEmitter {
     ghost use Rattle.std.specs.Prelude.{IfOk, ◌∷◌, [], pos};
-    ghost use Rattle.rules_expansion.specs.Names.{Written, Added, Caught, TheCell, Content, Restorer, Instance, BracketFault, BracketResult, Helper, HelperRestorer, Allowed, InTime, Expiry};
+    ghost use Rattle.rules_expansion.specs.Names.{Written, Added, Caught, TheCell, Restorer, Instance, BracketFault, BracketResult, Helper, HelperRestorer, Allowed, InTime, Expiry};
     ghost use Rattle.rules_code.specs.Slots.{Sx, s_binary, s_literal, s_none, s_more, s_unary, slot_of};
     ghost use Rattle.rules_expansion.specs.Core.{Return, NoValue, Read, JustRead, SameExn};
     ghost use Rattle.rules_trees.specs.Trees.{number};

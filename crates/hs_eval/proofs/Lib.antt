@@ -4,4 +4,3 @@ pub mod Comparisons
 pub mod Steps
 pub mod Named
 pub mod Readings
-pub mod SmallestCode

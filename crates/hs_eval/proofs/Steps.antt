@@ -1,7 +1,6 @@
 -- Steps of the evaluator.
 use Rattle.std.proofs.Common.{◌≡◌, ℕ, suc, ◌+◌, ◌<◌, ◌≤◌, zero, List, [], ◌∷◌, ◌++◌, length, take, drop, refl, ap, ◌∙◌, sym, arith, append_assoc, Option, Some, None}
 use Rattle.std.specs.Prelude.{slice_get}
-use Rattle.std.specs.List.{remove}
 use Rattle.std.proofs.Math.ListN.{drop_of_length-le}
 use Rattle.hs_base.specs.declared.exn.Exn.{Exn}
 use Rattle.hs_base.specs.declared.value.Value.{Value}
@@ -14,18 +13,25 @@ use Rattle.rules_code.specs.declared.node.Node.{Node}
 use Rattle.rules_code.specs.declared.node.Node.TheVariants as n
 use Rattle.rules_code.specs.declared.node.ExprId.{ExprId}
 use Rattle.rules_code.specs.declared.node.NodeLink.{NodeLink}
-use Rattle.rules_meaning.specs.Values.{V, Cons, list_of, value_of, values_of, Outcome, Gives, Throws, Stuck, Outcomes, AllGive, OneThrows, OneStuck, and_one, and_then}
+use Rattle.hs_base.specs.declared.value.ValueList.{ValueList}
+use Rattle.hs_base.specs.declared.value.ValueList.TheVariants as items
+use Rattle.hs_base.specs.Lists.{before}
+use Rattle.rules_meaning.specs.Values.{V, Nil, Cons, value_of, list_value_of, values_of, Outcome, Gives, Throws, Stuck, Outcomes, AllGive, OneThrows, OneStuck, and_one, and_then}
 use Rattle.rules_meaning.specs.Meaning.{put_before, then, then_all, binary_of, linked}
 use Rattle.rules_code.specs.Slots.{Sx, Sxs, s_none, s_more, Slinks, s_end, s_link, run, run_all, run_left, run_right, tree_in, trees_in, links_in, at_slot}
 use Rattle.hs_eval.specs.Evaluation.{slots, mirrored, operands_of, with_values, join_right, join_all, after}
-use Rattle.rules_meaning.proofs.Values.{value_of-List}
+use Rattle.rules_meaning.proofs.Values.{value_of-List, list_value_of-Nil, list_value_of-before}
+use Rattle.hs_eval.proofs.Cases.{by_list}
 
-onto_list : (v : V) (us : List V) → put_before v (list_of us) ≡ Gives (Cons v (list_of us))
-onto_list v [] = refl
-onto_list v (u ∷ us) = refl
+onto_list : (v : V) (us : ValueList) → put_before v (list_value_of us) ≡ Gives (Cons v (list_value_of us))
+onto_list v us =
+    by_list (λ ws. put_before v (list_value_of ws) ≡ Gives (Cons v (list_value_of ws)))
+    (ap (put_before v) list_value_of-Nil ∙ ap (λ z. Gives (Cons v z)) (sym list_value_of-Nil))
+    (λ a rest. ap (put_before v) (list_value_of-before a rest) ∙ ap (λ z. Gives (Cons v z)) (sym (list_value_of-before a rest)))
+    us
 
-pub put_before_list : (v : V) (us : List Value) → put_before v (value_of (raw.List us)) ≡ Gives (Cons v (list_of (values_of us)))
-put_before_list v us = ap (put_before v) (value_of-List us) ∙ onto_list v (values_of us)
+pub put_before_list : (v : V) (us : ValueList) → put_before v (value_of (raw.List us)) ≡ Gives (Cons v (list_value_of us))
+put_before_list v us = ap (put_before v) (value_of-List us) ∙ onto_list v us
 
 -- ---- the values of slots
 
@@ -213,11 +219,11 @@ none_joined (k ∷ ks) i j vs o ej lt e = ap (λ z. join_right (take j (k ∷ ks
 
 -- ---- a list by its first item
 
-pub first_item : (xs : List Value) (v : Value) (ys : List Value) → slice_get xs 0 ≡ Some v → ys ≡ remove xs 0 → value_of (raw.List xs) ≡ Cons (value_of v) (value_of (raw.List ys))
-first_item [] v ys h e = let z : None ≡ Some v = h in cc
-first_item (x ∷ xs) v ys h e =
-    let k : x ≡ v = cc in
-    value_of-List (x ∷ xs) ∙ (ap (λ z. Cons (value_of z) (list_of (values_of xs))) k ∙ ap (Cons (value_of v)) (sym (value_of-List xs) ∙ ap (λ z. value_of (raw.List z)) (sym e)))
+pub no_item : (xs : ValueList) → xs ≡ items.Nil → value_of (raw.List xs) ≡ Nil
+no_item xs e = value_of-List xs ∙ ap list_value_of e ∙ list_value_of-Nil
+
+pub first_item : (xs : ValueList) (v : Value) (ys : ValueList) → xs ≡ before v ys → value_of (raw.List xs) ≡ Cons (value_of v) (value_of (raw.List ys))
+first_item xs v ys e = value_of-List xs ∙ ap list_value_of e ∙ list_value_of-before v ys ∙ ap (Cons (value_of v)) (sym (value_of-List ys))
 
 -- ---- nodes with no first part that others follow
 

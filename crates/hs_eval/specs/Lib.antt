@@ -1,4 +1,3 @@
 pub mod Founds
 pub mod Evaluation
 pub mod Readings
-pub mod SmallestCode

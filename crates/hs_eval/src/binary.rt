@@ -5,12 +5,11 @@ ghost use Rattle.rules_meaning.specs.Meaning.{binary_of, on_numbers, as_truth, i
 ghost use Rattle.hs_eval.specs.Founds.{out_of};
 
 use crate::compare::{order_of, same_value};
-use crate::forms::{boxed, limited};
+use crate::forms::{limited, shared};
 use crate::found::Found;
 use crate::numbers::{minus, plus, quotient, remainder, times};
 use crate::read::{as_number, as_text};
-use hs_base::{NoMemory, Txt, Value};
-use hs_items::Items;
+use hs_base::{NoMemory, Txt, Value, ValueList};
 use rules_trees::forms::BinaryForm;
 use std::alloc::Global;
 use std::cmp::Ordering;
@@ -124,7 +123,7 @@ fn is_behind(order: Option<Ordering>) -> Option<bool>
 fn pair_of(alloc: Global, a: Value, b: Value) -> Result<Found, NoMemory>
     ensures { IfOk result (λ o. out_of o ≡ Gives (Pair (value_of a) (value_of b))) }
 {
-    Ok(Found::Value(Value::Pair(boxed(alloc, a)?, boxed(alloc, b)?)))
+    Ok(Found::Value(Value::Pair(shared(alloc, a)?, shared(alloc, b)?)))
 }
 
 /// `a : b`
@@ -134,10 +133,8 @@ fn put_before(alloc: Global, a: Value, b: Value) -> Result<Found, NoMemory>
 {
     match b {
         Value::List(items) => {
-            let mut all = Items::new(alloc);
-            all.add(a)?;
-            all.append(items)?;
-            Ok(Found::Value(Value::List(all)))
+            let list = ValueList::cons(alloc, a, items)?;
+            Ok(Found::Value(Value::List(list)))
         }
         _ => Ok(Found::Stuck),
     }

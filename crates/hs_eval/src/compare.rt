@@ -18,6 +18,7 @@ fn same_exn(a: &Exn, b: &Exn) -> bool
         (Exn::Overflow, Exn::Overflow) => true,
         (Exn::Timeout(m), Exn::Timeout(n)) => m == n,
         (Exn::TextLimit, Exn::TextLimit) => true,
+        (Exn::BlockedIndefinitely, Exn::BlockedIndefinitely) => true,
         (_, _) => false,
     }
 }

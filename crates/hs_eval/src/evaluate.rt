@@ -13,8 +13,8 @@ use crate::lists::{Parted, id_at, joined, one, operand_ids, split_first};
 use crate::read::as_truth;
 use hs_base::{NoMemory, Value, Values};
 use hs_items::Items;
-use rules_trees::forms::BinaryForm;
 use rules_code::{ExprId, Node, NodeLink};
+use rules_trees::forms::BinaryForm;
 use std::alloc::Global;
 
 /// Evaluates the node of a number.
@@ -267,7 +267,7 @@ fn maybe(
 {
     match value {
         Value::Nothing => part(alloc, nodes, above, i, outer, inner),
-        Value::Just(a) => with_one(alloc, nodes, above, j, a.into_inner(), outer, inner),
+        Value::Just(a) => with_one(alloc, nodes, above, j, a.get().copy(alloc)?, outer, inner),
         _ => Ok(Found::Stuck),
     }
 }
@@ -288,8 +288,8 @@ fn either(
     ensures { IfOk result (λ o. (out_of o ≡ on_either (λ w. run (part_of nodes.now above i) (slots outer.now inner.old ++ w ∷ [])) (λ w. run (part_of nodes.now above j) (slots outer.now inner.old ++ w ∷ [])) (value_of value)) × (inner.new ≡ inner.old)) }
 {
     match value {
-        Value::Left(a) => with_one(alloc, nodes, above, i, a.into_inner(), outer, inner),
-        Value::Right(a) => with_one(alloc, nodes, above, j, a.into_inner(), outer, inner),
+        Value::Left(a) => with_one(alloc, nodes, above, i, a.get().copy(alloc)?, outer, inner),
+        Value::Right(a) => with_one(alloc, nodes, above, j, a.get().copy(alloc)?, outer, inner),
         _ => Ok(Found::Stuck),
     }
 }
@@ -308,7 +308,7 @@ fn list(
 ) -> Result<Found, NoMemory>
     ensures { IfOk result (λ o. (out_of o ≡ on_list (run (part_of nodes.now above i) (slots outer.now inner.old)) (λ w u. run (part_of nodes.now above j) ((slots outer.now inner.old ++ w ∷ []) ++ u ∷ [])) (value_of value)) × (inner.new ≡ inner.old)) }
 {
-    match split_first(value) {
+    match split_first(alloc, &value)? {
         Parted::Empty => part(alloc, nodes, above, i, outer, inner),
         Parted::Of(first, rest) => with_two(alloc, nodes, above, j, first, rest, outer, inner),
         Parted::NoList => Ok(Found::Stuck),
@@ -335,8 +335,8 @@ fn pair(
             nodes,
             above,
             i,
-            a.into_inner(),
-            b.into_inner(),
+            a.get().copy(alloc)?,
+            b.get().copy(alloc)?,
             outer,
             inner,
         ),
@@ -432,7 +432,7 @@ fn step(
         Node::Bool(t) => Ok(Found::Value(Value::Bool(*t))),
         Node::Exn(e) => Ok(Found::Value(Value::Exn(e.copy(alloc)?))),
         Node::Unit => Ok(Found::Value(Value::Unit)),
-        Node::Empty(form) => Ok(Found::Value(empty(alloc, *form))),
+        Node::Empty(form) => Ok(Found::Value(empty(*form))),
         Node::Slot(k) => slot(alloc, *k, outer, inner),
         Node::Unary(_, i) => first(alloc, nodes, above, *i, node, outer, inner),
         Node::Side(_, i) => first(alloc, nodes, above, *i, node, outer, inner),
@@ -442,15 +442,10 @@ fn step(
             chain(alloc, nodes, above, found, links, outer, inner)
         }
         Node::Conses(i, links) => conses(alloc, nodes, above, *i, links, outer, inner),
-        Node::List(ids) => Ok(listed(all(
-            alloc,
-            nodes,
-            above,
-            Items::new(alloc),
-            ids,
-            outer,
-            inner,
-        )?)),
+        Node::List(ids) => {
+            let found = all(alloc, nodes, above, Items::new(alloc), ids, outer, inner)?;
+            listed(alloc, found)
+        }
         Node::If(i, _, _) => first(alloc, nodes, above, *i, node, outer, inner),
         Node::Let(i, _) => first(alloc, nodes, above, *i, node, outer, inner),
         Node::CaseMaybe(i, _, _) => first(alloc, nodes, above, *i, node, outer, inner),

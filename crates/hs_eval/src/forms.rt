@@ -8,14 +8,15 @@ ghost use Rattle.hs_eval.specs.Founds.{out_of};
 use crate::found::Found;
 use crate::numbers::negated;
 use hs_base::{Exn, NoMemory, Txt, Value};
-use hs_items::Boxed;
+use hs_items::Shared;
 use rules_trees::forms::{SideForm, UnaryForm};
 use std::alloc::Global;
 
-pub fn boxed(alloc: Global, value: Value) -> Result<Boxed<Value>, NoMemory>
-    ensures { IfOk result (λ b. b ≡ value) }
+/// A part of a value, which copies share.
+pub fn shared(alloc: Global, value: Value) -> Result<Shared<Value>, NoMemory>
+    ensures { IfOk result (λ part. part ≡ value) }
 {
-    Ok(Boxed::new(alloc, value)?)
+    Ok(Shared::new(alloc, value)?)
 }
 
 /// `ErrorCall a`
@@ -42,23 +43,23 @@ fn not(value: Value) -> Found
 
 /// `fst a`
 #[tactic(auto, using(crate::proofs::Cases::no_form, crate::proofs::Cases::value_forms))]
-fn first(value: Value) -> Found
-    ensures { out_of result ≡ unary_of UnaryForm.Fst (value_of value) }
+fn first(alloc: Global, value: &Value) -> Result<Found, NoMemory>
+    ensures { IfOk result (λ o. out_of o ≡ unary_of UnaryForm.Fst (value_of value.now)) }
 {
     match value {
-        Value::Pair(a, _) => Found::Value(a.into_inner()),
-        _ => Found::Stuck,
+        Value::Pair(a, _) => Ok(Found::Value(a.get().copy(alloc)?)),
+        _ => Ok(Found::Stuck),
     }
 }
 
 /// `snd a`
 #[tactic(auto, using(crate::proofs::Cases::no_form, crate::proofs::Cases::value_forms))]
-fn second(value: Value) -> Found
-    ensures { out_of result ≡ unary_of UnaryForm.Snd (value_of value) }
+fn second(alloc: Global, value: &Value) -> Result<Found, NoMemory>
+    ensures { IfOk result (λ o. out_of o ≡ unary_of UnaryForm.Snd (value_of value.now)) }
 {
     match value {
-        Value::Pair(_, b) => Found::Value(b.into_inner()),
-        _ => Found::Stuck,
+        Value::Pair(_, b) => Ok(Found::Value(b.get().copy(alloc)?)),
+        _ => Ok(Found::Stuck),
     }
 }
 
@@ -120,11 +121,11 @@ pub fn unary(alloc: Global, form: UnaryForm, value: Value) -> Result<Found, NoMe
     ensures { IfOk result (λ o. out_of o ≡ unary_of form (value_of value)) }
 {
     match form {
-        UnaryForm::Just => Ok(Found::Value(Value::Just(boxed(alloc, value)?))),
+        UnaryForm::Just => Ok(Found::Value(Value::Just(shared(alloc, value)?))),
         UnaryForm::ErrorCall => Ok(error_call(value)),
         UnaryForm::Not => Ok(not(value)),
-        UnaryForm::Fst => Ok(first(value)),
-        UnaryForm::Snd => Ok(second(value)),
+        UnaryForm::Fst => first(alloc, &value),
+        UnaryForm::Snd => second(alloc, &value),
         UnaryForm::Show => shown(alloc, &value),
         UnaryForm::Negate => Ok(negative(value)),
     }
@@ -136,8 +137,8 @@ pub fn side(alloc: Global, form: SideForm, value: Value) -> Result<Value, NoMemo
     ensures { IfOk result (λ v. value_of v ≡ side_of form (value_of value)) }
 {
     match form {
-        SideForm::Left => Ok(Value::Left(boxed(alloc, value)?)),
-        SideForm::Right => Ok(Value::Right(boxed(alloc, value)?)),
+        SideForm::Left => Ok(Value::Left(shared(alloc, value)?)),
+        SideForm::Right => Ok(Value::Right(shared(alloc, value)?)),
     }
 }
 

@@ -10,10 +10,10 @@ ghost use Rattle.hs_eval.specs.Evaluation.{outs_of, mirrored, slots};
 
 use crate::binary::binary;
 use crate::found::{Found, FoundAll};
-use hs_base::{NoMemory, Value, Values};
+use hs_base::{NoMemory, Value, ValueList, Values};
 use hs_items::Items;
-use rules_trees::forms::{BinaryForm, EmptyForm};
 use rules_code::{ExprId, Node};
+use rules_trees::forms::{BinaryForm, EmptyForm};
 use std::alloc::Global;
 
 /// The node of a number.
@@ -26,12 +26,12 @@ pub fn node_at(nodes: &Items<Node>, id: ExprId) -> Option<&Node>
 
 /// `Nothing` or `[]`
 #[tactic(auto, using(crate::proofs::Cases::value_forms))]
-pub fn empty(alloc: Global, form: EmptyForm) -> Value
+pub fn empty(form: EmptyForm) -> Value
     ensures { value_of result ≡ empty_of form }
 {
     match form {
         EmptyForm::Nothing => Value::Nothing,
-        EmptyForm::EmptyList => Value::List(Items::new(alloc)),
+        EmptyForm::EmptyList => Value::List(ValueList::new()),
     }
 }
 
@@ -67,13 +67,16 @@ pub fn off(values: &mut Values)
 
 /// A list of values.
 #[tactic(auto, using(crate::proofs::Cases::value_forms))]
-pub fn listed(found: FoundAll) -> Found
-    ensures { out_of result ≡ then_all (outs_of found) (λ vs. Gives (list_of vs)) }
+pub fn listed(alloc: Global, found: FoundAll) -> Result<Found, NoMemory>
+    ensures { IfOk result (λ o. out_of o ≡ then_all (outs_of found) (λ vs. Gives (list_of vs))) }
 {
     match found {
-        FoundAll::Throws(e) => Found::Throws(e),
-        FoundAll::Stuck => Found::Stuck,
-        FoundAll::Values(values) => Found::Value(Value::List(values)),
+        FoundAll::Throws(e) => Ok(Found::Throws(e)),
+        FoundAll::Stuck => Ok(Found::Stuck),
+        FoundAll::Values(values) => {
+            let list = ValueList::from_vec(alloc, values.into_vec())?;
+            Ok(Found::Value(Value::List(list)))
+        }
     }
 }
 

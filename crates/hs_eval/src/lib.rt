@@ -22,8 +22,3 @@ mod read;
 pub use found::Found;
 pub use meaning::{eval, eval_node, slots_mean};
 pub use outcome::Outcome;
-
-#[cfg(test)]
-mod code_tests;
-#[cfg(test)]
-mod tests;

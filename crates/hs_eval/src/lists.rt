@@ -7,7 +7,7 @@ ghost use Rattle.hs_eval.specs.Evaluation.{outs_of, PartedAs, operands_of, join_
 
 use crate::found::{Found, FoundAll};
 use crate::leaf::closed;
-use hs_base::{NoMemory, Value, Values};
+use hs_base::{NoMemory, Split, Value, Values};
 use hs_items::Items;
 use rules_code::{ExprId, NodeLink};
 use std::alloc::Global;
@@ -21,21 +21,16 @@ pub enum Parted {
 }
 
 /// The first item of a list, and the rest.
-#[tactic(auto, using(crate::proofs::Cases::no_list, crate::proofs::Cases::value_forms, crate::proofs::Steps::first_item))]
-pub fn split_first(value: Value) -> Parted
-    ensures { PartedAs result (value_of value) }
+#[tactic(auto, using(crate::proofs::Cases::no_list, crate::proofs::Steps::no_item, crate::proofs::Steps::first_item))]
+pub fn split_first(alloc: Global, value: &Value) -> Result<Parted, NoMemory>
+    ensures { IfOk result (λ p. PartedAs p (value_of value.now)) }
 {
     match value {
-        Value::List(items) => {
-            let mut items = items;
-            if items.is_empty() {
-                Parted::Empty
-            } else {
-                let first = items.remove(0);
-                Parted::Of(first, Value::List(items))
-            }
-        }
-        _ => Parted::NoList,
+        Value::List(items) => match items.split()? {
+            Split::Empty => Ok(Parted::Empty),
+            Split::Of(first, rest) => Ok(Parted::Of(first.copy(alloc)?, Value::List(rest))),
+        },
+        _ => Ok(Parted::NoList),
     }
 }
 

@@ -2,7 +2,7 @@
 //!
 //! To a contract a `Source` is the bytes that it has left, a `Sink` the bytes that it was told, each where it tells them, and
 //! each has a count of faults. A `Clock` is its last reading, its choice and a count of early waits. The one promise: no count
-//! falls and no reading falls, and a fault is answered only where the count of the object that was asked rose. What real
+//! falls and no reading falls, and a fault is answered only where the count of the object that was asked rose, which no other call raises. What real
 //! streams and clocks do is left to `StdSource` and `StdSink`, a few lines each, which tell no bytes.
 #![tactic(auto)]
 
@@ -23,6 +23,3 @@ pub use mem_source::{MemSource, PlainSource};
 pub use sink::Sink;
 pub use source::Source;
 pub use std_streams::{StdSink, StdSource};
-
-#[cfg(test)]
-mod tests;

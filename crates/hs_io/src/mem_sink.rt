@@ -1,4 +1,4 @@
-ghost use Rattle.std.specs.Prelude.{◌≡◌, ◌≤◌, ◌+◌, ◌-◌, ◌^◌, ◌++◌, ◌↔◌, Some, None, [], min, length, take, IfOk, IfSome, IsNone, IsOk, vec_capacity, vec_len};
+ghost use Rattle.std.specs.Prelude.{◌≡◌, ◌≤◌, ◌+◌, ◌-◌, ◌^◌, ◌++◌, ◌↔◌, Some, None, [], min, length, take, IfOk, IfSome, IsNone, IsOk, OnErr, vec_capacity, vec_len};
 ghost use Rattle.hs_io.specs.Causes.{HasCause};
 ghost use Rattle.hs_io.specs.Outside.{Puts, stop_of};
 
@@ -70,6 +70,7 @@ impl Sink for MemSink {
         ensures told { Puts (Some (bytes_told self.old)) (Some (bytes_told self.new)) result bytes.now }
         ensures cause { HasCause (put_faults self.old) (put_faults self.new) result }
         ensures calls { put_calls self.new ≡ min (put_calls self.old + 1) (2 ^ 64 - 1) }
+        ensures counted { OnErr result (put_faults self.new ≡ min (put_faults self.old + 1) (2 ^ 64 - 1)) }
         ensures ok { IsOk result ↔ (length bytes.now ≤ room_left self.old) × (stop_of (failing_puts self.old) (put_calls self.new) ≡ None) }
         ensures listed { IfSome (stop_of (failing_puts self.old) (put_calls self.new)) (λ most.
             bytes_told self.new ≡ bytes_told self.old ++ take (min most (room_left self.old)) bytes.now) }

@@ -1,4 +1,4 @@
-ghost use Rattle.std.specs.Prelude.{◌≡◌, ◌≤◌, ◌-◌, ◌+◌, ◌^◌, ◌↔◌, IsTrue, IsErr, Some, min, length, take, drop, IfOk, Contains};
+ghost use Rattle.std.specs.Prelude.{◌≡◌, ◌≤◌, ◌-◌, ◌+◌, ◌^◌, ◌↔◌, IsTrue, IsErr, Some, min, length, take, drop, IfOk, OnErr, Contains};
 ghost use Rattle.std.specs.Io.{ReadsAtMost};
 ghost use Rattle.std.specs.Io.KnownBytes.{ReadConsumes};
 ghost use Rattle.hs_io.specs.Causes.{HasCause};
@@ -78,6 +78,7 @@ impl Source for MemSource {
         ensures bytes { ReadConsumes (Some (bytes_left self.old)) (Some (bytes_left self.new)) result into.new }
         ensures cause { HasCause (read_faults self.old) (read_faults self.new) result }
         ensures calls { read_calls self.new ≡ min (read_calls self.old + 1) (2 ^ 64 - 1) }
+        ensures counted { OnErr result (read_faults self.new ≡ min (read_faults self.old + 1) (2 ^ 64 - 1)) }
         ensures fails { IsErr result ↔ Contains (failing_reads self.old) (read_calls self.new) }
         ensures piece { IfOk result (λ n. n ≤ piece_of self.old) }
         ensures same_piece { piece_of self.new ≡ piece_of self.old }

@@ -3,13 +3,14 @@ use Rattle.std.proofs.Common.{◌≡◌, ◌≢◌, ℕ, zero, suc, ◌==◌, Li
 use Rattle.std.proofs.Common.{append-nil}
 use Rattle.rules_meaning.specs.Values.{V, UnitValue, Truth, Nothing, Just}
 use Rattle.hs_rules.specs.Terms.{Part, Ret, Term, term}
-use Rattle.rules_waiting.specs.Waiting.{want_at, with_place, Reason, Taking, Putting, Throwing, Sleeping, Waiting, leaves, is_blocked, reason_of, line_of}
+use Rattle.rules_waiting.specs.Waiting.{want_at, with_place, Reason, Taking, Reading, Putting, Throwing, Sleeping, Waiting, leaves, is_blocked, reason_of, line_of}
 use Rattle.hs_rules.specs.State.{Thread, State, with_term, frames_of, resume, answer, resume_all, block}
-use Rattle.hs_rules.specs.Primitives.{moves_in, taken, goes_in, given, take, put, try_take, try_put}
+use Rattle.hs_rules.specs.Primitives.{moves_in, taken, goes_in, goes_on, read_by_all, given, take, read, put, try_take, try_put}
 use Rattle.rules_waiting.specs.OneCell as one
-use Rattle.rules_waiting.specs.OneCell.{Want, To_take, To_put, Place, Cell, Call, Make, Take, Put, Try_take, Try_put, Leave, Answer, Made, Took, Gave, Tried_take, Tried_put, Reply, After, cell_of, reply_of, after_of, leaves_line, joins_line, put_of, takes_it, first_put, first_take, comes_in, call}
+use Rattle.rules_waiting.specs.OneCell.{Want, To_take, To_read, To_put, Place, Cell, Call, Make, Take, Read, Put, Try_take, Try_put, Leave, Answer, Made, Took, Saw, Gave, Tried_take, Tried_put, Reply, After, cell_of, reply_of, after_of, leaves_line, joins_line, put_of, takes_it, first_put, first_take, readers, leave_line, shown, comes_on, comes_in, call}
 use Rattle.hs_laws.specs.CellLaw.{told, answered, replied}
-use Rattle.hs_laws.proofs.Lists.{cond_cases, cond_true, cond_false, equal_or, item_same, item_other, Found, first_found, Once, once_left, once_more, Absent_in, Distinct, Ones, ones_apart, distinct_those, ones_those_if, first_of_kind, those, takes, puts, only_thread, put_is_first, take_is_first, once_reason}
+use Rattle.hs_laws.specs.Standing.{Once}
+use Rattle.hs_laws.proofs.Lists.{cond_cases, cond_true, cond_false, equal_or, item_same, item_other, Found, first_found, once_left, once_more, Absent_in, Distinct, Ones, ones_apart, absent_those, distinct_those, ones_those_if, first_of_kind, those, takes, puts, reads_at, readers_are, only_thread, put_is_first, take_is_first, once_reason}
 use Rattle.hs_laws.proofs.States.{other_thread}
 
 -- ---- the line of a cell within all that wait
@@ -45,10 +46,28 @@ not_blocked_line m t (w ∷ ws) h =
     (λ e. sym (line_placed t w.thread (want_at m w.reason) (line_of m ws) e.0) ∙ ap (with_place w.thread (want_at m w.reason)) (not_blocked_line m t ws (sym (cond_false (w.thread == t) true (is_blocked t ws) e.0) ∙ h)))
     (equal_or w.thread t)
 
+-- ---- why the others wait
+pub reason_left : (t u : ℕ) (ws : List (Waiting V)) → u ≢ t → reason_of u (leaves t ws) ≡ reason_of u ws
+reason_left t u [] n = refl
+reason_left t u (w ∷ ws) n =
+    ⊎_elim
+    (λ e. ap (reason_of u) (cond_true (w.thread == t) (leaves t ws) (w ∷ leaves t ws) e.0) ∙ (reason_left t u ws n ∙ sym (cond_false (w.thread == u) (Some w.reason) (reason_of u ws) (⊎_elim (λ f. absurd (n (sym f.1 ∙ e.1))) (λ f. f.0) (equal_or w.thread u)))))
+    (λ e. ap (reason_of u) (cond_false (w.thread == t) (leaves t ws) (w ∷ leaves t ws) e.0) ∙ ap (cond (w.thread == u) (Some w.reason)) (reason_left t u ws n))
+    (equal_or w.thread t)
+
+pub not_blocked_reason : (t : ℕ) (ws : List (Waiting V)) → is_blocked t ws ≡ false → reason_of t ws ≡ None
+not_blocked_reason t [] h = refl
+not_blocked_reason t (w ∷ ws) h =
+    ⊎_elim
+    (λ e. let b : true ≡ false = sym (cond_true (w.thread == t) true (is_blocked t ws) e.0) ∙ h in absurd (cc b))
+    (λ e. cond_false (w.thread == t) (Some w.reason) (reason_of t ws) e.0 ∙ not_blocked_reason t ws (sym (cond_false (w.thread == t) true (is_blocked t ws) e.0) ∙ h))
+    (equal_or w.thread t)
+
 -- who waits in a line is blocked
 taker_placed : (t u : ℕ) (o : Option (Want V)) (ps : List (Place V)) → first_take (with_place t o ps) ≡ Some u → (t ≡ u) ⊎ (first_take ps ≡ Some u)
 taker_placed t u None ps e = inr e
 taker_placed t u (Some To_take) ps e = let same : t ≡ u = cc e in inl same
+taker_placed t u (Some To_read) ps e = inr e
 taker_placed t u (Some (To_put a)) ps e = inr e
 
 taker_blocked : (m u : ℕ) (ws : List (Waiting V)) → first_take (line_of m ws) ≡ Some u → is_blocked u ws ≡ true
@@ -61,6 +80,61 @@ taker_blocked m u (w ∷ ws) e =
 
 apart_taker : (m t u : ℕ) (ws : List (Waiting V)) → is_blocked t ws ≡ false → first_take (line_of m ws) ≡ Some u → t ≢ u
 apart_taker m t u ws b e same = let x : true ≡ false = sym (taker_blocked m u ws e) ∙ (ap (λ k. is_blocked k ws) (sym same) ∙ b) in cc x
+
+-- ---- who leaves and isn't of a kind changes nothing for the first of that kind
+pub leaves_absent : (t : ℕ) (ws : List (Waiting V)) → is_blocked t ws ≡ false → leaves t ws ≡ ws
+leaves_absent t [] h = refl
+leaves_absent t (w ∷ ws) h =
+    ⊎_elim
+    (λ e. let b : true ≡ false = sym (cond_true (w.thread == t) true (is_blocked t ws) e.0) ∙ h in absurd (cc b))
+    (λ e. cond_false (w.thread == t) (leaves t ws) (w ∷ leaves t ws) e.0 ∙ ap (λ vs. w ∷ vs) (leaves_absent t ws (sym (cond_false (w.thread == t) true (is_blocked t ws) e.0) ∙ h)))
+    (equal_or w.thread t)
+
+module _ {A : Type 0} (f : Reason V → Option A) where
+  abbrev Unlike : Option (Reason V) → Type 0
+  Unlike None = Unit {0}
+  Unlike (Some r) = f r ≡ None
+
+  abbrev first_from : Option A → ℕ → Option (ℕ × A) → Option (ℕ × A)
+  first_from o t rest = elim o [ None ↦ rest | Some a ↦ Some (t, a) ]
+
+  kind_left : (t : ℕ) (ws : List (Waiting V)) → Once ws → Unlike (reason_of t ws) → first_of_kind f (leaves t ws) ≡ first_of_kind f ws
+  kind_left t [] o h = refl
+  kind_left t (w ∷ ws) o h =
+      ⊎_elim
+      (λ e.
+      let a : f w.reason ≡ None = subst Unlike (cond_true (w.thread == t) (Some w.reason) (reason_of t ws) e.0) h in
+      let b : is_blocked t ws ≡ false = subst (λ u. is_blocked u ws ≡ false) e.1 o.0 in
+      ap (first_of_kind f) (cond_true (w.thread == t) (leaves t ws) (w ∷ leaves t ws) e.0)
+      ∙ (ap (first_of_kind f) (leaves_absent t ws b) ∙ ap (λ q. first_from q w.thread (first_of_kind f ws)) (sym a)))
+      (λ e.
+      ap (first_of_kind f) (cond_false (w.thread == t) (leaves t ws) (w ∷ leaves t ws) e.0)
+      ∙ ap (first_from (f w.reason) w.thread) (kind_left t ws o.1 (subst Unlike (cond_false (w.thread == t) (Some w.reason) (reason_of t ws) e.0) h)))
+      (equal_or w.thread t)
+
+  all_left : (ts : List ℕ) (p : Part) (u : State) → Once u.blocked → Distinct ts → Ones (λ t. Unlike (reason_of t u.blocked)) ts → first_of_kind f (resume_all ts p u).blocked ≡ first_of_kind f u.blocked
+  all_left [] p u o d h = refl
+  all_left (t ∷ ts) p u o d h =
+      all_left ts p (resume t p u) (once_left t u.blocked o) d.1
+      (ones_apart (λ v. Unlike (reason_of v u.blocked)) (λ v. Unlike (reason_of v (leaves t u.blocked))) t ts (λ v n k. subst Unlike (sym (reason_left t v u.blocked n)) k) d.0 h.1)
+      ∙ kind_left t u.blocked o h.0
+
+reader_takes_not : (m : ℕ) (r : Reason V) → reads_at m r ≡ true → takes m r ≡ None
+reader_takes_not m (Taking k) e = absurd (cc e)
+reader_takes_not m (Reading k) e = refl
+reader_takes_not m (Putting k v) e = refl
+reader_takes_not m (Throwing u x) e = refl
+reader_takes_not m (Sleeping d) e = refl
+
+-- after all that read a cell were answered, the same thread is the first that takes
+same_taker : (m : ℕ) (v : V) (u : State) → Once u.blocked → first_take (line_of m (read_by_all m v u).blocked) ≡ first_take (line_of m u.blocked)
+same_taker m v u o =
+    let ts = those (λ t. reads_at m) u.blocked in
+    let one : first_of_kind (takes m) (resume_all ts (Ret v) u).blocked ≡ first_of_kind (takes m) u.blocked =
+    all_left (takes m) ts (Ret v) u o (distinct_those (λ t. reads_at m) u.blocked o)
+    (ones_those_if (λ t r. reason_of t u.blocked ≡ Some r) (λ t. Unlike (takes m) (reason_of t u.blocked)) (λ t. reads_at m) u.blocked (λ t r b e. subst (Unlike (takes m)) (sym e) (reader_takes_not m r b)) (once_reason u.blocked o)) in
+    let two : first_of_kind (takes m) (read_by_all m v u).blocked ≡ first_of_kind (takes m) u.blocked = subst (λ us. first_of_kind (takes m) (resume_all us (Ret v) u).blocked ≡ first_of_kind (takes m) u.blocked) (sym (readers_are m u.blocked)) one in
+    take_is_first m (read_by_all m v u).blocked ∙ (ap only_thread two ∙ sym (take_is_first m u.blocked))
 
 -- ---- two threads are answered in either order
 set_swap : {A : Type 0} (xs : List A) (t u : ℕ) (x y : A) → t ≢ u → slice_set (slice_set xs t x) u y ≡ slice_set (slice_set xs u y) t x
@@ -116,14 +190,36 @@ moves_follow m s u o ps rs (Some w) f = reply_follows m s (record u { cells = sl
 taken_follows : (m : ℕ) (s u : State) (o : Option V) (ps : List (Place V)) (rs : List (Reply V)) → Follows m s u (after_of (cell_of o ps) rs) → Follows m s (taken m u) (one.moves_in (first_put ps) ps rs)
 taken_follows m s u o ps rs f = subst (λ w. Follows m s (taken m u) (one.moves_in w ps rs)) (ap first_put f.line) (moves_follow m s u o ps rs (first_put (line_of m u.blocked)) f)
 
-goes_follow : (m t : ℕ) (s u : State) (ps : List (Place V)) (a : V) (x : Answer V) (w : Option ℕ) → ((v : ℕ) → w ≡ Some v → t ≢ v) → Follows m s u (after_of (cell_of None ps) (reply_of t x ∷ [])) →
-    Follows m s (goes_in m a w u) (comes_in a w ps (reply_of t x))
-goes_follow m t s u ps a x None n f = set_follows m s u None ps (reply_of t x ∷ []) (Some a) f
-goes_follow m t s u ps a x (Some v) n f = record {
+replied_all : (m : ℕ) (rs qs : List (Reply V)) (ths : List Thread) → replied m (rs ++ qs) ths ≡ replied m qs (replied m rs ths)
+replied_all m [] qs ths = refl
+replied_all m (r ∷ rs) qs ths = replied_all m rs qs (answered r.thread (told m r.answer) ths)
+
+goes_follow : (m t : ℕ) (s u : State) (ps : List (Place V)) (rs : List (Reply V)) (a : V) (x : Answer V) (w : Option ℕ) → ((v : ℕ) → w ≡ Some v → t ≢ v) → Follows m s u (after_of (cell_of None ps) (rs ++ reply_of t x ∷ [])) →
+    Follows m s (goes_in m a w u) (comes_on a w ps rs (reply_of t x))
+goes_follow m t s u ps rs a x None n f = set_follows m s u None ps (rs ++ reply_of t x ∷ []) (Some a) f
+goes_follow m t s u ps rs a x (Some v) n f = record {
   content = f.content;
   line = line_leaves m v u.blocked ∙ ap (leaves_line v) f.line;
-  threads = ap (answered v a) f.threads ∙ answered_swap t v (told m x) a s.threads (n v refl);
+  threads = ap (answered v a) (f.threads ∙ replied_more m rs (reply_of t x) s.threads)
+      ∙ (answered_swap t v (told m x) a (replied m rs s.threads) (n v refl) ∙ sym (replied_all m rs (reply_of v (Took a) ∷ reply_of t x ∷ []) s.threads));
 }
+
+-- ---- all that read are answered
+all_cells : (ts : List ℕ) (p : Part) (u : State) → (resume_all ts p u).cells ≡ u.cells
+all_cells [] p u = refl
+all_cells (t ∷ ts) p u = all_cells ts p (resume t p u)
+
+pub all_line : (m : ℕ) (ts : List ℕ) (p : Part) (u : State) → line_of m (resume_all ts p u).blocked ≡ leave_line ts (line_of m u.blocked)
+all_line m [] p u = refl
+all_line m (t ∷ ts) p u = all_line m ts p (resume t p u) ∙ ap (leave_line ts) (line_leaves m t u.blocked)
+
+all_threads : (m : ℕ) (v : V) (ts : List ℕ) (u : State) → (resume_all ts (Ret v) u).threads ≡ replied m (shown v ts) u.threads
+all_threads m v [] u = refl
+all_threads m v (t ∷ ts) u = all_threads m v ts (answer t v u)
+
+shown_swap : (m t : ℕ) (a v : V) (ts : List ℕ) (ths : List Thread) → Absent_in t ts → replied m (shown v ts) (answered t a ths) ≡ answered t a (replied m (shown v ts) ths)
+shown_swap m t a v [] ths h = refl
+shown_swap m t a v (u ∷ us) ths h = ap (replied m (shown v us)) (answered_swap t u a v ths (λ e. h.0 (sym e))) ∙ shown_swap m t a v us (answered u v ths) h.1
 
 abbrev pub FollowsSome : ℕ → State → Option State → After V → Type 0
 FollowsSome m s None a = Unit {0}
@@ -133,7 +229,7 @@ want_own : (m : ℕ) (w : Want V) → cond (m == m) (Some w) None ≡ Some w
 want_own m w = ⊎_elim (λ e. cond_true (m == m) (Some w) None e.0) (λ e. absurd (e.1 refl)) (equal_or m m)
 
 -- thread t isn't blocked, and the state has this cell
-module _ (m t : ℕ) (s : State) (o : Option V) (ps : List (Place V)) (b : is_blocked t s.blocked ≡ false) (hc : slice_get s.cells m ≡ Some o) (hl : line_of m s.blocked ≡ ps) where
+module _ (m t : ℕ) (s : State) (o : Option V) (ps : List (Place V)) (b : is_blocked t s.blocked ≡ false) (hc : slice_get s.cells m ≡ Some o) (hl : line_of m s.blocked ≡ ps) (once : Once s.blocked) where
   own_line : line_of m (leaves t s.blocked) ≡ ps
   own_line = line_leaves m t s.blocked ∙ (not_blocked_line m t s.blocked b ∙ hl)
 
@@ -147,45 +243,55 @@ module _ (m t : ℕ) (s : State) (o : Option V) (ps : List (Place V)) (b : is_bl
     threads = refl;
   }
 
-  pub given_follows : (a : V) (x : Answer V) → o ≡ None → Follows m s (given m a (answer t (told m x) s)) (comes_in a (first_take ps) ps (reply_of t x))
+  -- after the thread's own answer all that read are answered
+  read_follow : (a : V) (x : Answer V) → o ≡ None → Follows m s (read_by_all m a (answer t (told m x) s)) (after_of (cell_of None (leave_line (readers ps) ps)) (shown a (readers ps) ++ reply_of t x ∷ []))
+  read_follow a x e =
+      let u : State = answer t (told m x) s in
+      let same : readers (line_of m u.blocked) ≡ readers ps = ap readers own_line in
+      let free : is_blocked t u.blocked ≡ false = subst (λ ws. is_blocked t ws ≡ false) (sym (leaves_absent t s.blocked b)) b in
+      let none : Absent_in t (readers ps) = subst (Absent_in t) (sym (readers_are m u.blocked) ∙ same) (absent_those (λ v. reads_at m) t u.blocked free) in
+      subst (λ ts. Follows m s (resume_all ts (Ret a) u) (after_of (cell_of None (leave_line (readers ps) ps)) (shown a (readers ps) ++ reply_of t x ∷ []))) (sym same)
+      (record {
+        content = ap (λ cs. slice_get cs m) (all_cells (readers ps) (Ret a) u) ∙ (hc ∙ ap Some e);
+        line = all_line m (readers ps) (Ret a) u ∙ ap (leave_line (readers ps)) own_line;
+        threads = all_threads m a (readers ps) u ∙ (shown_swap m t (told m x) a (readers ps) s.threads none ∙ sym (replied_more m (shown a (readers ps)) (reply_of t x) s.threads));
+      })
+
+  pub given_follows : (a : V) (x : Answer V) → o ≡ None → Follows m s (given m a (answer t (told m x) s)) (comes_in a ps (reply_of t x))
   given_follows a x e =
-      let f : Follows m s (answer t (told m x) s) (after_of (cell_of None ps) (reply_of t x ∷ [])) = subst (λ p. Follows m s (answer t (told m x) s) (after_of (cell_of p ps) (reply_of t x ∷ []))) e (own x) in
-      let n : (v : ℕ) → first_take (line_of m (leaves t s.blocked)) ≡ Some v → t ≢ v = λ v q. apart_taker m t v s.blocked b (ap first_take (hl ∙ sym own_line) ∙ q) in
-      subst (λ w. Follows m s (given m a (answer t (told m x) s)) (comes_in a w ps (reply_of t x))) (ap first_take own_line) (goes_follow m t s (answer t (told m x) s) ps a x (first_take (line_of m (leaves t s.blocked))) n f)
+      let u : State = answer t (told m x) s in
+      let f = read_follow a x e in
+      let n : (v : ℕ) → first_take ps ≡ Some v → t ≢ v = λ v q. apart_taker m t v s.blocked b (ap first_take hl ∙ q) in
+      let taker : first_take (line_of m (read_by_all m a u).blocked) ≡ first_take ps = same_taker m a u (once_left t s.blocked once) ∙ ap first_take own_line in
+      subst (λ w. Follows m s (goes_in m a w (read_by_all m a u)) (comes_in a ps (reply_of t x))) (sym taker)
+      (goes_follow m t s (read_by_all m a u) (leave_line (readers ps) ps) (shown a (readers ps)) a x (first_take ps) n f)
 
-pub take_follows : (m t : ℕ) (s : State) (o : Option V) (ps : List (Place V)) → is_blocked t s.blocked ≡ false → slice_get s.cells m ≡ Some o → line_of m s.blocked ≡ ps → FollowsSome m s (take t m (Some o) s) (call (Take t) (cell_of o ps))
-take_follows m t s None ps b hc hl = waits m t s None ps b hc hl (Taking m) To_take (want_own m To_take)
-take_follows m t s (Some a) ps b hc hl = taken_follows m s (answer t a s) (Some a) ps (reply_of t (Took a) ∷ []) (own m t s (Some a) ps b hc hl (Took a))
+-- thread t isn't blocked, and the state has this cell
+module _ (m t : ℕ) (s : State) where
+  abbrev HasCell : Option V → List (Place V) → Type 0
+  HasCell o ps = (is_blocked t s.blocked ≡ false) × (slice_get s.cells m ≡ Some o) × (line_of m s.blocked ≡ ps) × Once s.blocked
 
-pub put_follows : (m t : ℕ) (a : V) (s : State) (o : Option V) (ps : List (Place V)) → is_blocked t s.blocked ≡ false → slice_get s.cells m ≡ Some o → line_of m s.blocked ≡ ps → FollowsSome m s (put t m a (Some o) s) (call (Put t a) (cell_of o ps))
-put_follows m t a s (Some c) ps b hc hl = waits m t s (Some c) ps b hc hl (Putting m a) (To_put a) (want_own m (To_put a))
-put_follows m t a s None ps b hc hl = given_follows m t s None ps b hc hl a Gave refl
+  pub take_follows : (o : Option V) (ps : List (Place V)) → HasCell o ps → FollowsSome m s (take t m (Some o) s) (call (Take t) (cell_of o ps))
+  take_follows None ps h = waits m t s None ps h.0 h.1 h.2 h.3 (Taking m) To_take (want_own m To_take)
+  take_follows (Some a) ps h = taken_follows m s (answer t a s) (Some a) ps (reply_of t (Took a) ∷ []) (own m t s (Some a) ps h.0 h.1 h.2 h.3 (Took a))
 
-pub try_take_follows : (m t : ℕ) (s : State) (o : Option V) (ps : List (Place V)) → is_blocked t s.blocked ≡ false → slice_get s.cells m ≡ Some o → line_of m s.blocked ≡ ps → FollowsSome m s (try_take t m (Some o) s) (call (Try_take t) (cell_of o ps))
-try_take_follows m t s None ps b hc hl = own m t s None ps b hc hl (Tried_take None)
-try_take_follows m t s (Some a) ps b hc hl = taken_follows m s (answer t (Just a) s) (Some a) ps (reply_of t (Tried_take (Some a)) ∷ []) (own m t s (Some a) ps b hc hl (Tried_take (Some a)))
+  pub read_follows : (o : Option V) (ps : List (Place V)) → HasCell o ps → FollowsSome m s (read t m (Some o) s) (call (Read t) (cell_of o ps))
+  read_follows None ps h = waits m t s None ps h.0 h.1 h.2 h.3 (Reading m) To_read (want_own m To_read)
+  read_follows (Some a) ps h = own m t s (Some a) ps h.0 h.1 h.2 h.3 (Saw a)
 
-pub try_put_follows : (m t : ℕ) (a : V) (s : State) (o : Option V) (ps : List (Place V)) → is_blocked t s.blocked ≡ false → slice_get s.cells m ≡ Some o → line_of m s.blocked ≡ ps → FollowsSome m s (try_put t m a (Some o) s) (call (Try_put t a) (cell_of o ps))
-try_put_follows m t a s (Some c) ps b hc hl = own m t s (Some c) ps b hc hl (Tried_put false)
-try_put_follows m t a s None ps b hc hl = given_follows m t s None ps b hc hl a (Tried_put true) refl
+  pub put_follows : (a : V) (o : Option V) (ps : List (Place V)) → HasCell o ps → FollowsSome m s (put t m a (Some o) s) (call (Put t a) (cell_of o ps))
+  put_follows a (Some c) ps h = waits m t s (Some c) ps h.0 h.1 h.2 h.3 (Putting m a) (To_put a) (want_own m (To_put a))
+  put_follows a None ps h = given_follows m t s None ps h.0 h.1 h.2 h.3 a Gave refl
 
--- ---- what doesn't wait at a cell may bracket_exit without a change of its line
-pub reason_left : (t u : ℕ) (ws : List (Waiting V)) → u ≢ t → reason_of u (leaves t ws) ≡ reason_of u ws
-reason_left t u [] n = refl
-reason_left t u (w ∷ ws) n =
-    ⊎_elim
-    (λ e. ap (reason_of u) (cond_true (w.thread == t) (leaves t ws) (w ∷ leaves t ws) e.0) ∙ (reason_left t u ws n ∙ sym (cond_false (w.thread == u) (Some w.reason) (reason_of u ws) (⊎_elim (λ f. absurd (n (sym f.1 ∙ e.1))) (λ f. f.0) (equal_or w.thread u)))))
-    (λ e. ap (reason_of u) (cond_false (w.thread == t) (leaves t ws) (w ∷ leaves t ws) e.0) ∙ ap (cond (w.thread == u) (Some w.reason)) (reason_left t u ws n))
-    (equal_or w.thread t)
+  pub try_take_follows : (o : Option V) (ps : List (Place V)) → HasCell o ps → FollowsSome m s (try_take t m (Some o) s) (call (Try_take t) (cell_of o ps))
+  try_take_follows None ps h = own m t s None ps h.0 h.1 h.2 h.3 (Tried_take None)
+  try_take_follows (Some a) ps h = taken_follows m s (answer t (Just a) s) (Some a) ps (reply_of t (Tried_take (Some a)) ∷ []) (own m t s (Some a) ps h.0 h.1 h.2 h.3 (Tried_take (Some a)))
 
-pub not_blocked_reason : (t : ℕ) (ws : List (Waiting V)) → is_blocked t ws ≡ false → reason_of t ws ≡ None
-not_blocked_reason t [] h = refl
-not_blocked_reason t (w ∷ ws) h =
-    ⊎_elim
-    (λ e. let b : true ≡ false = sym (cond_true (w.thread == t) true (is_blocked t ws) e.0) ∙ h in absurd (cc b))
-    (λ e. cond_false (w.thread == t) (Some w.reason) (reason_of t ws) e.0 ∙ not_blocked_reason t ws (sym (cond_false (w.thread == t) true (is_blocked t ws) e.0) ∙ h))
-    (equal_or w.thread t)
+  pub try_put_follows : (a : V) (o : Option V) (ps : List (Place V)) → HasCell o ps → FollowsSome m s (try_put t m a (Some o) s) (call (Try_put t a) (cell_of o ps))
+  try_put_follows a (Some c) ps h = own m t s (Some c) ps h.0 h.1 h.2 h.3 (Tried_put false)
+  try_put_follows a None ps h = given_follows m t s None ps h.0 h.1 h.2 h.3 a (Tried_put true) refl
 
+-- ---- what doesn't wait at a cell may leave without a change of its line
 abbrev pub Away : ℕ → Option (Reason V) → Type 0
 Away m None = Unit {0}
 Away m (Some r) = want_at m r ≡ None
@@ -238,6 +344,7 @@ first_away m ws q once f = found_away m ws q f (first_of_kind q ws) (first_found
 -- ---- an operation on another cell
 other_put : (m k : ℕ) → m ≢ k → (r : Reason V) (v : V) → puts k r ≡ Some v → want_at m r ≡ None
 other_put m k n (Taking j) v e = absurd (cc e)
+other_put m k n (Reading j) v e = absurd (cc e)
 other_put m k n (Throwing u x) v e = absurd (cc e)
 other_put m k n (Sleeping d) v e = absurd (cc e)
 other_put m k n (Putting j w) v e =
@@ -248,12 +355,24 @@ other_put m k n (Putting j w) v e =
 
 other_take : (m k : ℕ) → m ≢ k → (r : Reason V) (v : Unit {0}) → takes k r ≡ Some v → want_at m r ≡ None
 other_take m k n (Putting j w) v e = absurd (cc e)
+other_take m k n (Reading j) v e = absurd (cc e)
 other_take m k n (Throwing u x) v e = absurd (cc e)
 other_take m k n (Sleeping d) v e = absurd (cc e)
 other_take m k n (Taking j) v e =
     ⊎_elim
     (λ q. ⊎_elim (λ f. absurd (n (sym f.1 ∙ q.1))) (λ f. cond_false (j == m) (Some To_take) None f.0) (equal_or j m))
     (λ q. let f : ◌≡◌ {A = Option (Unit {0})} None (Some v) = sym (cond_false (j == k) (Some tt) None q.0) ∙ e in absurd (cc f))
+    (equal_or j k)
+
+other_read : (m k : ℕ) → m ≢ k → (r : Reason V) → reads_at k r ≡ true → want_at m r ≡ None
+other_read m k n (Taking j) e = absurd (cc e)
+other_read m k n (Putting j w) e = absurd (cc e)
+other_read m k n (Throwing u x) e = absurd (cc e)
+other_read m k n (Sleeping d) e = absurd (cc e)
+other_read m k n (Reading j) e =
+    ⊎_elim
+    (λ q. ⊎_elim (λ f. absurd (n (sym f.1 ∙ q.1))) (λ f. cond_false (j == m) (Some To_read) None f.0) (equal_or j m))
+    (λ q. let f : true ≡ false = sym e ∙ q.0 in absurd (cc f))
     (equal_or j k)
 
 set_still : (m k : ℕ) (s u : State) (c : Option V) → m ≢ k → Still m s u → Still m s (record u { cells = slice_set u.cells k c })
@@ -270,8 +389,14 @@ goes_still m k v s u (Some w) n h a = resume_still m s u w.0 (Ret v) h a
 taken_still : (m k : ℕ) (s u : State) → m ≢ k → Still m s u → Still m s (taken k u)
 taken_still m k s u n h = subst (λ o. Still m s (moves_in k o u)) (sym (put_is_first k u.blocked)) (moves_still m k s u (first_of_kind (puts k) u.blocked) n h (first_away m u.blocked (puts k) h.2 (other_put m k n)))
 
+read_all_still : (m k : ℕ) (v : V) (s u : State) → m ≢ k → Still m s u → Still m s (read_by_all k v u)
+read_all_still m k v s u n h = subst (λ us. Still m s (resume_all us (Ret v) u)) (sym (readers_are k u.blocked)) (those_still m s u (λ t. reads_at k) (Ret v) h (λ t r e. other_read m k n r e))
+
+goes_on_still : (m k : ℕ) (v : V) (s u : State) → m ≢ k → Still m s u → Still m s (goes_on k v u)
+goes_on_still m k v s u n h = subst (λ o. Still m s (goes_in k v o u)) (sym (take_is_first k u.blocked)) (goes_still m k v s u (first_of_kind (takes k) u.blocked) n h (first_away m u.blocked (takes k) h.2 (other_take m k n)))
+
 given_still : (m k : ℕ) (v : V) (s u : State) → m ≢ k → Still m s u → Still m s (given k v u)
-given_still m k v s u n h = subst (λ o. Still m s (goes_in k v o u)) (sym (take_is_first k u.blocked)) (goes_still m k v s u (first_of_kind (takes k) u.blocked) n h (first_away m u.blocked (takes k) h.2 (other_take m k n)))
+given_still m k v s u n h = goes_on_still m k v s (read_by_all k v u) n (read_all_still m k v s u n h)
 
 pub block_still : (m : ℕ) (s u : State) (t : ℕ) (r : Reason V) → want_at m r ≡ None → is_blocked t u.blocked ≡ false → Still m s u → Still m s (block t r u)
 block_still m s u t r e b h = (
@@ -299,6 +424,11 @@ module _ (m k t : ℕ) (s : State) (n : m ≢ k) (once : Once s.blocked) (b : is
   take_still None = tt
   take_still (Some None) = block_still m s s t (Taking k) (away_want To_take) b here
   take_still (Some (Some v)) = taken_still m k s (answer t v s) n (own_still v)
+
+  pub read_still : (o : Option (Option V)) → StillSome m s (read t k o s)
+  read_still None = tt
+  read_still (Some None) = block_still m s s t (Reading k) (away_want To_read) b here
+  read_still (Some (Some v)) = own_still v
 
   pub try_take_still : (o : Option (Option V)) → StillSome m s (try_take t k o s)
   try_take_still None = tt

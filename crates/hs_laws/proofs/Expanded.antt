@@ -1,5 +1,5 @@
 -- Each expansion is a fine action, and what follows for the runs of a script.
-use Rattle.std.proofs.Common.{◌≡◌, ℕ, List, [], ◌∷◌, Option, Some, None, refl, subst, codes}
+use Rattle.std.proofs.Common.{◌≡◌, ℕ, List, [], ◌∷◌, Option, Some, None, false, slice_get, refl, sym, ap, subst, arith, ◌≤◌, ◌+◌, codes}
 use Rattle.hs_rules.specs.declared.entry.Entry.{Entry}
 use Rattle.rules_trees.specs.declared.forms.BareAction.{BareAction}
 use Rattle.rules_trees.specs.declared.forms.BareAction.TheVariants as z
@@ -17,26 +17,32 @@ use Rattle.rules_trees.specs.Programs as tree
 use Rattle.rules_trees.specs.Programs.{Act, Bl, ActArms, Par, Bd, Fn}
 use Rattle.rules_expansion.specs.Names.{Name}
 use Rattle.rules_expansion.specs.Core.{CoreEx, Core, ActionFunction, action_named}
-use Rattle.rules_meaning.specs.CoreMeaning.{Code}
 use Rattle.rules_expansion.specs.Expansion.{in_time, timeout_helper, timeout_end, timed, timeout, bare_core, unary_core, binary_core, scoped_core, masking_core, guard_core, core, block_core, arms_core, with_action, actions_of}
-use Rattle.hs_rules.specs.State.{State, first}
-use Rattle.hs_rules.specs.Entries.{next}
-use Rattle.hs_rules.specs.Runs.{Run, then_next, after_from, begun, IsRun}
+use Rattle.hs_rules.specs.State.{Thread, State, resume_all, first}
+use Rattle.hs_rules.specs.Entries.{stranded, next, IsIdle, Leads}
+use Rattle.hs_rules.specs.Terms.{Throw}
+use Rattle.rules_waiting.specs.Waiting.{sleepers_of}
+use Rattle.hs_base.specs.declared.exn.Exn.TheVariants.{BlockedIndefinitely}
+use Rattle.hs_rules.specs.Runs.{Run, begun, first_of, IsRun}
 use Rattle.rules_meaning.specs.CoreMeaning.{code_of}
 use Rattle.rules_expansion.specs.Expansion.{body_of, main_of}
 use Rattle.hs_laws.specs.BracketLaw.{Brackets}
-use Rattle.hs_laws.specs.BracketPhases.{Owing, Fine, fine_return, fine_throw, fine_let, fine_bind, fine_if, fine_maybe, fine_either, fine_list, fine_pair, fine_call, fine_primitive, fine_fork, fine_fork_unmask, fine_catch, fine_mask, fine_mask_hard, fine_restore, fine_bracket, FineCode}
+use Rattle.hs_laws.specs.BracketPhases.{Owing, BracketsKept, Fine, fine_return, fine_throw, fine_let, fine_bind, fine_if, fine_maybe, fine_either, fine_list, fine_pair, fine_call, fine_primitive, fine_fork, fine_fork_unmask, fine_catch, fine_mask, fine_mask_hard, fine_restore, fine_bracket, FineCode}
 use Rattle.hs_laws.proofs.Steps.{FineDef, def_fine}
 use Rattle.hs_rules.specs.declared.entry.Entry.TheVariants as entry
-use Rattle.hs_laws.specs.MaskLaw.{Received}
+use Rattle.hs_laws.specs.MaskLaw.{Received, ReceivedAfter, MasksKept}
 use Rattle.hs_rules.specs.Endings.{AllWait, IsQuiet}
-use Rattle.hs_laws.proofs.NothingLegal.{quiet}
+use Rattle.hs_laws.proofs.NothingLegal.{quiet, idle, may_strand}
 use Rattle.hs_laws.proofs.WaitsBegan.{mask_law}
-use Rattle.hs_laws.specs.CellLaw.{KeptCell}
-use Rattle.hs_laws.proofs.CellHistories.{cell_law}
-use Rattle.rules_meaning.specs.Values.{V}
-use Rattle.std.proofs.Common.{slice_get}
-use Rattle.hs_laws.proofs.States.{Holds, first_holds, run_kept, brackets, owing}
+use Rattle.hs_laws.specs.CellLaw.{calls, CellsKept}
+use Rattle.hs_laws.proofs.CellHistories.{Tracks, tracks, kept_cell, answers_calls}
+use Rattle.hs_laws.proofs.RunParts.{prefix_runs}
+use Rattle.hs_laws.proofs.Stranding.{are_stranded}
+use Rattle.hs_laws.specs.Standing.{Standing, NoneWorks, made_so_far}
+use Rattle.hs_rules.specs.Histories.{steps_of}
+use Rattle.hs_laws.proofs.Growing.{run_most}
+use Rattle.std.proofs.lemmas.Option.{same_Some}
+use Rattle.hs_laws.proofs.States.{Holds, first_holds, run_kept, brackets, owing, standing}
 
 -- ---- the forms
 
@@ -67,7 +73,7 @@ fine_unary u.PutStrLn e = fine_primitive tt
 fine_unary u.HPutStrLn e = fine_primitive tt
 fine_unary u.NewMVar e = fine_primitive tt
 fine_unary u.TakeMVar e = fine_primitive tt
-fine_unary u.ReadMVar e = fine_let (fine_mask (fine_bind tt (fine_primitive tt) (fine_bind tt (fine_primitive tt) fine_return)))
+fine_unary u.ReadMVar e = fine_primitive tt
 fine_unary u.TryTakeMVar e = fine_primitive tt
 fine_unary u.KillThread e = fine_primitive tt
 fine_unary u.ThreadDelay e = fine_primitive tt
@@ -144,25 +150,19 @@ fine_main ds main e = fine_body (action_named (codes "main") (actions_of ds)) ma
 
 -- ---- runs
 
-run_then : (o : Option State) (k : State → Option State) (u : State) → then_next o k ≡ Some u → (m : State) × (o ≡ Some m) × (k m ≡ Some u)
-run_then None k u e = absurd (cc e)
-run_then (Some m) k u e = (m, refl, e)
-
--- where the entries leave a state, they lead to it one after another
-pub run_of : (code : Code) (s : State) (es : List Entry) (u : State) → after_from code s es ≡ Some u → Run code s es u
-run_of code s [] u e = let same : s ≡ u = cc e in same
-run_of code s (e ∷ es) u h = let k = run_then (next code s e) (λ m. after_from code m es) u h in (k.0, k.1, run_of code k.0 es u k.2)
-
-begun_is : (o : Option Core) (code : Code) (es : List Entry) (u : State) → then_next (begun o) (λ s. after_from code s es) ≡ Some u → (main : Core) × (o ≡ Some main) × (after_from code (first main) es ≡ Some u)
-begun_is None code es u e = absurd (cc e)
-begun_is (Some main) code es u e = (main, refl, e)
+begun_is : (o : Option Core) (s : State) → begun o ≡ Some s → (main : Core) × (o ≡ Some main) × (first main ≡ s)
+begun_is None s e = absurd (cc e)
+begun_is (Some main) s e = (main, refl, same_Some (first main) s e)
 
 -- a run of a script begins with a main
 pub run_from_main : (ds : List Fn) (es : List Entry) (s : State) → IsRun ds es s → (main : Core) × (main_of ds ≡ Some main) × Run (code_of ds) (first main) es s
-run_from_main ds es s r = let k = begun_is (main_of ds) (code_of ds) es s r in (k.0, k.1, run_of (code_of ds) (first k.0) es s k.2)
+run_from_main ds es s r = let k = begun_is (main_of ds) r.0 r.1 in (k.0, k.1, subst (λ x. Run (code_of ds) x es s) (sym k.2) r.2)
+
+pub start_holds : (ds : List Fn) (s : State) → first_of ds ≡ Some s → Holds s
+start_holds ds s e = let k = begun_is (main_of ds) s e in subst Holds k.2 (first_holds k.0 (fine_main ds k.0 k.1))
 
 pub run_holds : (ds : List Fn) (es : List Entry) (s : State) → IsRun ds es s → Holds s
-run_holds ds es s r = let k = run_from_main ds es s r in run_kept (code_of ds) (fine_actions ds) es (first k.0) s k.2 (first_holds k.0 (fine_main ds k.0 k.1))
+run_holds ds es s r = run_kept (code_of ds) (fine_actions ds) es r.0 s r.2 (start_holds ds r.0 r.1)
 
 pub brackets_of : (ds : List Fn) (es : List Entry) (s : State) → IsRun ds es s → Brackets s
 brackets_of ds es s r = brackets s (run_holds ds es s r)
@@ -170,18 +170,57 @@ brackets_of ds es s r = brackets s (run_holds ds es s r)
 pub owing_of : (ds : List Fn) (es : List Entry) (s : State) → IsRun ds es s → Owing s
 owing_of ds es s r = owing s (run_holds ds es s r)
 
--- where a thread receives an exception in a run
-pub received_of : (ds : List Fn) (es : List Entry) (u v : State) (t : ℕ) → IsRun ds es u → next (code_of ds) u (entry.Receive t) ≡ Some v → (main : Core) × (main_of ds ≡ Some main) × Received (code_of ds) (first main) es u t
-received_of ds es u v t r n =
-    let k = run_from_main ds es u r in
-    (k.0, k.1, mask_law (code_of ds) (fine_actions ds) k.0 (fine_main ds k.0 k.1) es u v t k.2 n)
+pub standing_of : (ds : List Fn) (es : List Entry) (s : State) → IsRun ds es s → Standing s
+standing_of ds es s r = standing s (run_holds ds es s r)
 
--- each cell of a run
-pub cell_of_run : (ds : List Fn) (es : List Entry) (u : State) (m : ℕ) (c : Option V) → IsRun ds es u → slice_get u.cells m ≡ Some c → (main : Core) × (main_of ds ≡ Some main) × KeptCell (code_of ds) (first main) es u m
-cell_of_run ds es u m c r some =
-    let k = run_from_main ds es u r in
-    (k.0, k.1, cell_law (code_of ds) (fine_actions ds) k.0 (fine_main ds k.0 k.1) es u m c k.2 some)
+pub made_of : (ds : List Fn) (es : List Entry) (s : State) → IsRun ds es s → made_so_far s ≤ steps_of es + 1
+made_of ds es s r =
+    let k = begun_is (main_of ds) r.0 r.1 in
+    omega (arith, run_most (code_of ds) es r.0 s r.2, ap made_so_far (sym k.2))
+
+-- where a thread receives an exception in a run
+pub received_of : (ds : List Fn) (es : List Entry) (u v : State) (t : ℕ) → IsRun ds es u → next (code_of ds) u (entry.Receive t) ≡ Some v → ReceivedAfter ds es u t
+received_of ds es u v t r n =
+    let k = begun_is (main_of ds) r.0 r.1 in
+    record {
+      start = r.0;
+      begins = r.1;
+      received = subst (λ x. Received (code_of ds) x es u t) k.2 (mask_law (code_of ds) (fine_actions ds) k.0 (fine_main ds k.0 k.1) es u v t (subst (λ x. Run (code_of ds) x es u) (sym k.2) r.2) n);
+    }
 
 -- in a run's state where all wait, nothing but a Tick is legal
 pub quiet_of : (ds : List Fn) (es : List Entry) (s : State) → IsRun ds es s → AllWait s → IsQuiet (code_of ds) s
 quiet_of ds es s r w = quiet (code_of ds) s w (owing_of ds es s r)
+
+-- in one where they wait so, there is no work, and who is to be stranded may be
+pub idle_of : (ds : List Fn) (es : List Entry) (s : State) → IsRun ds es s → NoneWorks s → IsIdle (code_of ds) s
+idle_of ds es s r w = idle (code_of ds) s w (owing_of ds es s r)
+
+pub strands_of : (ds : List Fn) (es : List Entry) (s : State) → IsRun ds es s → NoneWorks s → (main : Thread) → slice_get s.threads 0 ≡ Some main → main.finished ≡ false → sleepers_of s.blocked ≡ [] →
+    (t : ℕ) (ts : List ℕ) → stranded s ≡ t ∷ ts → Leads (code_of ds) s entry.Stranded (resume_all (stranded s) (Throw BlockedIndefinitely) s)
+strands_of ds es s r w = may_strand (code_of ds) s w (owing_of ds es s r)
+
+-- ---- the laws of a history
+
+pub brackets_law : (ds : List Fn) (es : List Entry) (u : State) → IsRun ds es u → BracketsKept ds es
+brackets_law ds es u r = record {
+  released = λ front back s split a. brackets_of ds front s (prefix_runs ds es front back u s r split a).0;
+  owed = λ front back s split a. owing_of ds front s (prefix_runs ds es front back u s r split a).0;
+}
+
+cell_tracks : (ds : List Fn) (es : List Entry) (u : State) (m : ℕ) → IsRun ds es u → Tracks m u None (calls ds es m)
+cell_tracks ds es u m r = let k = begun_is (main_of ds) r.0 r.1 in tracks ds (fine_actions ds) es r.0 u k.0 m r.1 (sym k.2) r.2 (start_holds ds r.0 r.1)
+
+pub cells_law : (ds : List Fn) (es : List Entry) (u : State) → IsRun ds es u → CellsKept ds es
+cells_law ds es u r = record {
+  kept = λ front back s m c split a some. let p = prefix_runs ds es front back u s r split a in kept_cell ds front s m (cell_tracks ds front s m p.0) c some;
+  answers = λ front back e s v m split a n. let p = prefix_runs ds es front (e ∷ back) u s r split a in answers_calls ds front s m (cell_tracks ds front s m p.0) (code_of ds) e v (run_holds ds front s p.0) n;
+}
+
+pub masks_law : (ds : List Fn) (es : List Entry) (u : State) → IsRun ds es u → MasksKept ds es
+masks_law ds es u r = record {
+  received = λ front back t s split a.
+      let p = prefix_runs ds es front (entry.Receive t ∷ back) u s r split a in
+      received_of ds front s p.1.0 t p.0 p.1.1.0;
+  stranded = λ front back s v split a n. are_stranded (code_of ds) s v n;
+}

@@ -1,14 +1,20 @@
 mod TermTrees
-mod Lists
-mod Marks
+pub mod Lists
+pub mod Marks
 mod Held
 mod Owes
 mod Steps
-mod Ends
-mod States
-mod Expanded
-mod WaitsBegan
-mod CellSteps
+pub mod Ends
+pub mod States
+pub mod RunParts
+pub mod Stranding
+pub mod WaitsBegan
+pub mod CellSteps
 mod CellRuns
 mod CellHistories
-mod NothingLegal
+pub mod NothingLegal
+pub mod Growing
+pub mod Ticking
+pub mod HowItEnds
+pub mod Expanded
+pub mod Later

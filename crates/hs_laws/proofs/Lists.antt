@@ -1,12 +1,13 @@
 -- Lists by number, and what holds of each that waits.
 use Rattle.rules_waiting.specs.Waiting.{first_thrown}
-use Rattle.std.proofs.Common.{◌≡◌, ◌≢◌, ℕ, zero, suc, ◌<◌, ◌==◌, List, [], ◌∷◌, ◌++◌, length, slice_get, slice_set, Bool, true, false, cond, Option, Some, None, refl, sym, ap, ◌∙◌, subst, arith, ◌⊎◌, ⊎_elim}
+use Rattle.std.proofs.Common.{◌≡◌, ◌≢◌, ℕ, zero, suc, ◌<◌, ◌==◌, List, [], ◌∷◌, ◌++◌, length, slice_get, slice_set, Bool, true, false, cond, Option, Some, None, refl, sym, ap, ◌∙◌, subst, arith, ◌⊎◌, inl, inr, ⊎_elim}
 use Rattle.hs_base.specs.declared.exn.Exn.{Exn}
 use Rattle.rules_meaning.specs.Values.{V}
-use Rattle.rules_waiting.specs.OneCell.{To_take, To_put, first_put, first_take}
-use Rattle.rules_waiting.specs.Waiting.{Reason, Taking, Putting, Throwing, Sleeping, Waiting, leaves, is_blocked, reason_of, with_place, line_of, flight_of, flying_to}
+use Rattle.rules_waiting.specs.OneCell.{To_take, To_read, To_put, first_put, first_take, readers}
+use Rattle.rules_waiting.specs.Waiting.{Reason, Taking, Reading, Putting, Throwing, Sleeping, Waiting, leaves, is_blocked, reason_of, with_place, line_of, flight_of, flying_to}
 use Rattle.hs_rules.specs.Entries.{throwers}
 use Rattle.std.proofs.lemmas.Bool.Decides.{eqb_tells}
+use Rattle.hs_laws.specs.Standing.{Once}
 
 pub cond_cases : {A : Type 0} (P : A → Type 0) (b : Bool) (x y : A) → (b ≡ true → P x) → (b ≡ false → P y) → P (cond b x y)
 cond_cases P true x y f g = f refl
@@ -51,27 +52,38 @@ first_of_kind {A} f (w ∷ ws) = elim (f w.reason) [ None ↦ first_of_kind f ws
 
 abbrev pub takes : ℕ → Reason V → Option (Unit {0})
 takes m (Taking n) = cond (n == m) (Some tt) None
+takes m (Reading n) = None
 takes m (Putting n a) = None
 takes m (Throwing u e) = None
 takes m (Sleeping due) = None
 
 abbrev pub puts : ℕ → Reason V → Option V
 puts m (Taking n) = None
+puts m (Reading n) = None
 puts m (Putting n a) = cond (n == m) (Some a) None
 puts m (Throwing u e) = None
 puts m (Sleeping due) = None
 
 abbrev pub throws : ℕ → Reason V → Option Exn
 throws t (Taking n) = None
+throws t (Reading n) = None
 throws t (Putting n a) = None
 throws t (Throwing u e) = cond (u == t) (Some e) None
 throws t (Sleeping due) = None
 
 abbrev pub throws_at : ℕ → Reason V → Bool
 throws_at t (Taking n) = false
+throws_at t (Reading n) = false
 throws_at t (Putting n a) = false
 throws_at t (Throwing u e) = u == t
 throws_at t (Sleeping due) = false
+
+abbrev pub reads_at : ℕ → Reason V → Bool
+reads_at m (Taking n) = false
+reads_at m (Reading n) = n == m
+reads_at m (Putting n a) = false
+reads_at m (Throwing u e) = false
+reads_at m (Sleeping due) = false
 
 -- the threads that wait so, in order
 abbrev pub those : (ℕ → Reason V → Bool) → List (Waiting V) → List ℕ
@@ -83,6 +95,11 @@ put_at : (m : ℕ) (t : ℕ) (r : Reason V) (ws : List (Waiting V)) → first_pu
 put_at m t (Taking n) ws e = at (n == m)
   where
     at : (b : Bool) → first_put (with_place t (cond b (Some To_take) None) (line_of m ws)) ≡ first_of_kind (puts m) ws
+    at true = e
+    at false = e
+put_at m t (Reading n) ws e = at (n == m)
+  where
+    at : (b : Bool) → first_put (with_place t (cond b (Some To_read) None) (line_of m ws)) ≡ first_of_kind (puts m) ws
     at true = e
     at false = e
 put_at m t (Putting n a) ws e = at (n == m)
@@ -109,6 +126,11 @@ take_at m t (Taking n) ws e = at (n == m)
     at : (b : Bool) → first_take (with_place t (cond b (Some To_take) None) (line_of m ws)) ≡ only_thread (elim (cond b (Some (tt {0})) None) [ None ↦ first_of_kind (takes m) ws | Some c ↦ Some (t, c) ])
     at true = refl
     at false = e
+take_at m t (Reading n) ws e = at (n == m)
+  where
+    at : (b : Bool) → first_take (with_place t (cond b (Some To_read) None) (line_of m ws)) ≡ only_thread (first_of_kind (takes m) ws)
+    at true = e
+    at false = e
 take_at m t (Putting n a) ws e = at (n == m)
   where
     at : (b : Bool) → first_take (with_place t (cond b (Some (To_put a)) None) (line_of m ws)) ≡ only_thread (first_of_kind (takes m) ws)
@@ -121,9 +143,35 @@ pub take_is_first : (m : ℕ) (ws : List (Waiting V)) → first_take (line_of m 
 take_is_first m [] = refl
 take_is_first m (w ∷ ws) = take_at m w.thread w.reason ws (take_is_first m ws)
 
+read_at : (m : ℕ) (t : ℕ) (r : Reason V) (ws : List (Waiting V)) → readers (line_of m ws) ≡ those (λ u. reads_at m) ws
+    → readers (line_of m (record { thread = t; reason = r } ∷ ws)) ≡ those (λ u. reads_at m) (record { thread = t; reason = r } ∷ ws)
+read_at m t (Taking n) ws e = at (n == m)
+  where
+    at : (b : Bool) → readers (with_place t (cond b (Some To_take) None) (line_of m ws)) ≡ those (λ u. reads_at m) ws
+    at true = e
+    at false = e
+read_at m t (Reading n) ws e = at (n == m)
+  where
+    at : (b : Bool) → readers (with_place t (cond b (Some To_read) None) (line_of m ws)) ≡ cond b (t ∷ those (λ u. reads_at m) ws) (those (λ u. reads_at m) ws)
+    at true = ap (λ us. t ∷ us) e
+    at false = e
+read_at m t (Putting n a) ws e = at (n == m)
+  where
+    at : (b : Bool) → readers (with_place t (cond b (Some (To_put a)) None) (line_of m ws)) ≡ those (λ u. reads_at m) ws
+    at true = e
+    at false = e
+read_at m t (Throwing u x) ws e = e
+read_at m t (Sleeping due) ws e = e
+
+-- those that wait to read a cell
+pub readers_are : (m : ℕ) (ws : List (Waiting V)) → readers (line_of m ws) ≡ those (λ u. reads_at m) ws
+readers_are m [] = refl
+readers_are m (w ∷ ws) = read_at m w.thread w.reason ws (readers_are m ws)
+
 throw_at_is : (t : ℕ) (w : ℕ) (r : Reason V) (ws : List (Waiting V)) → first_thrown (flying_to t (flight_of ws)) ≡ first_of_kind (throws t) ws
     → first_thrown (flying_to t (flight_of (record { thread = w; reason = r } ∷ ws))) ≡ first_of_kind (throws t) (record { thread = w; reason = r } ∷ ws)
 throw_at_is t w (Taking n) ws e = e
+throw_at_is t w (Reading n) ws e = e
 throw_at_is t w (Putting n a) ws e = e
 throw_at_is t w (Throwing u x) ws e = at (u == t)
   where
@@ -139,6 +187,7 @@ throw_is_first t (w ∷ ws) = throw_at_is t w.thread w.reason ws (throw_is_first
 throwers_at : (t : ℕ) (w : ℕ) (r : Reason V) (ws : List (Waiting V)) → throwers (flying_to t (flight_of ws)) ≡ those (λ u. throws_at t) ws
     → throwers (flying_to t (flight_of (record { thread = w; reason = r } ∷ ws))) ≡ those (λ u. throws_at t) (record { thread = w; reason = r } ∷ ws)
 throwers_at t w (Taking n) ws e = e
+throwers_at t w (Reading n) ws e = e
 throwers_at t w (Putting n a) ws e = e
 throwers_at t w (Throwing u x) ws e = at (u == t)
   where
@@ -217,10 +266,6 @@ blocked_found P t (w ∷ ws) b h =
     (equal_or w.thread t)
 
 -- ---- no thread waits two times
-abbrev pub Once : List (Waiting V) → Type 0
-Once [] = Unit {0}
-Once (w ∷ ws) = (is_blocked w.thread ws ≡ false) × Once ws
-
 not_blocked_left : (t u : ℕ) (ws : List (Waiting V)) → is_blocked u ws ≡ false → is_blocked u (leaves t ws) ≡ false
 not_blocked_left t u [] h = refl
 not_blocked_left t u (w ∷ ws) h =
@@ -269,7 +314,7 @@ pub ones_apart : (P Q : ℕ → Type 0) (t : ℕ) (us : List ℕ) → ((u : ℕ)
 ones_apart P Q t [] f a h = tt
 ones_apart P Q t (u ∷ us) f a h = (f u a.0 h.0, ones_apart P Q t us f a.1 h.1)
 
-absent_those : (p : ℕ → Reason V → Bool) (u : ℕ) (ws : List (Waiting V)) → is_blocked u ws ≡ false → Absent_in u (those p ws)
+pub absent_those : (p : ℕ → Reason V → Bool) (u : ℕ) (ws : List (Waiting V)) → is_blocked u ws ≡ false → Absent_in u (those p ws)
 absent_those p u [] h = tt
 absent_those p u (w ∷ ws) h =
     ⊎_elim
@@ -318,3 +363,39 @@ once_reason (w ∷ ws) o = (
       (λ u r n h. cond_false (w.thread == u) (Some w.reason) (reason_of u ws) (⊎_elim (λ f. absurd (n (sym f.1))) (λ f. f.0) (equal_or w.thread u)) ∙ h)
       o.0 (once_reason ws o.1),
 )
+
+-- ---- lists of numbers, longer at the end
+pub ones_both : (P : ℕ → Type 0) (us vs : List ℕ) → Ones P us → Ones P vs → Ones P (us ++ vs)
+ones_both P [] vs h g = g
+ones_both P (u ∷ us) vs h g = (h.0, ones_both P us vs h.1 g)
+
+pub ones_changed : (P Q : ℕ → Type 0) (us : List ℕ) → ((u : ℕ) → P u → Q u) → Ones P us → Ones Q us
+ones_changed P Q [] f h = tt
+ones_changed P Q (u ∷ us) f h = (f u h.0, ones_changed P Q us f h.1)
+
+pub absent_both : (t : ℕ) (us vs : List ℕ) → Absent_in t us → Absent_in t vs → Absent_in t (us ++ vs)
+absent_both t [] vs h g = g
+absent_both t (u ∷ us) vs h g = (h.0, absent_both t us vs h.1 g)
+
+-- a number other than all of these stands behind them
+pub distinct_last : (t : ℕ) (us : List ℕ) → Distinct us → Absent_in t us → Distinct (us ++ t ∷ [])
+distinct_last t [] d a = (tt, tt)
+distinct_last t (u ∷ us) d a = (absent_both u us (t ∷ []) d.0 ((λ e. a.0 (sym e)), tt), distinct_last t us d.1 a.1)
+
+pub absent_above : (n t : ℕ) (us : List ℕ) → n < suc t → Ones (λ u. u < n) us → Absent_in t us
+absent_above n t [] le h = tt
+absent_above n t (u ∷ us) le h = ((λ e. absurd (omega (arith, e, h.0))), absent_above n t us le h.1)
+
+-- a number stands in a list
+abbrev pub StandsIn : ℕ → List ℕ → Type 0
+StandsIn t [] = ⊥
+StandsIn t (u ∷ us) = (u ≡ t) ⊎ StandsIn t us
+
+pub stands_before : (t : ℕ) (us vs : List ℕ) → StandsIn t us → StandsIn t (us ++ vs)
+stands_before t [] vs h = absurd h
+stands_before t (u ∷ us) vs (inl e) = inl e
+stands_before t (u ∷ us) vs (inr h) = inr (stands_before t us vs h)
+
+pub stands_behind : (t : ℕ) (us vs : List ℕ) → StandsIn t vs → StandsIn t (us ++ vs)
+stands_behind t [] vs h = h
+stands_behind t (u ∷ us) vs h = inr (stands_behind t us vs h)

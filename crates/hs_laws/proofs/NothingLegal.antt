@@ -1,19 +1,22 @@
--- Where all wait, nothing but a Tick is legal; and where nothing but a Tick is legal, nobody could receive or wake.
-use Rattle.std.proofs.Common.{◌≡◌, ℕ, zero, suc, ◌<◌, ◌==◌, nat_le, List, [], ◌∷◌, Bool, true, false, cond, Option, Some, None, refl, sym, ap, ◌∙◌, subst, slice_get, ⊎_elim}
+-- Where all wait there is no work, and threads may be stranded; where nobody is to be, nothing but a Tick is legal.
+use Rattle.std.proofs.Common.{◌≡◌, ℕ, zero, suc, ◌<◌, nat_le, List, [], ◌∷◌, Bool, true, false, cond, Option, Some, None, refl, sym, ap, ◌∙◌, subst, slice_get}
 use Rattle.hs_rules.specs.declared.entry.Entry.{Entry}
 use Rattle.hs_rules.specs.declared.entry.Entry.TheVariants as entry
 use Rattle.rules_meaning.specs.Values.{V, UnitValue}
 use Rattle.rules_meaning.specs.CoreMeaning.{Code}
 use Rattle.hs_rules.specs.Terms.{Part, Ret, Throw, Do, Performs, Frame, mask_at}
 use Rattle.hs_rules.specs.LocalRules.{locals}
-use Rattle.rules_waiting.specs.Waiting.{Reason, Taking, Putting, Throwing, Sleeping, Waiting, is_blocked, reason_of, flight_of, flying_to}
-use Rattle.hs_rules.specs.State.{Thread, State, answer}
+use Rattle.rules_waiting.specs.Waiting.{Reason, Taking, Reading, Putting, Throwing, Sleeping, Sleeper, is_blocked, reason_of, flight_of, flying_to, sleepers_of}
+use Rattle.hs_rules.specs.State.{Thread, State, answer, resume_all}
 use Rattle.hs_rules.specs.Primitives.{operated}
-use Rattle.hs_rules.specs.Entries.{moved, local_entry, at_operation, op_entry, is_receptive, received, receive_entry, woken, finish_entry, on_thread, next}
+use Rattle.hs_rules.specs.Entries.{moved, local_entry, at_operation, op_entry, is_receptive, received, receive_entry, woken, finish_entry, stranded, strand, strand_entry, on_thread, next, IsWork, IsIdle, Leads, IsLegal}
 use Rattle.hs_rules.specs.Entries as entries
 use Rattle.hs_rules.specs.Endings.{IsTick, IsQuiet, AllWait}
+use Rattle.hs_base.specs.declared.exn.Exn.TheVariants.{BlockedIndefinitely}
+use Rattle.hs_laws.specs.Standing.{NoneWorks}
 use Rattle.hs_laws.specs.BracketPhases.{Blocks, OpPart, At, Owing}
-use Rattle.hs_laws.proofs.Lists.{cond_cases, cond_true, cond_false, equal_or}
+use Rattle.hs_laws.proofs.Lists.{cond_cases, cond_true, cond_false}
+use Rattle.hs_laws.proofs.Stranding.{blocked_reason}
 use Rattle.std.proofs.lemmas.Bool.{lt-leb}
 
 -- a test that is false makes no state
@@ -30,7 +33,7 @@ on_none_thread (Some th) k h = cond_cases (λ x. x ≡ None) th.finished None (k
 late : (due now : ℕ) → now < due → nat_le due now ≡ false
 late due now h = lt-leb due now h
 
-module _ (code : Code) (s : State) (w : AllWait s) (o : Owing s) where
+module _ (code : Code) (s : State) (w : NoneWorks s) (o : Owing s) where
   no_local : (t k : ℕ) (th : Thread) → is_blocked t s.blocked ≡ true → local_entry code t k th s ≡ None
   no_local t zero th b = refl
   no_local t (suc k) th b = hides (is_blocked t s.blocked) (moved t s (locals code (suc k) th.term)) b
@@ -44,6 +47,7 @@ module _ (code : Code) (s : State) (w : AllWait s) (o : Owing s) where
   no_wake : (t : ℕ) (r : Option (Reason V)) → reason_of t s.blocked ≡ r → woken t r s ≡ None
   no_wake t None e = refl
   no_wake t (Some (Taking m)) e = refl
+  no_wake t (Some (Reading m)) e = refl
   no_wake t (Some (Putting m a)) e = refl
   no_wake t (Some (Throwing u x)) e = refl
   no_wake t (Some (Sleeping due)) e = no_state (nat_le due s.clock) (Some (answer t UnitValue s)) (late due s.clock (w.asleep t due e))
@@ -55,28 +59,46 @@ module _ (code : Code) (s : State) (w : AllWait s) (o : Owing s) where
   no_end t th [] (Performs op) r h = refl
   no_end t th (f ∷ fs) p r h = refl
 
-  reason_is : (t : ℕ) (ws : List (Waiting V)) → is_blocked t ws ≡ true → (r : Reason V) × (reason_of t ws ≡ Some r)
-  reason_is t [] b = absurd (cc b)
-  reason_is t (x ∷ ws) b =
-      ⊎_elim
-      (λ e. (x.reason, cond_true (x.thread == t) (Some x.reason) (reason_of t ws) e.0))
-      (λ e.
-      let k = reason_is t ws (sym (cond_false (x.thread == t) true (is_blocked t ws) e.0) ∙ b) in
-      (k.0, cond_false (x.thread == t) (Some x.reason) (reason_of t ws) e.0 ∙ k.1))
-      (equal_or x.thread t)
-
   no_finish : (t : ℕ) (th : Thread) → slice_get s.threads t ≡ Some th → is_blocked t s.blocked ≡ true → finish_entry t th th.term.frames th.term.part s ≡ None
   no_finish t th is b =
-      let r = reason_is t s.blocked b in
+      let r = blocked_reason t s.blocked b in
       no_end t th th.term.frames th.term.part r.0 (subst (At (Blocks r.0)) is (o.blocked t r.0 r.1))
 
-  no_entry : (e : Entry) → (IsTick e → ⊥) → entries.entered code s e ≡ None
-  no_entry (entry.Local t k) n = on_none_thread (slice_get s.threads t) _ (λ th is f. no_local t k th (w.blocked t th is f))
-  no_entry (entry.Op t) n = on_none_thread (slice_get s.threads t) _ (λ th is f. no_op t th (w.blocked t th is f))
-  no_entry (entry.Receive t) n = on_none_thread (slice_get s.threads t) _ (λ th is f. no_receive t th (w.unheard t th is f))
-  no_entry (entry.Wake t) n = no_wake t (reason_of t s.blocked) refl
-  no_entry (entry.Finish t) n = on_none_thread (slice_get s.threads t) _ (λ th is f. no_finish t th is (w.blocked t th is f))
-  no_entry (entry.Tick at) n = absurd (n tt)
+  no_work : (e : Entry) → IsWork e → entries.entered code s e ≡ None
+  no_work (entry.Local t k) n = on_none_thread (slice_get s.threads t) _ (λ th is f. no_local t k th (w.blocked t th is f))
+  no_work (entry.Op t) n = on_none_thread (slice_get s.threads t) _ (λ th is f. no_op t th (w.blocked t th is f))
+  no_work (entry.Receive t) n = on_none_thread (slice_get s.threads t) _ (λ th is f. no_receive t th (w.unheard t th is f))
+  no_work (entry.Wake t) n = no_wake t (reason_of t s.blocked) refl
+  no_work (entry.Finish t) n = on_none_thread (slice_get s.threads t) _ (λ th is f. no_finish t th is (w.blocked t th is f))
+  no_work (entry.Tick at) n = absurd n
+  no_work entry.Stranded n = absurd n
 
-  pub quiet : IsQuiet code s
-  quiet e n = on_none_thread (slice_get s.threads 0) (λ th. entries.entered code s e) (λ th is f. no_entry e n)
+  pub idle : IsIdle code s
+  idle e n = on_none_thread (slice_get s.threads 0) (λ th. entries.entered code s e) (λ th is f. no_work e n)
+
+  -- so those who are to be stranded may be, where nobody sleeps
+  pub may_strand : (main : Thread) → slice_get s.threads 0 ≡ Some main → main.finished ≡ false → sleepers_of s.blocked ≡ [] → (t : ℕ) (ts : List ℕ) → stranded s ≡ t ∷ ts →
+      Leads code s entry.Stranded (resume_all (stranded s) (Throw BlockedIndefinitely) s)
+  may_strand main is f asleep t ts some =
+      let e : strand_entry (sleepers_of s.blocked) s ≡ Some (resume_all (stranded s) (Throw BlockedIndefinitely) s) =
+      ap (λ ss. strand_entry ss s) asleep ∙ (ap (λ us. strand us s) some ∙ ap (λ us. Some (resume_all us (Throw BlockedIndefinitely) s)) (sym some)) in
+      (ap (λ o. on_thread o (λ th. entries.entered code s entry.Stranded)) is ∙ (ap (λ b. cond b None (entries.entered code s entry.Stranded)) f ∙ e), idle)
+
+none_works : (s : State) → AllWait s → NoneWorks s
+none_works s w = record { blocked = w.blocked; unheard = w.unheard; asleep = w.asleep }
+
+no_strand : (s : State) (ss : List Sleeper) → (sleepers_of s.blocked ≡ [] → stranded s ≡ []) → sleepers_of s.blocked ≡ ss → strand_entry ss s ≡ None
+no_strand s [] w e = ap (λ ts. strand ts s) (w e)
+no_strand s (r ∷ rs) w e = refl
+
+none_legal : (code : Code) (s : State) → AllWait s → Owing s → (e : Entry) → ¬ IsTick e → next code s e ≡ None
+none_legal code s w o (entry.Local t k) n = idle code s (none_works s w) o (entry.Local t k) tt
+none_legal code s w o (entry.Op t) n = idle code s (none_works s w) o (entry.Op t) tt
+none_legal code s w o (entry.Receive t) n = idle code s (none_works s w) o (entry.Receive t) tt
+none_legal code s w o (entry.Wake t) n = idle code s (none_works s w) o (entry.Wake t) tt
+none_legal code s w o (entry.Finish t) n = idle code s (none_works s w) o (entry.Finish t) tt
+none_legal code s w o (entry.Tick at) n = absurd (n tt)
+none_legal code s w o entry.Stranded n = on_none_thread (slice_get s.threads 0) (λ th. entries.entered code s entry.Stranded) (λ th is f. no_strand s (sleepers_of s.blocked) w.unstranded refl)
+
+pub quiet : (code : Code) (s : State) → AllWait s → Owing s → IsQuiet code s
+quiet code s w o e n l = let z : ◌≡◌ {A = Option State} None (Some l.0) = sym (none_legal code s w o e n) ∙ l.1.0 in cc z

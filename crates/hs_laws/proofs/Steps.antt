@@ -82,7 +82,7 @@ called_kept : {fs : List Frame} {o : List ℕ} → Below fs o → (d : Option Ac
 called_kept r None f vs = tt
 called_kept r (Some d) f vs = entered_kept f r (with_params d.params vs [])
 
--- ---- rules 1 to 11
+-- ---- return to restore: an action's first step
 first_kept : (code : Code) → FineCode code.actions → {a : Core} → Fine a → (env : Env) {fs : List Frame} {o : List ℕ} → Below fs o → Goes (on_top fs (first_step code (mask_at fs) a env)) o
 first_kept code fc (fine_return {e}) env r = value_kept (value_of_core code.functions env e) _ r (λ v. held_ret r)
 first_kept code fc (fine_throw {e}) env r = value_kept (value_of_core code.functions env e) _ r (throwing_kept (λ e. held_throw r))
@@ -103,7 +103,7 @@ first_kept code fc (fine_mask_hard f) env r = held_do f (below_mask r)
 first_kept code fc (fine_restore {r = x} f) env r = restored_kept env f r (value_at x env)
 first_kept code fc (fine_bracket c f g h) env {fs} r = held_masked c f g h (join_masked (mask_at fs)) (below_mask r)
 
--- ---- rules 12, 14 and 16
+-- ---- give, keep and leave: a value
 ret_kept : (v : V) {fs : List Frame} {o : List ℕ} → Below fs o → Goes (ret_step v fs) o
 ret_kept v no_frames = tt
 ret_kept v (below_bind c f r) = held_do f r
@@ -114,7 +114,7 @@ ret_kept v (below_guarded at f m r) = held_result at f m r
 ret_kept v (below_throw f w r) = held_then_throw f w r
 ret_kept v (below_last w r) = held_last w r
 
--- ---- rules 13, 15 and 17
+-- ---- pass, handle and escape: an exception
 throw_kept : (e : Exn) {fs : List Frame} {o : List ℕ} → Below fs o → Goes (throw_step e fs) o
 throw_kept e no_frames = tt
 throw_kept e (below_bind c f r) = held_throw r

@@ -77,7 +77,7 @@ on_top_tree : (fs : List Frame) (o : Option Term) → map_tree tree_of (on_top f
 on_top_tree fs None = refl
 on_top_tree fs (Some t) = ap Some (around_append t.frames fs (leaf t.part))
 
--- rules 12 to 17 round a value and an exception, in a context
+-- give to escape, round a value and an exception, in a context
 ret_tree : (code : Code) (v : V) (fs : List Frame) → tree_step code (around fs (TreeRet v)) Unmasked ≡ map_tree tree_of (ret_step v fs)
 ret_tree code v [] = refl
 ret_tree code v (BindTo x b env ∷ fs) = inside code fs (TreeBind (TreeRet v) x b env) Unmasked tt

@@ -3,21 +3,21 @@ use Rattle.std.proofs.Common.{◌≡◌, ◌≢◌, ℕ, zero, suc, ◌==◌, �
 use Rattle.hs_base.specs.declared.mask.Mask.{Mask}
 use Rattle.hs_base.specs.declared.mask.Mask.TheVariants.{Unmasked, Masked, Uninterruptible}
 use Rattle.hs_base.specs.declared.exn.Exn.{Exn}
+use Rattle.hs_base.specs.declared.exn.Exn.TheVariants.{BlockedIndefinitely}
 use Rattle.hs_rules.specs.declared.entry.Entry.{Entry}
 use Rattle.hs_rules.specs.declared.entry.Entry.TheVariants as entry
 use Rattle.hs_rules.specs.declared.entry.Entry.TheVariants.{Local}
 use Rattle.rules_meaning.specs.Values as val
-use Rattle.rules_expansion.specs.Names.{Hidden, Name, Written, Added, Unread, Instance, BracketResult, BracketFault}
 use Rattle.rules_meaning.specs.Values.{V, UnitValue, Int, Truth, Text, Nothing, Just, Left, Right, Pair, Nil, Cons, Exception, Restore, Inst, Env, with_name, value_at, Outcome, Gives, Throws, Stuck, Outcomes, AllGive, OneThrows, OneStuck}
-use Rattle.rules_expansion.specs.Core.{Primitive, PutStr, PutStrLn, HPutStrLn, NewMVar, NewEmptyMVar, TakeMVar, PutMVar, TryTakeMVar, TryPutMVar, MyThreadId, GetMaskingState, ClockMicros, ThreadDelay, ThrowTo, NewTimeout, Acquired, Release, Core}
+use Rattle.rules_expansion.specs.Core.{Primitive, PutStr, PutStrLn, HPutStrLn, NewMVar, NewEmptyMVar, TakeMVar, PutMVar, ReadMVar, TryTakeMVar, TryPutMVar, MyThreadId, GetMaskingState, ClockMicros, ThreadDelay, ThrowTo, NewTimeout, Acquired, Release, Core}
 use Rattle.rules_meaning.specs.CoreMeaning.{Code}
 use Rattle.hs_rules.specs.Terms.{Operation, Calls, Forks, ForksUnmask, Part, Ret, Throw, Do, Performs, Frame, Term, mask_at}
 use Rattle.hs_rules.specs.LocalRules.{locals}
-use Rattle.rules_waiting.specs.OneCell.{first_put, first_take}
-use Rattle.rules_waiting.specs.Waiting.{Reason, Taking, Putting, Throwing, Sleeping, Flying, is_blocked, reason_of, line_of, flight_of, flying_to}
+use Rattle.rules_waiting.specs.OneCell.{first_put, first_take, readers}
+use Rattle.rules_waiting.specs.Waiting.{Reason, Taking, Reading, Putting, Throwing, Sleeping, Flying, Sleeper, sleepers_of, is_blocked, reason_of, line_of, flight_of, flying_to}
 use Rattle.hs_rules.specs.State.{Thread, State, resume, answer, resume_all, block, first}
-use Rattle.hs_rules.specs.Primitives.{on_none, on_one, on_two, as_text, as_number, as_cell, as_thread, as_exn, as_instance, moves_in, taken, goes_in, given, take, put, try_take, try_put, throw_at, due_in, delay, performed, operated}
-use Rattle.hs_rules.specs.Entries.{moved, local_entry, at_operation, op_entry, is_throw, is_unmasked, is_interruptible, is_open, is_receptive, received, receive_entry, woken, uncaught_line, throwers, closed, finish_entry, on_thread, next}
+use Rattle.hs_rules.specs.Primitives.{on_none, on_one, on_two, as_text, as_number, as_cell, as_thread, as_exn, as_instance, moves_in, taken, goes_in, goes_on, read_by_all, given, take, read, put, try_take, try_put, throw_at, due_in, delay, performed, operated}
+use Rattle.hs_rules.specs.Entries.{Leads, moved, local_entry, at_operation, op_entry, is_throw, is_unmasked, is_interruptible, is_open, is_receptive, received, receive_entry, woken, uncaught_line, throwers, closed, finish_entry, stranded, strand, strand_entry, on_thread, next}
 use Rattle.hs_rules.specs.Entries as entries
 use Rattle.hs_rules.specs.Runs.{Run}
 use Rattle.std.proofs.lemmas.Option.{same_Some}
@@ -52,8 +52,11 @@ module _ (P : ℕ → Reason V → Type 0) where
   taken_each : (m : ℕ) (u : State) → Each P u.blocked → Each P (taken m u).blocked
   taken_each m u h = moves_each m (first_put (line_of m u.blocked)) u h
 
+  goes_on_each : (m : ℕ) (v : V) (u : State) → Each P u.blocked → Each P (goes_on m v u).blocked
+  goes_on_each m v u h = goes_each m v (first_take (line_of m u.blocked)) u h
+
   given_each : (m : ℕ) (v : V) (u : State) → Each P u.blocked → Each P (given m v u).blocked
-  given_each m v u h = goes_each m v (first_take (line_of m u.blocked)) u h
+  given_each m v u h = goes_on_each m v (read_by_all m v u) (resume_all_each (readers (line_of m u.blocked)) (Ret v) u h)
 
   one_each : (vs : List V) (k : V → Option State) → ((v : V) → vs ≡ v ∷ [] → EachSome (k v)) → EachSome (on_one vs k)
   one_each [] k p = tt
@@ -101,6 +104,11 @@ module _ (P : ℕ → Reason V → Type 0) where
     take_each m (Some None) p = block_each (Taking m) p
     take_each m (Some (Some v)) p = taken_each m (answer t v s) (resume_each t (Ret v) s h)
 
+    read_each : (m : ℕ) (o : Option (Option V)) → P t (Reading m) → EachSome (read t m o s)
+    read_each m None p = tt
+    read_each m (Some None) p = block_each (Reading m) p
+    read_each m (Some (Some v)) p = resume_each t (Ret v) s h
+
     put_each : (m : ℕ) (v : V) (o : Option (Option V)) → P t (Putting m v) → EachSome (put t m v o s)
     put_each m v None p = tt
     put_each m v (Some (Some w)) p = block_each (Putting m v) p
@@ -131,6 +139,7 @@ module _ (P : ℕ → Reason V → Type 0) where
     word_each a NewMVar vs p = one_each vs _ (λ v e. resume_each t (Ret UnitValue) s h)
     word_each a NewEmptyMVar vs p = none_each vs _ (resume_each t (Ret UnitValue) s h)
     word_each a TakeMVar vs p = one_each vs _ (λ v e. cell_each v _ (λ c f. take_each c (slice_get s.cells c) (p (Taking c) (ap (Calls TakeMVar) (e ∙ ap (λ q. q ∷ []) f)))))
+    word_each a ReadMVar vs p = one_each vs _ (λ v e. cell_each v _ (λ c f. read_each c (slice_get s.cells c) (p (Reading c) (ap (Calls ReadMVar) (e ∙ ap (λ q. q ∷ []) f)))))
     word_each a PutMVar vs p = two_each vs _ (λ v w e. cell_each v _ (λ c f. put_each c w (slice_get s.cells c) (p (Putting c w) (ap (Calls PutMVar) (e ∙ ap (λ q. q ∷ w ∷ []) f)))))
     word_each a TryTakeMVar vs p = one_each vs _ (λ v e. cell_each v _ (λ c f. try_take_each c (slice_get s.cells c)))
     word_each a TryPutMVar vs p = two_each vs _ (λ v w e. cell_each v _ (λ c f. try_put_each c w (slice_get s.cells c)))
@@ -177,6 +186,14 @@ module _ (P : ℕ → Reason V → Type 0) where
   finish_each t th [] (Performs op) s h = tt
   finish_each t th (f ∷ fs) p s h = tt
 
+  strand_each : (ts : List ℕ) (s : State) → Each P s.blocked → EachSome (strand ts s)
+  strand_each [] s h = tt
+  strand_each (t ∷ ts) s h = resume_all_each (t ∷ ts) (Throw BlockedIndefinitely) s h
+
+  strand_entry_each : (ss : List Sleeper) (s : State) → Each P s.blocked → EachSome (strand_entry ss s)
+  strand_entry_each [] s h = strand_each (stranded s) s h
+  strand_entry_each (r ∷ rs) s h = tt
+
 -- ---- an entry's waits are earlier ones, whose thread didn't receive, or that of its own Operation
 abbrev Since : State → Entry → ℕ → Reason V → Type 0
 Since s e w r = ((reason_of w s.blocked ≡ Some r) × (e ≢ entry.Receive w)) ⊎ ((e ≡ entry.Op w) × At (Blocks r) (slice_get s.threads w))
@@ -200,6 +217,7 @@ entry_since code s e g = by e
     by (entry.Receive t) = thread_some_each (Since s (entry.Receive t)) (slice_get s.threads t) _ (λ th is. cond_cases (EachSome (Since s (entry.Receive t))) (is_receptive t th.term s) _ None (λ b. hit_since s t (flying_to t (flight_of s.blocked)) (once_reason s.blocked g.once)) (λ b. tt))
     by (entry.Wake t) = woken_each (Since s (entry.Wake t)) t (reason_of t s.blocked) s (had (entry.Wake t) (λ w e. cc e))
     by (entry.Finish t) = thread_some_each (Since s (entry.Finish t)) (slice_get s.threads t) _ (λ th is. finish_each (Since s (entry.Finish t)) t th th.term.frames th.term.part s (had (entry.Finish t) (λ w e. cc e)))
+    by entry.Stranded = strand_entry_each (Since s entry.Stranded) (sleepers_of s.blocked) s (had entry.Stranded (λ w e. cc e))
     by (entry.Tick at) = cond_cases (EachSome (Since s (entry.Tick at))) (nat_le s.clock at) _ None (λ b. had (entry.Tick at) (λ w e. cc e)) (λ b. tt)
 
 -- ---- over runs
@@ -222,12 +240,12 @@ waits_first code s (e ∷ es) w r h = h.0
 waits_on : (code : Code) (s m : State) (e : Entry) (es : List Entry) (w : ℕ) (r : Reason V) → next code s e ≡ Some m → WaitsThrough code m es w r → (v : State) → next code s e ≡ Some v → WaitsThrough code v es w r
 waits_on code s m e es w r l k v is = let same : m ≡ v = same_Some m v (sym l ∙ is) in subst (λ x. WaitsThrough code x es w r) same k
 
-from_earlier : (code : Code) (s m : State) (e : Entry) (es : List Entry) (w : ℕ) (r : Reason V) → next code s e ≡ Some m → Each (Since s e) m.blocked → From code m es w r → From code s (e ∷ es) w r
+from_earlier : (code : Code) (s m : State) (e : Entry) (es : List Entry) (w : ℕ) (r : Reason V) → Leads code s e m → Each (Since s e) m.blocked → From code m es w r → From code s (e ∷ es) w r
 from_earlier code s m e es w r l h (inl k) =
     let o : OnReason (Since s e w) (Some r) = subst (OnReason (Since s e w)) (waits_first code m es w r k) (reason_found (Since s e) w m.blocked h) in
     ⊎_elim
-    (λ a. inl (a.0, a.1, waits_on code s m e es w r l k))
-    (λ a. inr (record { front = []; back = es; split = ap (λ x. x ∷ es) a.0; state = s; run = refl; stood = a.1; through = subst (λ f. (v : State) → next code s f ≡ Some v → WaitsThrough code v es w r) a.0 (waits_on code s m e es w r l k) }))
+    (λ a. inl (a.0, a.1, waits_on code s m e es w r l.0 k))
+    (λ a. inr (record { front = []; back = es; split = ap (λ x. x ∷ es) a.0; state = s; run = refl; stood = a.1; through = subst (λ f. (v : State) → next code s f ≡ Some v → WaitsThrough code v es w r) a.0 (waits_on code s m e es w r l.0 k) }))
     o
 from_earlier code s m e es w r l h (inr b) = inr (record { front = e ∷ b.front; back = b.back; split = ap (λ z. e ∷ z) b.split; state = b.state; run = (m, l, b.run); stood = b.stood; through = b.through })
 
@@ -237,11 +255,11 @@ next_since code s m e g n = subst (EachSome (Since s e)) n (thread_some_each (Si
 run_from : (code : Code) → FineCode code.actions → (es : List Entry) (s u : State) → Run code s es u → Holds s → Each (From code s es) u.blocked
 run_from code fc [] s u r g = subst (λ v. Each (From code s []) v.blocked) r (each_changed (λ w x. reason_of w s.blocked ≡ Some x) (From code s []) s.blocked (λ w x k. inl k) (once_reason s.blocked g.once))
 run_from code fc (e ∷ es) s u r g =
-    each_changed (From code r.0 es) (From code s (e ∷ es)) u.blocked (λ w x k. from_earlier code s r.0 e es w x r.1 (next_since code s r.0 e g r.1) k)
-    (run_from code fc es r.0 u r.2 (subst Keeps r.1 (next_kept code fc s e g)))
+    each_changed (From code r.0 es) (From code s (e ∷ es)) u.blocked (λ w x k. from_earlier code s r.0 e es w x r.1 (next_since code s r.0 e g r.1.0) k)
+    (run_from code fc es r.0 u r.2 (subst Keeps r.1.0 (next_kept code fc s e g)))
 
 -- ---- what a legal entry.Receive says
-thread_is : (o : Option Thread) (k : Thread → Option State) (v : State) → on_thread o k ≡ Some v → (th : Thread) × (o ≡ Some th) × (k th ≡ Some v)
+pub thread_is : (o : Option Thread) (k : Thread → Option State) (v : State) → on_thread o k ≡ Some v → (th : Thread) × (o ≡ Some th) × (k th ≡ Some v)
 thread_is None k v e = absurd (cc e)
 thread_is (Some th) k v e = (th, refl, by th.finished e)
   where
@@ -274,6 +292,7 @@ open_means false false h u e = inr (refl, e)
 
 throws_means : (t : ℕ) (r : Reason V) (e : Exn) → throws t r ≡ Some e → r ≡ Throwing t e
 throws_means t (Taking k) e q = absurd (cc q)
+throws_means t (Reading k) e q = absurd (cc q)
 throws_means t (Putting k v) e q = absurd (cc q)
 throws_means t (Sleeping d) e q = absurd (cc q)
 throws_means t (Throwing u x) e q =

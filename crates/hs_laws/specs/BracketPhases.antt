@@ -1,19 +1,22 @@
 -- The phases of a bracket (own): what the active part and the frames of a thread look like, and which brackets it has acquired
 -- and still has to release.
-use Rattle.std.specs.Prelude.{◌≡◌, ◌≢◌, ◌≤◌, ℕ, ℤ, List, [], ◌∷◌, Option, Some, None, slice_get}
+use Rattle.std.specs.Prelude.{◌≡◌, ◌≢◌, ◌≤◌, ℕ, ℤ, List, [], ◌∷◌, ◌++◌, Option, Some, None, slice_get}
 use Rattle.hs_base.specs.declared.mask.Mask.{Mask}
 use Rattle.hs_base.specs.declared.exn.Exn.{Exn}
 use Rattle.rules_expansion.specs.Names.{Name, Written, Added, Unread, Instance, BracketResult, BracketFault}
 use Rattle.rules_meaning.specs.Values.{V, Int, Exception, Inst, Env, value_at}
 use Rattle.rules_meaning.specs.Values as val
-use Rattle.rules_expansion.specs.Core.{Primitive, TakeMVar, PutMVar, ThreadDelay, ThrowTo, Acquired, Release, CoreEx, Read, Core, Return, ThrowIo, Let, Bind, If, CaseMaybe, CaseEither, CaseList, CasePair, Call, Perform, Fork, ForkUnmask, Catch, MaskWith, MaskHard, ActionFunction}
+use Rattle.rules_expansion.specs.Core.{Primitive, TakeMVar, ReadMVar, PutMVar, ThreadDelay, ThrowTo, Acquired, Release, CoreEx, Read, Core, Return, ThrowIo, Let, Bind, If, CaseMaybe, CaseEither, CaseList, CasePair, Call, Perform, Fork, ForkUnmask, Catch, MaskWith, MaskHard, ActionFunction}
 use Rattle.rules_expansion.specs.Core as core
 use Rattle.rules_trees.specs.Trees.{Exs}
 use Rattle.rules_expansion.specs.Expansion.{release, bracket_return, bracket_exit, bracket_rethrow, bracket_handler, bracket_guarded, bracket_acquired, acquire, bracket_marked, bracket_masked}
 use Rattle.hs_rules.specs.Terms.{Operation, Calls, Forks, ForksUnmask, Part, Ret, Throw, Do, Performs, Frame, BindTo, CatchBy, MaskIn, mask_at}
-use Rattle.rules_waiting.specs.Waiting.{Reason, Taking, Putting, Throwing, Sleeping, reason_of}
+use Rattle.rules_waiting.specs.Waiting.{Reason, Taking, Reading, Putting, Throwing, Sleeping, reason_of}
 use Rattle.hs_rules.specs.State.{Thread, State}
-use Rattle.hs_laws.specs.BracketLaw.{count, mine, Numbered, owed, owed_here, IsMasked, MaskedCatches}
+use Rattle.hs_rules.specs.declared.entry.Entry.{Entry}
+use Rattle.rules_trees.specs.Programs.{Fn}
+use Rattle.hs_rules.specs.Runs.{after}
+use Rattle.hs_laws.specs.BracketLaw.{Brackets, count, mine, Numbered, owed, owed_here, IsMasked, MaskedCatches}
 
 -- a name that isn't a bracket's own
 abbrev pub IsCommon : Name → Type 0
@@ -122,6 +125,7 @@ pub data Held : Part → List Frame → List ℕ → Type 0 where
 -- the operation that blocks for a reason
 abbrev pub Blocks : Reason V → Operation → Type 0
 Blocks (Taking m) op = op ≡ Calls TakeMVar (val.Cell m ∷ [])
+Blocks (Reading m) op = op ≡ Calls ReadMVar (val.Cell m ∷ [])
 Blocks (Putting m a) op = op ≡ Calls PutMVar (val.Cell m ∷ a ∷ [])
 Blocks (Throwing u e) op = op ≡ Calls ThrowTo (val.Thread u ∷ Exception e ∷ [])
 Blocks (Sleeping due) op = (n : ℤ) × (op ≡ Calls ThreadDelay (Int n ∷ []))
@@ -150,3 +154,10 @@ pub record Owing (s : State) : Type 0 where
   pub phase : (t : ℕ) (th : Thread) → slice_get s.threads t ≡ Some th → Held th.term.part th.term.frames (mine t s.marks)
   pub blocked : (t : ℕ) (r : Reason V) → reason_of t s.blocked ≡ Some r → At (Blocks r) (slice_get s.threads t)
   pub numbered : Numbered s.next_instance s.marks
+
+-- ---- the law
+
+-- Both hold at every moment of a history.
+pub record BracketsKept (ds : List Fn) (es : List Entry) : Type 0 where
+  pub released : (front back : List Entry) (s : State) → es ≡ front ++ back → after ds front ≡ Some s → Brackets s
+  pub owed : (front back : List Entry) (s : State) → es ≡ front ++ back → after ds front ≡ Some s → Owing s

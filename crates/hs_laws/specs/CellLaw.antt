@@ -1,18 +1,20 @@
--- The law of cells (the documentation of `Control.Concurrent.MVar`: first in, first out, single wake-up; said of runs: own): over a run each cell does what the machine of one cell alone does by the calls of the run, and values
--- come out in the order in which they went in.
+-- The law of cells (the documentation of `Control.Concurrent.MVar`: first in, first out, single wake-up, an atomic read; said
+-- of histories: own): over a history each cell does what the machine of one cell alone does by the history's calls, and
+-- values come out in the order in which they went in.
 use Rattle.std.specs.Prelude.{◌≡◌, ℕ, ◌==◌, cond, List, [], ◌∷◌, ◌++◌, length, Option, Some, None, slice_get}
 use Rattle.hs_rules.specs.declared.entry.Entry.{Entry}
 use Rattle.hs_rules.specs.declared.entry.Entry.TheVariants as entry
+use Rattle.rules_trees.specs.Programs.{Fn}
 use Rattle.rules_meaning.specs.Values as val
 use Rattle.rules_meaning.specs.Values.{V, UnitValue, Truth, Nothing, Just}
-use Rattle.rules_expansion.specs.Core.{Primitive, TakeMVar, PutMVar, TryTakeMVar, TryPutMVar}
-use Rattle.rules_meaning.specs.CoreMeaning.{Code}
+use Rattle.rules_expansion.specs.Core.{Primitive, NewMVar, NewEmptyMVar, TakeMVar, ReadMVar, PutMVar, TryTakeMVar, TryPutMVar}
+use Rattle.rules_meaning.specs.CoreMeaning.{Code, code_of}
 use Rattle.hs_rules.specs.Terms.{Operation, Calls, Part, Ret, Performs, term}
-use Rattle.rules_waiting.specs.OneCell.{Want, Place, Cell, Call, Make, Take, Put, Try_take, Try_put, Leave, Answer, Made, Took, Gave, Tried_take, Tried_put, Reply, first_put, made, call}
-use Rattle.rules_waiting.specs.Waiting.{Reason, want_at, line_of, reason_of}
+use Rattle.rules_waiting.specs.OneCell.{Want, Place, Cell, Call, Make, Take, Read, Put, Try_take, Try_put, Leave, Answer, Made, Took, Saw, Gave, Tried_take, Tried_put, Reply, first_put, made, call}
+use Rattle.rules_waiting.specs.Waiting.{Reason, Waiting, want_at, line_of, reason_of}
 use Rattle.hs_rules.specs.State.{Thread, State, with_term, frames_of}
-use Rattle.hs_rules.specs.Entries.{next}
-use Rattle.hs_rules.specs.Runs.{Run}
+use Rattle.hs_rules.specs.Entries.{stranded, next}
+use Rattle.hs_rules.specs.Runs.{first_of, after}
 
 -- ---- a cell within a state
 
@@ -25,6 +27,7 @@ pub record Shows (m : ℕ) (s : State) (c : Cell V) : Type 0 where
 abbrev pub told : ℕ → Answer V → V
 told m Made = val.Cell m
 told m (Took a) = a
+told m (Saw a) = a
 told m Gave = UnitValue
 told m (Tried_take None) = Nothing
 told m (Tried_take (Some a)) = Just a
@@ -39,75 +42,84 @@ abbrev pub replied : ℕ → List (Reply V) → List Thread → List Thread
 replied m [] ths = ths
 replied m (r ∷ rs) ths = replied m rs (answered r.thread (told m r.answer) ths)
 
--- ---- the call that an entry makes on cell m, if any: an Op on the cell, or a Receive of a thread that waits there
+-- ---- the calls that an entry makes on cell m, in a state of n cells: an Op that makes the cell or is on it; a Receive of a
+-- thread that waits there; and a Stranded, for each thread that waits there and is removed, in order of number
 
-abbrev pub call_if : ℕ → V → Call V → Option (Call V)
-call_if m (val.Cell k) q = cond (k == m) (Some q) None
-call_if m _ q = None
+abbrev pub call_if : ℕ → V → Call V → List (Call V)
+call_if m (val.Cell k) q = cond (k == m) (q ∷ []) []
+call_if m _ q = []
 
-abbrev pub with_one : List V → (V → Option (Call V)) → Option (Call V)
-with_one [] k = None
-with_one (a ∷ vs) k = elim vs [ [] ↦ k a | w ∷ ws ↦ None ]
+abbrev pub with_none : List V → List (Call V) → List (Call V)
+with_none [] qs = qs
+with_none (a ∷ vs) qs = []
 
-abbrev pub with_two : List V → (V → V → Option (Call V)) → Option (Call V)
-with_two [] k = None
+abbrev pub with_one : List V → (V → List (Call V)) → List (Call V)
+with_one [] k = []
+with_one (a ∷ vs) k = elim vs [ [] ↦ k a | w ∷ ws ↦ [] ]
+
+abbrev pub with_two : List V → (V → V → List (Call V)) → List (Call V)
+with_two [] k = []
 with_two (a ∷ vs) k = with_one vs (k a)
 
-abbrev pub primitive_call : ℕ → ℕ → Primitive → List V → Option (Call V)
-primitive_call m t TakeMVar vs = with_one vs (λ a. call_if m a (Take t))
-primitive_call m t PutMVar vs = with_two vs (λ a b. call_if m a (Put t b))
-primitive_call m t TryTakeMVar vs = with_one vs (λ a. call_if m a (Try_take t))
-primitive_call m t TryPutMVar vs = with_two vs (λ a b. call_if m a (Try_put t b))
-primitive_call m t _ vs = None
+abbrev pub primitive_calls : (m n t : ℕ) → Primitive → List V → List (Call V)
+primitive_calls m n t NewMVar vs = with_one vs (λ a. cond (n == m) (Make t (Some a) ∷ []) [])
+primitive_calls m n t NewEmptyMVar vs = with_none vs (cond (n == m) (Make t None ∷ []) [])
+primitive_calls m n t TakeMVar vs = with_one vs (λ a. call_if m a (Take t))
+primitive_calls m n t ReadMVar vs = with_one vs (λ a. call_if m a (Read t))
+primitive_calls m n t PutMVar vs = with_two vs (λ a b. call_if m a (Put t b))
+primitive_calls m n t TryTakeMVar vs = with_one vs (λ a. call_if m a (Try_take t))
+primitive_calls m n t TryPutMVar vs = with_two vs (λ a b. call_if m a (Try_put t b))
+primitive_calls m n t _ vs = []
 
-abbrev pub operation_call : ℕ → ℕ → Operation → Option (Call V)
-operation_call m t (Calls p vs) = primitive_call m t p vs
-operation_call m t _ = None
+abbrev pub operation_calls : (m n t : ℕ) → Operation → List (Call V)
+operation_calls m n t (Calls p vs) = primitive_calls m n t p vs
+operation_calls m n t _ = []
 
-abbrev pub part_call : ℕ → ℕ → Part → Option (Call V)
-part_call m t (Performs op) = operation_call m t op
-part_call m t _ = None
+abbrev pub part_calls : (m n t : ℕ) → Part → List (Call V)
+part_calls m n t (Performs op) = operation_calls m n t op
+part_calls m n t _ = []
 
-abbrev pub thread_call : ℕ → ℕ → Option Thread → Option (Call V)
-thread_call m t None = None
-thread_call m t (Some th) = part_call m t th.term.part
+abbrev pub thread_calls : (m n t : ℕ) → Option Thread → List (Call V)
+thread_calls m n t None = []
+thread_calls m n t (Some th) = part_calls m n t th.term.part
 
-abbrev pub leave_if : ℕ → Option (Want V) → Option (Call V)
-leave_if t None = None
-leave_if t (Some w) = Some (Leave t)
+abbrev pub leave_if : ℕ → Option (Want V) → List (Call V)
+leave_if t None = []
+leave_if t (Some w) = Leave t ∷ []
 
-abbrev pub leave_call : ℕ → ℕ → Option (Reason V) → Option (Call V)
-leave_call m t None = None
+abbrev pub leave_call : ℕ → ℕ → Option (Reason V) → List (Call V)
+leave_call m t None = []
 leave_call m t (Some r) = leave_if t (want_at m r)
 
-abbrev pub call_of : ℕ → State → Entry → Option (Call V)
-call_of m s (entry.Op t) = thread_call m t (slice_get s.threads t)
-call_of m s (entry.Receive t) = leave_call m t (reason_of t s.blocked)
-call_of m s (entry.Local t k) = None
-call_of m s (entry.Wake t) = None
-call_of m s (entry.Finish t) = None
-call_of m s (entry.Tick at) = None
+-- each of these threads that waits at the cell leaves
+abbrev pub leave_calls : ℕ → List ℕ → List (Waiting V) → List (Call V)
+leave_calls m [] ws = []
+leave_calls m (t ∷ ts) ws = leave_call m t (reason_of t ws) ++ leave_calls m ts ws
 
--- ---- what a call does, and whom it answers
+abbrev pub calls_of : ℕ → State → Entry → List (Call V)
+calls_of m s (entry.Op t) = thread_calls m (length s.cells) t (slice_get s.threads t)
+calls_of m s (entry.Receive t) = leave_call m t (reason_of t s.blocked)
+calls_of m s entry.Stranded = leave_calls m (stranded s) s.blocked
+calls_of m s (entry.Local t k) = []
+calls_of m s (entry.Wake t) = []
+calls_of m s (entry.Finish t) = []
+calls_of m s (entry.Tick at) = []
 
-abbrev pub after_call : Option (Call V) → Cell V → Cell V
-after_call None c = c
-after_call (Some q) c = (call q c).cell
+-- ---- what calls do, and whom they answer
 
--- the threads after a call are those before with the machine's answers; a Leave says nothing of them, since the thrower
--- that its Receive answers is no matter of the cell
+abbrev pub after_calls : List (Call V) → Cell V → Cell V
+after_calls [] c = c
+after_calls (q ∷ qs) c = after_calls qs (call q c).cell
+
+-- The threads after a call are those before with the machine's answers. A Leave says nothing of them: the thrower that its
+-- Receive answers, and what a Stranded throws, are no matter of the cell.
 abbrev pub IsAnswered : ℕ → Call V → Cell V → State → State → Type 0
 IsAnswered m (Leave t) c s u = Unit {0}
 IsAnswered m q c s u = u.threads ≡ replied m (call q c).replies s.threads
 
-abbrev pub AnswersCall : ℕ → Option (Call V) → Cell V → State → State → Type 0
-AnswersCall m None c s u = Unit {0}
-AnswersCall m (Some q) c s u = IsAnswered m q c s u
-
--- from a state on, each entry makes its call on the cell and answers whom the machine answers
-abbrev pub FollowsCell : Code → ℕ → State → List Entry → Cell V → Type 0
-FollowsCell code m s [] c = Shows m s c
-FollowsCell code m s (e ∷ es) c = Shows m s c × ((u : State) → next code s e ≡ Some u → AnswersCall m (call_of m s e) c s u × FollowsCell code m u es (after_call (call_of m s e) c))
+abbrev pub AnswersCalls : ℕ → List (Call V) → Cell V → State → State → Type 0
+AnswersCalls m [] c s u = Unit {0}
+AnswersCalls m (q ∷ qs) c s u = IsAnswered m q c s u × AnswersCalls m qs (call q c).cell s u
 
 -- ---- what goes in and comes out
 
@@ -124,6 +136,7 @@ abbrev pub came_in : Call V → Option V → List (Place V) → List V
 came_in (Make t o) c ps = held o
 came_in (Take t) None ps = []
 came_in (Take t) (Some a) ps = put_in (first_put ps)
+came_in (Read t) c ps = []
 came_in (Put t a) None ps = a ∷ []
 came_in (Put t a) (Some b) ps = []
 came_in (Try_take t) None ps = []
@@ -142,43 +155,68 @@ abbrev pub went_out : List (Reply V) → List V
 went_out [] = []
 went_out (r ∷ rs) = taken_by r.answer ++ went_out rs
 
-abbrev pub ins_by : Option (Call V) → Cell V → List V
-ins_by None c = []
-ins_by (Some q) c = came_in q c.content c.line
+abbrev pub ins_by : List (Call V) → Cell V → List V
+ins_by [] c = []
+ins_by (q ∷ qs) c = came_in q c.content c.line ++ ins_by qs (call q c).cell
 
-abbrev pub outs_by : Option (Call V) → Cell V → List V
-outs_by None c = []
-outs_by (Some q) c = went_out (call q c).replies
+abbrev pub outs_by : List (Call V) → Cell V → List V
+outs_by [] c = []
+outs_by (q ∷ qs) c = went_out (call q c).replies ++ outs_by qs (call q c).cell
 
--- over a run from a state with this cell: the values that went in, those that came out, and the cell at the end
-abbrev pub ins : Code → ℕ → State → List Entry → Cell V → List V
-ins code m s [] c = []
-ins code m s (e ∷ es) c = ins_by (call_of m s e) c ++ elim (next code s e) [ None ↦ [] | Some u ↦ ins code m u es (after_call (call_of m s e) c) ]
+-- ---- over a history
 
-abbrev pub outs : Code → ℕ → State → List Entry → Cell V → List V
-outs code m s [] c = []
-outs code m s (e ∷ es) c = outs_by (call_of m s e) c ++ elim (next code s e) [ None ↦ [] | Some u ↦ outs code m u es (after_call (call_of m s e) c) ]
+-- the calls of entries on cell m, from a state on
+abbrev pub calls_from : Code → ℕ → State → List Entry → List (Call V)
+calls_from code m s [] = []
+calls_from code m s (e ∷ es) = calls_of m s e ++ elim (next code s e) [ None ↦ [] | Some u ↦ calls_from code m u es ]
 
-abbrev pub cell_after : Code → ℕ → State → List Entry → Cell V → Cell V
-cell_after code m s [] c = c
-cell_after code m s (e ∷ es) c = elim (next code s e) [ None ↦ c | Some u ↦ cell_after code m u es (after_call (call_of m s e) c) ]
+abbrev pub calls_after : Option State → Code → ℕ → List Entry → List (Call V)
+calls_after None code m es = []
+calls_after (Some s) code m es = calls_from code m s es
+
+-- the calls of a history of a script on cell m
+abbrev pub calls : List Fn → List Entry → ℕ → List (Call V)
+calls ds es m = calls_after (first_of ds) (code_of ds) m es
+
+-- Calls begin on an empty cell without a line. The first call on a cell is its Make, which sets both.
+abbrev pub unmade : Cell V
+unmade = made None
+
+-- the cell alone after the calls of a history; the values that went in; and those that takes were answered
+abbrev pub alone : List Fn → List Entry → ℕ → Cell V
+alone ds es m = after_calls (calls ds es m) unmade
+
+abbrev pub ins : List Fn → List Entry → ℕ → List V
+ins ds es m = ins_by (calls ds es m) unmade
+
+abbrev pub outs : List Fn → List Entry → ℕ → List V
+outs ds es m = outs_by (calls ds es m) unmade
 
 -- ---- the law
 
--- In a run from s to u, cell m was made by an Op of thread t, which was answered the cell; from there on the cell does what
--- the machine does by the calls of the run; and what came out, followed by the content, is what went in.
-pub record KeptCell (code : Code) (s : State) (es : List Entry) (u : State) (m : ℕ) : Type 0 where
-  pub front : List Entry
-  pub back : List Entry
-  pub t : ℕ
-  pub split : es ≡ front ++ entry.Op t ∷ back
-  pub before : State
-  pub begun : State
-  pub run : Run code s front before
-  pub makes : next code before (entry.Op t) ≡ Some begun
-  pub number : m ≡ length before.cells
+abbrev pub IsMake : Call V → Type 0
+IsMake (Make t o) = Unit {0}
+IsMake _ = ⊥
+
+-- no call is a Make
+abbrev pub NoMake : List (Call V) → Type 0
+NoMake [] = Unit {0}
+NoMake (q ∷ qs) = (¬ IsMake q) × NoMake qs
+
+-- After a history that leaves state s, cell m: it was made by the first of its calls and by no other; the state has the cell
+-- that is alone after them; and what came out, followed by the content, is what went in.
+pub record KeptCell (ds : List Fn) (es : List Entry) (s : State) (m : ℕ) : Type 0 where
+  pub maker : ℕ
   pub content : Option V
-  pub maker : begun.threads ≡ answered t (val.Cell m) before.threads
-  pub follows : FollowsCell code m begun back (made content)
-  pub shows : Shows m u (cell_after code m begun back (made content))
-  pub in_order : outs code m begun back (made content) ++ held (cell_after code m begun back (made content)).content ≡ held content ++ ins code m begun back (made content)
+  pub rest : List (Call V)
+  pub made_first : calls ds es m ≡ Make maker content ∷ rest
+  pub made_once : NoMake rest
+  pub shows : Shows m s (alone ds es m)
+  pub in_order : outs ds es m ++ held (alone ds es m).content ≡ ins ds es m
+
+-- At every moment of a history each cell is kept, and each entry answers the threads that the cell alone answers, by the same
+-- values.
+pub record CellsKept (ds : List Fn) (es : List Entry) : Type 0 where
+  pub kept : (front back : List Entry) (s : State) (m : ℕ) (c : Option V) → es ≡ front ++ back → after ds front ≡ Some s → slice_get s.cells m ≡ Some c → KeptCell ds front s m
+  pub answers : (front back : List Entry) (e : Entry) (s u : State) (m : ℕ) → es ≡ front ++ e ∷ back → after ds front ≡ Some s → next (code_of ds) s e ≡ Some u →
+      AnswersCalls m (calls_of m s e) (alone ds front m) s u

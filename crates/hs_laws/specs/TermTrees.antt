@@ -84,8 +84,8 @@ abbrev pub map_tree : {A : Type 0} → (A → Tree) → Option A → Option Tree
 map_tree {A} f None = None
 map_tree {A} f (Some t) = Some (f t)
 
--- One local rule where the masking state round the tree is s: at an action rules 1 to 11, directly round a value or an
--- exception rules 12 to 17, and else further inside.
+-- One local rule where the masking state round the tree is s: at an action one of return to restore, directly round a
+-- value or an exception one of give to escape, and else further inside.
 abbrev pub tree_step : Code → Tree → Mask → Option Tree
 tree_step code (TreeRet u) s = None
 tree_step code (TreeThrow e) s = None

@@ -1,6 +1,6 @@
 -- Which name an entry of a scope stands for.
 use Rattle.std.specs.Prelude.{List, [], ◌∷◌}
-use Rattle.rules_expansion.specs.Names.{Hidden, Restorer, Given, Caught, TheCell, Content, Instance, BracketResult, BracketFault, Allowed, InTime, Owner, Expiry, Helper, HelperRestorer, Name, Written, Added}
+use Rattle.rules_expansion.specs.Names.{Hidden, Restorer, Given, Caught, TheCell, Instance, BracketResult, BracketFault, Allowed, InTime, Owner, Expiry, Helper, HelperRestorer, Name, Written, Added}
 use Rattle.rules_code.specs.Slots.{Scope}
 use Rattle.hs_nodes.specs.declared.names.Hidden as code
 use Rattle.hs_nodes.specs.declared.names.Hidden.TheVariants as h
@@ -12,7 +12,6 @@ hidden_of h.Restorer = Restorer
 hidden_of h.Given = Given
 hidden_of h.Caught = Caught
 hidden_of h.TheCell = TheCell
-hidden_of h.Content = Content
 hidden_of h.Instance = Instance
 hidden_of h.BracketResult = BracketResult
 hidden_of h.BracketFault = BracketFault

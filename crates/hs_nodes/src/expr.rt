@@ -13,8 +13,8 @@ use hs_base::{
     CompareOp, ConsOp, Constant, Exn, Expr, ExprArms, Link, ListLink, NoMemory, SumLink, SumOp, Txt,
 };
 use hs_items::Items;
-use rules_trees::forms::{BinaryForm, EmptyForm, SideForm, UnaryForm};
 use rules_code::{ExprId, Node, NodeLink};
+use rules_trees::forms::{BinaryForm, EmptyForm, SideForm, UnaryForm};
 use std::alloc::Global;
 
 fn constant(constant: Constant) -> Node

@@ -16,10 +16,8 @@ pub enum Hidden {
     Given,
     /// the exception that a form caught and throws on
     Caught,
-    /// the cell of a `modifyMVar_` or a `readMVar`
+    /// the cell of a `modifyMVar_`
     TheCell,
-    /// what a `readMVar` took
-    Content,
     /// the number of one use of `bracket`
     Instance,
     /// what the middle action of a `bracket` gave
@@ -53,16 +51,15 @@ impl Hidden {
             Hidden::Given => 2,
             Hidden::Caught => 3,
             Hidden::TheCell => 4,
-            Hidden::Content => 5,
-            Hidden::Instance => 6,
-            Hidden::BracketResult => 7,
-            Hidden::BracketFault => 8,
-            Hidden::Allowed => 9,
-            Hidden::InTime => 10,
-            Hidden::Owner => 11,
-            Hidden::Expiry => 12,
-            Hidden::Helper => 13,
-            Hidden::HelperRestorer => 14,
+            Hidden::Instance => 5,
+            Hidden::BracketResult => 6,
+            Hidden::BracketFault => 7,
+            Hidden::Allowed => 8,
+            Hidden::InTime => 9,
+            Hidden::Owner => 10,
+            Hidden::Expiry => 11,
+            Hidden::Helper => 12,
+            Hidden::HelperRestorer => 13,
         }
     }
 }

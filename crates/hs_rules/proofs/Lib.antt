@@ -1,3 +1,4 @@
+pub mod SmallScripts
 pub mod Histories
 mod RunRows
 mod WorkedRuns

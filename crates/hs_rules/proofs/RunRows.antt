@@ -1,52 +1,20 @@
 -- Worked runs, computed in the definitions: what each prints, its marks, who has finished.
-use Rattle.std.proofs.Common.{◌≡◌, ℕ, zero, suc, ◌+◌, pos, Bool, true, List, [], ◌∷◌, ◌++◌, Option, Some, None, refl, codes}
-use Rattle.hs_base.specs.declared.pos.Pos.{Pos}
+use Rattle.std.proofs.Common.{◌≡◌, ℕ, Bool, true, List, [], ◌∷◌, ◌++◌, Option, Some, None, refl, codes}
 use Rattle.hs_base.specs.declared.exn.Exn.TheVariants.{UserInterrupt, ThreadKilled}
-use Rattle.hs_base.specs.declared.tree.expr.Name.{Name}
 use Rattle.hs_rules.specs.declared.entry.Entry.{Entry}
 use Rattle.hs_rules.specs.declared.entry.Entry.TheVariants.{Local, Op, Receive, Wake, Finish, Tick}
 use Rattle.rules_trees.specs.declared.forms.UnaryForm.TheVariants.{Show}
 use Rattle.rules_trees.specs.declared.forms.BareAction.TheVariants.{MyThreadId, GetMaskingState}
-use Rattle.rules_trees.specs.declared.forms.UnaryAction.TheVariants.{Return, PutStrLn, NewMVar, TakeMVar, ReadMVar, ThreadDelay}
+use Rattle.rules_trees.specs.declared.forms.UnaryAction.TheVariants.{Return, PutStrLn, NewMVar, TakeMVar, ReadMVar}
 use Rattle.rules_trees.specs.declared.forms.BinaryAction.TheVariants.{PutMVar, ThrowTo}
 use Rattle.rules_trees.specs.declared.forms.BlockAction.TheVariants.{ForkIo, MaskOnly, UninterruptibleMaskOnly}
 use Rattle.rules_trees.specs.declared.forms.GuardAction.TheVariants.{Finally}
-use Rattle.rules_trees.specs.Trees.{unit, Wr, Ex, lit, name, none, unary, number, letters, nothing_more, exception}
-use Rattle.rules_trees.specs.Programs.{Act, bare, unary_act, binary_act, throw_io, new_empty, scoped, catch, guard, bracket, timeout, case_act, maybe_acts, Bl, last, then, bind, io_body, Fn}
+use Rattle.rules_trees.specs.Trees.{lit, unary, nothing_more, exception}
+use Rattle.rules_trees.specs.Programs.{Act, bare, unary_act, binary_act, throw_io, new_empty, scoped, catch, guard, bracket, timeout, case_act, maybe_acts, Bl, last, then, bind}
 use Rattle.hs_rules.specs.State.{State, Mark, AcquiredBy, ReleasedBy, Thread}
-use Rattle.hs_rules.specs.Entries.{next, uncaught_line}
-use Rattle.hs_rules.specs.Runs.{after, first_of}
-use Rattle.rules_meaning.specs.CoreMeaning.{code_of}
-
--- ---- small scripts
-
-abbrev here : Pos
-here = record { line = 1; col = 1 }
-
-abbrev named : List ℕ → Name
-named x = record { text = x; pos = here }
-
-abbrev text : List ℕ → Ex
-text x = lit here (letters x)
-
-abbrev int : ℕ → Ex
-int n = lit here (number (pos n))
-
-abbrev var : List ℕ → Ex
-var x = name (named x) none
-
-abbrev ty : Wr
-ty = record { ty = unit; pos = here }
-
-abbrev say : List ℕ → Act
-say x = unary_act PutStrLn here (text x)
-
-abbrev say_it : List ℕ → Act
-say_it x = unary_act PutStrLn here (var x)
-
--- main :: IO () = this block
-abbrev script : Bl → List Fn
-script b = record { name = named (codes "main"); params = []; body = io_body ty b } ∷ []
+use Rattle.hs_rules.specs.Entries.{uncaught_line}
+use Rattle.hs_rules.specs.Runs.{after}
+use Rattle.hs_rules.proofs.SmallScripts.{here, named, text, int, var, ty, say, say_it, script, nap, driven}
 
 abbrev ended : List Thread → List Bool
 ended [] = []
@@ -63,10 +31,6 @@ abbrev seen : Option State → Option Seen
 seen None = None
 seen (Some s) = Some (record { out = s.output; err = s.errors; marks = s.marks; finished = ended s.threads })
 
-abbrev lines : List (List ℕ) → List ℕ
-lines [] = []
-lines (x ∷ xs) = x ++ 10 ∷ lines xs
-
 -- ---- given histories
 
 -- main :: IO () = { putStrLn "hello" };
@@ -81,19 +45,7 @@ two = refl
 after_main : seen (after (script (last (say (codes "hello")))) (Local 0 1 ∷ Op 0 ∷ Finish 0 ∷ Tick 5 ∷ [])) ≡ None
 after_main = refl
 
--- ---- a scheduler: the first legal entry of a list, and else the clock goes on
-
-abbrev first_legal : List Fn → List Entry → State → Option State
-first_legal ds [] s = None
-first_legal ds (e ∷ es) s = elim (next (code_of ds) s e) [ None ↦ first_legal ds es s | Some u ↦ Some u ]
-
-abbrev drive : List Fn → List Entry → ℕ → State → State
-drive ds es zero s = s
-drive ds es (suc n) s =
-    elim (first_legal ds es s) [ None ↦ elim (next (code_of ds) s (Tick (s.clock + 5))) [ None ↦ s | Some u ↦ drive ds es n u ] | Some u ↦ drive ds es n u ]
-
-abbrev driven : List Fn → List Entry → ℕ → Option State
-driven ds es n = elim (first_of ds) [ None ↦ None | Some s ↦ Some (drive ds es n s) ]
+-- ---- scheduled ones
 
 abbrev one_thread : List Entry
 one_thread = Local 0 1 ∷ Op 0 ∷ Finish 0 ∷ Wake 0 ∷ []
@@ -126,10 +78,7 @@ handler : seen (driven (script (last (catch here (last (throw_io here ty (lit he
 handler = refl
 
 -- an exception that nothing catches in a forked thread has a line, and ThreadKilled has none
-abbrev sleep : ℕ → Act
-sleep n = unary_act ThreadDelay here (int n)
-
-uncaught : seen (driven (script (then (scoped ForkIo here (last (throw_io here ty (lit here (exception UserInterrupt))))) (then (scoped ForkIo here (last (throw_io here ty (lit here (exception ThreadKilled))))) (last (sleep 5))))) (Local 1 1 ∷ Op 1 ∷ Finish 1 ∷ Local 2 1 ∷ Finish 2 ∷ one_thread) 100) ≡ Some (record { out = []; err = (uncaught_line 1 UserInterrupt ++ []) ++ []; marks = []; finished = true ∷ true ∷ true ∷ [] })
+uncaught : seen (driven (script (then (scoped ForkIo here (last (throw_io here ty (lit here (exception UserInterrupt))))) (then (scoped ForkIo here (last (throw_io here ty (lit here (exception ThreadKilled))))) (last (nap 5))))) (Local 1 1 ∷ Op 1 ∷ Finish 1 ∷ Local 2 1 ∷ Finish 2 ∷ one_thread) 100) ≡ Some (record { out = []; err = (uncaught_line 1 UserInterrupt ++ []) ++ []; marks = []; finished = true ∷ true ∷ true ∷ [] })
 uncaught = refl
 
 -- two threads that throw at each other: one of them receives, and its own throw is withdrawn
@@ -149,10 +98,10 @@ thrown_at = refl
 abbrev told : Act → Bl
 told a = bind (named (codes "y")) a (last (case_act here (var (codes "y")) (maybe_acts (last (say (codes "late"))) (named (codes "z")) (last (say (codes "in time"))))))
 
-late : seen (driven (script (told (timeout here (int 5) (last (sleep 90))))) two_threads 300) ≡ Some (record { out = codes "late\n"; err = []; marks = ReleasedBy 0 0 ∷ AcquiredBy 0 0 ∷ []; finished = true ∷ true ∷ [] })
+late : seen (driven (script (told (timeout here (int 5) (last (nap 90))))) two_threads 300) ≡ Some (record { out = codes "late\n"; err = []; marks = ReleasedBy 0 0 ∷ AcquiredBy 0 0 ∷ []; finished = true ∷ true ∷ [] })
 late = refl
 
-early : seen (driven (script (told (timeout here (int 50) (last (sleep 5))))) two_threads 300) ≡ Some (record { out = codes "in time\n"; err = []; marks = ReleasedBy 0 0 ∷ AcquiredBy 0 0 ∷ []; finished = true ∷ true ∷ [] })
+early : seen (driven (script (told (timeout here (int 50) (last (nap 5))))) two_threads 300) ≡ Some (record { out = codes "in time\n"; err = []; marks = ReleasedBy 0 0 ∷ AcquiredBy 0 0 ∷ []; finished = true ∷ true ∷ [] })
 early = refl
 
 -- a timeout of no time doesn't run its action
@@ -161,8 +110,8 @@ at_once = refl
 
 -- ---- cells
 
--- a reader that waits is served by a put; readMVar puts back what it took
-cells : seen (driven (script (bind (named (codes "m")) (new_empty here ty) (then (scoped ForkIo here (bind (named (codes "x")) (unary_act TakeMVar here (var (codes "m"))) (last (say_it (codes "x"))))) (then (sleep 5) (then (binary_act PutMVar here (var (codes "m")) (text (codes "v"))) (last (sleep 5))))))) two_threads 300) ≡ Some (record { out = codes "v\n"; err = []; marks = []; finished = true ∷ true ∷ [] })
+-- a take that waits is served by a put; a read leaves the value
+cells : seen (driven (script (bind (named (codes "m")) (new_empty here ty) (then (scoped ForkIo here (bind (named (codes "x")) (unary_act TakeMVar here (var (codes "m"))) (last (say_it (codes "x"))))) (then (nap 5) (then (binary_act PutMVar here (var (codes "m")) (text (codes "v"))) (last (nap 5))))))) two_threads 300) ≡ Some (record { out = codes "v\n"; err = []; marks = []; finished = true ∷ true ∷ [] })
 cells = refl
 
 read_back : seen (driven (script (bind (named (codes "m")) (unary_act NewMVar here (text (codes "v"))) (bind (named (codes "x")) (unary_act ReadMVar here (var (codes "m"))) (bind (named (codes "y")) (unary_act TakeMVar here (var (codes "m"))) (then (say_it (codes "x")) (last (say_it (codes "y")))))))) one_thread 300) ≡ Some (record { out = codes "v\nv\n"; err = []; marks = []; finished = true ∷ [] })

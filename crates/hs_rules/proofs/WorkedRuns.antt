@@ -1,86 +1,19 @@
 -- Larger worked runs, computed in the definitions under several schedules.
-use Rattle.std.proofs.Common.{◌≡◌, ℕ, zero, suc, ◌+◌, pos, Bool, true, false, List, [], ◌∷◌, ◌++◌, Option, Some, None, refl, codes}
-use Rattle.hs_base.specs.declared.pos.Pos.{Pos}
-use Rattle.hs_base.specs.declared.exn.Exn.TheVariants.{UserInterrupt, ThreadKilled}
-use Rattle.hs_base.specs.declared.tree.expr.Name.{Name}
+use Rattle.std.proofs.Common.{◌≡◌, ℕ, Bool, true, false, List, [], ◌∷◌, Option, Some, None, refl, codes}
+use Rattle.hs_base.specs.declared.exn.Exn.TheVariants.{ThreadKilled}
 use Rattle.hs_rules.specs.declared.entry.Entry.{Entry}
-use Rattle.hs_rules.specs.declared.entry.Entry.TheVariants.{Local, Op, Receive, Wake, Finish, Tick}
-use Rattle.rules_trees.specs.declared.forms.UnaryForm.TheVariants.{Show, ErrorCall}
+use Rattle.hs_rules.specs.declared.entry.Entry.TheVariants.{Local, Op, Receive, Wake, Finish}
+use Rattle.rules_trees.specs.declared.forms.UnaryForm.TheVariants.{ErrorCall}
 use Rattle.rules_trees.specs.declared.forms.BinaryForm.TheVariants.{Equal}
 use Rattle.rules_trees.specs.declared.forms.MaskingAction.TheVariants as mask
 use Rattle.rules_trees.specs.declared.forms.BareAction.TheVariants.{MyThreadId, GetMaskingState}
-use Rattle.rules_trees.specs.declared.forms.UnaryAction.TheVariants.{Return, PutStrLn, TakeMVar, KillThread, ThreadDelay}
-use Rattle.rules_trees.specs.declared.forms.BinaryAction.TheVariants.{PutMVar, ThrowTo}
-use Rattle.rules_trees.specs.declared.forms.BlockAction.TheVariants.{ForkIo, MaskOnly, UninterruptibleMaskOnly}
-use Rattle.rules_trees.specs.Trees.{T, unit, Wr, Ex, lit, name, none, more, unary, binary, number, letters, nothing_more, exception}
-use Rattle.rules_trees.specs.Programs.{Act, bare, unary_act, binary_act, throw_io, new_empty, call, choose_act, scoped, masking, restore, catch, guard, bracket, timeout, case_act, maybe_acts, Bl, last, then, bind, io_body, Par, Fn}
-use Rattle.hs_rules.specs.State.{State, Mark, AcquiredBy, ReleasedBy, Thread}
-use Rattle.hs_rules.specs.Entries.{next, uncaught_line}
-use Rattle.rules_meaning.specs.CoreMeaning.{code_of}
-use Rattle.hs_rules.specs.Runs.{first_of}
-
--- ---- small scripts
-
-abbrev here : Pos
-here = record { line = 1; col = 1 }
-
-abbrev named : List ℕ → Name
-named x = record { text = x; pos = here }
-
-abbrev text : List ℕ → Ex
-text x = lit here (letters x)
-
-abbrev int : ℕ → Ex
-int n = lit here (number (pos n))
-
-abbrev var : List ℕ → Ex
-var x = name (named x) none
-
-abbrev ty : Wr
-ty = record { ty = unit; pos = here }
-
-abbrev say : List ℕ → Act
-say x = unary_act PutStrLn here (text x)
-
-abbrev say_it : List ℕ → Act
-say_it x = unary_act PutStrLn here (var x)
-
--- main :: IO () = this block
-abbrev script : Bl → List Fn
-script b = record { name = named (codes "main"); params = []; body = io_body ty b } ∷ []
-
-abbrev ended : List Thread → List Bool
-ended [] = []
-ended (th ∷ ths) = th.finished ∷ ended ths
-
--- what a state shows
-pub record Seen : Type 0 where
-  pub out : List ℕ
-  pub err : List ℕ
-  pub marks : List Mark
-  pub finished : List Bool
-
-abbrev seen : Option State → Option Seen
-seen None = None
-seen (Some s) = Some (record { out = s.output; err = s.errors; marks = s.marks; finished = ended s.threads })
-
-abbrev lines : List (List ℕ) → List ℕ
-lines [] = []
-lines (x ∷ xs) = x ++ 10 ∷ lines xs
-
--- ---- a scheduler: the first legal entry of a list, and else the clock goes on
-
-abbrev first_legal : List Fn → List Entry → State → Option State
-first_legal ds [] s = None
-first_legal ds (e ∷ es) s = elim (next (code_of ds) s e) [ None ↦ first_legal ds es s | Some u ↦ Some u ]
-
-abbrev drive : List Fn → List Entry → ℕ → State → State
-drive ds es zero s = s
-drive ds es (suc n) s =
-    elim (first_legal ds es s) [ None ↦ elim (next (code_of ds) s (Tick (s.clock + 5))) [ None ↦ s | Some u ↦ drive ds es n u ] | Some u ↦ drive ds es n u ]
-
-abbrev driven : List Fn → List Entry → ℕ → Option State
-driven ds es n = elim (first_of ds) [ None ↦ None | Some s ↦ Some (drive ds es n s) ]
+use Rattle.rules_trees.specs.declared.forms.UnaryAction.TheVariants.{ThreadDelay}
+use Rattle.rules_trees.specs.declared.forms.BinaryAction.TheVariants.{ThrowTo}
+use Rattle.rules_trees.specs.declared.forms.BlockAction.TheVariants.{MaskOnly, UninterruptibleMaskOnly}
+use Rattle.rules_trees.specs.Trees.{lit, none, more, unary, binary, exception}
+use Rattle.rules_trees.specs.Programs.{bare, unary_act, binary_act, call, choose_act, scoped, masking, restore, catch, bracket, last, then, bind, Fn}
+use Rattle.hs_rules.specs.State.{State, Thread}
+use Rattle.hs_rules.proofs.SmallScripts.{here, named, text, int, var, say, say_it, def, run_it, throwing, show_it, new, fork, take, put, nothing, return_unit, kill, nap, driven}
 
 -- the same for each of three threads, in this order
 abbrev turns : ℕ → List Entry → List Entry
@@ -91,13 +24,6 @@ up = turns 0 (turns 1 (turns 2 []))
 
 abbrev down : List Entry
 down = turns 2 (turns 1 (turns 0 []))
-
-abbrev params : List (List ℕ) → List Par
-params [] = []
-params (x ∷ xs) = record { name = named x; ty = ty } ∷ params xs
-
-abbrev def : List ℕ → List (List ℕ) → Bl → Fn
-def f xs b = record { name = named f; params = params xs; body = io_body ty b }
 
 -- what is printed, and whether main has finished
 pub record Told : Type 0 where
@@ -115,39 +41,6 @@ told (Some s) = Some (record { out = s.output; err = s.errors; main = main_ended
 
 abbrev done : List ℕ → Option Told
 done x = Some (record { out = x; err = []; main = true })
-
-abbrev run_it : List ℕ → Act
-run_it f = call (named f) none
-
-abbrev throwing : List ℕ → Act
-throwing x = throw_io here ty (unary ErrorCall here (text x))
-
-abbrev show_it : List ℕ → Act
-show_it x = unary_act PutStrLn here (unary Show here (var x))
-
-abbrev new : List ℕ → Bl → Bl
-new x b = bind (named x) (new_empty here ty) b
-
-abbrev fork : List ℕ → Bl → Bl → Bl
-fork t a b = bind (named t) (scoped ForkIo here a) b
-
-abbrev take : List ℕ → Act
-take m = unary_act TakeMVar here (var m)
-
-abbrev put : List ℕ → Ex → Act
-put m e = binary_act PutMVar here (var m) e
-
-abbrev nothing : Ex
-nothing = lit here nothing_more
-
-abbrev return_unit : Act
-return_unit = unary_act Return here nothing
-
-abbrev kill : List ℕ → Act
-kill t = unary_act KillThread here (var t)
-
-abbrev nap : ℕ → Act
-nap n = unary_act ThreadDelay here (int n)
 
 -- ---- masking states: in a handler, outside, under mask, under restore, in a thread forked under mask
 abbrev states : List Fn

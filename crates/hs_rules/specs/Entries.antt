@@ -18,7 +18,7 @@ use Rattle.rules_meaning.specs.Values.{V, UnitValue}
 use Rattle.rules_meaning.specs.CoreMeaning.{Code}
 use Rattle.hs_rules.specs.Terms.{Operation, Part, Ret, Throw, Do, Performs, Frame, Term, mask_at}
 use Rattle.hs_rules.specs.LocalRules.{locals}
-use Rattle.rules_waiting.specs.Waiting.{Reason, Waiting, Taking, Reading, Putting, Throwing, Sleeping, Sleeper, Flying, is_blocked, reason_of, at_cell, flight_of, flying_to, sleepers_of}
+use Rattle.rules_waiting.specs.Waiting.{Reason, Taking, Reading, Putting, Throwing, Sleeping, Sleeper, Flying, is_blocked, reason_of, at_cell, flight_of, flying_to, sleepers_of}
 use Rattle.hs_rules.specs.State.{Thread, State, move, resume, answer, resume_all}
 use Rattle.hs_rules.specs.Primitives.{operated, line_feed}
 

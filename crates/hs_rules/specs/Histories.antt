@@ -16,3 +16,11 @@ cost_of Stranded = 1
 abbrev pub steps_of : List Entry → ℕ
 steps_of [] = 0
 steps_of (e ∷ es) = cost_of e + steps_of es
+
+-- what a history shows: its entries, and how many more fit without memory
+pub record Recorded : Type 0 where
+  pub list : List Entry
+  pub spare : ℕ
+
+abbrev pub recorded : List Entry → ℕ → Recorded
+recorded es n = record { list = es; spare = n }

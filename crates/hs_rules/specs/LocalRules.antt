@@ -1,9 +1,9 @@
 -- The local rules: the steps that a thread makes alone.
 --
--- Rules 12 to 14, 16 and 17 are the rules of bind, catch and masking scopes in "Asynchronous Exceptions in Haskell".
--- The documentation of `Control.Exception` gives what `mask`, `uninterruptibleMask` and `restore` do to the masking state
--- (rules 9 to 11), and that a handler runs masked (rule 15). Rules 1 to 8, on blocks with environments, are this
--- project's own.
+-- *give*, *pass*, *keep*, *leave* and *escape* are the rules of bind, catch and masking scopes in "Asynchronous Exceptions
+-- in Haskell". The documentation of `Control.Exception` gives what `mask`, `uninterruptibleMask` and `restore` do to the
+-- masking state (*mask*, *mask hard*, *restore*), and that a handler runs masked (*handle*). *return*, *throw*, *let*,
+-- *bind*, *choose*, *call*, *stand* and *catch*, on blocks with environments, are this project's own.
 use Rattle.std.specs.Prelude.{ℕ, zero, suc, true, false, List, [], ◌∷◌, ◌++◌, Option, Some, None}
 use Rattle.hs_base.specs.declared.mask.Mask.{Mask}
 use Rattle.hs_base.specs.declared.mask.Mask.TheVariants.{Masked, Uninterruptible}
@@ -79,56 +79,56 @@ abbrev pub restored : Core → Env → Option V → Option Term
 restored a env (Some (v.Restore m)) = Some (term (Do a env) (MaskIn m ∷ []))
 restored a env _ = None
 
--- ---- rules 1 to 11: an action's first step, where the masking state is s
+-- ---- an action's first step, where the masking state is s: return to restore
 
 abbrev pub first_step : Code → Mask → Core → Env → Option Term
--- 1 return
+-- return: the value of an expression
 first_step code s (Return e) env = on_value (value_of_core code.functions env e) (λ u. Some (term (Ret u) []))
--- 2 throwIO
+-- throw: an exception
 first_step code s (ThrowIo e) env = on_value (value_of_core code.functions env e) thrown
--- 3 let
+-- let: a name of a value
 first_step code s (Let x e a) env = on_value (value_of_core code.functions env e) (λ u. Some (term (Do a (with_name x u env)) []))
--- 4 bind
+-- bind: an action, inside a bind to the next
 first_step code s (Bind x a b) env = Some (term (Do a env) (BindTo x b env ∷ []))
--- 5 if and case
+-- choose: the arm of an `if` or a `case`
 first_step code s (If e a b) env = on_value (value_of_core code.functions env e) (chosen a b env)
 first_step code s (CaseMaybe e a x b) env = on_value (value_of_core code.functions env e) (chosen_maybe a x b env)
 first_step code s (CaseEither e x a y b) env = on_value (value_of_core code.functions env e) (chosen_either x a y b env)
 first_step code s (CaseList e a x y b) env = on_value (value_of_core code.functions env e) (chosen_list a x y b env)
 first_step code s (CasePair e x y b) env = on_value (value_of_core code.functions env e) (chosen_pair x y b env)
--- 6 call
+-- call: the body of an action function
 first_step code s (Call f es) env = on_values (values_of_exs code.functions env es) (called (action_named f code.actions))
--- 7 primitives and forks
+-- stand: at a primitive or a fork
 first_step code s (Perform p es) env = on_values (values_of_core code.functions env es) (λ us. Some (term (Performs (Calls p us)) []))
 first_step code s (Fork a) env = Some (term (Performs (Forks a env)) [])
 first_step code s (ForkUnmask r a) env = Some (term (Performs (ForksUnmask r a env)) [])
--- 8 catch
+-- catch: an action, inside a catch by its handler
 first_step code s (Catch a x b) env = Some (term (Do a env) (CatchBy x b env ∷ []))
--- 9 mask
+-- mask: an action, under the later of Masked and s
 first_step code s (MaskWith r a) env = Some (term (Do a (with_name r (v.Restore s) env)) (MaskIn (join_of Masked s) ∷ []))
--- 10 uninterruptibleMask
+-- mask hard: an action, under Uninterruptible
 first_step code s (MaskHard r a) env = Some (term (Do a (with_name r (v.Restore s) env)) (MaskIn Uninterruptible ∷ []))
--- 11 restore
+-- restore: an action, under the state that a name stands for
 first_step code s (Restore r a) env = restored a env (value_at r env)
 
--- ---- rules 12 to 17: a value or an exception, and the context directly round it
+-- ---- a value or an exception, and the context directly round it: give to escape
 
 abbrev pub ret_step : V → List Frame → Option Term
 ret_step u [] = None
--- 12 a value goes to the action behind a bind
+-- give: a value goes to the action behind a bind
 ret_step u (BindTo x b env ∷ fs) = Some (term (Do b (with_name x u env)) fs)
--- 14 a value leaves a catch
+-- keep: a value leaves a catch
 ret_step u (CatchBy x b env ∷ fs) = Some (term (Ret u) fs)
--- 16 a value leaves a masking scope
+-- leave: a value leaves a masking scope
 ret_step u (MaskIn m ∷ fs) = Some (term (Ret u) fs)
 
 abbrev pub throw_step : Exn → List Frame → Option Term
 throw_step e [] = None
--- 13 an exception passes a bind
+-- pass: an exception passes a bind
 throw_step e (BindTo x b env ∷ fs) = Some (term (Throw e) fs)
--- 15 a handler runs masked
+-- handle: a handler gets the exception, and runs masked
 throw_step e (CatchBy x b env ∷ fs) = Some (term (Do b (with_name x (v.Exception e) env)) (MaskIn (join_of Masked (mask_at fs)) ∷ fs))
--- 17 an exception leaves a masking scope
+-- escape: an exception leaves a masking scope
 throw_step e (MaskIn m ∷ fs) = Some (term (Throw e) fs)
 
 -- ---- one local rule, and some in turn

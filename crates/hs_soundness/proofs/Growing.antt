@@ -1,18 +1,18 @@
--- Environments that fit: with one name more, and where a cell is of every type.
+-- Environments that fit: with one name more, and where more numbers are of a type.
 use Rattle.std.proofs.Common.{◌≡◌, ℕ, zero, suc, List, [], ◌∷◌, ◌++◌, length, Bool, true, false, cond, Option, Some, None, refl, sym, subst, arith, length-append}
 use Rattle.std.specs.Prelude.{slice_get}
 use Rattle.rules_trees.specs.Trees.{T, unit, int, bool, text, thread, exn, pair, maybe, either, list, cell}
 use Rattle.rules_meaning.specs.Values as val
-use Rattle.rules_expansion.specs.Names.{Name, Written, Added, Hidden, Unread, Restorer, Given, Caught, TheCell, Content, Instance, BracketResult, BracketFault, Allowed, InTime, Owner, Expiry, Helper, HelperRestorer, same_name}
+use Rattle.rules_expansion.specs.Names.{Name, Written, Added, Hidden, Unread, Restorer, Given, Caught, TheCell, Instance, BracketResult, BracketFault, Allowed, InTime, Owner, Expiry, Helper, HelperRestorer, same_name}
 use Rattle.rules_meaning.specs.Values.{V, Pair, Nothing, Just, Left, Right, Nil, Cons, Env, with_name, value_at}
 use Rattle.rules_typed.specs.Sorts.{Sort, a_value, a_masking_name, an_instance, Bound, sort_at}
-use Rattle.rules_typed.specs.TypedMeaning.{of_pair, of_maybe, of_either, of_list, of_cell, HasV, any_cell}
+use Rattle.rules_typed.specs.TypedMeaning.{of_pair, of_maybe, of_either, of_list, of_thread, of_cell, HasV, any_cell}
 use Rattle.rules_code.specs.Slots.{Scope, slot_of}
 use Rattle.rules_code.specs.CodeTrees.{is_unread}
 use Rattle.rules_code.specs.Matching.{Seen, Matches}
 use Rattle.hs_soundness.specs.CoreSorts.{names_of, FitsAt, FitsScope, SlotsFit}
 
--- ---- cells of every type
+-- ---- more numbers of a type
 
 pair_kept : (P Q R S : V → Type 0) → ((v : V) → P v → R v) → ((v : V) → Q v → S v) → (v : V) → of_pair P Q v → of_pair R S v
 pair_kept P Q R S f g (Pair a c) h = (f a h.0, g c h.1)
@@ -37,34 +37,41 @@ cell_kept : (P R : ℕ → Type 0) → ((m : ℕ) → P m → R m) → (v : V) �
 cell_kept P R f (val.Cell m) h = f m h
 cell_kept P R f _ h = absurd h
 
-module _ (cells : ℕ → T → Type 0) where
-  pub has_any : (t : T) (v : V) → HasV cells t v → HasV any_cell t v
-  has_any unit v h = h
-  has_any int v h = h
-  has_any bool v h = h
-  has_any text v h = h
-  has_any thread v h = h
-  has_any exn v h = h
-  has_any (pair a c) v h = pair_kept (HasV cells a) (HasV cells c) (HasV any_cell a) (HasV any_cell c) (has_any a) (has_any c) v h
-  has_any (maybe a) v h = maybe_kept (HasV cells a) (HasV any_cell a) (has_any a) v h
-  has_any (either a c) v h = either_kept (HasV cells a) (HasV cells c) (HasV any_cell a) (HasV any_cell c) (has_any a) (has_any c) v h
-  has_any (list a) v h = list_kept (HasV cells a) (HasV any_cell a) (has_any a) v h
-  has_any (cell a) v h = cell_kept (λ m. cells m a) (λ m. any_cell m a) (λ m q. tt) v h
+thread_kept : (P R : ℕ → Type 0) → ((m : ℕ) → P m → R m) → (v : V) → of_thread P v → of_thread R v
+thread_kept P R f (val.Thread m) h = f m h
+thread_kept P R f _ h = absurd h
 
-  at_any : (y : Name) (o : Option Sort) (r : Option V) → FitsAt cells y o r → FitsAt any_cell y o r
-  at_any y None None h = tt
-  at_any y None (Some v) h = h
-  at_any y (Some k) None h = h
-  at_any (Written x) (Some (a_value t)) (Some v) h = has_any t v h
-  at_any (Written x) (Some a_masking_name) (Some v) h = h
-  at_any (Written x) (Some an_instance) (Some v) h = h
-  at_any (Added z) (Some (a_value t)) (Some v) h = has_any t v h
-  at_any (Added z) (Some a_masking_name) (Some v) h = h
-  at_any (Added z) (Some an_instance) (Some v) h = h
+module _ (cells more : ℕ → T → Type 0) (grow : (m : ℕ) (t : T) → cells m t → more m t) where
+  pub has_more : (t : T) (v : V) → HasV cells t v → HasV more t v
+  has_more unit v h = h
+  has_more int v h = h
+  has_more bool v h = h
+  has_more text v h = h
+  has_more thread v h = thread_kept (λ m. cells m thread) (λ m. more m thread) (λ m q. grow m thread q) v h
+  has_more exn v h = h
+  has_more (pair a c) v h = pair_kept (HasV cells a) (HasV cells c) (HasV more a) (HasV more c) (has_more a) (has_more c) v h
+  has_more (maybe a) v h = maybe_kept (HasV cells a) (HasV more a) (has_more a) v h
+  has_more (either a c) v h = either_kept (HasV cells a) (HasV cells c) (HasV more a) (HasV more c) (has_more a) (has_more c) v h
+  has_more (list a) v h = list_kept (HasV cells a) (HasV more a) (has_more a) v h
+  has_more (cell a) v h = cell_kept (λ m. cells m (cell a)) (λ m. more m (cell a)) (λ m q. grow m (cell a) q) v h
 
-  -- what fits where cells have types fits where a cell is of every type
-  pub fits_any : (g : List Bound) (env : Env) (vs : List V) → SlotsFit cells g env vs → SlotsFit any_cell g env vs
-  fits_any g env vs f = record { slots = f.slots; sorts = λ y. at_any y (sort_at y g) (value_at y env) (f.sorts y) }
+  at_more : (y : Name) (o : Option Sort) (r : Option V) → FitsAt cells y o r → FitsAt more y o r
+  at_more y None None h = tt
+  at_more y None (Some v) h = h
+  at_more y (Some k) None h = h
+  at_more (Written x) (Some (a_value t)) (Some v) h = has_more t v h
+  at_more (Written x) (Some a_masking_name) (Some v) h = h
+  at_more (Written x) (Some an_instance) (Some v) h = h
+  at_more (Added z) (Some (a_value t)) (Some v) h = has_more t v h
+  at_more (Added z) (Some a_masking_name) (Some v) h = h
+  at_more (Added z) (Some an_instance) (Some v) h = h
+
+  pub scope_more : (g : List Bound) (env : Env) → FitsScope cells g env → FitsScope more g env
+  scope_more g env f y = at_more y (sort_at y g) (value_at y env) (f y)
+
+-- what fits where numbers have types fits where each is of every type
+pub fits_any : (cells : ℕ → T → Type 0) (g : List Bound) (env : Env) (vs : List V) → SlotsFit cells g env vs → SlotsFit any_cell g env vs
+fits_any cells g env vs f = record { slots = f.slots; sorts = scope_more cells any_cell (λ m t q. tt) g env f.sorts }
 
 -- ---- one name more
 
@@ -75,7 +82,6 @@ kept_hidden Restorer v env h = refl
 kept_hidden Given v env h = refl
 kept_hidden Caught v env h = refl
 kept_hidden TheCell v env h = refl
-kept_hidden Content v env h = refl
 kept_hidden Instance v env h = refl
 kept_hidden BracketResult v env h = refl
 kept_hidden BracketFault v env h = refl
@@ -138,6 +144,10 @@ module _ (cells : ℕ → T → Type 0) where
   fits_with g env vs y k v u h f =
       subst (λ z. SlotsFit cells (record { name = y; sort = k } ∷ g) z (vs ++ v ∷ [])) (sym (kept y v env u))
       (record { slots = slots_with (names_of g) env vs y v f.slots; sorts = sorts_with g env y k v f.sorts h })
+
+  -- the same of an environment alone
+  pub scope_with : (g : List Bound) (env : Env) (y : Name) (k : Sort) (v : V) → is_unread y ≡ false → FitsAt cells y (Some k) (Some v) → FitsScope cells g env → FitsScope cells (record { name = y; sort = k } ∷ g) (with_name y v env)
+  scope_with g env y k v u h f = subst (FitsScope cells (record { name = y; sort = k } ∷ g)) (sym (kept y v env u)) (sorts_with g env y k v f h)
 
   pub fits_none : SlotsFit cells [] [] []
   fits_none = record { slots = record { size = refl; seen = λ y h. tt }; sorts = λ y. tt }

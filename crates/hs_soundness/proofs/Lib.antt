@@ -1,9 +1,10 @@
-pub mod Wells
-pub mod Faultless
 pub mod BodiesTyped
+pub mod Conditions
 pub mod CoreExpressions
 pub mod CoreSlots
-pub mod Growing
-pub mod WellBlocks
-pub mod TypesKept
+pub mod Faultless
 pub mod FunctionsTyped
+pub mod Growing
+pub mod TypesKept
+pub mod WellBlocks
+pub mod Wells

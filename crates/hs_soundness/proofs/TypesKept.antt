@@ -20,7 +20,7 @@ use Rattle.rules_meaning.specs.Meaning.{has_no_quotient, floor_quotient, floor_r
 use Rattle.rules_typing.specs.Typing as typing
 use Rattle.rules_typing.specs.Typing.{Has, equal, order, first_of, second_of, inner_of, row_unary, row_binary}
 use Rattle.rules_typed.specs.TypedMeaning.{of_int, of_bool, of_text, of_thread, of_exn, of_pair, of_maybe, of_either, of_list, HasV, Good, AllOf, AllGood, HasSort, Fits, FunctionsGood, IsStrict, Well, WellAll, WellLinks, WellConses, WellArms}
-use Rattle.hs_laws.proofs.Lists.{cond_cases, cond_true, cond_false, equal_or}
+use Rattle.hs_soundness.proofs.Conditions.{cond_cases, cond_true, cond_false, equal_or}
 use Rattle.std.proofs.lemmas.Slice.Eq.{bytes_eq-Decides}
 use Rattle.hs_base.specs.declared.pos.Pos.{Pos}
 
@@ -84,7 +84,7 @@ module _ (cells : ℕ → T → Type 0) where
       by_bool (Truth m) h = tt
       by_bool _ h = absurd h
 
-      by_thread : (v : V) → of_thread v → Good cells text (as_text (shown v))
+      by_thread : (v : V) → of_thread (λ m. cells m thread) v → Good cells text (as_text (shown v))
       by_thread (val.Thread m) h = tt
       by_thread _ h = absurd h
 
@@ -128,7 +128,7 @@ module _ (cells : ℕ → T → Type 0) where
   two_texts P f (Text m) _ h g = absurd g
   two_texts P f _ c h g = absurd h
 
-  two_threads : (P : V → V → Type 0) → ((m k : ℕ) → P (val.Thread m) (val.Thread k)) → (a c : V) → of_thread a → of_thread c → P a c
+  two_threads : (P : V → V → Type 0) → ((m k : ℕ) → P (val.Thread m) (val.Thread k)) → (a c : V) → of_thread (λ m. cells m thread) a → of_thread (λ m. cells m thread) c → P a c
   two_threads P f (val.Thread m) (val.Thread k) h g = f m k
   two_threads P f (val.Thread m) _ h g = absurd g
   two_threads P f _ c h g = absurd h

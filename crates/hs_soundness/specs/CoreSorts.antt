@@ -1,7 +1,7 @@
 -- The sorts of the expressions of core actions, and when an environment fits their scope (own).
 --
 -- The scope of a core action has the names of the script and those that expansions add, each with its sort. The typing
--- rules see those of the script alone. Which value is of which type goes by `TypedMeaning`, where `cells` says which cell
+-- rules see those of the script alone. Which value is of which type goes by `TypedMeaning`, where `cells` says which number
 -- is of which type.
 use Rattle.std.specs.Prelude.{◌≡◌, ℕ, false, List, [], ◌∷◌, map, Option, Some, None}
 use Rattle.rules_trees.specs.Trees.{T, int, bool, exn, maybe}

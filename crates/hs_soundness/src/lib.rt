@@ -3,7 +3,7 @@
 //!
 //! Its promise: each body of an accepted script has the declared type, and an expression of a core action gives a value
 //! of its sort or an exception, and never nothing, in every environment that fits its scope. That whole runs are never
-//! stuck is left to the laws of states.
+//! stuck is left to `hs_progress`.
 #![tactic(auto)]
 
 pub mod bodies;

@@ -2,11 +2,12 @@
 use Rattle.std.proofs.Common.{◌≡◌, ◌≢◌, ℕ, zero, suc, ◌<◌, ◌≤◌, List, [], ◌∷◌, ◌++◌, Option, Some, None, refl, ap, sym, subst, ◌∙◌, arith, inl, inr, ◌+◌, ◌-◌, Bool, true, false, cond, IsSome, eq-eqb}
 use Rattle.std.proofs.lemmas.Bool.{cases_eq, ne_eqb}
 use Rattle.hs_base.specs.declared.value.Value.{Value}
-use Rattle.rules_waiting.specs.OneCell.{Place, stands_in}
+use Rattle.rules_waiting.specs.OneCell.{Place}
 use Rattle.slab.specs.Slab.{Slab, get}
 use Rattle.mvar_cell.specs.declared.lines.Node.{Node}
 use Rattle.mvar_cell.specs.declared.lines.Ends.{Ends}
-use Rattle.mvar_cell.specs.Nodes.{place, place_of, next_of, places, IsOn, IsTail, IsChain, IsLine, walk, last_after_leaving, behind, Walks, StandsBefore}
+use Rattle.mvar_cell.specs.declared.lines.Sought.{Sought}
+use Rattle.mvar_cell.specs.Nodes.{place, place_of, next_of, places, IsOn, IsTail, IsChain, IsLine, is_sought, any_sought, walk, last_after_leaving, behind, Walks, StandsBefore, Unlinks}
 
 -- from a node there is one way to the last
 pub tail_once : (s : Slab Node) (k a b i z : ℕ) → IsTail s k a i z → IsTail s k b i z → a ≡ b
@@ -122,21 +123,12 @@ chain_same s u k (suc n) i z h c =
     record { chain = (subst (IsOn k) (sym (h i c.0)) c.0, r.tail); places = r.places }
 
 -- ---- a node in the middle leaves
--- node p, and behind it node j, which leaves
-pub record Unlinks (s u : Slab Node) (p j : ℕ) (before gone : Node) : Type 0 where
-  pub was : get s p ≡ Some before
-  pub left : get s j ≡ Some gone
-  pub follows : before.next ≡ j
-  pub linked : get u p ≡ Some (record before { next = gone.next })
-  pub others : (x : ℕ) → x ≢ p → x ≢ j → get u x ≡ get s x
-
-pub record Without (s u : Slab Node) (k n i z p j : ℕ) (gone : Node) : Type 0 where
+pub record Without (s u : Slab Node) (k a n i z p j : ℕ) (gone : Node) : Type 0 where
   pub on : IsOn k (get u i)
   pub tail : IsTail u k n i (last_after_leaving p j z)
-  pub front : List (Place Value)
   pub back : List (Place Value)
-  pub was : places s (suc (suc n)) i ≡ front ++ place gone.thread gone.want ∷ back
-  pub now : places u (suc n) i ≡ front ++ back
+  pub was : places s (suc (suc n)) i ≡ places s (suc a) i ++ place gone.thread gone.want ∷ back
+  pub now : places u (suc n) i ≡ places s (suc a) i ++ back
 
 -- a walk of no more than m of m + 1 nodes ends before the last
 pub walk_far : (s : Slab Node) (k a m i z : ℕ) → a ≤ m → IsTail s k (suc m) i z → (d : ℕ) × (d ≤ m) × IsTail s k (suc d) (walk s a i) z
@@ -156,7 +148,7 @@ not_last p j z ne = ap (λ b. cond b p z) (ne_eqb j z ne)
 is_neither : (i p j z : ℕ) → i ≢ z → i ≢ p → i ≢ last_after_leaving p j z
 is_neither i p j z a b = elim (cases_eq j z) [ inl e ↦ λ q. b (q ∙ at_last p j z e) | inr ne ↦ λ q. a (q ∙ not_last p j z ne) ]
 
-pub tail_without : (s u : Slab Node) (k a m i z p j : ℕ) (before gone : Node) → Unlinks s u p j before gone → p ≡ walk s a i → a ≤ m → IsOn k (get s i) → IsTail s k (suc m) i z → Without s u k m i z p j gone
+pub tail_without : (s u : Slab Node) (k a m i z p j : ℕ) (before gone : Node) → Unlinks s u p j before gone → p ≡ walk s a i → a ≤ m → IsOn k (get s i) → IsTail s k (suc m) i z → Without s u k a m i z p j gone
 tail_without s u k zero zero i z p j before gone h e le on t =
     let was : get s i ≡ Some before = ap (get s) (sym e) ∙ h.was in
     let linked : get u i ≡ Some (record before { next = gone.next }) = ap (get u) (sym e) ∙ h.linked in
@@ -164,10 +156,9 @@ tail_without s u k zero zero i z p j before gone h e le on t =
     record {
       on = subst (IsOn k) (sym linked) (subst (IsOn k) was on);
       tail = sym e ∙ sym (at_last p j z (sym next ∙ t.2));
-      front = place before.thread before.want ∷ [];
       back = [];
-      was = ap (λ o. place_of o ∷ place_of (get s (next_of (get s i))) ∷ []) was ∙ ap (λ x. place before.thread before.want ∷ place_of (get s x) ∷ []) next ∙ ap (λ o. place before.thread before.want ∷ place_of o ∷ []) h.left;
-      now = ap (λ o. place_of o ∷ []) linked;
+      was = ap (λ x. place_of (get s i) ∷ place_of (get s x) ∷ []) next ∙ ap (λ o. place_of (get s i) ∷ place_of o ∷ []) h.left;
+      now = ap (λ o. place_of o ∷ []) linked ∙ ap (λ o. place_of o ∷ []) (sym was);
     }
 tail_without s u k zero (suc m) i z p j before gone h e le on t =
     let was : get s i ≡ Some before = ap (get s) (sym e) ∙ h.was in
@@ -188,10 +179,9 @@ tail_without s u k zero (suc m) i z p j before gone h e le on t =
     record {
       on = subst (IsOn k) (sym linked) (subst (IsOn k) was on);
       tail = subst (IsTail u k (suc m) i) (sym (not_last p j z at_j.0)) (subst (λ o. (i ≢ z) × IsOn k (get u (next_of o)) × IsTail u k m (next_of o) z) (sym linked) (t.0, on_u, kept.tail));
-      front = place before.thread before.want ∷ [];
       back = places s (suc m) gone.next;
-      was = ap (λ o. place_of o ∷ places s (suc (suc m)) (next_of (get s i))) was ∙ ap (λ x. place before.thread before.want ∷ places s (suc (suc m)) x) next ∙ ap (λ o. place before.thread before.want ∷ place_of o ∷ places s (suc m) (next_of o)) h.left;
-      now = ap (λ o. place_of o ∷ places u (suc m) (next_of o)) linked ∙ ap (λ ps. place before.thread before.want ∷ ps) kept.places;
+      was = ap (λ x. place_of (get s i) ∷ places s (suc (suc m)) x) next ∙ ap (λ o. place_of (get s i) ∷ place_of o ∷ places s (suc m) (next_of o)) h.left;
+      now = ap (λ o. place_of o ∷ places u (suc m) (next_of o)) linked ∙ ap (λ ps. place before.thread before.want ∷ ps) kept.places ∙ ap (λ o. place_of o ∷ places s (suc m) gone.next) (sym was);
     }
 tail_without s u k (suc a) zero i z p j before gone h e le on t = let no : ⊥ = omega arith in absurd no
 tail_without s u k (suc a) (suc m) i z p j before gone h e le on t =
@@ -207,7 +197,6 @@ tail_without s u k (suc a) (suc m) i z p j before gone h e le on t =
     record {
       on = subst (IsOn k) (sym same) on;
       tail = subst (λ o. (i ≢ last_after_leaving p j z) × IsOn k (get u (next_of o)) × IsTail u k m (next_of o) (last_after_leaving p j z)) (sym same) (is_neither i p j z t.0 not_p, r.on, r.tail);
-      front = place_of (get s i) ∷ r.front;
       back = r.back;
       was = ap (λ ps. place_of (get s i) ∷ ps) r.was;
       now = ap (λ o. place_of o ∷ places u (suc m) (next_of o)) same ∙ ap (λ ps. place_of (get s i) ∷ ps) r.now;
@@ -223,37 +212,67 @@ walk_on s k zero m i z le on t = on
 walk_on s k (suc a) zero i z le on t = let no : ⊥ = omega arith in absurd no
 walk_on s k (suc a) (suc m) i z le on t = walk_on s k a m (next_of (get s i)) z (omega arith) t.1 t.2
 
-pub walks_first : (s : Slab Node) (k : ℕ) (e : Ends) (t : ℕ) → IsLine s k e → 0 < e.len → stands_in t (behind s e) ≡ true → Walks s e t 1 e.first
-walks_first s k e t h some stands =
+places_more : (s : Slab Node) (n i : ℕ) → places s (suc n) i ≡ places s n i ++ place_of (get s (walk s n i)) ∷ []
+places_more s zero i = refl
+places_more s (suc n) i = ap (λ ps. place_of (get s i) ∷ ps) (places_more s n (next_of (get s i)))
+
+none_later : (b c : Bool) → cond b true c ≡ false → (b ≡ false) × (c ≡ false)
+none_later true c h = let no : ⊥ = cc in absurd no
+none_later false c h = (refl, h)
+
+pub none_append : (sought : Sought) (ps qs : List (Place Value)) → any_sought sought ps ≡ false → any_sought sought qs ≡ false → any_sought sought (ps ++ qs) ≡ false
+none_append sought [] qs h g = g
+none_append sought (p ∷ ps) qs h g =
+    let r = none_later (is_sought sought p) (any_sought sought ps) h in
+    ap (λ b. cond b true (any_sought sought (ps ++ qs))) r.0 ∙ none_append sought ps qs r.1 g
+
+none_alone : (sought : Sought) (p : Place Value) → is_sought sought p ≡ false → any_sought sought (p ∷ []) ≡ false
+none_alone sought p h = ap (λ b. cond b true false) h
+
+pub walks_first : (s : Slab Node) (k : ℕ) (e : Ends) (sought : Sought) → IsLine s k e → 0 < e.len → is_sought sought (place_of (get s e.first)) ≡ false → any_sought sought (behind s e) ≡ true → Walks s e sought 1 e.first
+walks_first s k e sought h some first stands =
     let q : e.len ≡ suc (e.len - 1) = omega (arith, some) in
     let c : IsChain s k (suc (e.len - 1)) e.first e.last = subst (λ n. IsChain s k n e.first e.last) q h in
-    record { line = k; is = refl; on = c.0; tail = c.1; stands = stands }
+    record { line = k; is = refl; on = c.0; tail = c.1; stands = stands; clear = none_alone sought (place_of (get s e.first)) first }
 
-stands_later : (b c : Bool) → cond b true c ≡ true → b ≡ false → c ≡ true
-stands_later true c h e = let no : ⊥ = cc in absurd no
-stands_later false c h e = h
+pub found_later : (b c : Bool) → cond b true c ≡ true → b ≡ false → c ≡ true
+found_later true c h e = let no : ⊥ = cc in absurd no
+found_later false c h e = h
 
-pub walks_step : (s : Slab Node) (e : Ends) (t step at : ℕ) → Walks s e t step at → 1 ≤ step → step < e.len → ((place_of (get s (next_of (get s at)))).thread ≡ t → ⊥) → Walks s e t (step + 1) (next_of (get s at))
-walks_step s e t step at w low lt other =
+pub walks_step : (s : Slab Node) (e : Ends) (sought : Sought) (step at : ℕ) → Walks s e sought step at → 1 ≤ step → step < e.len → is_sought sought (place_of (get s (next_of (get s at)))) ≡ false → Walks s e sought (step + 1) (next_of (get s at))
+walks_step s e sought step at w low lt other =
     let q : e.len - step ≡ suc (e.len - (step + 1)) = omega (arith, lt) in
     let tail : IsTail s w.line (suc (e.len - (step + 1))) at e.last = subst (λ n. IsTail s w.line n at e.last) q w.tail in
-    let stands : stands_in t (places s (suc (e.len - (step + 1))) (next_of (get s at))) ≡ true = subst (λ n. stands_in t (places s n (next_of (get s at))) ≡ true) q w.stands in
+    let stands : any_sought sought (places s (suc (e.len - (step + 1))) (next_of (get s at))) ≡ true = subst (λ n. any_sought sought (places s n (next_of (get s at))) ≡ true) q w.stands in
     let more : suc (step - 1) ≡ step + 1 - 1 = omega (arith, low) in
+    let here : suc (step - 1) ≡ step = omega (arith, low) in
+    let next : next_of (get s at) ≡ walk s (suc (step - 1)) e.first = ap (λ x. next_of (get s x)) w.is ∙ sym (walk_next s (step - 1) e.first) in
+    let last : is_sought sought (place_of (get s (walk s step e.first))) ≡ false = subst (λ x. is_sought sought (place_of (get s x)) ≡ false) (next ∙ ap (λ n. walk s n e.first) here) other in
+    let all : any_sought sought (places s (suc step) e.first) ≡ false =
+    ap (any_sought sought) (places_more s step e.first) ∙ none_append sought (places s step e.first) (place_of (get s (walk s step e.first)) ∷ []) w.clear (none_alone sought (place_of (get s (walk s step e.first))) last) in
     record {
       line = w.line;
-      is = ap (λ x. next_of (get s x)) w.is ∙ sym (walk_next s (step - 1) e.first) ∙ ap (λ n. walk s n e.first) more;
+      is = next ∙ ap (λ n. walk s n e.first) more;
       on = tail.1;
       tail = tail.2;
-      stands = stands_later _ _ stands (ne_eqb _ t other);
+      stands = found_later _ _ stands other;
+      clear = subst (λ n. any_sought sought (places s n e.first) ≡ false) (let z : suc step ≡ step + 1 = omega arith in z) all;
     }
 
-pub walks_found : (s : Slab Node) (e : Ends) (t step at : ℕ) → Walks s e t step at → 1 ≤ step → step < e.len → (place_of (get s (next_of (get s at)))).thread ≡ t → StandsBefore s e t at
-walks_found s e t step at w low lt same =
-    record { steps = step - 1; within = omega (arith, low, lt); is = w.is; thread = same }
+pub walks_found : (s : Slab Node) (e : Ends) (sought : Sought) (step at : ℕ) → Walks s e sought step at → 1 ≤ step → step < e.len → is_sought sought (place_of (get s (next_of (get s at)))) ≡ true → StandsBefore s e sought at
+walks_found s e sought step at w low lt found =
+    let here : step ≡ suc (step - 1) = omega (arith, low) in
+    record {
+      steps = step - 1;
+      within = omega (arith, low, lt);
+      is = w.is;
+      found = found;
+      clear = subst (λ n. any_sought sought (places s n e.first) ≡ false) here w.clear;
+    }
 
 -- the node behind, in a walk that is not done
-pub walks_on : (s : Slab Node) (e : Ends) (t step at : ℕ) (w : Walks s e t step at) → step < e.len → IsOn w.line (get s (next_of (get s at)))
-walks_on s e t step at w lt =
+pub walks_on : (s : Slab Node) (e : Ends) (sought : Sought) (step at : ℕ) (w : Walks s e sought step at) → step < e.len → IsOn w.line (get s (next_of (get s at)))
+walks_on s e sought step at w lt =
     let q : e.len - step ≡ suc (e.len - (step + 1)) = omega (arith, lt) in
     (subst (λ n. IsTail s w.line n at e.last) q w.tail).1
 
@@ -261,8 +280,8 @@ pub is_there : (k : ℕ) (o : Option Node) → IsOn k o → IsSome o
 is_there k None on = absurd on
 is_there k (Some n) on = refl
 
-pub walks_end : (s : Slab Node) (e : Ends) (t step at : ℕ) → Walks s e t step at → e.len ≤ step → ⊥
-walks_end s e t step at w le =
+pub walks_end : (s : Slab Node) (e : Ends) (sought : Sought) (step at : ℕ) → Walks s e sought step at → e.len ≤ step → ⊥
+walks_end s e sought step at w le =
     let q : e.len - step ≡ 0 = omega (arith, le) in
-    let no : false ≡ true = subst (λ n. stands_in t (places s n (next_of (get s at))) ≡ true) q w.stands in
+    let no : false ≡ true = subst (λ n. any_sought sought (places s n (next_of (get s at))) ≡ true) q w.stands in
     let none : ⊥ = cc in none

@@ -1,18 +1,19 @@
 -- What one write of a line does to all lines.
-use Rattle.std.proofs.Common.{◌≡◌, ◌≢◌, ℕ, suc, ◌<◌, ◌≤◌, ◌+◌, ◌-◌, List, [], ◌∷◌, ◌++◌, length, map, get_or, set, Option, Some, None, refl, ap, sym, subst, ◌∙◌, arith, inl, inr, Bool, true, false, cond, MatchOption}
-use Rattle.std.proofs.lemmas.Bool.{cases_eq, ne_eqb}
+use Rattle.std.proofs.Common.{◌≡◌, ◌≢◌, ℕ, zero, suc, ◌<◌, ◌≤◌, ◌+◌, ◌-◌, List, [], ◌∷◌, ◌++◌, length, map, get_or, set, Some, None, refl, ap, sym, subst, ◌∙◌, arith, inl, inr, true, false}
+use Rattle.std.proofs.lemmas.Bool.{cases_eq}
 use Rattle.std.proofs.lemmas.List.{get_or-set_same, get_or-set_other, length-set, length-map, get_or-map}
 use Rattle.std.proofs.lemmas.List.Sums.{sum_by-set}
 use Rattle.hs_base.specs.declared.value.Value.{Value}
-use Rattle.rules_waiting.specs.OneCell.{Place, stands_in}
+use Rattle.rules_waiting.specs.OneCell.{Place}
 use Rattle.slab.specs.Slab.{Slab, get, slab_len, Updates}
 use Rattle.mvar_cell.specs.declared.lines.Want.{Want}
+use Rattle.mvar_cell.specs.declared.lines.Sought.{Sought}
 use Rattle.mvar_cell.specs.declared.lines.Node.{Node}
 use Rattle.mvar_cell.specs.declared.lines.Ends.{Ends}
 use Rattle.mvar_cell.specs.Lined.{Lined, line_of}
-use Rattle.mvar_cell.specs.Nodes.{lined, place, place_of, next_of, places, line_at, IsOn, IsTail, IsChain, IsLine, IsSound, last_after_leaving, behind, StandsBefore, LeavesOne}
+use Rattle.mvar_cell.specs.Nodes.{lined, place, place_of, next_of, places, line_at, IsOn, IsTail, IsChain, IsLine, IsSound, is_sought, any_sought, last_after_leaving, ends_after_leaving, behind, StandsBefore, IsFollowed, Unlinked, LeavesFirst}
 use Rattle.mvar_cell.proofs.Lists.{map-set_agree}
-use Rattle.mvar_cell.proofs.Chains.{vacant_is_not_on, on_one, last_is_on, on_is_there, chain_same, chain_shorter, tail_longer, Extends, tail_without, Unlinks, walk_on, walk_far, tail_once}
+use Rattle.mvar_cell.proofs.Chains.{vacant_is_not_on, on_one, last_is_on, on_is_there, chain_same, chain_shorter, tail_longer, Extends, tail_without, walk_on, walk_far, tail_once, found_later}
 
 pub record After (es : List Ends) (s u : Slab Node) (m : ℕ) (e : Ends) : Type 0 where
   pub sound : IsSound (set es m e) u
@@ -47,6 +48,15 @@ len_within es s m d h lt =
 -- where the place of this line is known, the line of all lines is
 pub line_is : (es : List Ends) (s : Slab Node) (m : ℕ) (e : Ends) → m < length es → e ≡ get_or es m e → get_or (map (line_at s) es) m [] ≡ line_at s e
 line_is es s m e lt is = get_or-map (line_at s) es m e [] lt ∙ ap (line_at s) (sym is)
+
+places_length : (s : Slab Node) (n i : ℕ) → length (places s n i) ≡ n
+places_length s zero i = refl
+places_length s (suc n) i = ap suc (places_length s n (next_of (get s i)))
+
+-- a line is as long as its ends say
+pub line_length : (es : List Ends) (s : Slab Node) (capacity m : ℕ) (e : Ends) (now : Lined) → lined es s capacity ≡ now → m < length es → e ≡ get_or es m e → length (line_of now m) ≡ e.len
+line_length es s capacity m e now view lt is =
+    ap (λ (x : Lined). length (line_of x m)) (sym view) ∙ ap (λ (ps : List (Place Value)). length ps) (line_is es s m e lt is) ∙ places_length s e.len e.first
 
 -- the first place of a line
 pub first_joins : (es : List Ends) (s u : Slab Node) (m : ℕ) (e : Ends) (key : ℕ) (new : Node) → IsSound es s → m < length es → e ≡ get_or es m e → e.len ≡ 0 → get s key ≡ None → Updates s u key (Some new) → new.line ≡ m → slab_len u ≡ slab_len s + 1
@@ -143,17 +153,17 @@ pub served_line : (es : List Ends) (s u : Slab Node) (m : ℕ) (old e : Ends) (p
     → get_or (map (line_at s) es) m [] ≡ p ∷ get_or (map (line_at u) (set es m e)) m []
 served_line es s u m old e p lt is line = line_is es s m old lt is ∙ line ∙ ap (λ ps. p ∷ ps) (sym (written_line es u m e lt))
 
--- the two nodes at which a place in the middle leaves
-pub record Middle (s : Slab Node) (m : ℕ) (e : Ends) (p : ℕ) : Type 0 where
-  pub count : ℕ
-  pub len : e.len ≡ suc (suc count)
-  pub before_on : IsOn m (get s p)
-  pub gone_on : IsOn m (get s (next_of (get s p)))
-  pub apart : p ≢ next_of (get s p)
-
 module _ (es : List Ends) (s : Slab Node) (m : ℕ) (e : Ends) (h : IsSound es s) (lt : m < length es) (is : e ≡ get_or es m e) where
-  pub middle_of : (t p : ℕ) → StandsBefore s e t p → Middle s m e p
-  middle_of t p w =
+  -- a node that stands before another of its line
+  record Middle (p : ℕ) : Type 0 where
+    count : ℕ
+    len : e.len ≡ suc (suc count)
+    before_on : IsOn m (get s p)
+    gone_on : IsOn m (get s (next_of (get s p)))
+    apart : p ≢ next_of (get s p)
+
+  middle_of : (sought : Sought) (p : ℕ) → StandsBefore s e sought p → Middle p
+  middle_of sought p w =
       let count = e.len - 2 in
       let q : e.len ≡ suc (suc count) = omega (arith, w.within) in
       let c = long_chain_of es s m e h lt is (suc count) q in
@@ -167,99 +177,92 @@ module _ (es : List Ends) (s : Slab Node) (m : ℕ) (e : Ends) (h : IsSound es s
         apart = λ z. (let n = tail_once s m far.0 (suc far.0) p e.last (subst (λ x. IsTail s m far.0 x e.last) (sym z) at_p.2) at_p in let no : ⊥ = omega (arith, n) in no);
       }
 
-  pub record Leaves (u : Slab Node) (t p : ℕ) (want : Want) : Type 0 where
-    pub after : After es s u m (record { first = e.first; last = last_after_leaving p (next_of (get s p)) e.last; len = e.len - 1 })
+  pub followed : (sought : Sought) (p : ℕ) → StandsBefore s e sought p → IsFollowed s e p
+  followed sought p w =
+      let mid = middle_of sought p w in
+      record { line = m; long = omega (arith, w.within); before_on = mid.before_on; gone_on = mid.gone_on; apart = mid.apart }
+
+  pub record Leaves (u : Slab Node) (sought : Sought) (p : ℕ) (gone : Node) : Type 0 where
+    pub after : After es s u m (ends_after_leaving s p e)
     pub front : List (Place Value)
     pub back : List (Place Value)
-    pub was : line_at s e ≡ front ++ place t want ∷ back
+    pub clear : any_sought sought front ≡ false
+    pub found : is_sought sought (place gone.thread gone.want) ≡ true
+    pub was : line_at s e ≡ front ++ place gone.thread gone.want ∷ back
     pub now : places u (e.len - 1) e.first ≡ front ++ back
 
-  pub middle_leaves : (s1 u : Slab Node) (t p : ℕ) (gone : Node) → StandsBefore s e t p → get s (next_of (get s p)) ≡ Some gone → Updates s s1 (next_of (get s p)) None
-      → ((x : Node) → get s1 p ≡ Some x → Updates s1 u p (Some (record x { next = gone.next }))) → slab_len u + 1 ≡ slab_len s → Leaves u t p gone.want
-  middle_leaves s1 u t p gone w left first linked counted =
+  pub middle_leaves : (u : Slab Node) (sought : Sought) (p : ℕ) (gone : Node) → StandsBefore s e sought p → Unlinked s u p gone → slab_len u + 1 ≡ slab_len s → Leaves u sought p gone
+  middle_leaves u sought p gone w unlinked counted =
       let j = next_of (get s p) in
-      let mid = middle_of t p w in
+      let mid = middle_of sought p w in
       let c = long_chain_of es s m e h lt is (suc mid.count) mid.len in
-      let before = on_is_there m (get s p) mid.before_on in
-      let in_s1 : get s1 p ≡ Some before.0 = first.others p mid.apart ∙ before.1 in
-      let second = linked before.0 in_s1 in
-      let unlinks : Unlinks s u p j before.0 gone = record {
-        was = before.1;
-        left = left;
-        follows = ap next_of (sym before.1);
-        linked = second.changed;
-        others = λ x a b. second.others x a ∙ first.others x b;
-      } in
-      let r = tail_without s u m w.steps mid.count e.first e.last p j before.0 gone unlinks w.is (omega (arith, w.within, mid.len)) c.0 c.1 in
+      let step = unlinked.unlinks in
+      let r = tail_without s u m w.steps mid.count e.first e.last p j unlinked.before gone step w.is (omega (arith, w.within, mid.len)) c.0 c.1 in
       let less : suc mid.count ≡ e.len - 1 = omega (arith, mid.len) in
       let size : e.len ≡ (get_or es m e).len = ap (λ (x : Ends). x.len) is in
-      let thread : gone.thread ≡ t = ap (λ o. (place_of o).thread) (sym left) ∙ w.thread in
+      let on_m : (x k : ℕ) → k ≢ m → IsOn k (get s x) → IsOn m (get s x) → ⊥ = λ x k differs there here. differs (on_one k m (get s x) there here) in
       record {
         after = after_write es s u m e _ h lt
-            (λ x k differs there. second.others x (λ z. differs (on_one k m _ (subst (λ y. IsOn k (get s y)) z there) mid.before_on)) ∙ first.others x (λ z. differs (on_one k m _ (subst (λ y. IsOn k (get s y)) z there) mid.gone_on)))
+            (λ x k differs there. step.others x
+            (λ z. on_m x k differs there (subst (λ y. IsOn m (get s y)) (sym z) mid.before_on))
+            (λ z. on_m x k differs there (subst (λ y. IsOn m (get s y)) (sym z) mid.gone_on)))
             (subst (λ n. IsChain u m n e.first (last_after_leaving p j e.last)) less (r.on, r.tail)) (omega (arith, counted, size, mid.len));
-        front = r.front;
+        front = places s (suc w.steps) e.first;
         back = r.back;
-        was = ap (λ n. places s n e.first) mid.len ∙ r.was ∙ ap (λ x. r.front ++ place x gone.want ∷ r.back) thread;
+        clear = w.clear;
+        found = subst (λ o. is_sought sought (place_of o) ≡ true) step.left w.found;
+        was = ap (λ n. places s n e.first) mid.len ∙ r.was;
         now = ap (λ n. places u n e.first) (sym less) ∙ r.now;
       }
 
 -- the same, as callers see it
-pub leaves_one : (es : List Ends) (s u : Slab Node) (capacity m t : ℕ) (old e : Ends) (want : Want) (front back : List (Place Value)) (now new : Lined) → m < length es → old ≡ get_or es m old → lined es s capacity ≡ now → new.lines ≡ map (line_at u) (set es m e) → After es s u m e
-    → line_at s old ≡ front ++ place t want ∷ back → line_at u e ≡ front ++ back → LeavesOne t m now new
-leaves_one es s u capacity m t old e want front back now new lt is view seen a was left =
+pub leaves_first : (es : List Ends) (s u : Slab Node) (capacity m p : ℕ) (old : Ends) (sought : Sought) (gone : Node) (now new : Lined) (h : IsSound es s) (lt : m < length es) (is : old ≡ get_or es m old) → lined es s capacity ≡ now → new.lines ≡ map (line_at u) (set es m (ends_after_leaving s p old)) → Leaves es s m old h lt is u sought p gone
+    → LeavesFirst sought m gone.thread gone.want now new
+leaves_first es s u capacity m p old sought gone now new h lt is view seen l =
     record {
-      front = front;
-      back = back;
-      want = want;
-      was = ap (λ (x : Lined). line_of x m) (sym view) ∙ line_is es s m old lt is ∙ was;
-      now = seen ∙ a.lines ∙ ap (set (map (line_at s) es) m) left ∙ ap (λ (x : Lined). set x.lines m (front ++ back)) view;
+      front = l.front;
+      back = l.back;
+      clear = l.clear;
+      found = l.found;
+      was = ap (λ (x : Lined). line_of x m) (sym view) ∙ line_is es s m old lt is ∙ l.was;
+      now = seen ∙ l.after.lines ∙ ap (set (map (line_at s) es) m) l.now ∙ ap (λ (x : Lined). set x.lines m (l.front ++ l.back)) view;
     }
 
--- ---- the first place, where the thread stands in the line
-stands_some : (t : ℕ) (ps : List (Place Value)) → stands_in t ps ≡ true → ps ≡ [] → ⊥
-stands_some t [] h e = let no : ⊥ = cc in no
-stands_some t (p ∷ ps) h e = let no : ⊥ = cc in no
+-- ---- the first place
+head_of : Place Value → List (Place Value) → Place Value
+head_of d [] = d
+head_of d (p ∷ ps) = p
 
-not_here : (b c : Bool) → cond b true c ≡ true → b ≡ false → c ≡ true
-not_here true c h e = let no : ⊥ = cc in absurd no
-not_here false c h e = h
+same_head : (p q : Place Value) (ps qs : List (Place Value)) → p ∷ ps ≡ q ∷ qs → p ≡ q
+unfolding head_of
+same_head p q ps qs h = ap (head_of p) h
+
+sought_some : (sought : Sought) (ps : List (Place Value)) → any_sought sought ps ≡ true → ps ≡ [] → ⊥
+sought_some sought [] h e = let no : ⊥ = cc in no
+sought_some sought (p ∷ ps) h e = let no : ⊥ = cc in no
 
 module _ (es : List Ends) (s : Slab Node) (capacity m : ℕ) (e : Ends) (now : Lined) (h : IsSound es s) (lt : m < length es) (is : e ≡ get_or es m e) (view : lined es s capacity ≡ now) where
   pub line_seen : line_of now m ≡ line_at s e
   line_seen = ap (λ (x : Lined). line_of x m) (sym view) ∙ line_is es s m e lt is
 
-  pub stands_long : (t : ℕ) → stands_in t (line_of now m) ≡ true → e.len ≡ suc (e.len - 1)
-  stands_long t there =
-      let some : e.len ≢ 0 = λ z. stands_some t (line_of now m) there (line_seen ∙ ap (λ n. places s n e.first) z) in
+  pub sought_long : (sought : Sought) → any_sought sought (line_of now m) ≡ true → e.len ≡ suc (e.len - 1)
+  sought_long sought there =
+      let some : e.len ≢ 0 = λ z. sought_some sought (line_of now m) there (line_seen ∙ ap (λ n. places s n e.first) z) in
       omega (arith, some)
 
-  pub first_on : (t : ℕ) → stands_in t (line_of now m) ≡ true → IsOn m (get s e.first)
-  first_on t there = (long_chain_of es s m e h lt is (e.len - 1) (stands_long t there)).0
+  pub first_on : (sought : Sought) → any_sought sought (line_of now m) ≡ true → IsOn m (get s e.first)
+  first_on sought there = (long_chain_of es s m e h lt is (e.len - 1) (sought_long sought there)).0
 
-  pub stands_behind : (t : ℕ) (node : Node) → stands_in t (line_of now m) ≡ true → get s e.first ≡ Some node → (node.thread ≡ t → ⊥) → stands_in t (behind s e) ≡ true
-  stands_behind t node there at other =
-      let q = stands_long t there in
+  pub sought_behind : (sought : Sought) → any_sought sought (line_of now m) ≡ true → is_sought sought (place_of (get s e.first)) ≡ false → any_sought sought (behind s e) ≡ true
+  sought_behind sought there other =
+      let q = sought_long sought there in
       let line : line_of now m ≡ places s (suc (e.len - 1)) e.first = line_seen ∙ ap (λ n. places s n e.first) q in
-      let thread : (place_of (get s e.first)).thread ≡ node.thread = ap (λ o. (place_of o).thread) at in
-      not_here _ _ (ap (stands_in t) (sym line) ∙ there) (ne_eqb _ t (λ z. other (sym thread ∙ z)))
+      found_later _ _ (ap (any_sought sought) (sym line) ∙ there) other
 
-head_thread : List (Place Value) → ℕ
-head_thread [] = 0
-head_thread (p ∷ ps) = p.thread
-
-pub first_leaves_one : (es : List Ends) (s : Slab Node) (capacity m : ℕ) (e : Ends) (now new : Lined) (h : IsSound es s) (lt : m < length es) (is : e ≡ get_or es m e) (view : lined es s capacity ≡ now) (t : ℕ) (node : Node) (r : Option (ℕ × Want)) → stands_in t (line_of now m) ≡ true → get s e.first ≡ Some node → node.thread ≡ t
-    → MatchOption r ((line_of now m ≡ []) × (new.lines ≡ now.lines)) (λ w. line_of now m ≡ place w.0 w.1 ∷ line_of new m) → new.lines ≡ set now.lines m (line_of new m) → LeavesOne t m now new
-unfolding head_thread
-first_leaves_one es s capacity m e now new h lt is view t node None there at same served lines = absurd (stands_some t (line_of now m) there served.0)
-first_leaves_one es s capacity m e now new h lt is view t node (Some w) there at same served lines =
-    let q = stands_long es s capacity m e now h lt is view t there in
-    let line : line_of now m ≡ places s (suc (e.len - 1)) e.first = line_seen es s capacity m e now h lt is view ∙ ap (λ n. places s n e.first) q in
-    let thread : w.0 ≡ t = ap head_thread (sym served ∙ line) ∙ ap (λ o. (place_of o).thread) at ∙ same in
-    record {
-      front = [];
-      back = line_of new m;
-      want = w.1;
-      was = served ∙ ap (λ x. place x w.1 ∷ line_of new m) thread;
-      now = lines;
-    }
+  -- the place that is served is that of the first node
+  pub served_first : (sought : Sought) (node : Node) (t : ℕ) (want : Want) (rest : List (Place Value)) → any_sought sought (line_of now m) ≡ true → get s e.first ≡ Some node → is_sought sought (place_of (Some node)) ≡ true → line_of now m ≡ place t want ∷ rest → is_sought sought (place t want) ≡ true
+  served_first sought node t want rest there at found served =
+      let q = sought_long sought there in
+      let line : line_of now m ≡ places s (suc (e.len - 1)) e.first = line_seen ∙ ap (λ n. places s n e.first) q in
+      let p : place t want ≡ place_of (get s e.first) = same_head _ _ _ _ (sym served ∙ line) in
+      ap (is_sought sought) (p ∙ ap place_of at) ∙ found

@@ -1,17 +1,20 @@
 -- How nodes of one pool hold lines.
-use Rattle.std.specs.Prelude.{◌≡◌, ◌≢◌, [], ◌∷◌, ℕ, zero, suc, ◌-◌, ◌<◌, ◌≤◌, min, List, length, map, sum_by, slice_index_or, slice_set, Option, Some, None, cond, ◌==◌, true, ◌++◌, ◌+◌}
+use Rattle.std.specs.Prelude.{◌≡◌, ◌≢◌, [], ◌∷◌, ℕ, zero, suc, ◌-◌, ◌<◌, ◌≤◌, min, List, length, map, sum_by, slice_index_or, slice_set, Bool, Option, Some, None, cond, ◌==◌, true, false, ◌++◌, ◌+◌}
 use Rattle.hs_base.specs.declared.value.Value.{Value}
-use Rattle.rules_waiting.specs.OneCell.{To_take, To_put, Place, stands_in}
+use Rattle.rules_waiting.specs.OneCell.{To_take, To_read, To_put, Place, reads_it}
 use Rattle.rules_waiting.specs.OneCell as one
 use Rattle.slab.specs.Slab.{Slab, get, slab_len}
 use Rattle.mvar_cell.specs.declared.lines.Want.{Want}
-use Rattle.mvar_cell.specs.declared.lines.Want.TheVariants.{Take, Put}
+use Rattle.mvar_cell.specs.declared.lines.Want.TheVariants.{Take, Read, Put}
+use Rattle.mvar_cell.specs.declared.lines.Sought.{Sought}
+use Rattle.mvar_cell.specs.declared.lines.Sought.TheVariants.{Thread, Reader}
 use Rattle.mvar_cell.specs.declared.lines.Node.{Node}
 use Rattle.mvar_cell.specs.declared.lines.Ends.{Ends}
 use Rattle.mvar_cell.specs.Lined.{Lined, line_of}
 
 abbrev pub want_of : Want → one.Want Value
 want_of Take = To_take
+want_of Read = To_read
 want_of (Put v) = To_put v
 
 abbrev pub place : ℕ → Want → Place Value
@@ -62,7 +65,16 @@ abbrev pub lined : List Ends → Slab Node → ℕ → Lined
 lined es s capacity =
     record { lines = map (line_at s) es; spare = min (capacity - length es) (s.capacity - slab_len s) }
 
--- ---- a place in the middle leaves
+-- ---- a place is sought, and leaves
+abbrev pub is_sought : Sought → Place Value → Bool
+is_sought (Thread t) p = p.thread == t
+is_sought Reader p = reads_it p.want
+
+-- whether one of these places is sought
+abbrev pub any_sought : Sought → List (Place Value) → Bool
+any_sought k [] = false
+any_sought k (p ∷ ps) = cond (is_sought k p) true (any_sought k ps)
+
 -- the node that stands so many places behind node i
 abbrev pub walk : Slab Node → ℕ → ℕ → ℕ
 walk s zero i = i
@@ -76,25 +88,53 @@ last_after_leaving p j z = cond (j == z) p z
 abbrev pub behind : Slab Node → Ends → List (Place Value)
 behind s e = places s (e.len - 1) (next_of (get s e.first))
 
--- node p of this line stands before the place of thread t
-pub record StandsBefore (s : Slab Node) (e : Ends) (t p : ℕ) : Type 0 where
+-- node p of this line stands before the first place that is sought
+pub record StandsBefore (s : Slab Node) (e : Ends) (sought : Sought) (p : ℕ) : Type 0 where
   pub steps : ℕ
   pub within : steps + 1 < e.len
   pub is : p ≡ walk s steps e.first
-  pub thread : (place_of (get s (next_of (get s p)))).thread ≡ t
+  pub found : is_sought sought (place_of (get s (next_of (get s p)))) ≡ true
+  pub clear : any_sought sought (places s (suc steps) e.first) ≡ false
 
--- a walk along a line has come to this node, and thread t stands behind it
-pub record Walks (s : Slab Node) (e : Ends) (t step at : ℕ) : Type 0 where
+-- a walk along a line has come to this node, no place up to it is sought, and one behind it is
+pub record Walks (s : Slab Node) (e : Ends) (sought : Sought) (step at : ℕ) : Type 0 where
   pub line : ℕ
   pub is : at ≡ walk s (step - 1) e.first
   pub on : IsOn line (get s at)
   pub tail : IsTail s line (e.len - step) at e.last
-  pub stands : stands_in t (places s (e.len - step) (next_of (get s at))) ≡ true
+  pub stands : any_sought sought (places s (e.len - step) (next_of (get s at))) ≡ true
+  pub clear : any_sought sought (places s step e.first) ≡ false
 
--- one place of the thread is left out of line m, and all other lines are as they were
-pub record LeavesOne (t m : ℕ) (old new : Lined) : Type 0 where
+-- node p, and behind it node j, which leaves
+pub record Unlinks (s u : Slab Node) (p j : ℕ) (before gone : Node) : Type 0 where
+  pub was : get s p ≡ Some before
+  pub left : get s j ≡ Some gone
+  pub follows : before.next ≡ j
+  pub linked : get u p ≡ Some (record before { next = gone.next })
+  pub others : (x : ℕ) → x ≢ p → x ≢ j → get u x ≡ get s x
+
+-- node p is followed by another, of the same line
+pub record IsFollowed (s : Slab Node) (e : Ends) (p : ℕ) : Type 0 where
+  pub line : ℕ
+  pub long : 1 < e.len
+  pub before_on : IsOn line (get s p)
+  pub gone_on : IsOn line (get s (next_of (get s p)))
+  pub apart : p ≢ next_of (get s p)
+
+-- this node left from behind node p
+pub record Unlinked (s u : Slab Node) (p : ℕ) (gone : Node) : Type 0 where
+  pub before : Node
+  pub unlinks : Unlinks s u p (next_of (get s p)) before gone
+
+-- the ends of a line once a node has left from behind node p
+abbrev pub ends_after_leaving : Slab Node → ℕ → Ends → Ends
+ends_after_leaving s p e = record { first = e.first; last = last_after_leaving p (next_of (get s p)) e.last; len = e.len - 1 }
+
+-- the first place of line m that is sought is left out, and all other lines are as they were
+pub record LeavesFirst (sought : Sought) (m t : ℕ) (want : Want) (old new : Lined) : Type 0 where
   pub front : List (Place Value)
   pub back : List (Place Value)
-  pub want : Want
+  pub clear : any_sought sought front ≡ false
+  pub found : is_sought sought (place t want) ≡ true
   pub was : line_of old m ≡ front ++ place t want ∷ back
   pub now : new.lines ≡ slice_set old.lines m (front ++ back)

@@ -1,8 +1,8 @@
-ghost use Rattle.std.specs.Prelude.{◌≡◌, ◌+◌, ◌<◌, ◌≤◌, [], ◌∷◌, ◌++◌, length, slice_set, OnOk, Some, MatchOption, ℕ, true};
+ghost use Rattle.std.specs.Prelude.{◌≡◌, ◌+◌, ◌^◌, ◌<◌, ◌≤◌, [], ◌∷◌, ◌++◌, length, slice_set, OnOk, Some, MatchOption, ℕ, true, false};
 ghost use Rattle.slab.specs.Slab.{get, slab_len, ContainsKey, Updates};
 ghost use Rattle.mvar_cell.specs.Lined.{line_of};
-ghost use Rattle.mvar_cell.specs.Nodes.{place, IsLine, StandsBefore, LeavesOne, behind, last_after_leaving};
-ghost use Rattle.rules_waiting.specs.OneCell.{stands_in};
+ghost use Rattle.mvar_cell.specs.Nodes.{place, place_of, want_of, is_sought, any_sought, IsLine, StandsBefore, LeavesFirst, IsFollowed, Unlinked, behind, ends_after_leaving};
+ghost use Rattle.rules_waiting.specs.OneCell.{reads_it};
 ghost use Rattle.mvar_cell.specs.declared.lines.Node.{Node};
 
 use hs_base::Value;
@@ -14,7 +14,34 @@ use std::marker::Model;
 #[derive(Drop)]
 pub enum Want {
     Take,
+    Read,
     Put(Value),
+}
+
+impl Want {
+    pub fn reads(&self) -> bool
+        ensures { result ≡ reads_it (want_of self.now) }
+    {
+        matches!(self, Want::Read)
+    }
+}
+
+/// Which place of a line is sought: that of a thread, or the first of a reader.
+#[derive(Clone, Copy)]
+pub enum Sought {
+    Thread(u32),
+    Reader,
+}
+
+impl Sought {
+    fn is_at(self, node: &Node) -> bool
+        ensures { result ≡ is_sought self (place_of (Some node.now)) }
+    {
+        match self {
+            Sought::Thread(thread) => node.thread == thread,
+            Sought::Reader => node.want.reads(),
+        }
+    }
 }
 
 /// A place in a line, and the key of the place behind it.
@@ -70,17 +97,18 @@ fn link(nodes: &mut Slab<Node>, key: usize, next: usize)
     }
 }
 
-/// The node before the one where the thread stands, behind the first.
-fn before(nodes: &Slab<Node>, ends: Ends, thread: u32) -> usize
+/// The node before the first that is sought, where the first of all isn't.
+fn before(nodes: &Slab<Node>, ends: Ends, sought: Sought) -> usize
     requires chain { (k : ℕ) × IsLine nodes.now k ends }
     requires some { 0 < ends.len }
-    requires stands { stands_in thread (behind nodes.now ends) ≡ true }
-    ensures { StandsBefore nodes.now ends thread result }
+    requires first { is_sought sought (place_of (get nodes.now ends.first)) ≡ false }
+    requires stands { any_sought sought (behind nodes.now ends) ≡ true }
+    ensures { StandsBefore nodes.now ends sought result }
 {
     let mut at = ends.first;
     'walk: for _step in 1..ends.len {
         let next = nodes[at].next;
-        if nodes[next].thread == thread {
+        if sought.is_at(&nodes[next]) {
             return at;
         }
         at = next;
@@ -88,11 +116,23 @@ fn before(nodes: &Slab<Node>, ends: Ends, thread: u32) -> usize
     unreachable!()
 }
 
-/// The last node, once this key has left from behind that one.
-fn last_without(last: usize, key: usize, before: usize) -> usize
-    ensures { result ≡ last_after_leaving before key last }
+/// Takes the node behind this one out of its line; answers it, and the ends of the line.
+fn unlink(nodes: &mut Slab<Node>, ends: Ends, before: usize) -> (Node, Ends)
+    requires { IsFollowed nodes.old ends before }
+    ensures unlinked { Unlinked nodes.old nodes.new before result.0 }
+    ensures ends { result.1 ≡ ends_after_leaving nodes.old before ends }
+    ensures len { slab_len nodes.new + 1 ≡ slab_len nodes.old }
+    ensures capacity { nodes.new.capacity ≡ nodes.old.capacity }
 {
-    if key == last { before } else { last }
+    let key = nodes[before].next;
+    let gone = nodes.remove(key);
+    link(nodes, before, gone.next);
+    let ends = Ends {
+        first: ends.first,
+        last: if key == ends.last { before } else { ends.last },
+        len: ends.len - 1,
+    };
+    (gone, ends)
 }
 
 impl Lines {
@@ -139,6 +179,7 @@ impl Lines {
         requires within { line < length self.old.lines }
         requires spare { 1 ≤ self.old.spare }
         ensures lines { self.new.lines ≡ slice_set self.old.lines line (line_of self.old line ++ place thread want ∷ []) }
+        ensures short { length (line_of self.old line) + 1 < 2 ^ 64 }
         ensures spare { self.old.spare ≤ self.new.spare + 1 }
     {
         let key = self.nodes.insert_reserved(Node {
@@ -192,26 +233,24 @@ impl Lines {
         Some((thread, want))
     }
 
-    /// The thread leaves the line in which it stands.
-    pub fn leave(&mut self, line: usize, thread: u32)
+    /// The first place that is sought leaves the line: its thread, and what it wanted. The time grows with how many stand
+    /// in front of it.
+    pub fn leave(&mut self, line: usize, sought: Sought) -> (u32, Want)
         requires within { line < length self.old.lines }
-        requires stands { stands_in thread (line_of self.old line) ≡ true }
-        ensures lines { LeavesOne thread line self.old self.new }
+        requires stands { any_sought sought (line_of self.old line) ≡ true }
+        ensures lines { LeavesFirst sought line result.0 result.1 self.old self.new }
         ensures spare { self.old.spare ≤ self.new.spare }
     {
         let ends = self.ends[line];
-        if self.nodes[ends.first].thread == thread {
-            let _ = self.serve(line);
-            return;
+        if sought.is_at(&self.nodes[ends.first]) {
+            return match self.serve(line) {
+                Some(place) => place,
+                None => unreachable!(),
+            };
         }
-        let before = before(&self.nodes, ends, thread);
-        let key = self.nodes[before].next;
-        let next = self.nodes.remove(key).next;
-        link(&mut self.nodes, before, next);
-        self.ends[line] = Ends {
-            first: ends.first,
-            last: last_without(ends.last, key, before),
-            len: ends.len - 1,
-        };
+        let before = before(&self.nodes, ends, sought);
+        let (gone, ends) = unlink(&mut self.nodes, ends, before);
+        self.ends[line] = ends;
+        (gone.thread, gone.want)
     }
 }

@@ -98,6 +98,7 @@ same_exn x.DivideByZero x.DivideByZero = true
 same_exn x.Overflow x.Overflow = true
 same_exn (x.Timeout m) (x.Timeout k) = m == k
 same_exn x.TextLimit x.TextLimit = true
+same_exn x.BlockedIndefinitely x.BlockedIndefinitely = true
 same_exn _ _ = false
 
 abbrev pub same_truth : Bool → Bool → Bool

@@ -11,7 +11,7 @@ use Rattle.rules_typing.specs.Typing as typing
 use Rattle.rules_typing.specs.TypingScripts.{params_in}
 use Rattle.rules_trees.specs.Programs.{Bd, pure_body, io_body, Fn}
 
--- ---- values of a type, where cells says which cell is of which type
+-- ---- values of a type, where cells says which number is of which type: a cell's of an `MVar` type, a thread's of `ThreadId`
 abbrev pub of_unit : V → Type 0
 of_unit UnitValue = Unit {0}
 of_unit _ = ⊥
@@ -28,9 +28,9 @@ abbrev pub of_text : V → Type 0
 of_text (Text t) = Unit {0}
 of_text _ = ⊥
 
-abbrev pub of_thread : V → Type 0
-of_thread (val.Thread m) = Unit {0}
-of_thread _ = ⊥
+abbrev pub of_thread : (ℕ → Type 0) → V → Type 0
+of_thread P (val.Thread m) = P m
+of_thread P _ = ⊥
 
 abbrev pub of_exn : V → Type 0
 of_exn (Exception e) = Unit {0}
@@ -65,13 +65,13 @@ module _ (cells : ℕ → T → Type 0) where
   HasV int = of_int
   HasV bool = of_bool
   HasV text = of_text
-  HasV thread = of_thread
+  HasV thread = of_thread (λ m. cells m thread)
   HasV exn = of_exn
   HasV (pair a c) = of_pair (HasV a) (HasV c)
   HasV (maybe a) = of_maybe (HasV a)
   HasV (either a c) = of_either (HasV a) (HasV c)
   HasV (list a) = of_list (HasV a)
-  HasV (cell a) = of_cell (λ m. cells m a)
+  HasV (cell a) = of_cell (λ m. cells m (cell a))
 
   -- a value of the type, or an exception
   abbrev pub Good : T → Outcome → Type 0
@@ -145,7 +145,8 @@ abbrev mutual
   WellArms (list_arms a x y e) = Well a × Well e
   WellArms (pair_arms x y a) = Well a
 
--- a cell is of every `MVar` type: that what it holds has the type is a fact of a state
+-- a cell is of every `MVar` type and each thread is there: that what a cell holds has the type, and how many threads there
+-- are, are facts of a state
 abbrev pub any_cell : ℕ → T → Type 0
 any_cell m t = Unit {0}
 

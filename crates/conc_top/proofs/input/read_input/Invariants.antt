@@ -1,5 +1,5 @@
 use Rattle.std.proofs.Common.{◌-◌, ◌+◌, length}
-use Rattle.conc_top.specs.Answers.{script_limit}
+use Rattle.hs_compile.specs.Verdicts.{script_limit}
 use Rattle.conc_top.specs.Inputs.{HasTaken}
 use Rattle.conc_top.proofs.input.read_input.Given as goal
 

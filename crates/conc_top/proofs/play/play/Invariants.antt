@@ -8,7 +8,7 @@ pub record IsUnderWay (lines rest : _) (history : _) (output : _) : Type 0 where
   pub printed : output ++ lines_of rest ≡ lines_of lines
 
 abbrev pub invariant-loop-line : goal.invariant-loop-line
-invariant-loop-line l = IsUnderWay l.fn.lines l.rest l.history l.output.items
+invariant-loop-line l = IsUnderWay l.fn.lines l.rest l.history.list l.output.items
 
 abbrev pub decreases-loop-line : goal.decreases-loop-line
 decreases-loop-line l = length l.rest

@@ -1,32 +1,64 @@
 -- A put by the put that never waits.
-use Rattle.std.proofs.Common.{sym, ap, not, is_some}
-use Rattle.mvar_cell.proofs.CellLaws.{nowhere_at, put_found_full, put_changed_nothing, as_before, cell_within, cells_wait, waits_here, put_blocks, put_done, put_served_taker}
+use Rattle.std.proofs.Common.{◌≡◌, ◌+◌, is_some, Option, Some, None, refl, ap, sym, ◌∙◌, arith, get_or}
+use Rattle.std.proofs.lemmas.List.{set-get_or}
+use Rattle.hs_base.specs.declared.value.Value.{Value}
+use Rattle.rules_waiting.specs.OneCell.{Put, To_put}
+use Rattle.mvar_cell.specs.Mvars.{Mvars, cells_of, no_content}
+use Rattle.mvar_cell.specs.Calls.{cell_at}
+use Rattle.mvar_cell.proofs.CellLaws.{put_full, put_by_try, put_serves_by_try, nothing_put}
+use Rattle.mvar_cell.proofs.Seen.{within}
+use Rattle.mvar_cell.proofs.Steps.{content_is, joins, cells_join}
 use Rattle.mvar_cell.proofs.cells.Cells.put.Goals as goal
 
 pub join-requires-clause-within : goal.join-requires-clause-within
 join-requires-clause-within c =
-    let call = c.in-Full.ensures.call c.args.t in
-    let u = as_before _ _ _ _ (put_changed_nothing c.args.t _ c.args.v _ _ call) c.self.view_is in
-    cell_within _ _ _ u c.self.invariant c.requires.exists
+    let to = c.in-Full.ensures.to in
+    let ss = c.self.inside.stored.items in
+    let ls = c.self.inside.lines.lines in
+    let seen : cells_of ss ls ≡ c.args.self.now.cells = ap (λ (x : Mvars). x.cells) c.self.view_is ∙ nothing_put c.args.t c.args.m c.args.v to.0 c.args.self.now _ _ to.1 (c.in-Full.ensures.call c.args.t) in
+    let lt = c.requires.exists in
+    let at = within c.args.m c.args.self.now ss ls c.self.invariant seen lt in
+    at.lines
 
 pub invariant_of-self : goal.invariant_of-self
 invariant_of-self c =
-    let call = c.in-Full.ensures.call c.args.t in
-    let full = put_found_full c.args.t _ c.args.v _ _ call in
-    let u = as_before _ _ _ _ (put_changed_nothing c.args.t _ c.args.v _ _ call) c.self.view_is in
-    cells_wait _ _ _ _ _ u c.self.invariant c.requires.exists (ap (λ o. not (is_some o)) (sym full.1)) (nowhere_at c.args.t c.args.self.now.lines c.args.m c.requires.alone) c.join.ensures.lines
+    let to = c.in-Full.ensures.to in
+    let ss = c.self.inside.stored.items in
+    let ls = c.self.inside.lines.lines in
+    let seen : cells_of ss ls ≡ c.args.self.now.cells = ap (λ (x : Mvars). x.cells) c.self.view_is ∙ nothing_put c.args.t c.args.m c.args.v to.0 c.args.self.now _ _ to.1 (c.in-Full.ensures.call c.args.t) in
+    let lt = c.requires.exists in
+    let at = within c.args.m c.args.self.now ss ls c.self.invariant seen lt in
+    let stored : (get_or ss c.args.m no_content).content ≡ Some to.0 = sym (content_is c.args.m c.args.self.now ss ls c.self.invariant seen lt _ refl) ∙ to.1 in
+    cells_join c.args.m c.args.self.now ss ls c.self.invariant seen lt (get_or ss c.args.m no_content) ss c.join.new.self.lines (record { thread = c.args.t; want = To_put c.in-Full.value }) (ap (λ (o : Option Value). is_some o) (sym stored)) c.requires.alone refl (let z : (get_or ss c.args.m no_content).readers ≡ (get_or ss c.args.m no_content).readers + 0 = omega arith in z) c.join.ensures.lines (sym (set-get_or ss c.args.m no_content))
 
 pub returns-in-Full-clause-call : goal.returns-in-Full-clause-call
 returns-in-Full-clause-call c =
-    let e = c.in-Full.ensures in
-    let call = e.call c.args.t in
-    let full = put_found_full c.args.t _ c.args.v _ _ call in
-    let u = as_before _ _ _ _ (put_changed_nothing c.args.t _ c.args.v _ _ call) c.self.view_is in
-    put_blocks c.args.t c.args.m c.args.v full.0 _ _ full.1 u.contents (rw (← e.back) (waits_here _ _ _ _ _ u c.join.ensures.lines))
+    let to = c.in-Full.ensures.to in
+    let ss = c.self.inside.stored.items in
+    let ls = c.self.inside.lines.lines in
+    let seen : cells_of ss ls ≡ c.args.self.now.cells = ap (λ (x : Mvars). x.cells) c.self.view_is ∙ nothing_put c.args.t c.args.m c.args.v to.0 c.args.self.now _ _ to.1 (c.in-Full.ensures.call c.args.t) in
+    let lt = c.requires.exists in
+    let at = within c.args.m c.args.self.now ss ls c.self.invariant seen lt in
+    let lines = rw c.in-Full.ensures.back at c.join.ensures.lines in
+    joins c.args.m c.args.self.now ss ls c.self.invariant seen lt (Put c.args.t c.args.v) _ ss (get_or ss c.args.m no_content) c.join.new.self.lines (record { thread = c.args.t; want = To_put c.args.v }) (put_full c.args.t (cell_at c.args.m c.args.self.now) c.args.v to.0 to.1) refl lines (sym (set-get_or ss c.args.m no_content)) refl
+
+pub returns-in-Full-clause-to : goal.returns-in-Full-clause-to
+returns-in-Full-clause-to c =
+    c.in-Full.ensures.to
 
 pub returns-in-Done-clause-call : goal.returns-in-Done-clause-call
-returns-in-Done-clause-call c = put_done c.args.t c.args.m c.args.v _ _ (c.in-Done.ensures.call c.args.t)
+returns-in-Done-clause-call c =
+    put_by_try c.args.t c.args.m c.args.self.now _ c.args.v None _ c.in-Done.ensures.to c.requires.no_reader (c.in-Done.ensures.call c.args.t)
+
+pub returns-in-Done-clause-to : goal.returns-in-Done-clause-to
+returns-in-Done-clause-to c =
+    c.in-Done.ensures.to
 
 pub returns-in-Served-clause-call : goal.returns-in-Served-clause-call
 returns-in-Served-clause-call c =
-    put_served_taker c.args.t c.args.m c.in-Served.taker c.args.v c.in-Served.value _ _ (c.in-Served.ensures.call c.args.t)
+    let to = c.in-Served.ensures.to in
+    put_serves_by_try c.args.t c.args.m c.in-Served.taker c.args.self.now _ c.args.v c.in-Served.value _ to.0 to.1 c.requires.no_reader (c.in-Served.ensures.call c.args.t)
+
+pub returns-in-Served-clause-to : goal.returns-in-Served-clause-to
+returns-in-Served-clause-to c =
+    c.in-Served.ensures.to

@@ -1,32 +1,65 @@
 -- A take by the take that never waits.
-use Rattle.std.proofs.Common.{sym, ap, not, is_some}
-use Rattle.mvar_cell.proofs.CellLaws.{nowhere_at, take_found_none, take_changed_nothing, as_before, cell_within, cells_wait, waits_here, take_blocks, take_by_try}
+use Rattle.std.proofs.Common.{◌≡◌, ◌+◌, is_some, Option, Some, None, refl, ap, sym, ◌∙◌, arith, get_or}
+use Rattle.std.proofs.lemmas.List.{set-get_or}
+use Rattle.hs_base.specs.declared.value.Value.{Value}
+use Rattle.rules_waiting.specs.OneCell.{Take, To_take}
+use Rattle.mvar_cell.specs.Mvars.{Mvars, cells_of, no_content}
+use Rattle.mvar_cell.specs.Calls.{cell_at}
+use Rattle.mvar_cell.proofs.CellLaws.{take_empty, take_by_try, nothing_taken}
+use Rattle.mvar_cell.proofs.Seen.{within}
+use Rattle.mvar_cell.proofs.Steps.{content_is, joins, cells_join}
 use Rattle.mvar_cell.proofs.cells.Cells.take.Goals as goal
 
 pub join-requires-clause-within : goal.join-requires-clause-within
 join-requires-clause-within c =
-    let call = c.in_default.ensures.call c.args.t in
-    let u = as_before _ _ _ _ (take_changed_nothing c.args.t _ _ _ call) c.self.view_is in
-    cell_within _ _ _ u c.self.invariant c.requires.exists
+    let e = c.in_default.ensures.from in
+    let ss = c.self.inside.stored.items in
+    let ls = c.self.inside.lines.lines in
+    let seen : cells_of ss ls ≡ c.args.self.now.cells = ap (λ (x : Mvars). x.cells) c.self.view_is ∙ nothing_taken c.args.t c.args.m c.args.self.now _ _ e (c.in_default.ensures.call c.args.t) in
+    let lt = c.requires.exists in
+    let at = within c.args.m c.args.self.now ss ls c.self.invariant seen lt in
+    at.lines
 
 pub invariant_of-self : goal.invariant_of-self
 invariant_of-self c =
-    let call = c.in_default.ensures.call c.args.t in
-    let empty = take_found_none c.args.t _ _ _ call in
-    let u = as_before _ _ _ _ (take_changed_nothing c.args.t _ _ _ call) c.self.view_is in
-    cells_wait _ _ _ _ _ u c.self.invariant c.requires.exists (ap (λ o. not (is_some o)) (sym empty)) (nowhere_at c.args.t c.args.self.now.lines c.args.m c.requires.alone) c.join.ensures.lines
+    let e = c.in_default.ensures.from in
+    let ss = c.self.inside.stored.items in
+    let ls = c.self.inside.lines.lines in
+    let seen : cells_of ss ls ≡ c.args.self.now.cells = ap (λ (x : Mvars). x.cells) c.self.view_is ∙ nothing_taken c.args.t c.args.m c.args.self.now _ _ e (c.in_default.ensures.call c.args.t) in
+    let lt = c.requires.exists in
+    let at = within c.args.m c.args.self.now ss ls c.self.invariant seen lt in
+    let stored : (get_or ss c.args.m no_content).content ≡ None = sym (content_is c.args.m c.args.self.now ss ls c.self.invariant seen lt _ refl) ∙ e in
+    cells_join c.args.m c.args.self.now ss ls c.self.invariant seen lt (get_or ss c.args.m no_content) ss c.join.new.self.lines (record { thread = c.args.t; want = To_take }) (ap (λ (o : Option Value). is_some o) (sym stored)) c.requires.alone refl (let z : (get_or ss c.args.m no_content).readers ≡ (get_or ss c.args.m no_content).readers + 0 = omega arith in z) c.join.ensures.lines (sym (set-get_or ss c.args.m no_content))
 
 pub returns-in_default-clause-call : goal.returns-in_default-clause-call
 returns-in_default-clause-call c =
-    let call = c.in_default.ensures.call c.args.t in
-    let empty = take_found_none c.args.t _ _ _ call in
-    let u = as_before _ _ _ _ (take_changed_nothing c.args.t _ _ _ call) c.self.view_is in
-    take_blocks c.args.t c.args.m _ _ empty u.contents (waits_here _ _ _ _ _ u c.join.ensures.lines)
+    let e = c.in_default.ensures.from in
+    let ss = c.self.inside.stored.items in
+    let ls = c.self.inside.lines.lines in
+    let seen : cells_of ss ls ≡ c.args.self.now.cells = ap (λ (x : Mvars). x.cells) c.self.view_is ∙ nothing_taken c.args.t c.args.m c.args.self.now _ _ e (c.in_default.ensures.call c.args.t) in
+    let lt = c.requires.exists in
+    let at = within c.args.m c.args.self.now ss ls c.self.invariant seen lt in
+    joins c.args.m c.args.self.now ss ls c.self.invariant seen lt (Take c.args.t) _ ss (get_or ss c.args.m no_content) c.join.new.self.lines (record { thread = c.args.t; want = To_take }) (take_empty c.args.t (cell_at c.args.m c.args.self.now) e) refl c.join.ensures.lines (sym (set-get_or ss c.args.m no_content)) refl
+
+pub returns-in_default-clause-from : goal.returns-in_default-clause-from
+returns-in_default-clause-from c =
+    let e = c.in_default.ensures.from in
+    e
 
 pub returns-in-None-clause-call : goal.returns-in-None-clause-call
 returns-in-None-clause-call c =
-    take_by_try c.args.t c.args.m _ _ _ _ (rw c.in-None.is at (c.in-Some.ensures.call c.args.t))
+    let full = rw c.in-None.is at c.in-Some.ensures.from in
+    take_by_try c.args.t c.args.m c.args.self.now _ c.in-Some.value None _ full (c.in-Some.ensures.call c.args.t)
+
+pub returns-in-None-clause-from : goal.returns-in-None-clause-from
+returns-in-None-clause-from c =
+    rw c.in-None.is at c.in-Some.ensures.from
 
 pub returns-in-Some-putter-clause-call : goal.returns-in-Some-putter-clause-call
 returns-in-Some-putter-clause-call c =
-    take_by_try c.args.t c.args.m _ _ _ _ (rw c.in-Some-putter.is at (c.in-Some.ensures.call c.args.t))
+    let full = rw c.in-Some-putter.is at c.in-Some.ensures.from in
+    take_by_try c.args.t c.args.m c.args.self.now _ c.in-Some.value (Some (c.in-Some-putter.putter, full.0)) _ full.1 (c.in-Some.ensures.call c.args.t)
+
+pub returns-in-Some-putter-clause-from : goal.returns-in-Some-putter-clause-from
+returns-in-Some-putter-clause-from c =
+    rw c.in-Some-putter.is at c.in-Some.ensures.from

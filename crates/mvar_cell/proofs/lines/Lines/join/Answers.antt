@@ -1,7 +1,7 @@
 -- A node is added behind the last of its line.
 use Rattle.std.proofs.Common.{◌≡◌, [], ◌∷◌, ◌++◌, ◌-◌, suc, arith, sym, ap, ◌∙◌, subst, IsSome, refl}
 use Rattle.mvar_cell.specs.Nodes.{place, places, place_of}
-use Rattle.mvar_cell.proofs.Writes.{first_joins, later_joins, last_after, len_within, within_lines, joined_lines}
+use Rattle.mvar_cell.proofs.Writes.{first_joins, later_joins, last_after, len_within, within_lines, joined_lines, line_length}
 use Rattle.mvar_cell.proofs.lines.Lines.join.Goals as goal
 
 pub invariant_of-self : goal.invariant_of-self
@@ -41,3 +41,11 @@ returns-else-ends-eq0-clause-lines c =
     let q : c.index-ends.result.now.len ≡ suc (c.index-ends.result.now.len - 1) = omega (arith, c.if-ends-eq0.false) in
     let joins = later_joins c.self.inside.ends.items c.self.inside.nodes c.args.line c.index-ends.result.now c.self.invariant lt c.index-ends.ensures c.insert_reserved-key.new.self c.link.new.nodes (c.index-ends.result.now.len - 1) c.insert_reserved-key.result _ q c.insert_reserved-key.ensures.was_vacant c.insert_reserved-key.ensures.updates c.link.ensures.linked refl (c.link.ensures.len ∙ c.insert_reserved-key.ensures.len) in
     rw (← c.self.view_is) (joined_lines _ _ _ _ c.index-ends.result.now _ _ lt c.index-ends.ensures joins.after joins.line)
+
+pub returns-else-ends-eq0-clause-short : goal.returns-else-ends-eq0-clause-short
+returns-else-ends-eq0-clause-short c =
+    let lt = within_lines c.self.inside.ends.items c.self.inside.nodes c.self.inside.ends.cap c.args.line c.args.self.now c.self.view_is c.requires.within in
+    let short = len_within c.self.inside.ends.items c.self.inside.nodes c.args.line c.index-ends.result.now c.self.invariant lt in
+    let size = ap (λ x. x.len) c.index-ends.ensures in
+    let long = line_length c.self.inside.ends.items c.self.inside.nodes c.self.inside.ends.cap c.args.line c.index-ends.result.now c.args.self.now c.self.view_is lt c.index-ends.ensures in
+    omega (arith, long, short, size, c.len.type_inv, c.len.ensures, c.link.ensures.len, c.insert_reserved-key.ensures.len)

@@ -1,0 +1,4 @@
+pub mod TurnRule
+pub mod Views
+pub mod Seats
+pub mod Turns

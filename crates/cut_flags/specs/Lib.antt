@@ -1,0 +1,2 @@
+pub mod FlagsRule
+pub mod Pens

@@ -1,0 +1,6 @@
+pub mod Options
+pub mod Lines
+pub mod Performing
+pub mod Entering
+pub mod Driving
+mod LateRuns

@@ -1,0 +1,9 @@
+pub mod Surface
+pub mod Heads
+pub mod Moves
+pub mod Stores
+pub mod Sounds
+pub mod Operations
+pub mod Entries
+pub mod Quiet
+pub mod Evaluations

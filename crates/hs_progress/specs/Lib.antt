@@ -1,0 +1,4 @@
+pub mod CoreTyping
+pub mod TypedStates
+pub mod GoingOn
+pub mod Evaluated

@@ -1,0 +1,3 @@
+pub mod QueueRule
+pub mod Deques
+pub mod Inboxes
