@@ -7,11 +7,11 @@ use Rattle.rules_tokens.specs.declared.token.Tokens.{Tokens}
 use Rattle.rules_grammar.specs.Grammar.{SpellsWithin, IsUnexpected, IsTooDeep}
 use Rattle.hs_grammar.specs.Parser.{Why, unexpected, too_deep, Out, Done, Stop, Parser, bind, done, read, read_then, enter, at_end, whole, Means}
 use Rattle.hs_grammar.proofs.Main.{means}
-use Rattle.hs_parse.specs.declared.halt.Halt.{Halt}
-use Rattle.hs_parse.specs.declared.halt.Halt.TheVariants as h
+use Rattle.parse_leaves.specs.declared.halt.Halt.{Halt}
+use Rattle.parse_leaves.specs.declared.halt.Halt.TheVariants as h
 use Rattle.hs_parse.specs.declared.fault.ParseFault.TheVariants as fault
-use Rattle.hs_parse.specs.Reads.{Reads, head_of, many_of}
-use Rattle.hs_parse.proofs.Steps.{reads_bind, reads_next, call_ok, call_err}
+use Rattle.parse_leaves.specs.Reads.{Reads, head_of, many_of}
+use Rattle.parse_leaves.proofs.Steps.{reads_bind, reads_next, call_ok, call_err}
 use Rattle.hs_base.specs.declared.tree.script.Def.{Def}
 use Rattle.rules_grammar.specs.Grammar as g
 use Rattle.hs_parse.specs.Parsed.{Parsed, place}

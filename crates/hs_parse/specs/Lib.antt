@@ -1,4 +1,1 @@
-pub mod Blocks
-pub mod Exprs
 pub mod Parsed
-pub mod Reads

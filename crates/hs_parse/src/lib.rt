@@ -6,18 +6,9 @@
 //! What the tokens of a text are is left to the lexer, and what a script means to the typing.
 #![tactic(auto)]
 
-mod action;
-mod arms;
-mod cursor;
-mod expr;
 mod fault;
-mod halt;
-mod leaf;
 mod parsing;
 mod script;
-mod step;
-mod trees;
-mod types;
 
 pub use fault::ParseFault;
 pub use parsing::parse;

@@ -2,12 +2,12 @@ ghost use Rattle.std.specs.Prelude.{◌≡◌, ◌≤◌, ◌++◌, List, length
 ghost use Rattle.rules_tokens.specs.declared.token.Token.{Token};
 ghost use Rattle.hs_grammar.specs.Parser as parser;
 ghost use Rattle.hs_parse.specs.Parsed.{Parsed, place};
-ghost use Rattle.hs_parse.specs.Reads.{Reads};
+ghost use Rattle.parse_leaves.specs.Reads.{Reads};
 
-use crate::cursor::Cursor;
 use crate::fault::ParseFault;
-use crate::halt::Halt;
+use crate::script::script;
 use hs_base::{Pos, Script};
+use parse_leaves::{Cursor, Halt};
 use rules_tokens::Tokens;
 use std::alloc::Global;
 
@@ -23,7 +23,7 @@ pub fn parse(alloc: Global, tokens: &Tokens) -> Result<Script, ParseFault>
     ensures { Parsed tokens.now result }
 {
     let mut cursor = Cursor::new(tokens.list.as_slice());
-    match cursor.script(alloc, DEPTH) {
+    match script(&mut cursor, alloc, DEPTH) {
         Ok(script) => Ok(script),
         Err(Halt::Unexpected(left)) => Err(ParseFault::Unexpected(position(tokens, left))),
         Err(Halt::TooDeep(left)) => Err(ParseFault::Deep(position(tokens, left))),

@@ -1,0 +1,3 @@
+pub mod ActionForms
+pub mod ActionSteps
+pub mod PartSteps

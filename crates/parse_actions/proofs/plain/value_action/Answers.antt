@@ -1,0 +1,64 @@
+use Rattle.std.proofs.Common.{rules}
+use Rattle.std.proofs.lemmas.Result.{err_from_is_err_and}
+use Rattle.hs_grammar.specs.Parser.{firsts, may_be_empty, read_then}
+use Rattle.rules_grammar.specs.Grammar.{value_action}
+use Rattle.parse_leaves.proofs.Steps.{steps}
+use Rattle.parse_actions.proofs.ActionForms.{return_ok, return_err, put_str_ok, put_str_err, put_str_ln_ok, put_str_ln_err}
+use Rattle.parse_actions.proofs.ActionSteps.{form_steps}
+use Rattle.parse_actions.proofs.plain.value_action.Goals as goal
+
+pub returns-in_err-form-clause-reads : goal.returns-in_err-form-clause-reads
+returns-in_err-form-clause-reads c =
+    let p = err_from_is_err_and c.from_residual.result c.from_residual.ensures.1 in
+    rw (p.1, p.2) (search (rules, return_err c.args.depth _ c.args.cursor.now _ c.in_err-form.ensures.reads) depth 12 fits 4000)
+
+pub returns-then-at_word-clause-reads : goal.returns-then-at_word-clause-reads
+returns-then-at_word-clause-reads c = search (rules, return_ok c.args.depth c.in_ok-form.form c.args.cursor.now _ c.in_ok-form.ensures.reads) depth 12 fits 4000
+
+pub returns-in_err-symbol-clause-reads : goal.returns-in_err-symbol-clause-reads
+unfolding firsts may_be_empty read_then value_action
+returns-in_err-symbol-clause-reads c = search (rules, steps)
+
+pub returns-in_err-ty-clause-reads : goal.returns-in_err-ty-clause-reads
+unfolding firsts may_be_empty read_then value_action
+returns-in_err-ty-clause-reads c = search (rules, steps)
+
+pub returns-in_err-arg-clause-reads : goal.returns-in_err-arg-clause-reads
+unfolding firsts may_be_empty value_action
+returns-in_err-arg-clause-reads c = search (rules, form_steps)
+
+pub returns-then-at_word-2-clause-reads : goal.returns-then-at_word-2-clause-reads
+unfolding firsts may_be_empty read_then value_action
+returns-then-at_word-2-clause-reads c = search (rules, steps)
+
+pub returns-in_err-form-2-clause-reads : goal.returns-in_err-form-2-clause-reads
+returns-in_err-form-2-clause-reads c =
+    let p = err_from_is_err_and c.from_residual-in_err-form-2.result c.from_residual-in_err-form-2.ensures.1 in
+    rw (p.1, p.2) (search (rules, put_str_err c.args.depth _ c.args.cursor.now _ c.in_err-form-2.ensures.reads) depth 12 fits 4000)
+
+pub returns-then-at_word-3-clause-reads : goal.returns-then-at_word-3-clause-reads
+returns-then-at_word-3-clause-reads c = search (rules, put_str_ok c.args.depth c.in_ok-form-2.form c.args.cursor.now _ c.in_ok-form-2.ensures.reads) depth 12 fits 4000
+
+pub returns-in_err-form-3-clause-reads : goal.returns-in_err-form-3-clause-reads
+returns-in_err-form-3-clause-reads c =
+    let p = err_from_is_err_and c.from_residual-in_err-form-3.result c.from_residual-in_err-form-3.ensures.1 in
+    rw (p.1, p.2) (search (rules, put_str_ln_err c.args.depth _ c.args.cursor.now _ c.in_err-form-3.ensures.reads) depth 12 fits 4000)
+
+pub returns-then-at_word-4-clause-reads : goal.returns-then-at_word-4-clause-reads
+returns-then-at_word-4-clause-reads c = search (rules, put_str_ln_ok c.args.depth c.in_ok-form-3.form c.args.cursor.now _ c.in_ok-form-3.ensures.reads) depth 12 fits 4000
+
+pub returns-in_err-pos-2-clause-reads : goal.returns-in_err-pos-2-clause-reads
+unfolding firsts may_be_empty read_then value_action
+returns-in_err-pos-2-clause-reads c = search (rules, steps)
+
+pub returns-in_err-word-clause-reads : goal.returns-in_err-word-clause-reads
+unfolding firsts may_be_empty read_then value_action
+returns-in_err-word-clause-reads c = search (rules, steps)
+
+pub returns-in_err-arg-2-clause-reads : goal.returns-in_err-arg-2-clause-reads
+unfolding firsts may_be_empty read_then value_action
+returns-in_err-arg-2-clause-reads c = search (rules, steps)
+
+pub returns-clause-reads : goal.returns-clause-reads
+unfolding firsts may_be_empty read_then value_action
+returns-clause-reads c = search (rules, steps)

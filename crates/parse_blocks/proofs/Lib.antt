@@ -1,0 +1,2 @@
+pub mod ArmSteps
+pub mod BlockSteps

@@ -1,0 +1,24 @@
+use Rattle.std.proofs.Common.{arith, sym}
+use Rattle.std.proofs.lemmas.Result.{err_from_is_err_and}
+use Rattle.hs_grammar.specs.Parser.{firsts, may_be_empty, read_then}
+use Rattle.rules_grammar.specs.Grammar as g
+use Rattle.rules_grammar.specs.Grammar.{and_link}
+use Rattle.parse_leaves.proofs.Steps.{turn_more, turn_stop, turn_fault, item-and_link}
+use Rattle.parse_exprs.proofs.chains.and_links.Goals as goal
+
+pub items-preserved : goal.items-preserved
+unfolding firsts may_be_empty read_then and_link
+items-preserved b c = record {
+  so_far = turn_more c.args.depth g.and_link item-and_link _ _ _ _ _ _ c.items.invariant.so_far (sym c.items-test.ensures) c.in_ok-and_link.ensures.reads c.in_ok-add.ensures.ok;
+  shorter = omega (arith, c.in_ok-and_link.ensures.shorter, c.items.invariant.shorter);
+}
+
+pub returns-clause-reads : goal.returns-clause-reads
+unfolding firsts may_be_empty read_then and_link
+returns-clause-reads b c = turn_stop c.args.depth g.and_link item-and_link _ _ _ c.items.invariant.so_far (sym c.items-test.ensures)
+
+pub returns-in_err-and_link-clause-reads : goal.returns-in_err-and_link-clause-reads
+unfolding firsts may_be_empty read_then and_link
+returns-in_err-and_link-clause-reads b c =
+    let p = err_from_is_err_and c.from_residual.result c.from_residual.ensures.1 in
+    rw (p.1, p.2) (turn_fault c.args.depth g.and_link item-and_link _ _ _ _ _ _ c.items.invariant.so_far (sym c.items-test.ensures) c.in_err-and_link.ensures.reads)

@@ -1,0 +1,17 @@
+use Rattle.std.proofs.Common.{rules}
+use Rattle.hs_grammar.specs.Parser.{firsts, may_be_empty, read_then}
+use Rattle.rules_grammar.specs.Grammar.{sum_link}
+use Rattle.parse_leaves.proofs.Steps.{steps}
+use Rattle.parse_exprs.proofs.chains.sum_link.Goals as goal
+
+pub returns-in_err-operator-clause-reads : goal.returns-in_err-operator-clause-reads
+unfolding firsts may_be_empty read_then sum_link
+returns-in_err-operator-clause-reads b c = search (rules, steps)
+
+pub returns-in_err-term-clause-reads : goal.returns-in_err-term-clause-reads
+unfolding firsts may_be_empty read_then sum_link
+returns-in_err-term-clause-reads b c = search (rules, steps)
+
+pub returns-clause-reads : goal.returns-clause-reads
+unfolding firsts may_be_empty read_then sum_link
+returns-clause-reads b c = search (rules, steps)

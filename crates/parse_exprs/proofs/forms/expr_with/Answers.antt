@@ -1,0 +1,21 @@
+use Rattle.std.proofs.Common.{rules}
+use Rattle.hs_grammar.specs.Parser.{firsts, may_be_empty, read_then}
+use Rattle.rules_grammar.specs.Grammar.{expr}
+use Rattle.parse_leaves.proofs.Steps.{steps}
+use Rattle.parse_exprs.proofs.forms.expr_with.Goals as goal
+
+pub returns-then-at_word-clause-reads : goal.returns-then-at_word-clause-reads
+unfolding firsts may_be_empty read_then expr
+returns-then-at_word-clause-reads b c = search (rules, steps)
+
+pub returns-then-at_word-2-clause-reads : goal.returns-then-at_word-2-clause-reads
+unfolding firsts may_be_empty read_then expr
+returns-then-at_word-2-clause-reads b c = search (rules, steps)
+
+pub returns-then-at_word-3-clause-reads : goal.returns-then-at_word-3-clause-reads
+unfolding firsts may_be_empty read_then expr
+returns-then-at_word-3-clause-reads b c = search (rules, steps)
+
+pub returns-clause-reads : goal.returns-clause-reads
+unfolding firsts may_be_empty read_then expr
+returns-clause-reads b c = search (rules, steps)

@@ -1,0 +1,13 @@
+//! Expressions: operators, `if`, `case` and `let`, and what stands in their openers.
+//!
+//! What a call promises is `Reads`: it answers as the parser of its rule does. Each form is a function that is passed
+//! `inner`, which reads what stands in an opener, and `expr` alone calls itself, through the closure that it passes.
+//! Actions are left to the crate above.
+#![tactic(auto)]
+
+mod arms;
+mod chains;
+mod exprs;
+mod forms;
+
+pub use exprs::{arg, args, built_in, built_in_pair, expr};

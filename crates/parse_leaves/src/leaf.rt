@@ -1,0 +1,315 @@
+ghost use Rattle.std.specs.Prelude.{◌≡◌, ◌<◌, ◌≤◌, length, OnOk, [], ◌∷◌, map as list_map};
+ghost use Rattle.rules_grammar.specs.Grammar as g;
+ghost use Rattle.rules_grammar.specs.GrammarForms.{Rule};
+ghost use Rattle.rules_grammar.specs.GrammarKinds as k;
+ghost use Rattle.rules_grammar.specs.GrammarParts.{Kind, Part};
+ghost use Rattle.hs_grammar.specs.Parser as parser;
+ghost use Rattle.parse_leaves.specs.Reads.{Reads};
+
+use crate::cursor::Cursor;
+use crate::halt::Halt;
+use hs_base::{CompareOp, ConsOp, Constant, Expr, Name, Pos, SumOp};
+use rules_tokens::{Tok, Token, symbol, word};
+use std::alloc::Global;
+
+impl<'a> Cursor<'a> {
+    pub fn int(&mut self) -> Result<Expr, Halt>
+        ensures reads { Reads (parser.take Kind.int (λ t. parser.done (Expr.Int t.pos (g.number_of t.tok))) self.old) result self.new }
+        ensures shorter { OnOk result (length self.new < length self.old) }
+    {
+        if let Some(token) = self.peek() {
+            if let Tok::Int(number) = &token.tok {
+                self.skip();
+                return Ok(Expr::Int(token.pos, *number));
+            }
+        }
+        Err(self.unexpected())
+    }
+
+    pub fn text(&mut self, alloc: Global) -> Result<Expr, Halt>
+        ensures reads { Reads (parser.take Kind.text (λ t. parser.done (Expr.Text t.pos (g.text_of t.tok))) self.old) result self.new }
+        ensures shorter { OnOk result (length self.new < length self.old) }
+    {
+        if let Some(token) = self.peek() {
+            if let Tok::Text(text) = &token.tok {
+                let text = text.copy(alloc)?;
+                self.skip();
+                return Ok(Expr::Text(token.pos, text));
+            }
+        }
+        Err(self.unexpected())
+    }
+
+    pub fn constant(&mut self, word: u8, constant: Constant) -> Result<Expr, Halt>
+        ensures reads { Reads (parser.take (Kind.word word) (λ t. parser.done (Expr.Constant t.pos constant)) self.old) result self.new }
+        ensures shorter { OnOk result (length self.new < length self.old) }
+    {
+        let pos = self.word(word)?;
+        Ok(Expr::Constant(pos, constant))
+    }
+
+    /// Whether the next token begins one.
+    pub fn at_constructed(&self) -> bool
+        ensures { result ≡ parser.begins (parser.firsts g.constructed) self.now }
+    {
+        self.at_any_word(&[word::JUST, word::NOTHING, word::LEFT, word::RIGHT])
+    }
+
+    /// Whether the next token begins one.
+    pub fn at_computed(&self) -> bool
+        ensures { result ≡ parser.begins (parser.firsts g.computed) self.now }
+    {
+        self.at_any_word(&[
+            word::ERROR_CALL,
+            word::NOT,
+            word::FST,
+            word::SND,
+            word::SHOW,
+            word::DIV,
+            word::MOD,
+        ])
+    }
+
+    /// Whether the next token begins one.
+    pub fn at_sum_operator(&self) -> bool
+        ensures { result ≡ parser.begins (parser.firsts g.sum_link) self.now }
+    {
+        self.at_any_symbol(&[symbol::PLUS, symbol::MINUS])
+    }
+
+    /// Whether the next token begins one.
+    pub fn at_cons_operator(&self) -> bool
+        ensures { result ≡ parser.begins (parser.firsts g.cons_link) self.now }
+    {
+        self.at_any_symbol(&[symbol::COLON, symbol::PLUS_PLUS])
+    }
+
+    /// Whether the next token begins one.
+    pub fn at_compare_operator(&self) -> bool
+        ensures { result ≡ parser.begins (parser.firsts g.compare_end) self.now }
+    {
+        self.at_any_symbol(&[
+            symbol::EQUAL_EQUAL,
+            symbol::SLASH_EQUAL,
+            symbol::LESS,
+            symbol::LESS_EQUAL,
+            symbol::GREATER,
+            symbol::GREATER_EQUAL,
+        ])
+    }
+
+    /// Whether the next token is one of these reserved words.
+    pub fn at_any_word(&self, words: &[u8]) -> bool
+        ensures { result ≡ parser.begins (list_map Kind.word words.now) self.now }
+    {
+        'words: for word in words {
+            if self.at_word(*word) {
+                return true;
+            }
+        }
+        false
+    }
+
+    /// Whether the next token is one of these symbols.
+    pub fn at_any_symbol(&self, symbols: &[u8]) -> bool
+        ensures { result ≡ parser.begins (list_map Kind.symbol symbols.now) self.now }
+    {
+        'symbols: for symbol in symbols {
+            if self.at_symbol(*symbol) {
+                return true;
+            }
+        }
+        false
+    }
+
+    /// Whether the next token begins an argument.
+    pub fn at_arg(&self) -> bool
+        ensures { result ≡ parser.begins (parser.firsts g.arg) self.now }
+    {
+        if self.at_name() {
+            return true;
+        }
+        if self.at_symbol(symbol::OPEN_BRACKET) {
+            return true;
+        }
+        if self.at_int() {
+            return true;
+        }
+        if self.at_text() {
+            return true;
+        }
+        if self.at_any_word(&[
+            word::TRUE,
+            word::FALSE,
+            word::THREAD_KILLED,
+            word::USER_INTERRUPT,
+            word::DIVIDE_BY_ZERO,
+            word::OVERFLOW,
+        ]) {
+            return true;
+        }
+        self.at_symbol(symbol::OPEN_PAREN)
+    }
+
+    /// Whether the next token begins one.
+    pub fn at_value_action(&self) -> bool
+        ensures { result ≡ parser.begins (parser.firsts g.value_action) self.now }
+    {
+        self.at_any_word(&[
+            word::RETURN,
+            word::THROW_IO,
+            word::PUT_STR,
+            word::PUT_STR_LN,
+            word::H_PUT_STR_LN,
+        ])
+    }
+
+    /// Whether the next token begins one.
+    pub fn at_cell_action(&self) -> bool
+        ensures { result ≡ parser.begins (parser.firsts g.cell_action) self.now }
+    {
+        self.at_any_word(&[
+            word::NEW_MVAR,
+            word::NEW_EMPTY_MVAR,
+            word::TAKE_MVAR,
+            word::PUT_MVAR,
+            word::READ_MVAR,
+            word::TRY_TAKE_MVAR,
+            word::TRY_PUT_MVAR,
+            word::MODIFY_MVAR,
+        ])
+    }
+
+    /// Whether the next token begins one.
+    pub fn at_thread_action(&self) -> bool
+        ensures { result ≡ parser.begins (parser.firsts g.thread_action) self.now }
+    {
+        self.at_any_word(&[
+            word::FORK_IO,
+            word::FORK_IO_WITH_UNMASK,
+            word::MY_THREAD_ID,
+            word::THROW_TO,
+            word::KILL_THREAD,
+            word::THREAD_DELAY,
+            word::CLOCK_MICROS,
+            word::GET_MASKING_STATE,
+        ])
+    }
+
+    /// Whether the next token begins one.
+    pub fn at_mask_action(&self) -> bool
+        ensures { result ≡ parser.begins (parser.firsts g.mask_action) self.now }
+    {
+        self.at_any_word(&[
+            word::MASK,
+            word::MASK_BLOCK,
+            word::UNINTERRUPTIBLE_MASK,
+            word::UNINTERRUPTIBLE_MASK_BLOCK,
+            word::RESTORE,
+        ])
+    }
+
+    /// An operator and its position.
+    pub fn sum_operator(&mut self, depth: u32) -> Result<(SumOp, Pos), Halt>
+        ensures reads { Reads (parser.read (parser.enter depth) g.sum_operator self.old) result self.new }
+        ensures shorter { OnOk result (length self.new < length self.old) }
+    {
+        if self.at_symbol(symbol::PLUS) {
+            let pos = self.symbol(symbol::PLUS)?;
+            return Ok((SumOp::Plus, pos));
+        }
+        let pos = self.symbol(symbol::MINUS)?;
+        Ok((SumOp::Minus, pos))
+    }
+
+    /// An operator and its position.
+    pub fn cons_operator(&mut self, depth: u32) -> Result<(ConsOp, Pos), Halt>
+        ensures reads { Reads (parser.read (parser.enter depth) g.cons_operator self.old) result self.new }
+        ensures shorter { OnOk result (length self.new < length self.old) }
+    {
+        if self.at_symbol(symbol::COLON) {
+            let pos = self.symbol(symbol::COLON)?;
+            return Ok((ConsOp::Cons, pos));
+        }
+        let pos = self.symbol(symbol::PLUS_PLUS)?;
+        Ok((ConsOp::Append, pos))
+    }
+
+    /// An operator and its position.
+    pub fn compare_operator(&mut self, depth: u32) -> Result<(CompareOp, Pos), Halt>
+        ensures reads { Reads (parser.read (parser.enter depth) g.compare_operator self.old) result self.new }
+        ensures shorter { OnOk result (length self.new < length self.old) }
+    {
+        if self.at_symbol(symbol::EQUAL_EQUAL) {
+            let pos = self.symbol(symbol::EQUAL_EQUAL)?;
+            return Ok((CompareOp::Equal, pos));
+        }
+        if self.at_symbol(symbol::SLASH_EQUAL) {
+            let pos = self.symbol(symbol::SLASH_EQUAL)?;
+            return Ok((CompareOp::Unequal, pos));
+        }
+        if self.at_symbol(symbol::LESS) {
+            let pos = self.symbol(symbol::LESS)?;
+            return Ok((CompareOp::Less, pos));
+        }
+        if self.at_symbol(symbol::LESS_EQUAL) {
+            let pos = self.symbol(symbol::LESS_EQUAL)?;
+            return Ok((CompareOp::AtMost, pos));
+        }
+        if self.at_symbol(symbol::GREATER) {
+            let pos = self.symbol(symbol::GREATER)?;
+            return Ok((CompareOp::Greater, pos));
+        }
+        let pos = self.symbol(symbol::GREATER_EQUAL)?;
+        Ok((CompareOp::AtLeast, pos))
+    }
+
+    /// A `;`, if there is one.
+    pub fn semicolon(&mut self, depth: u32) -> Result<(), Halt>
+        ensures reads { Reads (parser.read (parser.enter depth) (g.optional_semicolon) self.old) result self.new }
+        ensures shorter { OnOk result (length self.new ≤ length self.old) }
+    {
+        if self.at_symbol(symbol::SEMICOLON) {
+            self.symbol(symbol::SEMICOLON)?;
+            return Ok(());
+        }
+        Ok(())
+    }
+
+    /// The pattern `[]`.
+    pub fn empty_brackets(&mut self, depth: u32) -> Result<(), Halt>
+        ensures reads { Reads (parser.read (parser.enter depth) (Rule.within (λ p u. u) k.open_bracket Part.no_items) self.old) result self.new }
+        ensures shorter { OnOk result (length self.new < length self.old) }
+    {
+        self.open_symbol(symbol::OPEN_BRACKET, depth)?;
+        self.close_bracket(depth - 1)
+    }
+
+    fn close_bracket(&mut self, depth: u32) -> Result<(), Halt>
+        ensures reads { Reads (parser.read (parser.enter depth) (g.rule_of Part.no_items) self.old) result self.new }
+        ensures shorter { OnOk result (length self.new < length self.old) }
+    {
+        self.symbol(symbol::CLOSE_BRACKET)?;
+        Ok(())
+    }
+
+    /// The pattern `(x, y)`.
+    pub fn name_pair(&mut self, alloc: Global, depth: u32) -> Result<(Name, Name), Halt>
+        ensures reads { Reads (parser.read (parser.enter depth) (Rule.within (λ p names. names) k.open_paren Part.two_names) self.old) result self.new }
+        ensures shorter { OnOk result (length self.new < length self.old) }
+    {
+        self.open_symbol(symbol::OPEN_PAREN, depth)?;
+        self.two_names(alloc, depth - 1)
+    }
+
+    fn two_names(&mut self, alloc: Global, depth: u32) -> Result<(Name, Name), Halt>
+        ensures reads { Reads (parser.read (parser.enter depth) (g.rule_of Part.two_names) self.old) result self.new }
+        ensures shorter { OnOk result (length self.new < length self.old) }
+    {
+        let first = self.name(alloc)?;
+        self.symbol(symbol::COMMA)?;
+        let second = self.name(alloc)?;
+        self.symbol(symbol::CLOSE_PAREN)?;
+        Ok((first, second))
+    }
+}
