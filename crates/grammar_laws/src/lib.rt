@@ -10,6 +10,7 @@ ghost use Rattle.rules_tokens.specs.declared.token.Token.{Token};
 ghost use Rattle.rules_grammar.specs.Grammar.{IsTooDeep, IsUnexpected};
 ghost use Rattle.hs_grammar.specs.Parser.{Means, Out};
 ghost use Rattle.grammar_laws.specs.Answers.{SameAnswer};
+ghost use Rattle.grammar_laws.specs.Spelling.{AreSpelled};
 
 /// Two answers for one list of tokens are the same.
 pub fn one_answer()
@@ -19,4 +20,11 @@ pub fn one_answer()
 /// Behind an opener that stands in too many, and at it, no token is unexpected, however the tokens go on.
 pub fn deep_or_unexpected()
     ensures { (n : ℕ) (read : List Token) (t : Token) (more front left : List Token) → IsTooDeep n read t → front ++ left ≡ read ++ t ∷ more → IsUnexpected n front left → ⊥ }
+{}
+
+/// Each constant by which the grammar names a reserved word or a symbol is the place of its text in the table that the lexer
+/// reads.
+#[tactic(auto, using(crate::proofs::Spelled::all_spelled))]
+pub fn constants_are_spelled()
+    ensures { AreSpelled }
 {}
