@@ -7,4 +7,5 @@ pub mod Stacking
 pub mod StacksStand
 pub mod Forking
 pub mod ActNodes
+pub mod Building
 pub mod Evaluating

@@ -1,5 +1,5 @@
 -- Stacks stand for the threads of a state through each entry.
-use Rattle.std.proofs.Common.{◌≡◌, ℕ, ◌<◌, ◌==◌, Bool, true, cond, List, length, Some, refl, sym, ap, ◌∙◌, subst, arith, slice_get, slice_set, ⊎_elim}
+use Rattle.std.proofs.Common.{◌≡◌, ℕ, ◌<◌, ◌==◌, Bool, true, cond, List, length, Some, refl, sym, ap, ◌∙◌, subst, arith, slice_get, slice_set, ⊎_elim, ◌⊎◌, false, inl, inr, Option, None}
 use Rattle.hs_base.specs.declared.mask.Mask.TheVariants.{Unmasked}
 use Rattle.hs_base.specs.declared.tree.script.Script.{Script}
 use Rattle.hs_rules.specs.declared.entry.Entry.{Entry}
@@ -19,6 +19,12 @@ use Rattle.hs_rules.specs.Terms as named
 use Rattle.hs_rules.specs.Terms.{term}
 use Rattle.hs_rules.specs.LocalRules as name
 use Rattle.hs_laws.proofs.Lists.{equal_or, item_same, some_item, item_below}
+use Rattle.hs_base.specs.declared.exn.Exn.TheVariants.{BlockedIndefinitely}
+use Rattle.hs_rules.specs.declared.entry.Entry.TheVariants as entry
+use Rattle.rules_waiting.specs.Waiting.{is_blocked}
+use Rattle.hs_rules.specs.Terms.{Throw}
+use Rattle.hs_laws.specs.MaskLaw.{AreStranded, WaitsOpen, thrown_out}
+use Rattle.hs_laws.proofs.Stranding.{are_stranded}
 use Rattle.hs_laws.proofs.States.{other_thread}
 use Rattle.hs_progress.specs.TypedStates.{Runs, Awaits, OpTyped, calls_typed, forks_typed, forks_unmask_typed, PartTyped, ret_typed, throw_typed, do_typed, op_typed, FramesTyped, no_frames, bind_typed, then_typed, catch_typed, mask_typed, has, with_sort, Follows, Stays}
 use Rattle.hs_progress.proofs.Heads.{heads_kept}
@@ -106,20 +112,60 @@ module _ (ds : List Fn) (stacks stacks' : ℕ → SlotTerm) (s v : State) (e : E
       subst (λ z. StandsIn ds f.store t z u') (sym r) (subst (λ z. StandsIn ds f.store t (at p (stacks t).frames) z) (sym g)
       (answered_stands ds w.store (Stays e) v f t lt (all t) (stacks t) a.term x p b (w.stands t a ia) ib (q ∙ g) end))
 
-  resumed_stand : length v.threads ≡ length s.threads → ((t : ℕ) (a b : Thread) → slice_get s.threads t ≡ Some a → slice_get v.threads t ≡ Some b → Resumed (stacks t) a.term (stacks' t) b.term) → StacksStand ds stacks' v
-  resumed_stand long r = record {
+  resumed_stand : ((t : ℕ) (b : Thread) → slice_get v.threads t ≡ Some b → (a : Thread) × (slice_get s.threads t ≡ Some a))
+      → ((t : ℕ) (a b : Thread) → slice_get s.threads t ≡ Some a → slice_get v.threads t ≡ Some b → Resumed (stacks t) a.term (stacks' t) b.term) → StacksStand ds stacks' v
+  resumed_stand was r = record {
     store = f.store;
     sound = f.sound;
     stands = λ t b ib.
-        let below : t < length v.threads = item_below v.threads t b ib in
+        let a = was t b ib in
+        let below : t < length s.threads = item_below s.threads t a.0 a.1 in
         let c : w.store.count ≡ length s.threads = w.sound.counted in
-        let lt : t < w.store.count = omega (arith, below, long, c) in
-        let a = some_item s.threads t (omega (arith, below, long)) in
-        one_resumed t a.0 b a.1 ib lt (stacks' t) b.term refl (r t a.0 b a.1 ib);
+        one_resumed t a.0 b a.1 ib (omega (arith, below, c)) (stacks' t) b.term refl (r t a.0 b a.1 ib);
   }
+
+-- as many threads as there were, so each was there
+was_there : (ts us : List Thread) → length us ≡ length ts → (t : ℕ) (b : Thread) → slice_get us t ≡ Some b → (a : Thread) × (slice_get ts t ≡ Some a)
+was_there ts us long t b e = let below : t < length us = item_below us t b e in some_item ts t (omega (arith, below, long))
 
 pub entries_stand : (script : Script) → Accepted script → (es : List Entry) (s v : State) (e : Entry) → IsRun (script_of script) es s → next (code_of (script_of script)) s e ≡ Some v → ((t : ℕ) → Stays e t) → length v.threads ≡ length s.threads
     → (stacks stacks' : ℕ → SlotTerm) → StacksStand (script_of script) stacks s
     → ((t : ℕ) (a b : Thread) → slice_get s.threads t ≡ Some a → slice_get v.threads t ≡ Some b → Resumed (stacks t) a.term (stacks' t) b.term) → StacksStand (script_of script) stacks' v
 entries_stand script accepted es s v e r n all long stacks stacks' w h =
-    resumed_stand (script_of script) stacks stacks' s v e w (types_follow script accepted es s v e r n (record { store = w.store; sound = w.sound })) all long h
+    resumed_stand (script_of script) stacks stacks' s v e w (types_follow script accepted es s v e r n (record { store = w.store; sound = w.sound })) all (was_there s.threads v.threads long) h
+
+-- ---- a Stranded
+
+module _ (s v : State) (g : AreStranded s v) where
+  waits_or : (t : ℕ) → WaitsOpen s t ⊎ ¬ WaitsOpen s t
+  waits_or t = by (is_blocked t s.blocked) (is_blocked t v.blocked) refl refl
+    where
+      by : (a b : Bool) → is_blocked t s.blocked ≡ a → is_blocked t v.blocked ≡ b → WaitsOpen s t ⊎ ¬ WaitsOpen s t
+      by true false p q = inl ((g.removed t).0 (p, q))
+      by true true p q = inr (λ w. let r = (g.removed t).1 w in let z : true ≡ false = sym q ∙ r.1 in cc z)
+      by false b p q = inr (λ w. let r = (g.removed t).1 w in let z : false ≡ true = sym p ∙ r.0 in cc z)
+
+  was_stranded : (t : ℕ) (b : Thread) → slice_get v.threads t ≡ Some b → (a : Thread) × (slice_get s.threads t ≡ Some a)
+  was_stranded t b e = ⊎_elim (λ w. (w.thread, w.is)) (λ n. (b, sym (g.others t n).0 ∙ e)) (waits_or t)
+
+  same_thread : (o r : Option Thread) (a b : Thread) → o ≡ r → o ≡ Some a → r ≡ Some b → a ≡ b
+  same_thread o r a b e p q = let z : Some a ≡ Some b = sym p ∙ (e ∙ q) in cc z
+
+  stranded_as : (stacks then : ℕ → SlotTerm) → ((t : ℕ) → WaitsOpen s t → then t ≡ at (slot.throw BlockedIndefinitely) (stacks t).frames) → ((t : ℕ) → ¬ WaitsOpen s t → then t ≡ stacks t)
+      → (t : ℕ) (a b : Thread) → slice_get s.threads t ≡ Some a → slice_get v.threads t ≡ Some b → Resumed (stacks t) a.term (then t) b.term
+  stranded_as stacks then hit kept t a b ia ib =
+      ⊎_elim
+      (λ w.
+      let same : w.thread ≡ a = same_thread (slice_get s.threads t) (slice_get s.threads t) w.thread a refl w.is ia in
+      let new : thrown_out w.thread ≡ b = same_thread (slice_get v.threads t) (slice_get v.threads t) (thrown_out w.thread) b refl (g.throw t w) ib in
+      resumed (slot.throw BlockedIndefinitely) (Throw BlockedIndefinitely) refl (hit t w)
+      (sym (ap (λ (x : Thread). x.term) new) ∙ ap (λ (x : Thread). term (Throw BlockedIndefinitely) x.term.frames) same))
+      (λ n. stayed (kept t n) (ap (λ (x : Thread). x.term) (same_thread (slice_get v.threads t) (slice_get s.threads t) b a (g.others t n).0 ib ia)))
+      (waits_or t)
+
+pub stranded_stand : (script : Script) → Accepted script → (es : List Entry) (s v : State) → IsRun (script_of script) es s → next (code_of (script_of script)) s entry.Stranded ≡ Some v → (stacks then : ℕ → SlotTerm) → StacksStand (script_of script) stacks s
+    → ((t : ℕ) → WaitsOpen s t → then t ≡ at (slot.throw BlockedIndefinitely) (stacks t).frames) → ((t : ℕ) → ¬ WaitsOpen s t → then t ≡ stacks t) → StacksStand (script_of script) then v
+stranded_stand script accepted es s v r n stacks then w hit kept =
+    let g = are_stranded (code_of (script_of script)) s v n in
+    resumed_stand (script_of script) stacks then s v entry.Stranded w (types_follow script accepted es s v entry.Stranded r n (record { store = w.store; sound = w.sound })) (λ t. tt)
+    (was_stranded s v g) (stranded_as s v g stacks then hit kept)

@@ -1,5 +1,5 @@
 use Rattle.slot_laws.proofs.Forking.{forks_stand, forks_unmask_stand, main_stands}
-use Rattle.slot_laws.proofs.StacksStand.{locals_stand, entries_stand}
+use Rattle.slot_laws.proofs.StacksStand.{locals_stand, entries_stand, stranded_stand}
 use Rattle.slot_laws.proofs.stacks.stacks_stand.Goals as goal
 
 pub returns-clause-locals : goal.returns-clause-locals
@@ -16,3 +16,6 @@ returns-clause-unmasks c = forks_unmask_stand
 
 pub returns-clause-first : goal.returns-clause-first
 returns-clause-first c = main_stands
+
+pub returns-clause-stranded : goal.returns-clause-stranded
+returns-clause-stranded c = stranded_stand
