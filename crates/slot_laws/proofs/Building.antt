@@ -1,5 +1,5 @@
 -- For each typed term there is a term with slots that stands for it.
-use Rattle.std.proofs.Common.{◌≡◌, ℕ, zero, suc, ◌==◌, List, [], ◌∷◌, ◌++◌, length, Bool, true, false, cond, Option, Some, None, refl, sym, ap, ◌∙◌, subst, arith, slice_get, length-append, eqb-true, bytes_eq}
+use Rattle.std.proofs.Common.{◌≡◌, ℕ, zero, suc, ◌==◌, List, [], ◌∷◌, ◌++◌, length, Bool, true, false, cond, Option, Some, None, refl, sym, ap, ◌∙◌, subst, arith, slice_get, length-append, eqb-true}
 use Rattle.std.proofs.lemmas.Slice.Eq.{bytes_eq-Decides}
 use Rattle.hs_base.specs.declared.tree.script.Script.{Script}
 use Rattle.hs_rules.specs.declared.entry.Entry.{Entry}
@@ -8,11 +8,11 @@ use Rattle.rules_trees.specs.Programs.{Fn, script_of}
 use Rattle.rules_expansion.specs.Names.{Name, Written, Added, Hidden, hidden_number, same_name}
 use Rattle.rules_expansion.specs.Core.{Core}
 use Rattle.rules_meaning.specs.Values.{V, UnitValue, Env, value_at}
-use Rattle.rules_typed.specs.Sorts.{Sort, a_value, a_masking_name, an_instance, Bound, sort_at}
+use Rattle.rules_typed.specs.Sorts.{Sort, Bound, sort_at}
 use Rattle.rules_typing.specs.TypingScripts.{Accepted}
 use Rattle.rules_code.specs.Slots.{slot_of}
-use Rattle.rules_code.specs.CodeTrees.{Sa, a_bad}
-use Rattle.rules_code.specs.Matching.{Seen, Matches}
+use Rattle.rules_code.specs.CodeTrees.{a_bad}
+use Rattle.rules_code.specs.Matching.{Seen}
 use Rattle.hs_rules.specs.Terms as named
 use Rattle.hs_rules.specs.State.{Thread, State}
 use Rattle.hs_rules.specs.Runs.{IsRun}
@@ -23,7 +23,7 @@ use Rattle.hs_progress.specs.CoreTyping.{with_bound}
 use Rattle.hs_progress.proofs.Entries.{runs_are_typed}
 use Rattle.slot_laws.specs.SlotRules as slot
 use Rattle.slot_laws.specs.SlotRules.{SlotOp, SlotPart, SlotFrame, SlotTerm, at}
-use Rattle.slot_laws.specs.Standing.{tree_of, Reads, Awaits, OpStands, calls_stands, forks_stands, forks_unmask_stands, PartStands, ret_stands, throw_stands, do_stands, op_stands, FramesStand, none_stand, bind_stands, then_stands, catch_stands, mask_stands, StandsIn}
+use Rattle.slot_laws.specs.Standing.{tree_of, Reads, Awaits, OpStands, calls_stands, forks_stands, forks_unmask_stands, PartStands, ret_stands, throw_stands, do_stands, op_stands, FramesStand, none_stand, bind_stands, then_stands, catch_stands, mask_stands}
 use Rattle.slot_laws.specs.Stacks.{StacksStand}
 
 -- ---- an environment finds the same by names that are the same

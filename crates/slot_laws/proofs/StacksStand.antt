@@ -1,5 +1,5 @@
 -- Stacks stand for the threads of a state through each entry.
-use Rattle.std.proofs.Common.{◌≡◌, ℕ, ◌<◌, ◌==◌, Bool, true, cond, List, length, Some, refl, sym, ap, ◌∙◌, subst, arith, slice_get, slice_set, ⊎_elim, ◌⊎◌, false, inl, inr, Option, None}
+use Rattle.std.proofs.Common.{◌≡◌, ℕ, ◌<◌, ◌==◌, Bool, true, cond, List, length, Some, refl, sym, ap, ◌∙◌, subst, arith, slice_get, slice_set, ⊎_elim, ◌⊎◌, false, inl, inr, Option}
 use Rattle.hs_base.specs.declared.mask.Mask.TheVariants.{Unmasked}
 use Rattle.hs_base.specs.declared.tree.script.Script.{Script}
 use Rattle.hs_rules.specs.declared.entry.Entry.{Entry}

@@ -1,8 +1,9 @@
 -- The local rules on actions with slots in place of names (own).
 --
--- A term is an active part in its frames, as in `hs_rules/specs/Terms`, with values of slots in place of an environment of
--- names. The tree of an action is what its number in a code stands for, so a step needs no numbers. What stands below the
--- frames is given by its masking state alone, so a step of a part is a step in every context with that state.
+-- Each is the rule of the same name in `hs_rules/specs/LocalRules`, where its source stands, with values of slots in place
+-- of an environment of names. A term is an active part in its frames. The tree of an action is what its number in a code
+-- stands for, so a step needs no numbers. What stands below the frames is given by its masking state alone, so a step of a
+-- part is a step in every context with that state.
 use Rattle.std.specs.Prelude.{ℕ, zero, suc, ◌==◌, true, false, cond, List, [], ◌∷◌, ◌++◌, length, Option, Some, None, slice_get}
 use Rattle.hs_base.specs.declared.mask.Mask.{Mask}
 use Rattle.hs_base.specs.declared.mask.Mask.TheVariants.{Masked, Uninterruptible}
@@ -58,9 +59,11 @@ mask_from s (mask_in m ∷ fs) = m
 
 -- ---- an expression, and what is done with its value
 
+-- a part without frames of its own
 abbrev pub just_part : SlotPart → Option SlotTerm
 just_part p = Some (at p [])
 
+-- an expression's exception is thrown in its action's place
 abbrev pub on_value : Outcome → (V → Option SlotTerm) → Option SlotTerm
 on_value (Gives u) k = k u
 on_value (Throws e) k = just_part (throw e)
@@ -71,6 +74,7 @@ on_values (AllGive us) k = k us
 on_values (OneThrows e) k = just_part (throw e)
 on_values OneStuck k = None
 
+-- what `throwIO` throws
 abbrev pub thrown : V → Option SlotTerm
 thrown (v.Exception e) = just_part (throw e)
 thrown _ = None
@@ -110,61 +114,61 @@ abbrev pub restored : Sa → List V → Option V → Option SlotTerm
 restored a vs (Some (v.Restore m)) = Some (at (doing a vs) (mask_in m ∷ []))
 restored a vs _ = None
 
--- ---- rules 1 to 11: an action's first step, where the masking state is s
+-- ---- an action's first step, where the masking state is s: return to restore
 
 abbrev pub first_step : List SlottedFunction → Mask → Sa → List V → Option SlotTerm
--- 1 return
+-- return: the value of an expression
 first_step funs s (a_return e) vs = on_value (run e vs) (λ u. just_part (ret u))
--- 2 throwIO
+-- throw: an exception
 first_step funs s (a_throw e) vs = on_value (run e vs) thrown
--- 3 let
+-- let: a value in the next slot
 first_step funs s (a_let e a) vs = on_value (run e vs) (λ u. just_part (doing a (vs ++ u ∷ [])))
--- 4 bind
+-- bind: an action, inside a bind to the next
 first_step funs s (a_bind a b) vs = Some (at (doing a vs) (bind_to b vs ∷ []))
 first_step funs s (a_then a b) vs = Some (at (doing a vs) (then_to b vs ∷ []))
--- 5 if and case
+-- choose: the arm of an `if` or a `case`
 first_step funs s (a_if e a b) vs = on_value (run e vs) (chosen a b vs)
 first_step funs s (a_maybe e a b) vs = on_value (run e vs) (chosen_maybe a b vs)
 first_step funs s (a_either e a b) vs = on_value (run e vs) (chosen_either a b vs)
 first_step funs s (a_list e a b) vs = on_value (run e vs) (chosen_list a b vs)
 first_step funs s (a_pair e a) vs = on_value (run e vs) (chosen_pair a vs)
--- 6 call
+-- call: the body of an action function, with its arguments in the first slots
 first_step funs s (a_call f es) vs = on_values (run_all es vs) (called (slice_get funs f))
--- 7 primitives and forks
+-- stand: at a primitive or a fork
 first_step funs s (a_perform p es) vs = on_values (run_all es vs) (λ us. just_part (performs (calls p us)))
 first_step funs s (a_fork a) vs = just_part (performs (forks a vs))
 first_step funs s (a_fork_unmask a) vs = just_part (performs (forks_unmask a vs))
--- 8 catch
+-- catch: an action, inside a catch by its handler
 first_step funs s (a_catch a b) vs = Some (at (doing a vs) (catch_by b vs ∷ []))
--- 9 mask
+-- mask: an action, under the later of Masked and s
 first_step funs s (a_mask a) vs = Some (at (doing a (vs ++ v.Restore s ∷ [])) (mask_in (join_of Masked s) ∷ []))
--- 10 uninterruptibleMask
+-- mask hard: an action, under Uninterruptible
 first_step funs s (a_mask_hard a) vs = Some (at (doing a (vs ++ v.Restore s ∷ [])) (mask_in Uninterruptible ∷ []))
--- 11 restore
+-- restore: an action, under the state that a slot holds
 first_step funs s (a_restore k a) vs = restored a vs (slice_get vs k)
 first_step funs s a_bad vs = None
 
--- ---- rules 12 to 17: a value or an exception, and the context directly round it
+-- ---- a value or an exception, and the context directly round it: give to escape
 
 abbrev pub ret_step : V → List SlotFrame → Option SlotTerm
 ret_step u [] = None
--- 12 a value goes to the action behind a bind
+-- give: a value goes to the action behind a bind
 ret_step u (bind_to b vs ∷ fs) = Some (at (doing b (vs ++ u ∷ [])) fs)
 ret_step u (then_to b vs ∷ fs) = Some (at (doing b vs) fs)
--- 14 a value leaves a catch
+-- keep: a value leaves a catch
 ret_step u (catch_by b vs ∷ fs) = Some (at (ret u) fs)
--- 16 a value leaves a masking scope
+-- leave: a value leaves a masking scope
 ret_step u (mask_in m ∷ fs) = Some (at (ret u) fs)
 
 -- where the masking state below the frames is s
 abbrev pub throw_step : Mask → Exn → List SlotFrame → Option SlotTerm
 throw_step s e [] = None
--- 13 an exception passes a bind
+-- pass: an exception passes a bind
 throw_step s e (bind_to b vs ∷ fs) = Some (at (throw e) fs)
 throw_step s e (then_to b vs ∷ fs) = Some (at (throw e) fs)
--- 15 a handler runs masked
+-- handle: a handler gets the exception in the next slot, and runs masked
 throw_step s e (catch_by b vs ∷ fs) = Some (at (doing b (vs ++ v.Exception e ∷ [])) (mask_in (join_of Masked (mask_from s fs)) ∷ fs))
--- 17 an exception leaves a masking scope
+-- escape: an exception leaves a masking scope
 throw_step s e (mask_in m ∷ fs) = Some (at (throw e) fs)
 
 -- ---- one local rule, and some in turn
