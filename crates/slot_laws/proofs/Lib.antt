@@ -1,0 +1,11 @@
+pub mod SlotFraming
+pub mod NamedFraming
+pub mod Steps
+pub mod Simulation
+pub mod Heads
+pub mod Stacking
+pub mod StacksStand
+pub mod Forking
+pub mod ActNodes
+pub mod Building
+pub mod Evaluating

@@ -1,0 +1,4 @@
+pub mod SlotRules
+pub mod Standing
+pub mod Stacks
+pub mod Expressions
