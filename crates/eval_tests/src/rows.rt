@@ -2,8 +2,8 @@
 use hs_base::{Exn, NoMemory, Split, Txt, Value, ValueList, Values};
 use hs_eval::{Found, eval_node, slots_mean};
 use hs_items::Items;
-use rules_trees::forms::{BinaryForm, EmptyForm, SideForm, UnaryForm};
 use rules_code::{ExprId, Node, NodeLink};
+use rules_trees::forms::{BinaryForm, EmptyForm, SideForm, UnaryForm};
 use std::alloc::Global;
 use std::test::Fail;
 

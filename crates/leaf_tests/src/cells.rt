@@ -109,6 +109,14 @@ fn readers_leave_before_a_put(rt: HostRuntime) -> Result<(), Fail> {
     assert_eq!(rt; cells.next_reader(0), Some(1));
     assert_eq!(rt; cells.next_reader(0), None);
     assert_eq!(rt; gave(cells.put(0, 3, Value::Int(7))), (2, 7));
+    Ok(())
+}
+
+#[test]
+fn a_read_changes_nothing(rt: HostRuntime) -> Result<(), Fail> {
+    let mut cells = Cells::new(rt.alloc());
+    cells.room(6)?;
+    assert_eq!(rt; cells.fresh(None), 0);
     assert_eq!(rt; gave(cells.put(0, 3, Value::Int(8))), (0, 0));
     assert_eq!(rt; saw(cells.read(0, 4)?), 8);
     assert!(rt; matches!(cells.content(0), Some(Value::Int(8))));
@@ -122,12 +130,10 @@ fn readers_behind_takers_come_first(rt: HostRuntime) -> Result<(), Fail> {
     assert_eq!(rt; cells.fresh(None), 0);
     assert_eq!(rt; took(cells.take(0, 1)), (-1, -1));
     assert_eq!(rt; saw(cells.read(0, 2)?), -1);
-    assert_eq!(rt; took(cells.take(0, 3)), (-1, -1));
-    assert_eq!(rt; saw(cells.read(0, 4)?), -1);
+    assert_eq!(rt; saw(cells.read(0, 3)?), -1);
     assert_eq!(rt; cells.next_reader(0), Some(2));
-    assert_eq!(rt; cells.next_reader(0), Some(4));
+    assert_eq!(rt; cells.next_reader(0), Some(3));
     assert_eq!(rt; cells.next_reader(0), None);
     assert_eq!(rt; tried(cells.try_put(0, Value::Int(5))), (5, 1));
-    assert_eq!(rt; tried(cells.try_put(0, Value::Int(6))), (6, 3));
     Ok(())
 }
