@@ -1,4 +1,4 @@
-ghost use Rattle.std.specs.Prelude.{◌≡◌};
+ghost use Rattle.std.specs.Prelude.{◌≡◌, ◌<◌};
 
 use crate::rule::FlagsRule;
 use crate::view::{FlagsKey, PenView};
@@ -9,5 +9,6 @@ use std::alloc::Global;
 #[derive(Drop)]
 pub struct Flags {
     pub(crate) table: Table<(), PenView, FlagsKey, FlagsRule, Global>,
+    ghost some_hand: { 0 < table.shared.key.hands },
     ghost words_only: { (table.shared.table_id.words ≡ 64) × (table.shared.table_id.slots ≡ 0) },
 }

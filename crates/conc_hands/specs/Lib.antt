@@ -1,0 +1,6 @@
+pub mod Ends
+pub mod Hands
+pub mod Lists
+pub mod Dealing
+pub mod Gathering
+pub mod Left

@@ -1,0 +1,12 @@
+use cut_flags::Flags;
+use hs_rules::Ticketed;
+use ticket_queues::{Door, Inbox};
+
+/// What all capabilities share.
+#[derive(Drop)]
+pub struct Hands<J: Ticketed, S: Ticketed> {
+    /// The doors of the deques, by number of the hand.
+    pub(crate) doors: Vec<Door<J>>,
+    pub(crate) inbox: Inbox<S>,
+    pub(crate) flags: Flags,
+}

@@ -1,0 +1,46 @@
+//! Jobs and slices of the tests.
+ghost use Rattle.std.specs.Prelude.{◌≡◌};
+ghost use Rattle.rules_code.specs.Codes.{body_of};
+
+use hs_base::NoMemory;
+use hs_compile::compile;
+use hs_rules::Ticketed;
+use rules_code::{Body, Code};
+use std::alloc::Global;
+use std::snapshot::Snapshot;
+
+/// A ticket of a code.
+#[derive(Drop)]
+pub struct Item {
+    pub number: u64,
+    pub of: Snapshot<Body>,
+}
+
+impl Ticketed for Item {
+    ghost number = { λ x. x.number };
+
+    ghost belongs = { λ x. x.of.value };
+
+    fn ticket(&self) -> u64 {
+        self.number
+    }
+}
+
+/// An item of this code.
+pub fn item(code: &Code, number: u64) -> Item
+    ensures { (result.number ≡ number) × (result.of.value ≡ body_of code.now) }
+{
+    let body: &Body = &code.body;
+    Item {
+        number,
+        of: Snapshot::of(body),
+    }
+}
+
+/// Some code: that of the smallest script.
+pub fn a_code(alloc: Global) -> Result<Code, NoMemory> {
+    match compile(alloc, b"main :: IO () = { return () };") {
+        Ok(code) => Ok(code),
+        Err(_) => Err(NoMemory),
+    }
+}
