@@ -8,11 +8,11 @@ use Rattle.hs_base.specs.declared.tree.expr.Name.{Name}
 use Rattle.rules_tokens.specs.declared.token.Token.{Token}
 use Rattle.rules_grammar.specs.Grammar.{rule_of}
 use Rattle.rules_grammar.specs.GrammarForms.{Rule, give, within, ◌⊛◌, ◌◁◌}
-use Rattle.rules_grammar.specs.GrammarParts.{block_if, block_case, block_arms, two_names}
+use Rattle.rules_grammar.specs.GrammarParts.{name as name_kind, block_if, block_case, block_arms, two_names}
 use Rattle.hs_grammar.specs.Parser.{Done, Parser, done, take, read, read_then, enter}
 use Rattle.parse_leaves.specs.declared.halt.Halt.{Halt}
 use Rattle.parse_leaves.specs.Reads.{Reads}
-use Rattle.parse_leaves.proofs.Steps.{take_ok, take_err, call_ok, call_err, reads_done}
+use Rattle.parse_leaves.proofs.Steps.{take_ok, take_err, call_ok, call_err, name_ok, reads_done}
 use Rattle.hs_base.specs.declared.tree.action.Action.TheVariants as a
 use Rattle.hs_base.specs.declared.tree.action.BlockArms.TheVariants as arm
 use Rattle.rules_grammar.specs.Grammar as g
@@ -115,3 +115,12 @@ unfolding read_then g.pair_arm
 pair_arrow n ts mid o new x e h i =
     call_ok (enter n) names_of (λ x. take k.arrow (λ t. read_then (enter n) g.block (λ b. done (arm.OfPair x.0 x.1 b)))) ts mid new x (Err e) h
     (take_err k.arrow (λ t. read_then (enter n) g.block (λ b. done (arm.OfPair x.0 x.1 b))) mid o new e i)
+
+-- the arm of a list with items
+pub cons_arm_ok : (n : ℕ) (ts m o l q new : List Token) (x : Name) (p : Pos) (y : Name) (s : Pos) (b : Block) → Reads (take name_kind (λ t. done (record { text = g.text_of t.tok; pos = t.pos })) ts) (Ok x) m → Reads (take k.colon (λ t. done t.pos) m) (Ok p) o → Reads (take name_kind (λ t. done (record { text = g.text_of t.tok; pos = t.pos })) o) (Ok y) l → Reads (take k.arrow (λ t. done t.pos) l) (Ok s) q → Reads (read (enter n) g.block q) (Ok b) new → Reads {A = Name × Name × Block} (read (enter n) (g.cons_arm g.block) ts) (Ok (x, y, b)) new
+unfolding read_then g.cons_arm
+cons_arm_ok n ts m o l q new x p y s b h i j d f =
+    name_ok (λ x. take k.colon (λ t. take name_kind (λ t. take k.arrow (λ u. read_then (enter n) g.block (λ b. done (x, record { text = g.text_of t.tok; pos = t.pos }, b)))))) ts m new x (Ok (x, y, b)) h
+    (take_ok k.colon (λ t. take name_kind (λ t. take k.arrow (λ u. read_then (enter n) g.block (λ b. done (x, record { text = g.text_of t.tok; pos = t.pos }, b))))) m o new p (Ok (x, y, b)) i
+    (name_ok (λ y. take k.arrow (λ u. read_then (enter n) g.block (λ b. done (x, y, b)))) o l new y (Ok (x, y, b)) j
+    (take_ok k.arrow (λ u. read_then (enter n) g.block (λ b. done (x, y, b))) l q new s (Ok (x, y, b)) d (call_ok (enter n) g.block (λ b. done (x, y, b)) q new new b (Ok (x, y, b)) f (refl, refl)))))

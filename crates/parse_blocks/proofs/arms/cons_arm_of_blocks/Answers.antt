@@ -2,6 +2,7 @@ use Rattle.std.proofs.Common.{rules}
 use Rattle.hs_grammar.specs.Parser.{read_then}
 use Rattle.rules_grammar.specs.Grammar.{cons_arm}
 use Rattle.parse_leaves.proofs.Steps.{steps}
+use Rattle.parse_blocks.proofs.ArmSteps.{cons_arm_ok}
 use Rattle.parse_blocks.proofs.arms.cons_arm_of_blocks.Goals as goal
 
 pub returns-in_err-first-clause-reads : goal.returns-in_err-first-clause-reads
@@ -25,5 +26,4 @@ unfolding read_then cons_arm
 returns-in_err-value-clause-reads b c = search (rules, steps)
 
 pub returns-clause-reads : goal.returns-clause-reads
-unfolding read_then cons_arm
-returns-clause-reads b c = search (rules, steps)
+returns-clause-reads b c = cons_arm_ok c.args.depth _ _ _ _ _ _ _ _ _ _ _ c.in_ok-first.ensures.reads c.in_ok-symbol.ensures.reads c.in_ok-rest.ensures.reads c.in_ok-symbol-2.ensures.reads c.in_ok-value.ensures.reads

@@ -12,7 +12,7 @@ returns-in_err-symbol-in-Stmt-clause-reads b c =
     rw (p.1, p.2) (at_sep c.args.depth _ _ _ _ _ _ _ c.in-Stmt.is c.in_ok-step.ensures.reads c.in_err-symbol-in-Stmt.ensures.reads)
 
 pub returns-in_ok-symbol-in-Stmt-clause-reads : goal.returns-in_ok-symbol-in-Stmt-clause-reads
-returns-in_ok-symbol-in-Stmt-clause-reads b c = search (rules, at_stmt)
+returns-in_ok-symbol-in-Stmt-clause-reads b c = at_stmt c.args.depth _ _ _ _ _ _ c.in-Stmt.is c.in_ok-step.ensures.reads c.in_ok-symbol-in-Stmt.ensures.reads
 
 pub returns-in-Last-clause-reads : goal.returns-in-Last-clause-reads
 returns-in-Last-clause-reads b c = at_last c.args.depth _ _ _ _ _ _ c.in-Last.is c.in_ok-step.ensures.reads c.behind_action.ensures.reads
