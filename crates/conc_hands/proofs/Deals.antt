@@ -78,12 +78,12 @@ module _ {J : Type 0} where
   deals_one doors code own at rows row more p r here is view id = let old = r at row here in
       let n : length row.items ≡ own = old.1 (omega arith) in
       let grown : IsRow doors code at more.items = subst (λ ps. IsRow doors code at ps) (sym is)
-              (row_more doors code at row.items p old.2 (subst (λ k. pass_view p ≡ dealt_if (Some code) (at == k)) (sym n) view) (λ d e. id d (subst (λ k. slice_get doors k ≡ Some d) n e))) in
+      (row_more doors code at row.items p old.2 (subst (λ k. pass_view p ≡ dealt_if (Some code) (at == k)) (sym n) view) (λ d e. id d (subst (λ k. slice_get doors k ≡ Some d) n e))) in
       let size : length more.items ≡ own + 1 = ap length is ∙ (length-append row.items (p ∷ []) ∙ ap (λ k. k + 1) n) in
       λ q x e. ⊎_elim
-          (λ t. ((λ _. ap (λ (y : Vec (DequePass J) Global). length y.items) (sym t.1) ∙ size), (λ no. absurd (let z = t.0 in omega arith)), subst (λ (y : ℕ × Vec (DequePass J) Global). IsRow doors code y.0 y.1.items) (λ i. (sym t.0 i, t.1 i)) grown))
-          (λ t. let o = r q x t.1 in ((λ small. o.0 (omega (arith, t.0))), (λ big. o.1 (omega arith)), o.2))
-          (got_after rows at q more x e)
+      (λ t. ((λ _. ap (λ (y : Vec (DequePass J) Global). length y.items) (sym t.1) ∙ size), (λ no. absurd (let z = t.0 in omega arith)), subst (λ (y : ℕ × Vec (DequePass J) Global). IsRow doors code y.0 y.1.items) (λ i. (sym t.0 i, t.1 i)) grown))
+      (λ t. let o = r q x t.1 in ((λ small. o.0 (omega (arith, t.0))), (λ big. o.1 (omega arith)), o.2))
+      (got_after rows at q more x e)
 
   pub deques_wider : (doors : List (Door J)) (door : Door J) (code : Body) (caps : ℕ) (ds : List (Deque J)) (d : Deque J) → length ds ≡ length doors → AreDeques doors code caps 0 ds
       → IsDequeOf (doors ++ door ∷ []) code caps (length doors) d → AreDeques (doors ++ door ∷ []) code caps 0 (ds ++ d ∷ [])

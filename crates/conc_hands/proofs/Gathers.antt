@@ -133,7 +133,7 @@ module _ {J : Type 0} where
     first_stays : (q n : ℕ) → IsSpentAt es q n → IsSpentAt first q n
     first_stays q n h = λ x y a b. ⊎_elim
         (λ u. let b' : slice_get (set e.passes.items place (s.2.0)) n ≡ Some y = subst (λ ps. slice_get ps n ≡ Some y) s.2.1 (subst (λ (z : JobsEnd J). slice_get z.passes.items n ≡ Some y) (sym u.1) b) in
-            ⊎_elim (λ w. sym (ap pass_view w.1) ∙ s.2.2) (λ w. h e y (subst (λ k. slice_get es k ≡ Some e) (sym u.0) here) w.1) (got_after e.passes.items place n (s.2.0) y b'))
+        ⊎_elim (λ w. sym (ap pass_view w.1) ∙ s.2.2) (λ w. h e y (subst (λ k. slice_get es k ≡ Some e) (sym u.0) here) w.1) (got_after e.passes.items place n (s.2.0) y b'))
         (λ u. h x y u.1 b) (got_after es at q f x a)
 
     module _ (g : JobsEnd J) (t : TookIn (pass_view p) o g) where
@@ -206,9 +206,9 @@ module _ {J : Type 0} where
   pub all_whole : (doors : List (Door J)) (es fs : List (JobsEnd J)) → AreDealt doors es → AreEnds doors fs → IsConserved es fs → ((p q : ℕ) → p < length fs → q < length fs → IsSpentAt fs q (number_at es p)) → AreWhole fs
   all_whole doors es fs dealt ends c none i e at = let n = e.number in
       let once : (m : ℕ) → m < length doors → total_over (λ (x : JobsEnd J). if_same x.number m 1) fs ≡ 1 =
-          (λ m few. by_number numbered (λ k. if_same k m 1) fs ∙ (ap (weigh (λ k. if_same k m 1)) c.numbers ∙ (sym (by_number numbered (λ k. if_same k m 1) es) ∙ (dealt m few).1))) in
+      (λ m few. by_number numbered (λ k. if_same k m 1) fs ∙ (ap (weigh (λ k. if_same k m 1)) c.numbers ∙ (sym (by_number numbered (λ k. if_same k m 1) es) ∙ (dealt m few).1))) in
       let spent_at : (q j : ℕ) (x : JobsEnd J) → q < length fs → slice_get fs j ≡ Some x → IsSpentAt fs q x.number =
-          (λ q j x small here. subst (IsSpentAt fs q) (sym (same_place es fs j c) ∙ sym (number_here numbered fs j x here)) (none j q (within fs j x here) small)) in
+      (λ q j x small here. subst (IsSpentAt fs q) (sym (same_place es fs j c) ∙ sym (number_here numbered fs j x here)) (none j q (within fs j x here) small)) in
       let few = (ends i e at).0.place in
       let a = shares_left n fs (λ q small. spent_at q i e small at) in
       let b = one_number numbered fs n (λ (x : JobsEnd J). (deque_view x.deque).shares) i e at refl (once n few) in (

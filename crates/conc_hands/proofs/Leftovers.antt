@@ -47,7 +47,7 @@ module _ {J : Type 0} where
   pub empty_after : (es : List (JobsEnd J)) (at : ℕ) (f : JobsEnd J) → at < length es → stolen_by f.passes.items ≡ [] → SameTickets (deque_view f.deque).put (deque_view f.deque).taken → IsEmptyAt at (set es at f)
   empty_after es at f small none same = λ x a. let is : f ≡ x = cc (sym (got_set es at f small) ∙ a) in
       subst (λ (y : JobsEnd J). SameTickets (end_pushed y) (end_taken y)) is
-          (λ h. let a = weigh_append h (deque_view f.deque).taken (stolen_by f.passes.items) in let b = ap (weigh h) none in let c = same h in omega arith)
+      (λ h. let a = weigh_append h (deque_view f.deque).taken (stolen_by f.passes.items) in let b = ap (weigh h) none in let c = same h in omega arith)
 
   pub all_empty : (es : List (JobsEnd J)) → ((i : ℕ) (e : JobsEnd J) → slice_get es i ≡ Some e → SameTickets (end_pushed e) (end_taken e)) → AreJobsIn es []
   all_empty [] none h = refl

@@ -50,7 +50,7 @@ module _ {J : Type 0} (number : J → ℕ) (belongs : J → Body) where
 
   pub popped : (o : Option J) (v w : QueueView) (rest : List ℕ) (code : Body) → v.code ≡ Some code → Told o v w
       → MatchOption o (((w.put ≡ v.put) × (w.taken ++ rest ≡ v.taken ++ rest)) × MetEmpty number belongs v)
-          (λ x. (belongs x ≡ code) × (w.put ≡ v.put) × SameTickets (w.taken ++ rest) ((v.taken ++ rest) ++ number x ∷ []))
+      (λ x. (belongs x ≡ code) × (w.put ≡ v.put) × SameTickets (w.taken ++ rest) ((v.taken ++ rest) ++ number x ∷ []))
   popped None v w rest code is t = ((ap (λ (u : QueueView). u.put) t.0, ap (λ (u : QueueView). u.taken ++ rest) t.0), t.1)
   popped (Some x) v w rest code is t = (
     cc (t.0 ∙ is),
@@ -70,7 +70,7 @@ module _ {J : Type 0} (number : J → ℕ) (belongs : J → Body) where
 
   pub stole : (o : Option J) (own : List ℕ) (ps : List (DequePass J)) (i : ℕ) (p q : DequePass J) → slice_get ps i ≡ Some p → (code : Option Body) → (pass_view p).code ≡ code → Told o (pass_view p) (pass_view q)
       → MatchOption o ((own ++ stolen_by (set ps i q) ≡ own ++ stolen_by ps) × ((p' : DequePass J) × (slice_get ps i ≡ Some p') × MetEmpty number belongs (pass_view p')))
-          (λ x. (Some (belongs x) ≡ code) × SameTickets (own ++ stolen_by (set ps i q)) ((own ++ stolen_by ps) ++ number x ∷ []))
+      (λ x. (Some (belongs x) ≡ code) × SameTickets (own ++ stolen_by (set ps i q)) ((own ++ stolen_by ps) ++ number x ∷ []))
   stole None own ps i p q at code is t = (ap (λ (ts : List ℕ). own ++ ts) (stolen_same ps i p q at (ap (λ (u : QueueView). u.taken) t.0)), (p, at, t.1))
   stole (Some x) own ps i p q at code is t = (
     t.0 ∙ is,

@@ -70,13 +70,7 @@ impl<J: Ticketed + Drop, S: Ticketed + Drop> Hands<J, S> {
         while number + 1 < caps {
             let own_post = self.inbox.another(&mut post);
             let own_pen = self.flags.another(&mut pen);
-            let hand = self.hand_of(
-                number,
-                deques.remove(0),
-                rows.remove(0),
-                own_post,
-                own_pen,
-            );
+            let hand = self.hand_of(number, deques.remove(0), rows.remove(0), own_post, own_pen);
             hands.push(hand).map_err(AllocError::from)?;
             number += 1;
         }

@@ -94,10 +94,10 @@ halves : (hands id : ℕ) (v l w : PenView) → (Spent v → Spent l × Spent w)
 halves hands id v l w spent shares raised only s r at = let vs = set s.views id l in
     let end : get_elem? (vs ++ w ∷ []) (length vs) ≡ some w = at_end vs w in
     let keep : (t : ℕ) → Raised s.views t → Raised (vs ++ w ∷ []) t =
-        (λ t h. dite (ℕ_discrete h.0 id)
-            (λ e. let mine : Among t v.raised = subst (λ (x : PenView). Among t x.raised) (some-injective h.1 v (sym h.2 ∙ (ap (get_elem? s.views) e ∙ at))) h.3 in
-                ⊎_elim (λ m. (id, l, at_longer vs (w ∷ []) id l (set_at s.views id v l at), m)) (λ m. (length vs, w, end, m)) (raised t mine))
-            (λ ne. (h.0, h.1, at_longer vs (w ∷ []) h.0 h.1 (set_else s.views id h.0 l ne ∙ h.2), h.3))) in
+    (λ t h. dite (ℕ_discrete h.0 id)
+    (λ e. let mine : Among t v.raised = subst (λ (x : PenView). Among t x.raised) (some-injective h.1 v (sym h.2 ∙ (ap (get_elem? s.views) e ∙ at))) h.3 in
+    ⊎_elim (λ m. (id, l, at_longer vs (w ∷ []) id l (set_at s.views id v l at), m)) (λ m. (length vs, w, end, m)) (raised t mine))
+    (λ ne. (h.0, h.1, at_longer vs (w ∷ []) h.0 h.1 (set_else s.views id h.0 l ne ∙ h.2), h.3))) in
     let fit = spent (r.spent id v at) in
     let mine = only (vs ++ w ∷ []) (λ m x nz. keep m.found (r.only id v at m x nz)) in record {
       whole = (let t = total_set s.views id v l at in let t' = total_snoc vs w in let p = r.whole in omega arith);

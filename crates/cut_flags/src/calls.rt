@@ -66,10 +66,7 @@ impl Flags {
         requires { IsPenOf self.now pen.old }
         ensures { IsPenOf self.now result × (view_of result ≡ view_of pen.old) }
     {
-        let seat = self
-            .table
-            .shared
-            .split_seat::<GiveAll>(&mut pen.seat);
+        let seat = self.table.shared.split_seat::<GiveAll>(&mut pen.seat);
         Pen { seat }
     }
 

@@ -4,8 +4,8 @@ ghost use Rattle.rules_code.specs.declared.code.Body.{Body};
 ghost use Rattle.hs_rules.specs.declared.entry.Entry.{Entry};
 ghost use Rattle.hs_rules.specs.declared.kept.Plan.{Plan};
 
-use rules_code::Body;
 use hs_base::{ClockChoice, Limits};
+use rules_code::Body;
 
 /// What never changes of a run from its begin on. No value of it is made: contracts alone speak of it.
 pub struct Plan {

@@ -1,5 +1,5 @@
-use hs_index::Index;
 use hs_base::Txt;
+use hs_index::Index;
 use std::test::Fail;
 
 #[test]

@@ -1,8 +1,8 @@
+use hs_base::ClockChoice;
 use hs_io::{
     Clock, Failed, Gate, MemSink, MemSource, NullSink, OpenGate, PlainSource, Sink, Source,
     StdSink, StdSource, VirtualClock,
 };
-use hs_base::ClockChoice;
 use std::alloc::Global;
 use std::test::Fail;
 

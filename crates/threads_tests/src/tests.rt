@@ -10,7 +10,10 @@ fn two_hands_push_pop_and_steal(rt: HostRuntime) -> Result<(), Fail> {
         assert!(rt; hands.push(&mut one, item(&code, ticket)).is_ok());
     }
     assert_eq!(rt; hands.pop(&mut one).map(|job| job.number), Some(1));
-    assert_eq!(rt; hands.steal(&rt, &mut two, 0).map(|job| job.number), Some(2));
+    assert_eq!(rt;
+        hands.steal(&rt, &mut two, 0).map(|job| job.number),
+        Some(2)
+    );
     assert_eq!(rt; hands.pop(&mut one).map(|job| job.number), Some(3));
     assert!(rt; hands.pop(&mut one).is_none());
     assert!(rt; hands.steal(&rt, &mut two, 0).is_none());

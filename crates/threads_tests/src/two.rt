@@ -11,7 +11,9 @@ use hs_rules::Code;
 use std::alloc::Global;
 
 pub type TestHands = Hands<Item, Item>;
+
 pub type TestHand = Hand<Item, Item>;
+
 pub type TestList = HandList<Item, Item>;
 
 /// Two hands, with the object and their list, which is empty now.

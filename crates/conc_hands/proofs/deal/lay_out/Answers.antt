@@ -14,7 +14,7 @@ deal-requires-clause-rows g c = let inv = c.loop-number.invariant in let doors =
     let grown : c.push.new.self.items ≡ doors ++ door ∷ [] = search rules in
     let n : length doors ≡ length c.push.new.self.items - 1 = (let a = ap length grown ∙ length-append doors (door ∷ []) in omega arith) in
     subst (λ (x : List (Door _) × ℕ). AreRows x.0 c.args.code.now x.1 0 rows) (λ i. (sym grown i, n i))
-        (rows_wider doors door c.args.code.now rows (subst (λ (k : ℕ). AreRows doors c.args.code.now k 0 rows) (sym inv.1) inv.4))
+    (rows_wider doors door c.args.code.now rows (subst (λ (k : ℕ). AreRows doors c.args.code.now k 0 rows) (sym inv.1) inv.4))
 
 pub deal-requires-clause-deque : goal.deal-requires-clause-deque
 deal-requires-clause-deque g c = let doors = c.loop-number.doors.items in let door = c.in_ok-deque.door in

@@ -25,4 +25,4 @@ pub returns-clause-whole : goal.returns-clause-whole
 returns-clause-whole g c = let inv = c.loop-at.invariant in let es = ends_in c.args.hands.now.items in let fs = ends_in c.loop-at.hands.items in
     let n : length fs ≡ length c.loop-at.hands.items = length_mapped _ c.loop-at.hands.items in
     all_whole c.args.doors.now.items es fs c.requires.dealt inv.2 inv.3
-        (λ p q small few. inv.4 p q (let a = c.loop-at-test.false in let b = c.len.ensures in omega arith) (let a = inv.1 in omega arith))
+    (λ p q small few. inv.4 p q (let a = c.loop-at-test.false in let b = c.len.ensures in omega arith) (let a = inv.1 in omega arith))

@@ -69,7 +69,7 @@ returns-clause-ends g c =
     let w : JobsEnd _ = record { number = z.jobs.number; deque = c.absorb.new.self; passes = z.jobs.passes } in
     let took : TookIn (pass_view c.swap_pass-pass.result) z.jobs w = (refl, c.absorb.ensures.same.0, refl, c.absorb.ensures.view) in
     let ends_zs : ends_in (set ys c.args.owner record { jobs = w; post = z.post; pen = z.pen }) ≡ set (set es c.args.at f) c.args.owner w =
-        mapped_set (λ (x : Hand _ _). x.jobs) ys c.args.owner record { jobs = w; post = z.post; pen = z.pen } ∙ ap (λ l. set l c.args.owner w) ends_ys in
+    mapped_set (λ (x : Hand _ _). x.jobs) ys c.args.owner record { jobs = w; post = z.post; pen = z.pen } ∙ ap (λ l. set l c.args.owner w) ends_ys in
     subst (AreEnds doors) (sym ends_zs) (moved_ends doors es c.args.at c.args.owner x.jobs f z.jobs c.swap_pass-pass.result door place c.requires.ends at_in c.swap_pass-pass.ensures.pass door_at c.swap_pass-pass.ensures.left z_in own_number w took)
 
 pub returns-clause-conserved : goal.returns-clause-conserved
@@ -93,7 +93,7 @@ returns-clause-conserved g c =
     let w : JobsEnd _ = record { number = z.jobs.number; deque = c.absorb.new.self; passes = z.jobs.passes } in
     let took : TookIn (pass_view c.swap_pass-pass.result) z.jobs w = (refl, c.absorb.ensures.same.0, refl, c.absorb.ensures.view) in
     let ends_zs : ends_in (set ys c.args.owner record { jobs = w; post = z.post; pen = z.pen }) ≡ set (set es c.args.at f) c.args.owner w =
-        mapped_set (λ (x : Hand _ _). x.jobs) ys c.args.owner record { jobs = w; post = z.post; pen = z.pen } ∙ ap (λ l. set l c.args.owner w) ends_ys in
+    mapped_set (λ (x : Hand _ _). x.jobs) ys c.args.owner record { jobs = w; post = z.post; pen = z.pen } ∙ ap (λ l. set l c.args.owner w) ends_ys in
     subst (IsConserved es) (sym ends_zs) (moved_conserved doors es c.args.at c.args.owner x.jobs f z.jobs c.swap_pass-pass.result door place c.requires.ends at_in c.swap_pass-pass.ensures.pass door_at c.swap_pass-pass.ensures.left z_in own_number w took)
 
 pub returns-clause-spent : goal.returns-clause-spent
@@ -117,5 +117,5 @@ returns-clause-spent g c =
     let w : JobsEnd _ = record { number = z.jobs.number; deque = c.absorb.new.self; passes = z.jobs.passes } in
     let took : TookIn (pass_view c.swap_pass-pass.result) z.jobs w = (refl, c.absorb.ensures.same.0, refl, c.absorb.ensures.view) in
     let ends_zs : ends_in (set ys c.args.owner record { jobs = w; post = z.post; pen = z.pen }) ≡ set (set es c.args.at f) c.args.owner w =
-        mapped_set (λ (x : Hand _ _). x.jobs) ys c.args.owner record { jobs = w; post = z.post; pen = z.pen } ∙ ap (λ l. set l c.args.owner w) ends_ys in
+    mapped_set (λ (x : Hand _ _). x.jobs) ys c.args.owner record { jobs = w; post = z.post; pen = z.pen } ∙ ap (λ l. set l c.args.owner w) ends_ys in
     subst (λ (l : List (JobsEnd _) × ℕ). IsSpentAt l.0 c.args.at l.1) (λ i. (sym ends_zs i, sym own_number i)) (moved_spent doors es c.args.at c.args.owner x.jobs f z.jobs c.swap_pass-pass.result door place c.requires.ends at_in c.swap_pass-pass.ensures.pass door_at c.swap_pass-pass.ensures.left z_in own_number w took)

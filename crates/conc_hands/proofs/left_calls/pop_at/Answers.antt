@@ -34,4 +34,4 @@ returns-clause-job g c =
     let f : JobsEnd _ = record { number = x.jobs.number; deque = c.pop.new.self; passes = x.jobs.passes } in
     let ends_ys = mapped_set (λ (h : Hand _ _). h.jobs) xs at record { jobs = f; post = x.post; pen = x.pen } in
     subst (λ (l : List (JobsEnd _)). MatchOption c.pop.result (SameTotals es l × IsEmptyAt at l) (λ y. TotalsTaken (g.J.Ticketed.number y) es l)) (sym ends_ys)
-        (popped_from g.J.Ticketed.number c.pop.result _ _ es at x.jobs f e_at c.requires.whole refl c.pop.ensures.job c.pop.ensures.alone)
+    (popped_from g.J.Ticketed.number c.pop.result _ _ es at x.jobs f e_at c.requires.whole refl c.pop.ensures.job c.pop.ensures.alone)

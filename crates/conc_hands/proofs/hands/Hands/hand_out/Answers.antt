@@ -12,7 +12,7 @@ hand_of-hand-requires-clause-jobs g c = let inv = c.loop-number.invariant in let
     let d : slice_get ds 0 ≡ Some c.remove.result = slice_get_read ds (length ds) 0 c.remove.result refl (let a = inv.3 in let b = inv.0 in omega arith) c.remove.ensures.value in
     let r : slice_get rows 0 ≡ Some c.remove-in-loop-number.result = slice_get_read rows (length rows) 0 c.remove-in-loop-number.result refl (let a = inv.5 in let b = inv.0 in omega arith) c.remove-in-loop-number.ensures.value in
     subst (λ (caps : ℕ). IsDequeOf doors code caps n c.remove.result × IsRowOf doors code caps n c.remove-in-loop-number.result) (sym c.requires.caps.2)
-        (first_deque doors code c.args.caps n ds c.remove.result inv.4 d, first_row doors code c.args.caps n rows c.remove-in-loop-number.result inv.6 r)
+    (first_deque doors code c.args.caps n ds c.remove.result inv.4 d, first_row doors code c.args.caps n rows c.remove-in-loop-number.result inv.6 r)
 
 pub hand_of-last-requires-clause-jobs : goal.hand_of-last-requires-clause-jobs
 hand_of-last-requires-clause-jobs g c = let inv = c.loop-number.invariant in let doors = c.args.self.now.doors.items in let code = hands_code c.args.self.now in
@@ -20,7 +20,7 @@ hand_of-last-requires-clause-jobs g c = let inv = c.loop-number.invariant in let
     let d : slice_get ds 0 ≡ Some c.remove-2.result = slice_get_read ds (length ds) 0 c.remove-2.result refl (let a = inv.3 in let b = inv.0 in omega arith) c.remove-2.ensures.value in
     let r : slice_get rows 0 ≡ Some c.remove-3.result = slice_get_read rows (length rows) 0 c.remove-3.result refl (let a = inv.5 in let b = inv.0 in omega arith) c.remove-3.ensures.value in
     subst (λ (caps : ℕ). IsDequeOf doors code caps n c.remove-2.result × IsRowOf doors code caps n c.remove-3.result) (sym c.requires.caps.2)
-        (first_deque doors code c.args.caps n ds c.remove-2.result inv.4 d, first_row doors code c.args.caps n rows c.remove-3.result inv.6 r)
+    (first_deque doors code c.args.caps n ds c.remove-2.result inv.4 d, first_row doors code c.args.caps n rows c.remove-3.result inv.6 r)
 
 pub loop-number-preserved : goal.loop-number-preserved
 loop-number-preserved g c = let inv = c.loop-number.invariant in let doors = c.args.self.now.doors.items in let code = hands_code c.args.self.now in
