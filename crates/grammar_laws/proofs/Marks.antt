@@ -274,7 +274,7 @@ module _ (m : ℕ) where
         (λ e ts g. sym (ap (λ b. begins (where' b (firsts p)) ts) e) ∙ (not_begins (after q) (where' (may_be_empty q) (firsts p)) ts (not_begins (after p) (after q ++ where' (may_be_empty q) (firsts p)) ts g).1).1)
         (weaker (read (enter n) q) (after q) K a w k (λ ts g. (not_begins (after q) (where' (may_be_empty q) (firsts p)) ts (not_begins (after p) (after q ++ where' (may_be_empty q) (firsts p)) ts g).1).0) (rule_marks q pls.1 fq.0 a w k h))
     rule_marks {A} (go_on {B = B} {C = C} c p q) pl f a w k h =
-        same_parser (λ ts. bind (read (enter n) p ts) (or_second c q)) (read (enter n) (go_on c p q)) (after p ++ after q) a w k (read_go_on (enter n) c p q) (by h.0 h.2 h.3)
+        same_parser (λ ts. bind (read (enter n) p ts) (or_second c q)) (read (enter n) (go_on c p q)) (after p ++ after q) a w k (read_go_on (enter n) c p q) (by (rule_marks p pls.0 fp.0) (rule_marks q pls.1 fq.0) h.0 h.2 h.3)
       where
         pls : (plain p ≡ true) × (plain q ≡ true)
         pls = both_true (plain p) (plain q) pl
@@ -288,12 +288,12 @@ module _ (m : ℕ) where
         fa : (negated (may_be_empty q) ≡ true) × (apart (after p) (firsts q) ≡ true)
         fa = both_true (negated (may_be_empty q)) (apart (after p) (firsts q)) (both_true (negated (may_be_empty p)) _ fq.1).1
 
-        by : (x : B ⊎ A) → Y p x w h.1 → OnLeft (λ b. Made (c b) (Y q)) x a h.1 k → Marked (λ ts. bind (read (enter n) p ts) (or_second c q)) (after p ++ after q) a w k
-        by (inl b) s d =
+        by : Rules p → Rules q → (x : B ⊎ A) → Y p x w h.1 → OnLeft (λ b. Made (c b) (Y q)) x a h.1 k → Marked (λ ts. bind (read (enter n) p ts) (or_second c q)) (after p ++ after q) a w k
+        by ip iq (inl b) s d =
             second (λ x y. c b y) p q (after p ++ after q) (inl b) a w h.1 k fq.0 fa.1 (λ ts g. (not_begins (after p) (after q) ts g).1) (λ e. clash (may_be_empty q) e (negated_true (may_be_empty q) fa.0)) (or_second c q) (λ r. refl)
-            (rule_marks p pls.0 fp.0 (inl b) w h.1 s) d (rule_marks q pls.1 fq.0)
-        by (inr y) s d =
-            behind (read (enter n) p) (after p) (or_second c q) (after p ++ after q) true [] (inr y) a w h.1 k (inl (refl, d.1)) (apart_nil (after p)) (λ e ts g. (not_begins (after p) (after q) ts g).0) (rule_marks p pls.0 fp.0 (inr y) w h.1 s) (nothing (after p ++ after q) y a h.1 k d.0 d.1)
+            (ip (inl b) w h.1 s) d iq
+        by ip iq (inr y) s d =
+            behind (read (enter n) p) (after p) (or_second c q) (after p ++ after q) true [] (inr y) a w h.1 k (inl (refl, d.1)) (apart_nil (after p)) (λ e ts g. (not_begins (after p) (after q) ts g).0) (ip (inr y) w h.1 s) (nothing (after p ++ after q) y a h.1 k d.0 d.1)
     rule_marks (many {B = B} c p) pl f a w k h =
         let fp = both_true (fine p) (both (negated (may_be_empty p)) (apart (after p) (firsts p))) f in
         let np = both_true (negated (may_be_empty p)) (apart (after p) (firsts p)) fp.1 in
