@@ -1,12 +1,10 @@
-//! What scripts expand to, and what their expressions give: the body of `main`, written by hand from the table of
-//! expansions, and the text that it would print.
+//! What scripts expand to: the body of `main`, written by hand from the table of expansions.
 //!
 //! A body is shown as its core actions: `* <- {A}; B` binds the next slot, `{A}; B` binds none, `let E; A` binds the next
 //! slot in A, `#k` reads slot k, `hard` is `uninterruptibleMask`, and `call k` calls the action function of that number.
 
 use hs_base::{Exn, Value, Values};
 use hs_core::expand;
-use hs_eval::{Found, eval_node};
 use hs_items::Items;
 use hs_lex::lex;
 use hs_parse::parse;
@@ -318,76 +316,6 @@ fn scripts_expand_by_the_table(rt: HostRuntime) -> Result<(), Fail> {
     for (script, body) in ROWS {
         assert_eq!(rt; expanded(alloc, script)?.as_str(), body, "{script}");
     }
-    Ok(())
-}
-
-/// An expression, and what `show` of it gives, or the exception that it throws.
-const SHOWN: [(&str, &str); 16] = [
-    ("div (-7) 2", "-4"),
-    ("mod (-7) 2", "1"),
-    ("mod 7 (-2)", "-1"),
-    (
-        "div (-9223372036854775807 - 1) (-1)",
-        "throws arithmetic overflow",
-    ),
-    ("mod (-9223372036854775807 - 1) (-1)", "0"),
-    ("False && div 1 0 == 0", "False"),
-    ("div 1 0 == 0 && False", "throws divide by zero"),
-    ("True || div 1 0 == 0", "True"),
-    ("if True then 1 else div 1 0", "1"),
-    ("case Just 1 of { Nothing -> div 1 0; Just x -> x }", "1"),
-    ("9223372036854775807 + 1", "-9223372036854775808"),
-    ("-9223372036854775807 - 2", "9223372036854775807"),
-    ("9223372036854775807 * 2", "-2"),
-    ("div 1 0 + mod 1 0", "throws divide by zero"),
-    ("let x = 1 in let x = x + 1 in x", "2"),
-    ("\"ab\" < \"b\"", "True"),
-];
-
-/// What the literal or the call that `main` prints gives.
-fn printed(alloc: Global, code: &Code) -> Result<String, Fail> {
-    let Some(Act::Perform(_, ids)) = code.body.acts.get(code.body.main.0) else {
-        return Ok(String::new(alloc));
-    };
-    let Some(at) = ids.get(0) else {
-        return Ok(String::new(alloc));
-    };
-    match eval_node(alloc, &code.body.nodes, *at, &Values::new(alloc))? {
-        Found::Value(Value::Text(text)) => Ok(String::from_str(alloc, text.as_str())?),
-        Found::Throws(Exn::Overflow) => Ok(String::from_str(alloc, "throws arithmetic overflow")?),
-        Found::Throws(Exn::DivideByZero) => Ok(String::from_str(alloc, "throws divide by zero")?),
-        _ => Ok(String::from_str(alloc, "another answer")?),
-    }
-}
-
-#[test]
-fn expressions_give_what_they_mean(rt: HostRuntime) -> Result<(), Fail> {
-    let alloc = rt.alloc();
-    for (expression, text) in SHOWN {
-        let script = format!(in alloc; "main :: IO () = {{ putStrLn (show ({})) }};", expression)?;
-        let told = match code_of(alloc, script.as_bytes())? {
-            None => String::new(alloc),
-            Some(code) => printed(alloc, &code)?,
-        };
-        assert_eq!(rt; told.as_str(), text, "{expression}");
-    }
-    Ok(())
-}
-
-#[test]
-fn calls_nest_to_an_unfolded_height_of_999(rt: HostRuntime) -> Result<(), Fail> {
-    let alloc = rt.alloc();
-    let mut script = b"f0 :: Int = 7;\n".to_vec(alloc)?;
-    for i in 1..=996usize {
-        let definition = format!(in alloc; "f{} :: Int = f{};\n", i, i.saturating_sub(1))?;
-        script.extend_from_slice(definition.as_bytes())?;
-    }
-    script.extend_from_slice(b"main :: IO () = { putStrLn (show f996) };")?;
-    let told = match code_of(alloc, &script)? {
-        None => String::new(alloc),
-        Some(code) => printed(alloc, &code)?,
-    };
-    assert_eq!(rt; told.as_str(), "7");
     Ok(())
 }
 

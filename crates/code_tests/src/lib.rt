@@ -1,5 +1,4 @@
-//! Tests of what scripts expand to and of what their expressions give, until scripts run: from the bytes of a script to the
-//! body of its `main`, and to the text that it would print.
+//! Tests of what scripts expand to, from the bytes of a script to the body of its `main`.
 #![tactic(auto)]
 
 #[cfg(test)]

@@ -1,1 +1,2 @@
 pub mod SmallestCode
+pub mod FirstState

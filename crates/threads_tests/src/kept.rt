@@ -1,33 +1,46 @@
-//! A kept value of the tests, and a take and a give.
-ghost use Rattle.std.specs.Prelude.{◌≡◌, ◌≤◌};
-ghost use mathlib.Core.List.{IsPrefix};
-ghost use Rattle.conc_turn.specs.Seats.{seen_by, shares_of, lost_by};
-ghost use Rattle.conc_turn.specs.Turns.{IsSeatOf};
-
-use conc_turn::{Seat, Turn};
-use hs_rules::{Entry, History, Kept, Plan};
+//! A kept value of the tests.
+use hs_base::Limits;
+use hs_rules::{History, Kept, Plan};
+use rules_code::Body;
+use std::alloc::Global;
 use std::snapshot::Snapshot;
-use std::sync::Wait;
 
 /// A history beside a plan that no call changes.
 #[derive(Drop)]
 pub struct Log {
-    pub plan: Snapshot<Plan>,
+    pub follows: Snapshot<Plan>,
     pub entries: History,
 }
 
 impl Kept for Log {
-    ghost plan = { λ l. l.plan.value };
+    ghost plan = { λ l. l.follows.value };
 
-    ghost history = { λ l. l.entries };
+    ghost history = { λ l. l.entries.list };
 }
 
-/// Takes the turn, adds an entry where there is memory for one, and gives the turn back.
-pub fn take_and_give<R: Wait>(rt: &R, turn: &Turn<Log>, seat: Seat, entry: Entry) -> Seat
-    requires { IsSeatOf Log.plan turn.now seat }
-    ensures { IsSeatOf Log.plan turn.now result × IsPrefix (seen_by seat) (seen_by result) × (shares_of result ≡ shares_of seat) × (lost_by seat ≤ lost_by result) }
-{
-    let mut held = turn.take(rt, seat);
-    let _ = held.kept().entries.push(entry);
-    held.give()
+/// An empty history, under the plan of a run of this code.
+pub fn a_log(alloc: Global, body: Body) -> Log {
+    let plan = Plan {
+        body,
+        fuel: 1_000,
+        limits: Limits::shipped(),
+        out_faults: 0,
+        err_faults: 0,
+        choice: None,
+        early: 0,
+    };
+    let follows = Snapshot::of(&plan);
+    let Plan {
+        body: _body,
+        fuel: _,
+        limits: _,
+        out_faults: _,
+        err_faults: _,
+        choice: _,
+        early: _,
+    } = plan;
+    Log {
+        follows,
+        entries: History::new(alloc),
+    }
 }

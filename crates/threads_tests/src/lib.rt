@@ -2,17 +2,19 @@
 #![tactic(auto)]
 
 mod close;
-mod item;
+mod items;
 mod kept;
+mod rows;
 mod sends;
 mod several;
 mod two;
 
 pub use close::{close_four, close_two};
-pub use item::{Item, a_code, item};
-pub use kept::{Log, take_and_give};
+pub use items::{Item, a_body, a_code, ticket_of};
+pub use kept::{Log, a_log};
+pub use rows::{one_hand_cuts, tries_while_held};
 pub use sends::{hands_cross, turn_crosses};
-pub use several::{Count, Tally, run_four, work};
+pub use several::{Count, Tally, run_four};
 pub use two::{four_hands, two_hands};
 
 #[cfg(test)]

@@ -1,5 +1,27 @@
-use crate::{Log, a_code, close_two, item, two_hands};
+use crate::{
+    a_body, a_code, a_log, close_two, one_hand_cuts, run_four, ticket_of, tries_while_held,
+    two_hands,
+};
 use std::test::Fail;
+
+#[test]
+fn a_try_loses_while_another_seat_has_the_turn(rt: HostRuntime) -> Result<(), Fail> {
+    let alloc = rt.alloc();
+    let Some((lost, entries)) = tries_while_held(&rt, alloc, a_log(alloc, a_body(alloc)?)) else {
+        panic!(rt; "memory")
+    };
+    assert_eq!(rt; lost, 1);
+    assert_eq!(rt; entries, 2);
+    Ok(())
+}
+
+#[test]
+fn flags_of_one_hand(rt: HostRuntime) -> Result<(), Fail> {
+    let alloc = rt.alloc();
+    let code = a_code(alloc)?;
+    assert_eq!(rt; one_hand_cuts(alloc, &code)?, (0, 65, 1));
+    Ok(())
+}
 
 #[test]
 fn two_hands_push_pop_and_steal(rt: HostRuntime) -> Result<(), Fail> {
@@ -7,7 +29,7 @@ fn two_hands_push_pop_and_steal(rt: HostRuntime) -> Result<(), Fail> {
     let code = a_code(alloc)?;
     let (hands, list, mut one, mut two) = two_hands(alloc, &code)?;
     for ticket in 1..4 {
-        assert!(rt; hands.push(&mut one, item(&code, ticket)).is_ok());
+        assert!(rt; hands.push(&mut one, ticket_of(&code, ticket)).is_ok());
     }
     assert_eq!(rt; hands.pop(&mut one).map(|job| job.number), Some(1));
     assert_eq!(rt;
@@ -17,10 +39,22 @@ fn two_hands_push_pop_and_steal(rt: HostRuntime) -> Result<(), Fail> {
     assert_eq!(rt; hands.pop(&mut one).map(|job| job.number), Some(3));
     assert!(rt; hands.pop(&mut one).is_none());
     assert!(rt; hands.steal(&rt, &mut two, 0).is_none());
-    assert!(rt; hands.push(&mut one, item(&code, 4)).is_ok());
+    assert!(rt; hands.push(&mut one, ticket_of(&code, 4)).is_ok());
     let mut left = close_two(hands, list, one, two);
     assert_eq!(rt; left.jobs.next().map(|job| job.number), Some(4));
     assert!(rt; left.jobs.next().is_none());
     assert!(rt; left.slices.next(&rt).is_none());
+    Ok(())
+}
+
+#[test]
+fn four_hands_lose_nothing(rt: HostRuntime) -> Result<(), Fail> {
+    let alloc = rt.alloc();
+    let code = a_code(alloc)?;
+    let (tally, jobs, slices) = run_four(&rt, alloc, &code)?;
+    assert_eq!(rt; tally.pushed.number, 4_000);
+    assert_eq!(rt; tally.pushed, tally.taken.plus(jobs));
+    assert_eq!(rt; tally.handed_in, tally.taken);
+    assert_eq!(rt; tally.handed_in, tally.collected.plus(slices));
     Ok(())
 }

@@ -8,6 +8,7 @@ use hs_rules::Ticketed;
 use rules_code::{Body, Code};
 use std::alloc::Global;
 use std::snapshot::Snapshot;
+use std::sync::Arc;
 
 /// A ticket of a code.
 #[derive(Drop)]
@@ -27,7 +28,7 @@ impl Ticketed for Item {
 }
 
 /// An item of this code.
-pub fn item(code: &Code, number: u64) -> Item
+pub fn ticket_of(code: &Code, number: u64) -> Item
     ensures { (result.number ≡ number) × (result.of.value ≡ body_of code.now) }
 {
     let body: &Body = &code.body;
@@ -42,5 +43,14 @@ pub fn a_code(alloc: Global) -> Result<Code, NoMemory> {
     match compile(alloc, b"main :: IO () = { return () };") {
         Ok(code) => Ok(code),
         Err(_) => Err(NoMemory),
+    }
+}
+
+/// What that code is.
+pub fn a_body(alloc: Global) -> Result<Body, NoMemory> {
+    let Code { body } = a_code(alloc)?;
+    match Arc::into_inner(body) {
+        Some(body) => Ok(body),
+        None => Err(NoMemory),
     }
 }
