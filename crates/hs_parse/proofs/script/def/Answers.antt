@@ -3,7 +3,7 @@ use Rattle.std.proofs.lemmas.Result.{err_from_is_err_and}
 use Rattle.hs_grammar.specs.Parser.{firsts, may_be_empty, read_then}
 use Rattle.rules_grammar.specs.Grammar.{def}
 use Rattle.parse_leaves.proofs.Steps.{steps}
-use Rattle.hs_parse.proofs.DefSteps.{def_end}
+use Rattle.hs_parse.proofs.DefSteps.{def_end, def_all}
 use Rattle.hs_parse.proofs.script.def.Goals as goal
 
 pub returns-in_err-name-clause-reads : goal.returns-in_err-name-clause-reads
@@ -29,5 +29,5 @@ returns-in_err-symbol-2-clause-reads c =
     rw (p.1, p.2) (def_end c.args.depth _ _ _ _ _ _ _ _ _ _ _ _ c.in_ok-name.ensures.reads c.in_ok-params.ensures.reads c.in_ok-symbol.ensures.reads c.in_ok-body.ensures.reads c.in_err-symbol-2.ensures.reads)
 
 pub returns-clause-reads : goal.returns-clause-reads
-unfolding firsts may_be_empty read_then def
-returns-clause-reads c = search (rules, steps)
+unfolding read_then
+returns-clause-reads c = def_all c.args.depth _ _ _ _ _ _ _ _ _ _ _ c.in_ok-name.ensures.reads c.in_ok-params.ensures.reads c.in_ok-symbol.ensures.reads c.in_ok-body.ensures.reads c.in_ok-symbol-2.ensures.reads
