@@ -28,9 +28,9 @@ fn two_hands_push_pop_and_steal(rt: HostRuntime) -> Result<(), Fail> {
     let alloc = rt.alloc();
     let code = a_code(alloc)?;
     let (hands, list, mut one, mut two) = two_hands(alloc, &code)?;
-    for ticket in 1..4 {
-        assert!(rt; hands.push(&mut one, ticket_of(&code, ticket)).is_ok());
-    }
+    assert!(rt; hands.push(&mut one, ticket_of(&code, 1)).is_ok());
+    assert!(rt; hands.push(&mut one, ticket_of(&code, 2)).is_ok());
+    assert!(rt; hands.push(&mut one, ticket_of(&code, 3)).is_ok());
     assert_eq!(rt; hands.pop(&mut one).map(|job| job.number), Some(1));
     assert_eq!(rt;
         hands.steal(&rt, &mut two, 0).map(|job| job.number),
