@@ -37,7 +37,8 @@ pub enum Value {
     Inst(u32),
 }
 
-/// A list of a script, as cells that copies share: `:`, a copy and taking the first value off take constant time.
+/// A list of a script, as cells that copies share: `:`, a copy and taking the first value off take constant time. Its
+/// length is known only by a walk, and it is dropped by a loop.
 #[cycle(value)]
 pub enum ValueList {
     Nil,
@@ -126,6 +127,7 @@ impl ValueList {
         Ok(ValueList::Cons(head))
     }
 
+    /// Whether no value is in it.
     pub fn is_empty(&self) -> bool
         ensures { IsTrue result ↔ (self.now ≡ Nil) }
     {
@@ -148,7 +150,7 @@ impl ValueList {
         }
     }
 
-    /// The list of these values.
+    /// The list of these values in that order, a cell for each.
     #[tactic(auto, using(crate::proofs::Chains::chains))]
     pub fn from_vec(alloc: Global, values: Vec<Value>) -> Result<ValueList, NoMemory>
         ensures { IfOk result (λ vs. vs ≡ chain_of values.items) }

@@ -17,7 +17,8 @@ use rules_code::{ExprId, Node, NodeLink};
 use rules_trees::forms::BinaryForm;
 use std::alloc::Global;
 
-/// Evaluates the node of a number.
+/// What the node of a number gives, where the values of the slots are those of `outer` and then those of `inner`. `inner` is
+/// as before afterwards, if there is an answer.
 #[cycle(eval)]
 #[tactic(auto, using(rules_code::proofs::Arena::arena_rules))]
 pub fn eval_at(

@@ -1,12 +1,15 @@
-//! The outside of a run: where a script comes from, where output goes, what tells the time, and where a test can hold a slice.
+//! The outside of a run: where a script comes from, where output goes, what tells the time, where a test can hold a slice,
+//! and what cuts a slice short.
 //!
 //! To a contract a `Source` is the bytes that it has left, a `Sink` the bytes that it was told, each where it tells them, and
-//! each has a count of faults. A `Clock` is its last reading, its choice and a count of early waits. The one promise: no count
-//! falls and no reading falls, and a fault is answered only where the count of the object that was asked rose, which no other call raises. What real
-//! streams and clocks do is left to `StdSource` and `StdSink`, a few lines each, which tell no bytes.
+//! each has a count of faults. A `Clock` is its last reading, its choice and a count of early waits, a `Cutter` its last
+//! answer. The one promise: no count falls and no reading falls, and a fault is answered only where the count of the object
+//! that was asked rose, which no other call raises. What real streams and clocks do is left to `StdSource` and `StdSink`, a
+//! few lines each, which tell no bytes.
 #![tactic(auto)]
 
 mod clock;
+mod cutter;
 mod failed;
 mod gate;
 mod mem_sink;
@@ -16,6 +19,7 @@ mod source;
 mod std_streams;
 
 pub use clock::{Clock, VirtualClock};
+pub use cutter::{Cutter, NeverCut};
 pub use failed::Failed;
 pub use gate::{Gate, OpenGate};
 pub use mem_sink::{MemSink, NullSink};
