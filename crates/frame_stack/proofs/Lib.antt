@@ -1,0 +1,4 @@
+pub mod Forms
+pub mod Progress
+pub mod Sends
+pub mod Terms

@@ -1,0 +1,20 @@
+//! The local rules of a thread, one at a time, on the numbered nodes of a code.
+//!
+//! To a contract the active part of a thread and its frames stand for a term with slots (`specs/Machine`, of the terms of
+//! `slot_laws`), and `Frames` is the list of its frames, the innermost first, over a masking state. The one promise: `step`
+//! is exactly the local rule of that term, or says that none applies; a value or an exception meets its frame without
+//! memory. Each rule takes constant time: frames know the masking state inside them, and what waits in a frame shares its
+//! values. How many rules a thread may do, and that none of an accepted script's threads is ever stuck, is left to
+//! `frame_stack`.
+#![tactic(auto)]
+
+mod active;
+mod acts;
+mod choices;
+mod frames;
+mod parts;
+mod stepping;
+
+pub use active::{Active, Frame, Masking, Next};
+pub use frames::Frames;
+pub use stepping::{meet_exception, meet_value, step};

@@ -1,0 +1,268 @@
+//! The expressions of an action, and what follows what they give.
+ghost use Rattle.std.specs.Prelude.{◌≡◌, ◌==◌, ◌++◌, ◌∷◌, [], length, ◌<◌, cond, Some, None, IfOk, slice_get};
+ghost use Rattle.rules_code.specs.declared.code.Body.{Body};
+ghost use Rattle.rules_meaning.specs.Values.{values_of};
+ghost use Rattle.rules_code.specs.Slots.{run, run_all, trees, tree_at, trees_in};
+ghost use Rattle.rules_code.specs.CodeTrees.{primitive_of};
+ghost use Rattle.local_steps.specs.Machine.{act_of, below_of, alone_of, funs_of, all_of};
+ghost use Rattle.slot_laws.specs.SlotRules as rules;
+ghost use Rattle.slot_laws.specs.SlotRules.{just_part, ret, doing, performs, calls};
+
+use crate::active::{Active, Next};
+use crate::acts::lower;
+use crate::choices::{
+    bound, choose, choose_either, choose_list, choose_maybe, choose_pair, returned, thrown,
+};
+use hs_base::{Exn, NoMemory, Values};
+use hs_eval::Found;
+use hs_items::Items;
+use rules_code::{ActId, Body, ExprId, Fun, Node, Primitive};
+use slot_env::Env;
+use std::alloc::Global;
+
+fn id_at(ids: &[ExprId], i: usize) -> ExprId
+    requires { i < length ids.now }
+    ensures { slice_get ids.now i ≡ Some result }
+{
+    ids[i]
+}
+
+/// What expressions give: all their values, the first exception, or nothing where the typing rules are broken.
+#[derive(Drop)]
+pub enum All {
+    Values(Values),
+    Throws(Exn),
+    Stuck,
+}
+
+/// What expressions give, from the left to the right, up to the first exception.
+pub fn eval_all(
+    alloc: Global,
+    nodes: &Items<Node>,
+    ids: &Items<ExprId>,
+    env: Env,
+) -> Result<All, NoMemory>
+    ensures { IfOk result (λ o. all_of o ≡ run_all (trees_in (trees nodes.now) ids.now) (values_of env)) }
+{
+    let mut env = env;
+    let mut values = Items::new(alloc);
+    'each: for i in 0..ids.len() {
+        let id = id_at(ids.as_slice(), i);
+        let (found, same) = env.eval(alloc, nodes, id)?;
+        env = same;
+        match found {
+            Found::Throws(exn) => return Ok(All::Throws(exn)),
+            Found::Stuck => return Ok(All::Stuck),
+            Found::Value(value) => values.add(value)?,
+        }
+    }
+    Ok(All::Values(values))
+}
+
+/// `return`
+pub fn do_return(alloc: Global, body: &Body, e: ExprId, env: Env) -> Result<Next, NoMemory>
+    ensures { IfOk result (λ n. alone_of body.now n ≡ rules.on_value (run (tree_at body.now.nodes e) (values_of env)) (λ u. just_part (ret u))) }
+{
+    let (found, _) = env.eval(alloc, &body.nodes, e)?;
+    Ok(returned(found))
+}
+
+/// `throwIO`
+pub fn do_throw(alloc: Global, body: &Body, e: ExprId, env: Env) -> Result<Next, NoMemory>
+    ensures { IfOk result (λ n. alone_of body.now n ≡ rules.on_value (run (tree_at body.now.nodes e) (values_of env)) rules.thrown) }
+{
+    let (found, _) = env.eval(alloc, &body.nodes, e)?;
+    Ok(thrown(found))
+}
+
+/// `let`
+pub fn do_let(
+    alloc: Global,
+    body: &Body,
+    above: usize,
+    e: ExprId,
+    i: ActId,
+    env: Env,
+) -> Result<Next, NoMemory>
+    ensures { IfOk result (λ n. alone_of body.now n ≡ rules.on_value (run (tree_at body.now.nodes e) (values_of env)) (λ u. just_part (doing (below_of body.now above i) (values_of env ++ u ∷ [])))) }
+{
+    let (found, env) = env.eval(alloc, &body.nodes, e)?;
+    let at = lower(body, above, i);
+    bound(alloc, found, env, at)
+}
+
+/// `if`
+pub fn do_if(
+    alloc: Global,
+    body: &Body,
+    above: usize,
+    e: ExprId,
+    i: ActId,
+    j: ActId,
+    env: Env,
+) -> Result<Next, NoMemory>
+    ensures { IfOk result (λ n. alone_of body.now n ≡ rules.on_value (run (tree_at body.now.nodes e) (values_of env)) (rules.chosen (below_of body.now above i) (below_of body.now above j) (values_of env))) }
+{
+    let (found, env) = env.eval(alloc, &body.nodes, e)?;
+    match found {
+        Found::Value(value) => {
+            let first = lower(body, above, i);
+            let second = lower(body, above, j);
+            Ok(choose(value, env, first, second))
+        }
+        Found::Throws(exn) => Ok(Next::To(Active::Throw(exn))),
+        Found::Stuck => Ok(Next::Stuck),
+    }
+}
+
+/// `case` of a Maybe.
+pub fn do_maybe(
+    alloc: Global,
+    body: &Body,
+    above: usize,
+    e: ExprId,
+    i: ActId,
+    j: ActId,
+    env: Env,
+) -> Result<Next, NoMemory>
+    ensures { IfOk result (λ n. alone_of body.now n ≡ rules.on_value (run (tree_at body.now.nodes e) (values_of env)) (rules.chosen_maybe (below_of body.now above i) (below_of body.now above j) (values_of env))) }
+{
+    let (found, env) = env.eval(alloc, &body.nodes, e)?;
+    match found {
+        Found::Value(value) => {
+            let first = lower(body, above, i);
+            let second = lower(body, above, j);
+            choose_maybe(alloc, value, env, first, second)
+        }
+        Found::Throws(exn) => Ok(Next::To(Active::Throw(exn))),
+        Found::Stuck => Ok(Next::Stuck),
+    }
+}
+
+/// `case` of an Either.
+pub fn do_either(
+    alloc: Global,
+    body: &Body,
+    above: usize,
+    e: ExprId,
+    i: ActId,
+    j: ActId,
+    env: Env,
+) -> Result<Next, NoMemory>
+    ensures { IfOk result (λ n. alone_of body.now n ≡ rules.on_value (run (tree_at body.now.nodes e) (values_of env)) (rules.chosen_either (below_of body.now above i) (below_of body.now above j) (values_of env))) }
+{
+    let (found, env) = env.eval(alloc, &body.nodes, e)?;
+    match found {
+        Found::Value(value) => {
+            let first = lower(body, above, i);
+            let second = lower(body, above, j);
+            choose_either(alloc, value, env, first, second)
+        }
+        Found::Throws(exn) => Ok(Next::To(Active::Throw(exn))),
+        Found::Stuck => Ok(Next::Stuck),
+    }
+}
+
+/// `case` of a list.
+pub fn do_list(
+    alloc: Global,
+    body: &Body,
+    above: usize,
+    e: ExprId,
+    i: ActId,
+    j: ActId,
+    env: Env,
+) -> Result<Next, NoMemory>
+    ensures { IfOk result (λ n. alone_of body.now n ≡ rules.on_value (run (tree_at body.now.nodes e) (values_of env)) (rules.chosen_list (below_of body.now above i) (below_of body.now above j) (values_of env))) }
+{
+    let (found, env) = env.eval(alloc, &body.nodes, e)?;
+    match found {
+        Found::Value(value) => {
+            let first = lower(body, above, i);
+            let second = lower(body, above, j);
+            choose_list(alloc, value, env, first, second)
+        }
+        Found::Throws(exn) => Ok(Next::To(Active::Throw(exn))),
+        Found::Stuck => Ok(Next::Stuck),
+    }
+}
+
+/// `case` of a pair.
+pub fn do_pair(
+    alloc: Global,
+    body: &Body,
+    above: usize,
+    e: ExprId,
+    i: ActId,
+    env: Env,
+) -> Result<Next, NoMemory>
+    ensures { IfOk result (λ n. alone_of body.now n ≡ rules.on_value (run (tree_at body.now.nodes e) (values_of env)) (rules.chosen_pair (below_of body.now above i) (values_of env))) }
+{
+    let (found, env) = env.eval(alloc, &body.nodes, e)?;
+    match found {
+        Found::Value(value) => {
+            let at = lower(body, above, i);
+            choose_pair(alloc, value, env, at)
+        }
+        Found::Throws(exn) => Ok(Next::To(Active::Throw(exn))),
+        Found::Stuck => Ok(Next::Stuck),
+    }
+}
+
+/// The same, where the function is there.
+#[tactic(auto, using(slot_laws::proofs::ActNodes::values_count))]
+fn enter(alloc: Global, fun: Fun, args: Values) -> Result<Next, NoMemory>
+    ensures { IfOk result (λ n. (b : Body) → alone_of b n ≡ cond (fun.params == length (values_of args)) (just_part (doing (act_of b fun.body) (values_of args))) None) }
+{
+    if fun.params as usize == args.len() {
+        let env = Env::of(alloc, args)?;
+        Ok(Next::To(Active::Doing(fun.body, env)))
+    } else {
+        Ok(Next::Stuck)
+    }
+}
+
+/// The body of a function, in its parameters' values.
+#[tactic(auto, using(slot_laws::proofs::ActNodes::fun_some, slot_laws::proofs::ActNodes::fun_none, slot_laws::proofs::ActNodes::values_count))]
+fn entered(alloc: Global, body: &Body, f: u32, args: Values) -> Result<Next, NoMemory>
+    ensures { IfOk result (λ n. alone_of body.now n ≡ rules.called (slice_get (funs_of body.now) f) (values_of args)) }
+{
+    match body.funs.get(f as usize) {
+        None => Ok(Next::Stuck),
+        Some(fun) => enter(alloc, *fun, args),
+    }
+}
+
+/// `f e ..`
+pub fn do_call(
+    alloc: Global,
+    body: &Body,
+    f: u32,
+    ids: &Items<ExprId>,
+    env: Env,
+) -> Result<Next, NoMemory>
+    ensures { IfOk result (λ n. alone_of body.now n ≡ rules.on_values (run_all (trees_in (trees body.now.nodes) ids.now) (values_of env)) (rules.called (slice_get (funs_of body.now) f))) }
+{
+    match eval_all(alloc, &body.nodes, ids, env)? {
+        All::Values(args) => entered(alloc, body, f, args),
+        All::Throws(exn) => Ok(Next::To(Active::Throw(exn))),
+        All::Stuck => Ok(Next::Stuck),
+    }
+}
+
+/// A primitive.
+pub fn do_perform(
+    alloc: Global,
+    body: &Body,
+    primitive: Primitive,
+    ids: &Items<ExprId>,
+    env: Env,
+) -> Result<Next, NoMemory>
+    ensures { IfOk result (λ n. alone_of body.now n ≡ rules.on_values (run_all (trees_in (trees body.now.nodes) ids.now) (values_of env)) (λ us. just_part (performs (calls (primitive_of primitive) us)))) }
+{
+    match eval_all(alloc, &body.nodes, ids, env)? {
+        All::Values(args) => Ok(Next::To(Active::Asks(primitive, args))),
+        All::Throws(exn) => Ok(Next::To(Active::Throw(exn))),
+        All::Stuck => Ok(Next::Stuck),
+    }
+}

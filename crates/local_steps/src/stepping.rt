@@ -1,0 +1,259 @@
+//! One local rule.
+ghost use Rattle.std.specs.Prelude.{◌≡◌, ◌++◌, ◌∷◌, [], IfOk, OnErr, take, slice_get, Some, None, MatchOption, List};
+ghost use Rattle.hs_base.specs.declared.mask.Mask.TheVariants as mask;
+ghost use Rattle.rules_meaning.specs.Values as val;
+ghost use Rattle.rules_meaning.specs.Values.{V, value_of, values_of};
+ghost use Rattle.rules_code.specs.Slots.{trees};
+ghost use Rattle.rules_code.specs.declared.code.Body.{Body};
+ghost use Rattle.rules_code.specs.CodeTrees.{Sa, act_decode, act_trees};
+ghost use Rattle.slot_laws.specs.SlotRules as rules;
+ghost use Rattle.slot_laws.specs.SlotRules.{at, just_part, performs, forks, forks_unmask, on_top, first_step, bind_to, then_to, catch_by, mask_in, doing, local};
+ghost use Rattle.local_steps.specs.declared.active.Next.TheVariants as next;
+ghost use Rattle.local_steps.specs.Frames.{mask_inside};
+ghost use Rattle.local_steps.specs.Machine.{act_of, below_of, active_of, frames_of, next_of, alone_of, funs_of};
+
+use crate::active::{Active, Frame, Next};
+use crate::acts::{act_at, lower};
+use crate::choices::with_one;
+use crate::frames::Frames;
+use crate::parts::{
+    do_call, do_either, do_if, do_let, do_list, do_maybe, do_pair, do_perform, do_return, do_throw,
+};
+use hs_base::{Exn, Mask, NoMemory, Value};
+use rules_code::{Act, ActId, Body};
+use slot_env::Env;
+use std::alloc::Global;
+
+/// `x <- A; B`
+fn bind(
+    alloc: Global,
+    body: &Body,
+    above: usize,
+    i: ActId,
+    j: ActId,
+    env: Env,
+    frames: &mut Frames,
+) -> Result<Next, NoMemory>
+    ensures rule { IfOk result (λ n. next_of body.now n frames.new.list ≡ Some (at (doing (below_of body.now above i) (values_of env)) (bind_to (below_of body.now above j) (values_of env) ∷ frames_of body.now frames.old.list))) }
+    ensures below { frames.new.below ≡ frames.old.below }
+    ensures err { OnErr result (frames.new ≡ frames.old) }
+{
+    let rest = env.waiting(alloc)?;
+    frames.add(Frame::Bind(lower(body, above, j), rest))?;
+    Ok(Next::To(Active::Doing(lower(body, above, i), env)))
+}
+
+/// `A; B`
+fn then(
+    alloc: Global,
+    body: &Body,
+    above: usize,
+    i: ActId,
+    j: ActId,
+    env: Env,
+    frames: &mut Frames,
+) -> Result<Next, NoMemory>
+    ensures rule { IfOk result (λ n. next_of body.now n frames.new.list ≡ Some (at (doing (below_of body.now above i) (values_of env)) (then_to (below_of body.now above j) (values_of env) ∷ frames_of body.now frames.old.list))) }
+    ensures below { frames.new.below ≡ frames.old.below }
+    ensures err { OnErr result (frames.new ≡ frames.old) }
+{
+    let rest = env.copy(alloc)?;
+    frames.add(Frame::Then(lower(body, above, j), rest))?;
+    Ok(Next::To(Active::Doing(lower(body, above, i), env)))
+}
+
+/// `catch A x B`
+fn catch(
+    alloc: Global,
+    body: &Body,
+    above: usize,
+    i: ActId,
+    j: ActId,
+    env: Env,
+    frames: &mut Frames,
+) -> Result<Next, NoMemory>
+    ensures rule { IfOk result (λ n. next_of body.now n frames.new.list ≡ Some (at (doing (below_of body.now above i) (values_of env)) (catch_by (below_of body.now above j) (values_of env) ∷ frames_of body.now frames.old.list))) }
+    ensures below { frames.new.below ≡ frames.old.below }
+    ensures err { OnErr result (frames.new ≡ frames.old) }
+{
+    let rest = env.waiting(alloc)?;
+    frames.add(Frame::Catch(lower(body, above, j), rest))?;
+    Ok(Next::To(Active::Doing(lower(body, above, i), env)))
+}
+
+/// An action in a masking scope with the state `inside`, with the state outside of it in its next slot.
+fn masked(
+    alloc: Global,
+    act: ActId,
+    env: Env,
+    inside: Mask,
+    frames: &mut Frames,
+) -> Result<Next, NoMemory>
+    ensures rule { IfOk result (λ n. (b : Body) → next_of b n frames.new.list ≡ Some (at (doing (act_of b act) (values_of env ++ val.Restore (mask_inside frames.old.below frames.old.list) ∷ [])) (mask_in inside ∷ frames_of b frames.old.list))) }
+    ensures below { frames.new.below ≡ frames.old.below }
+    ensures err { OnErr result (frames.new ≡ frames.old) }
+{
+    let outside = frames.mask();
+    let next = with_one(alloc, env, Value::Restore(outside), act)?;
+    frames.enter(inside)?;
+    Ok(next)
+}
+
+/// The state that a value is, if it is one.
+#[tactic(auto, using(crate::proofs::Forms::no_mask, hs_eval::proofs::Cases::value_forms))]
+fn state_of(value: &Value) -> Option<Mask>
+    ensures { MatchOption result ((a : Sa) (vs : List V) → rules.restored a vs (Some (value_of value.now)) ≡ None) (λ m. Some (value_of value.now) ≡ Some (val.Restore m)) }
+{
+    match value {
+        Value::Restore(mask) => Some(*mask),
+        _ => None,
+    }
+}
+
+/// The state in a slot, if there is one.
+#[tactic(auto, using(slot_laws::proofs::ActNodes::value_some, slot_laws::proofs::ActNodes::value_none))]
+fn state_at(env: &Env, slot: usize) -> Option<Mask>
+    ensures { MatchOption result ((a : Sa) (vs : List V) → rules.restored a vs (slice_get (values_of env.now) slot) ≡ None) (λ m. slice_get (values_of env.now) slot ≡ Some (val.Restore m)) }
+{
+    match env.get(slot) {
+        None => None,
+        Some(value) => state_of(value),
+    }
+}
+
+/// `restore r A`
+fn restore(
+    body: &Body,
+    above: usize,
+    slot: usize,
+    i: ActId,
+    env: Env,
+    frames: &mut Frames,
+) -> Result<Next, NoMemory>
+    ensures rule { IfOk result (λ n. next_of body.now n frames.new.list ≡ on_top (frames_of body.now frames.old.list) (rules.restored (below_of body.now above i) (values_of env) (slice_get (values_of env) slot))) }
+    ensures below { frames.new.below ≡ frames.old.below }
+    ensures stuck { IfOk result (λ n. n ≡ next.Stuck → frames.new ≡ frames.old) }
+    ensures err { OnErr result (frames.new ≡ frames.old) }
+{
+    match state_at(&env, slot) {
+        None => Ok(Next::Stuck),
+        Some(mask) => {
+            frames.enter(mask)?;
+            Ok(Next::To(Active::Doing(lower(body, above, i), env)))
+        }
+    }
+}
+
+/// A value and the frame directly round it. It takes no memory.
+#[tactic(auto, using(slot_laws::proofs::ActNodes::values_push))]
+pub fn meet_value(value: Value, frames: &mut Frames) -> Next
+    ensures rule { (b : Body) → next_of b result frames.new.list ≡ rules.ret_step (value_of value) (frames_of b frames.old.list) }
+    ensures below { frames.new.below ≡ frames.old.below }
+    ensures stuck { result ≡ next.Stuck → frames.new ≡ frames.old }
+{
+    match frames.pop() {
+        None => Next::Stuck,
+        Some(Frame::Bind(i, env)) => Next::To(Active::Doing(i, env.with(value))),
+        Some(Frame::Then(i, env)) => Next::To(Active::Doing(i, env)),
+        Some(Frame::Catch(_, _)) => Next::To(Active::Ret(value)),
+        Some(Frame::Mask(_)) => Next::To(Active::Ret(value)),
+    }
+}
+
+/// An exception and the frame directly round it. It takes no memory.
+#[tactic(auto, using(crate::proofs::Codes::handler_next))]
+pub fn meet_exception(exn: Exn, frames: &mut Frames) -> Next
+    ensures rule { (b : Body) → next_of b result frames.new.list ≡ rules.throw_step frames.old.below exn (frames_of b frames.old.list) }
+    ensures below { frames.new.below ≡ frames.old.below }
+    ensures stuck { result ≡ next.Stuck → frames.new ≡ frames.old }
+{
+    if frames.has_handler() {
+        let (handler, env) = frames.handle();
+        return Next::To(Active::Doing(handler, env.with(Value::Exn(exn))));
+    }
+    match frames.pop() {
+        None => Next::Stuck,
+        Some(_) => Next::To(Active::Throw(exn)),
+    }
+}
+
+/// The first local rule of an action.
+#[tactic(auto, using(crate::proofs::Codes::alone_next))]
+fn act_step(
+    alloc: Global,
+    body: &Body,
+    above: usize,
+    act: &Act,
+    env: Env,
+    frames: &mut Frames,
+) -> Result<Next, NoMemory>
+    ensures rule { IfOk result (λ n. next_of body.now n frames.new.list ≡ on_top (frames_of body.now frames.old.list) (first_step (funs_of body.now) (mask_inside frames.old.below frames.old.list) (act_decode (trees body.now.nodes) (take above (act_trees body.now.nodes body.now.acts)) act.now) (values_of env))) }
+    ensures below { frames.new.below ≡ frames.old.below }
+    ensures stuck { IfOk result (λ n. n ≡ next.Stuck → frames.new ≡ frames.old) }
+    ensures err { OnErr result (frames.new ≡ frames.old) }
+{
+    match act {
+        Act::Return(e) => do_return(alloc, body, *e, env),
+        Act::Throw(e) => do_throw(alloc, body, *e, env),
+        Act::Let(e, i) => do_let(alloc, body, above, *e, *i, env),
+        Act::Bind(i, j) => bind(alloc, body, above, *i, *j, env, frames),
+        Act::Then(i, j) => then(alloc, body, above, *i, *j, env, frames),
+        Act::If(e, i, j) => do_if(alloc, body, above, *e, *i, *j, env),
+        Act::CaseMaybe(e, i, j) => do_maybe(alloc, body, above, *e, *i, *j, env),
+        Act::CaseEither(e, i, j) => do_either(alloc, body, above, *e, *i, *j, env),
+        Act::CaseList(e, i, j) => do_list(alloc, body, above, *e, *i, *j, env),
+        Act::CasePair(e, i) => do_pair(alloc, body, above, *e, *i, env),
+        Act::Call(f, ids) => do_call(alloc, body, *f, ids, env),
+        Act::Perform(primitive, ids) => do_perform(alloc, body, *primitive, ids, env),
+        Act::Fork(i) => Ok(forked(lower(body, above, *i), env)),
+        Act::ForkUnmask(i) => Ok(forked_unmask(lower(body, above, *i), env)),
+        Act::Catch(i, j) => catch(alloc, body, above, *i, *j, env, frames),
+        Act::Mask(i) => {
+            let inside = Mask::Masked.join(frames.mask());
+            masked(alloc, lower(body, above, *i), env, inside, frames)
+        }
+        Act::UninterruptibleMask(i) => {
+            let at = lower(body, above, *i);
+            masked(alloc, at, env, Mask::Uninterruptible, frames)
+        }
+        Act::Restore(slot, i) => restore(body, above, *slot, *i, env, frames),
+    }
+}
+
+fn forked(at: ActId, env: Env) -> Next
+    ensures { (b : Body) → alone_of b result ≡ just_part (performs (forks (act_of b at) (values_of env))) }
+{
+    Next::To(Active::Forks(at, env))
+}
+
+fn forked_unmask(at: ActId, env: Env) -> Next
+    ensures { (b : Body) → alone_of b result ≡ just_part (performs (forks_unmask (act_of b at) (values_of env))) }
+{
+    Next::To(Active::ForksUnmask(at, env))
+}
+
+/// One local rule of a code.
+#[tactic(auto, using(crate::proofs::Codes::masks_inside))]
+pub fn step(
+    alloc: Global,
+    body: &Body,
+    active: Active,
+    frames: &mut Frames,
+) -> Result<Next, NoMemory>
+    ensures rule { IfOk result (λ n. next_of body.now n frames.new.list ≡ local (funs_of body.now) frames.old.below (active_of body.now active) (frames_of body.now frames.old.list)) }
+    ensures below { frames.new.below ≡ frames.old.below }
+    ensures stuck { IfOk result (λ n. n ≡ next.Stuck → frames.new ≡ frames.old) }
+    ensures err { OnErr result (frames.new ≡ frames.old) }
+{
+    match active {
+        Active::Ret(value) => Ok(meet_value(value, frames)),
+        Active::Throw(exn) => Ok(meet_exception(exn, frames)),
+        Active::Asks(_, _) => Ok(Next::Stuck),
+        Active::Forks(_, _) => Ok(Next::Stuck),
+        Active::ForksUnmask(_, _) => Ok(Next::Stuck),
+        Active::Doing(i, env) => match act_at(body, i) {
+            None => Ok(Next::Stuck),
+            Some(act) => act_step(alloc, body, i.0, act, env, frames),
+        },
+    }
+}

@@ -1,0 +1,160 @@
+ghost use Rattle.std.specs.Prelude.{◌≡◌, [], ◌∷◌, ◌++◌, IfOk, OnOk, OnErr, ◌≤◌, ◌<◌, ◌^◌, length, slice_get};
+ghost use Rattle.std.specs.Option.{option_copied};
+ghost use Rattle.rules_meaning.specs.Values.{values_of};
+ghost use Rattle.rules_code.specs.Slots.{run, tree_at};
+ghost use Rattle.hs_eval.specs.Founds.{out_of};
+ghost use Rattle.slot_env.specs.Envs.{base_of};
+
+use crate::copied::{copied, few, joined, shared};
+use crate::waiting::Waiting;
+use hs_base::{NoMemory, Value, Values};
+use hs_eval::{Found, eval_at};
+use hs_items::{Items, Shared};
+use rules_code::{ExprId, Node};
+use std::alloc::Global;
+use std::marker::Model;
+
+/// So many values an environment keeps to itself before it shares them, so that a copy costs a constant.
+const OWN: usize = 8;
+
+/// The values of an action's slots, the first bound first.
+#[derive(Drop)]
+pub struct Env {
+    /// The first values, which copies share.
+    base: Option<Shared<Values>>,
+    /// The values behind those.
+    own: Values,
+}
+
+impl Model for Env {
+    ghost use Rattle.std.specs.Prelude.{List, ◌++◌, ◌≤◌, ◌<◌, ◌^◌, length};
+    ghost use Rattle.hs_base.specs.declared.value.Value as value;
+    ghost use Rattle.hs_base.specs.contracts.value.Value as e;
+    ghost use Rattle.std.specs.Coded.{codes};
+    ghost use Rattle.slot_env.specs.Envs.{base_of};
+
+    ghost Value = { List value.Value };
+
+    ghost coded = { Prim.hlevel (codes, e.the_row.coded) };
+
+    ghost view = { λ e. base_of e.base ++ e.own };
+
+    ghost invariant = { λ e. (length e.own ≤ 8) × (length (base_of e.base) < 2 ^ 32) };
+}
+
+impl Env {
+    /// No values.
+    pub fn new(alloc: Global) -> Env
+        ensures { result ≡ [] }
+    {
+        Env {
+            base: None,
+            own: Items::new(alloc),
+        }
+    }
+
+    /// The environment of these values.
+    pub fn of(alloc: Global, values: Values) -> Result<Env, NoMemory>
+        ensures { IfOk result (λ e. e ≡ values) }
+    {
+        if values.len() <= OWN {
+            return Ok(Env {
+                base: None,
+                own: values,
+            });
+        }
+        let base = few(alloc, values)?;
+        Ok(Env {
+            base: Some(base),
+            own: Items::new(alloc),
+        })
+    }
+
+    /// The environment of the values that are shared and those behind them.
+    pub(crate) fn with_own(base: Option<Shared<Values>>, own: Values) -> Env
+        requires own { length own ≤ 8 }
+        requires base { length (base_of base) < 2 ^ 32 }
+        ensures { result ≡ base_of base ++ own }
+    {
+        Env { base, own }
+    }
+
+    /// The value of a slot.
+    pub fn get(&self, at: usize) -> Option<&Value>
+        ensures { option_copied result ≡ slice_get self.now at }
+    {
+        match &self.base {
+            None => self.own.get(at),
+            Some(base) => {
+                let base = base.get();
+                if at < base.len() {
+                    base.get(at)
+                } else {
+                    self.own.get(at - base.len())
+                }
+            }
+        }
+    }
+
+    /// Gives the next slot this value. Where memory runs out the environment is as before.
+    pub fn push(&mut self, alloc: Global, value: Value) -> Result<(), NoMemory>
+        ensures ok { OnOk result (self.new ≡ self.old ++ value ∷ []) }
+        ensures err { OnErr result (self.new ≡ self.old) }
+    {
+        if self.own.len() < OWN {
+            self.own.add(value)?;
+            return Ok(());
+        }
+        let all = joined(alloc, &self.base, &self.own)?;
+        let mut own = Items::new(alloc);
+        own.add(value)?;
+        self.base = Some(all);
+        self.own = own;
+        Ok(())
+    }
+
+    /// An equal environment, which shares its values.
+    pub fn copy(&self, alloc: Global) -> Result<Env, NoMemory>
+        ensures { IfOk result (λ e. e ≡ self.now) }
+    {
+        let base = shared(&self.base)?;
+        let own = copied(alloc, self.own.as_slice(), 0)?;
+        Ok(Env {
+            base,
+            own: Items::from_vec(own),
+        })
+    }
+
+    /// Equal values, with room for one more.
+    pub fn waiting(&self, alloc: Global) -> Result<Waiting, NoMemory>
+        ensures { IfOk result (λ w. w ≡ self.now) }
+    {
+        if self.own.len() >= OWN {
+            let all = joined(alloc, &self.base, &self.own)?;
+            return Waiting::of(alloc, Some(all), &[]);
+        }
+        let base = shared(&self.base)?;
+        Waiting::of(alloc, base, self.own.as_slice())
+    }
+
+    /// What an expression gives with these values, and the environment again.
+    pub fn eval(
+        self,
+        alloc: Global,
+        nodes: &Items<Node>,
+        at: ExprId,
+    ) -> Result<(Found, Env), NoMemory>
+        ensures value { IfOk result (λ r. out_of r.0 ≡ run (tree_at nodes.now at) (values_of self)) }
+        ensures same { IfOk result (λ r. r.1 ≡ self) }
+    {
+        let Env { base, mut own } = self;
+        let found = match &base {
+            None => {
+                let none = Items::new(alloc);
+                eval_at(alloc, nodes, at, &none, &mut own)?
+            }
+            Some(values) => eval_at(alloc, nodes, at, values.get(), &mut own)?,
+        };
+        Ok((found, Env { base, own }))
+    }
+}
