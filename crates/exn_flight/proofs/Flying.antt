@@ -18,6 +18,15 @@ pub flying_append : (ts us : List Throw) → flying (ts ++ us) ≡ flying ts ++ 
 flying_append [] us = refl
 flying_append (t ∷ ts) us = ap (with_exn t.thrower t.target t.exn) (flying_append ts us) ∙ with_exn_append t.thrower t.target t.exn (flying ts) (flying us)
 
+with_more : (t u : ℕ) (o : Option Exn) (fs : List Flying) (n : ℕ) → length fs ≤ n → length (with_exn t u o fs) ≤ suc n
+with_more t u None fs n h = omega (arith, h)
+with_more t u (Some e) fs n h = omega (arith, h)
+
+-- there are at most as many as throws
+pub few_fly : (ts : List Throw) → length (flying ts) ≤ length ts
+few_fly [] = omega arith
+few_fly (t ∷ ts) = with_more t.thrower t.target t.exn (flying ts) (length ts) (few_fly ts)
+
 flying_linked : (ts : List Throw) (l place : ℕ) → flying (set ts l (record (throw_at ts l) { next = place })) ≡ flying ts
 flying_linked [] l place = refl
 flying_linked (t ∷ ts) zero place = refl

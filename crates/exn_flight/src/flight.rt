@@ -46,6 +46,15 @@ impl Flight {
         Ok(())
     }
 
+    /// So many exceptions are in flight at most. It takes no memory and no walk, so that room for what a delivery or an end may
+    /// wake can be made before.
+    #[tactic(auto, using(crate::proofs::Flying::few_fly))]
+    pub fn most(&self) -> usize
+        ensures { length self.now.list ≤ result }
+    {
+        self.throws.list.len()
+    }
+
     /// The exception is in flight from now on.
     pub fn throw_at(&mut self, thrower: u32, target: u32, e: Exn)
         requires spare { 1 ≤ self.old.spare }

@@ -10,6 +10,7 @@ fn exceptions_in_flight(rt: HostRuntime) -> Result<(), Fail> {
     assert!(rt; flight.first_for(2).is_none());
     flight.throw_at(0, 2, Exn::ThreadKilled);
     flight.throw_at(1, 2, Exn::Overflow);
+    assert!(rt; flight.most() >= 2);
     assert!(rt; matches!(flight.first_for(2), Some((0, Exn::ThreadKilled))));
     assert!(rt; matches!(flight.withdraw(0), Some(Exn::ThreadKilled)));
     assert!(rt; matches!(flight.deliver(2), Some((1, Exn::Overflow))));
