@@ -21,6 +21,6 @@ mod outcome;
 mod read;
 
 pub use evaluate::eval_at;
-pub use found::Found;
+pub use found::{Found, FoundAll};
 pub use meaning::{eval, eval_node, slots_mean};
 pub use outcome::Outcome;

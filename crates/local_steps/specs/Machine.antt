@@ -1,6 +1,6 @@
 -- What active parts and frames of a code stand for: terms with slots (own).
 use Rattle.std.specs.Prelude.{ℕ, List, [], ◌∷◌, Option, Some, None, take}
-use Rattle.rules_meaning.specs.Values.{value_of, values_of, Outcomes, AllGive, OneThrows, OneStuck}
+use Rattle.rules_meaning.specs.Values.{value_of, values_of}
 use Rattle.rules_code.specs.declared.act.ActId.{ActId}
 use Rattle.rules_code.specs.declared.code.Body.{Body}
 use Rattle.rules_code.specs.CodeTrees.{Sa, primitive_of, act_in, act_trees, act_tree_at, SlottedFunction, functions_at}
@@ -11,8 +11,6 @@ use Rattle.local_steps.specs.declared.active.Frame.{Frame}
 use Rattle.local_steps.specs.declared.active.Frame.TheVariants as f
 use Rattle.local_steps.specs.declared.active.Next.{Next}
 use Rattle.local_steps.specs.declared.active.Next.TheVariants as n
-use Rattle.local_steps.specs.declared.parts.All.{All}
-use Rattle.local_steps.specs.declared.parts.All.TheVariants as l
 
 -- the action functions of a code
 abbrev pub funs_of : Body → List SlottedFunction
@@ -54,9 +52,3 @@ next_of b n.Stuck fs = None
 abbrev pub alone_of : Body → Next → Option SlotTerm
 alone_of b (n.To p) = Some (at (active_of b p) [])
 alone_of b n.Stuck = None
-
--- what expressions give
-abbrev pub all_of : All → Outcomes
-all_of (l.Values vs) = AllGive (values_of vs)
-all_of (l.Throws e) = OneThrows e
-all_of l.Stuck = OneStuck

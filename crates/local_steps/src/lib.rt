@@ -3,8 +3,8 @@
 //! To a contract the active part of a thread and its frames stand for a term with slots (`specs/Machine`, of the terms of
 //! `slot_laws`), and `Frames` is the list of its frames, the innermost first, over a masking state. The one promise: `step`
 //! is exactly the local rule of that term, or says that none applies; a value or an exception meets its frame without
-//! memory. Each rule takes constant time: frames know the masking state inside them, and what waits in a frame shares its
-//! values. How many rules a thread may do, and that none of an accepted script's threads is ever stuck, is left to
+//! memory. What a rule costs beside its expressions doesn't grow with the frames, which know the masking state inside them;
+//! what waits in a frame shares its values. How many rules a thread may do, and that none of an accepted script's threads is ever stuck, is left to
 //! `frame_stack`.
 #![tactic(auto)]
 

@@ -4,7 +4,8 @@ ghost use Rattle.rules_code.specs.declared.code.Body.{Body};
 ghost use Rattle.rules_meaning.specs.Values.{values_of};
 ghost use Rattle.rules_code.specs.Slots.{run, run_all, trees, tree_at, trees_in};
 ghost use Rattle.rules_code.specs.CodeTrees.{primitive_of};
-ghost use Rattle.local_steps.specs.Machine.{act_of, below_of, alone_of, funs_of, all_of};
+ghost use Rattle.hs_eval.specs.Evaluation.{outs_of};
+ghost use Rattle.local_steps.specs.Machine.{act_of, below_of, alone_of, funs_of};
 ghost use Rattle.slot_laws.specs.SlotRules as rules;
 ghost use Rattle.slot_laws.specs.SlotRules.{just_part, ret, doing, performs, calls};
 
@@ -13,8 +14,8 @@ use crate::acts::lower;
 use crate::choices::{
     bound, choose, choose_either, choose_list, choose_maybe, choose_pair, returned, thrown,
 };
-use hs_base::{Exn, NoMemory, Values};
-use hs_eval::Found;
+use hs_base::{NoMemory, Values};
+use hs_eval::{Found, FoundAll};
 use hs_items::Items;
 use rules_code::{ActId, Body, ExprId, Fun, Node, Primitive};
 use slot_env::Env;
@@ -27,22 +28,14 @@ fn id_at(ids: &[ExprId], i: usize) -> ExprId
     ids[i]
 }
 
-/// What expressions give: all their values, the first exception, or nothing where the typing rules are broken.
-#[derive(Drop)]
-pub enum All {
-    Values(Values),
-    Throws(Exn),
-    Stuck,
-}
-
 /// What expressions give, from the left to the right, up to the first exception.
 pub fn eval_all(
     alloc: Global,
     nodes: &Items<Node>,
     ids: &Items<ExprId>,
     env: Env,
-) -> Result<All, NoMemory>
-    ensures { IfOk result (λ o. all_of o ≡ run_all (trees_in (trees nodes.now) ids.now) (values_of env)) }
+) -> Result<FoundAll, NoMemory>
+    ensures { IfOk result (λ o. outs_of o ≡ run_all (trees_in (trees nodes.now) ids.now) (values_of env)) }
 {
     let mut env = env;
     let mut values = Items::new(alloc);
@@ -51,12 +44,12 @@ pub fn eval_all(
         let (found, same) = env.eval(alloc, nodes, id)?;
         env = same;
         match found {
-            Found::Throws(exn) => return Ok(All::Throws(exn)),
-            Found::Stuck => return Ok(All::Stuck),
+            Found::Throws(exn) => return Ok(FoundAll::Throws(exn)),
+            Found::Stuck => return Ok(FoundAll::Stuck),
             Found::Value(value) => values.add(value)?,
         }
     }
-    Ok(All::Values(values))
+    Ok(FoundAll::Values(values))
 }
 
 /// `return`
@@ -244,9 +237,9 @@ pub fn do_call(
     ensures { IfOk result (λ n. alone_of body.now n ≡ rules.on_values (run_all (trees_in (trees body.now.nodes) ids.now) (values_of env)) (rules.called (slice_get (funs_of body.now) f))) }
 {
     match eval_all(alloc, &body.nodes, ids, env)? {
-        All::Values(args) => entered(alloc, body, f, args),
-        All::Throws(exn) => Ok(Next::To(Active::Throw(exn))),
-        All::Stuck => Ok(Next::Stuck),
+        FoundAll::Values(args) => entered(alloc, body, f, args),
+        FoundAll::Throws(exn) => Ok(Next::To(Active::Throw(exn))),
+        FoundAll::Stuck => Ok(Next::Stuck),
     }
 }
 
@@ -261,8 +254,8 @@ pub fn do_perform(
     ensures { IfOk result (λ n. alone_of body.now n ≡ rules.on_values (run_all (trees_in (trees body.now.nodes) ids.now) (values_of env)) (λ us. just_part (performs (calls (primitive_of primitive) us)))) }
 {
     match eval_all(alloc, &body.nodes, ids, env)? {
-        All::Values(args) => Ok(Next::To(Active::Asks(primitive, args))),
-        All::Throws(exn) => Ok(Next::To(Active::Throw(exn))),
-        All::Stuck => Ok(Next::Stuck),
+        FoundAll::Values(args) => Ok(Next::To(Active::Asks(primitive, args))),
+        FoundAll::Throws(exn) => Ok(Next::To(Active::Throw(exn))),
+        FoundAll::Stuck => Ok(Next::Stuck),
     }
 }
