@@ -1,1 +1,1 @@
-mod Maps
+pub mod Maps

@@ -20,7 +20,7 @@ use Rattle.slot_env.specs.contracts.waiting.Waiting as waiting
 use Rattle.local_steps.specs.contracts.active.Frame as frame
 use Rattle.local_steps.specs.contracts.frames.Frames as frames
 use Rattle.local_steps.proofs.active.Masking.TheSendSync as masking
-use Rattle.frame_stack.specs.contracts.control.Prim as prim
+use Rattle.frame_stack.specs.contracts.control.Operation as prim
 use Rattle.frame_stack.specs.contracts.control.Control as control
 use Rattle.frame_stack.specs.contracts.job.Job as job
 use Rattle.frame_stack.specs.contracts.sliced.Slice as slice

@@ -7,13 +7,13 @@ use Rattle.rules_code.specs.declared.code.Body.{Body}
 use Rattle.slot_laws.specs.SlotRules.{SlotOp, calls, forks, forks_unmask, SlotPart, ret, throw, doing, performs, SlotTerm, at}
 use Rattle.local_steps.specs.declared.active.Frame.{Frame}
 use Rattle.local_steps.specs.Machine.{act_of, frames_of}
-use Rattle.frame_stack.specs.declared.control.Prim.{Prim}
-use Rattle.frame_stack.specs.declared.control.Prim.TheVariants as p
+use Rattle.frame_stack.specs.declared.control.Operation.{Operation}
+use Rattle.frame_stack.specs.declared.control.Operation.TheVariants as p
 use Rattle.frame_stack.specs.declared.control.Control.{Control}
 use Rattle.frame_stack.specs.declared.control.Control.TheVariants as c
 
 -- the operation of a primitive with its values, or of a fork
-abbrev pub op_of : Body → Prim → SlotOp
+abbrev pub op_of : Body → Operation → SlotOp
 op_of b (p.PutStr t) = calls PutStr (val.Text t ∷ [])
 op_of b (p.PutStrLn t) = calls PutStrLn (val.Text t ∷ [])
 op_of b (p.HPutStrLn t) = calls HPutStrLn (val.Text t ∷ [])

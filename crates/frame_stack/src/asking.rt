@@ -10,12 +10,12 @@ ghost use Rattle.slot_laws.specs.SlotRules.{calls};
 ghost use Rattle.frame_stack.specs.Parts.{op_of};
 ghost use Rattle.frame_stack.specs.Slicing.{Unfit};
 
-use crate::control::Prim;
+use crate::control::Operation;
 use hs_base::{Exn, Txt, Value, Values};
 use rules_code::Primitive;
 
 /// A primitive with its values, where they are of its types.
-pub fn asked(primitive: Primitive, values: Values) -> Option<Prim>
+pub fn asked(primitive: Primitive, values: Values) -> Option<Operation>
     ensures { MatchOption result (Unfit (primitive_of primitive) (values_of values)) (λ p. (b : Body) → op_of b p ≡ calls (primitive_of primitive) (values_of values)) }
 {
     let mut values = values;
@@ -33,48 +33,48 @@ pub fn asked(primitive: Primitive, values: Values) -> Option<Prim>
 }
 
 /// A primitive that takes no value.
-fn bare(primitive: Primitive) -> Option<Prim>
+fn bare(primitive: Primitive) -> Option<Operation>
     ensures { MatchOption result (Unfit (primitive_of primitive) []) (λ p. (b : Body) → op_of b p ≡ calls (primitive_of primitive) []) }
 {
     match primitive {
-        Primitive::NewEmptyMVar => Some(Prim::NewEmptyMVar),
-        Primitive::MyThreadId => Some(Prim::MyThreadId),
-        Primitive::GetMaskingState => Some(Prim::GetMaskingState),
-        Primitive::ClockMicros => Some(Prim::ClockMicros),
-        Primitive::NewTimeout => Some(Prim::NewTimeout),
-        Primitive::Acquired => Some(Prim::Acquired),
+        Primitive::NewEmptyMVar => Some(Operation::NewEmptyMVar),
+        Primitive::MyThreadId => Some(Operation::MyThreadId),
+        Primitive::GetMaskingState => Some(Operation::GetMaskingState),
+        Primitive::ClockMicros => Some(Operation::ClockMicros),
+        Primitive::NewTimeout => Some(Operation::NewTimeout),
+        Primitive::Acquired => Some(Operation::Acquired),
         _ => None,
     }
 }
 
 /// A primitive that takes one value.
 #[tactic(auto, using(crate::proofs::Forms::one_unfit))]
-fn of_one(primitive: Primitive, value: Value) -> Option<Prim>
+fn of_one(primitive: Primitive, value: Value) -> Option<Operation>
     ensures { MatchOption result (Unfit (primitive_of primitive) (value_of value ∷ [])) (λ p. (b : Body) → op_of b p ≡ calls (primitive_of primitive) (value_of value ∷ [])) }
 {
     match primitive {
-        Primitive::PutStr => Some(Prim::PutStr(text(value)?)),
-        Primitive::PutStrLn => Some(Prim::PutStrLn(text(value)?)),
-        Primitive::HPutStrLn => Some(Prim::HPutStrLn(text(value)?)),
-        Primitive::NewMVar => Some(Prim::NewMVar(value)),
-        Primitive::TakeMVar => Some(Prim::TakeMVar(cell(value)?)),
-        Primitive::ReadMVar => Some(Prim::ReadMVar(cell(value)?)),
-        Primitive::TryTakeMVar => Some(Prim::TryTakeMVar(cell(value)?)),
-        Primitive::ThreadDelay => Some(Prim::ThreadDelay(int(value)?)),
-        Primitive::Release => Some(Prim::Release(instance(value)?)),
+        Primitive::PutStr => Some(Operation::PutStr(text(value)?)),
+        Primitive::PutStrLn => Some(Operation::PutStrLn(text(value)?)),
+        Primitive::HPutStrLn => Some(Operation::HPutStrLn(text(value)?)),
+        Primitive::NewMVar => Some(Operation::NewMVar(value)),
+        Primitive::TakeMVar => Some(Operation::TakeMVar(cell(value)?)),
+        Primitive::ReadMVar => Some(Operation::ReadMVar(cell(value)?)),
+        Primitive::TryTakeMVar => Some(Operation::TryTakeMVar(cell(value)?)),
+        Primitive::ThreadDelay => Some(Operation::ThreadDelay(int(value)?)),
+        Primitive::Release => Some(Operation::Release(instance(value)?)),
         _ => None,
     }
 }
 
 /// A primitive that takes two values.
 #[tactic(auto, using(crate::proofs::Forms::two_unfit))]
-fn of_two(primitive: Primitive, first: Value, second: Value) -> Option<Prim>
+fn of_two(primitive: Primitive, first: Value, second: Value) -> Option<Operation>
     ensures { MatchOption result (Unfit (primitive_of primitive) (value_of first ∷ value_of second ∷ [])) (λ p. (b : Body) → op_of b p ≡ calls (primitive_of primitive) (value_of first ∷ value_of second ∷ [])) }
 {
     match primitive {
-        Primitive::PutMVar => Some(Prim::PutMVar(cell(first)?, second)),
-        Primitive::TryPutMVar => Some(Prim::TryPutMVar(cell(first)?, second)),
-        Primitive::ThrowTo => Some(Prim::ThrowTo(thread(first)?, exn(second)?)),
+        Primitive::PutMVar => Some(Operation::PutMVar(cell(first)?, second)),
+        Primitive::TryPutMVar => Some(Operation::TryPutMVar(cell(first)?, second)),
+        Primitive::ThrowTo => Some(Operation::ThrowTo(thread(first)?, exn(second)?)),
         _ => None,
     }
 }

@@ -21,7 +21,7 @@ mod slicing;
 mod stack;
 mod ticketed;
 
-pub use control::{Control, Prim};
+pub use control::{Control, Operation as Prim};
 pub use fault::SliceFault;
 pub use job::Job;
 pub use local_steps::{Frame, Frames, Masking};

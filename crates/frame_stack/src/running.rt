@@ -9,7 +9,7 @@ ghost use Rattle.frame_stack.specs.Parts.{part_of};
 ghost use Rattle.frame_stack.specs.Slicing.{Cuts, Fits, IsDoing, MayGo, Stops};
 
 use crate::asking::asked;
-use crate::control::{Control, Prim};
+use crate::control::{Control, Operation};
 use crate::fault::SliceFault;
 use hs_base::{Mask, NoMemory};
 use hs_io::Cutter;
@@ -139,7 +139,7 @@ pub fn control(active: Active) -> Control
             Some(prim) => Control::Op(prim),
             None => unreachable!(),
         },
-        Active::Forks(i, env) => Control::Op(Prim::Fork(i, env)),
-        Active::ForksUnmask(i, env) => Control::Op(Prim::ForkUnmask(i, env)),
+        Active::Forks(i, env) => Control::Op(Operation::Fork(i, env)),
+        Active::ForksUnmask(i, env) => Control::Op(Operation::ForkUnmask(i, env)),
     }
 }

@@ -1,5 +1,5 @@
 //! Jobs, slices and stacks may be handed to other threads. A crate that does so cites `job_send`, `slice_send` or `stack_send`
-//! of `proofs/Sends`: the search alone gives up at the twenty forms of `Prim`.
+//! of `proofs/Sends`: the search alone gives up at the twenty forms of `Operation`.
 
 use crate::job::Job;
 use crate::sliced::Slice;

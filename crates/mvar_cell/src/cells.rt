@@ -1,7 +1,8 @@
-ghost use Rattle.std.specs.Prelude.{◌≡◌, ◌+◌, ◌<◌, ◌≤◌, [], ◌∷◌, ◌++◌, ℕ, length, OnOk, IfOk, MatchResult, true};
+ghost use Rattle.std.specs.Prelude.{◌≡◌, ◌+◌, ◌<◌, ◌≤◌, [], ◌∷◌, ◌++◌, ℕ, length, OnOk, IfOk, MatchResult, Some, true};
 ghost use Rattle.std.specs.Option.{option_copied};
-ghost use Rattle.rules_waiting.specs.OneCell.{Take, Read, Put, Try_take, Try_put, Leave, made, stands_in};
+ghost use Rattle.rules_waiting.specs.OneCell.{Take, Read, Put, Try_take, Try_put, Leave, made, readers, stands_in};
 ghost use Rattle.mvar_cell.specs.Calls.{cell_at, IsCall, StandsNowhere, NobodyReads, took_replies, saw_replies, gave_replies, tried_take_replies, tried_put_replies, HandsBack, TakesFrom, ReadsFrom, PutsTo, TriesToTake, TriesToPut};
+ghost use Rattle.hs_base.specs.declared.value.Value.{Value};
 ghost use Rattle.mvar_cell.specs.Readers.{IsNextReader};
 
 use crate::lines::{Lines, Sought, Want};
@@ -105,6 +106,13 @@ impl Cells {
         Ok(())
     }
 
+    /// How many cells there are.
+    pub fn len(&self) -> usize
+        ensures { result ≡ length self.now.cells }
+    {
+        self.stored.len()
+    }
+
     /// A new cell with this content and an empty line; answers its number.
     pub fn fresh(&mut self, first: Option<Value>) -> u32
         requires { 1 ≤ self.old.spare }
@@ -156,6 +164,15 @@ impl Cells {
         self.lines.join(m, t, Want::Read);
         self.stored[m].readers += 1;
         Ok(Saw::Blocks)
+    }
+
+    /// How many threads of the line wait to read: nobody where the cell is full.
+    pub fn readers(&self, m: u32) -> usize
+        requires { m < length self.now.cells }
+        ensures count { result ≡ length (readers (cell_at m self.now).line) }
+        ensures full { (v : Value) → (cell_at m self.now).content ≡ Some v → result ≡ 0 }
+    {
+        self.stored[m as usize].readers
     }
 
     /// The first thread of the line that waits to read leaves it. A value that comes to the cell is first answered to all

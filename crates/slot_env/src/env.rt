@@ -96,6 +96,17 @@ impl Env {
         }
     }
 
+    /// The number of values.
+    pub fn len(&self) -> usize
+        ensures { result ≡ length self.now }
+    {
+        let own = self.own.len();
+        match &self.base {
+            None => own,
+            Some(base) => base.get().len() + own,
+        }
+    }
+
     /// Gives the next slot this value. Where memory runs out the environment is as before.
     pub fn push(&mut self, alloc: Global, value: Value) -> Result<(), NoMemory>
         ensures ok { OnOk result (self.new ≡ self.old ++ value ∷ []) }
