@@ -1,0 +1,105 @@
+-- What the sorted sleepers say of who is blocked until a time.
+use Rattle.std.proofs.Common.{◌≡◌, ℕ, ◌<◌, ◌==◌, nat_le, List, [], ◌∷◌, true, Option, Some, None, refl, sym, ◌∙◌, subst, ⊎_elim}
+use Rattle.std.proofs.lemmas.Bool.Decides.{leb_tells}
+use Rattle.std.proofs.lemmas.Option.{same_Some}
+use Rattle.rules_meaning.specs.Values.{V}
+use Rattle.rules_waiting.specs.Waiting.{Reason, Taking, Reading, Putting, Throwing, Sleeping, Waiting, Sleeper, reason_of, with_sleeper, sleepers_of, sleeper_before, sleeper_added, sorted_sleepers, first_awake}
+use Rattle.hs_laws.specs.Standing.{Once}
+use Rattle.hs_laws.proofs.Lists.{cond_cases, cond_true, cond_false, equal_or, Each, once_reason}
+
+-- ---- each of the sorted sleepers is blocked until it is due
+abbrev AllAsleep : (Sleeper → Type 0) → List Sleeper → Type 0
+AllAsleep P [] = Unit {0}
+AllAsleep P (s ∷ ss) = P s × AllAsleep P ss
+
+added_asleep : (P : Sleeper → Type 0) (s : Sleeper) (ss : List Sleeper) → P s → AllAsleep P ss → AllAsleep P (sleeper_added s ss)
+added_asleep P s [] p h = (p, tt)
+added_asleep P s (r ∷ rs) p h = cond_cases (AllAsleep P) (sleeper_before r s) (r ∷ sleeper_added s rs) (s ∷ r ∷ rs) (λ b. (h.0, added_asleep P s rs p h.1)) (λ b. (p, h))
+
+sorted_asleep : (P : Sleeper → Type 0) (ss : List Sleeper) → AllAsleep P ss → AllAsleep P (sorted_sleepers ss)
+sorted_asleep P [] h = tt
+sorted_asleep P (s ∷ ss) h = added_asleep P s (sorted_sleepers ss) h.0 (sorted_asleep P ss h.1)
+
+abbrev WaitsAsleep : List (Waiting V) → Sleeper → Type 0
+WaitsAsleep ws x = reason_of x.thread ws ≡ Some (Sleeping x.due)
+
+all_asleep : (ws vs : List (Waiting V)) → Each (λ t r. reason_of t vs ≡ Some r) ws → AllAsleep (WaitsAsleep vs) (sleepers_of ws)
+all_asleep [] vs h = tt
+all_asleep (w ∷ ws) vs h = by w.reason h.0 (all_asleep ws vs h.1)
+  where
+    by : (r : Reason V) → reason_of w.thread vs ≡ Some r → AllAsleep (WaitsAsleep vs) (sleepers_of ws) → AllAsleep (WaitsAsleep vs) (with_sleeper w.thread r (sleepers_of ws))
+    by (Taking m) e k = k
+    by (Reading m) e k = k
+    by (Putting m a) e k = k
+    by (Throwing u x) e k = k
+    by (Sleeping due) e k = (e, k)
+
+awake_in : (P : Sleeper → Type 0) (now t : ℕ) (ss : List Sleeper) → AllAsleep P ss → first_awake now ss ≡ Some t → (x : Sleeper) × P x × (x.thread ≡ t) × (nat_le x.due now ≡ true)
+awake_in P now t [] h e = absurd (cc e)
+awake_in P now t (s ∷ ss) h e =
+    ⊎_elim
+    (λ d. (s, h.0, same_Some s.thread t (sym (cond_true (nat_le s.due now) (Some s.thread) (first_awake now ss) d.0) ∙ e), d.0))
+    (λ d. awake_in P now t ss h.1 (sym (cond_false (nat_le s.due now) (Some s.thread) (first_awake now ss) d.0) ∙ e))
+    (leb_tells s.due now)
+
+-- who wakes first sleeps until a time that has come
+pub first_due : (now t : ℕ) (ws : List (Waiting V)) → Once ws → first_awake now (sorted_sleepers (sleepers_of ws)) ≡ Some t → (due : ℕ) × (reason_of t ws ≡ Some (Sleeping due)) × (nat_le due now ≡ true)
+first_due now t ws o e =
+    let k = awake_in (WaitsAsleep ws) now t (sorted_sleepers (sleepers_of ws)) (sorted_asleep (WaitsAsleep ws) (sleepers_of ws) (all_asleep ws ws (once_reason ws o))) e in
+    (k.0.due, subst (λ u. reason_of u ws ≡ Some (Sleeping k.0.due)) k.2 k.1, k.3)
+
+-- ---- a list whose order is put right says of each the same
+was_added : (P : Sleeper → Type 0) (s : Sleeper) (ss : List Sleeper) → AllAsleep P (sleeper_added s ss) → P s × AllAsleep P ss
+was_added P s [] h = h
+was_added P s (r ∷ rs) h =
+    cond_cases (λ z. AllAsleep P z → P s × AllAsleep P (r ∷ rs)) (sleeper_before r s) (r ∷ sleeper_added s rs) (s ∷ r ∷ rs)
+    (λ b k. let m = was_added P s rs k.1 in (m.0, (k.0, m.1))) (λ b k. (k.0, k.1)) h
+
+was_sorted : (P : Sleeper → Type 0) (ss : List Sleeper) → AllAsleep P (sorted_sleepers ss) → AllAsleep P ss
+was_sorted P [] h = tt
+was_sorted P (s ∷ ss) h = let k = was_added P s (sorted_sleepers ss) h in (k.0, was_sorted P ss k.1)
+
+-- where nobody is due, each sleeps for a time that is to come
+none_due : (now : ℕ) (ss : List Sleeper) → first_awake now ss ≡ None → AllAsleep (λ s. now < s.due) ss
+none_due now [] e = tt
+none_due now (s ∷ ss) e =
+    ⊎_elim
+    (λ d. let z : ◌≡◌ {A = Option ℕ} (Some s.thread) None = sym (cond_true (nat_le s.due now) (Some s.thread) (first_awake now ss) d.0) ∙ e in absurd (cc z))
+    (λ d. (d.1, none_due now ss (sym (cond_false (nat_le s.due now) (Some s.thread) (first_awake now ss) d.0) ∙ e)))
+    (leb_tells s.due now)
+
+sleeper_in : (P : Sleeper → Type 0) (t due : ℕ) (ws : List (Waiting V)) → AllAsleep P (sleepers_of ws) → reason_of t ws ≡ Some (Sleeping due) → P (record { thread = t; due = due })
+sleeper_in P t due [] h e = absurd (cc e)
+sleeper_in P t due (w ∷ ws) h e =
+    ⊎_elim
+    (λ q. here w.reason q.1 (cond_true (w.thread == t) (Some w.reason) (reason_of t ws) q.0) h)
+    (λ q. sleeper_in P t due ws (rest w.reason h) (sym (cond_false (w.thread == t) (Some w.reason) (reason_of t ws) q.0) ∙ e))
+    (equal_or w.thread t)
+  where
+    rest : (r : Reason V) → AllAsleep P (with_sleeper w.thread r (sleepers_of ws)) → AllAsleep P (sleepers_of ws)
+    rest (Taking m) k = k
+    rest (Reading m) k = k
+    rest (Putting m a) k = k
+    rest (Throwing u x) k = k
+    rest (Sleeping d) k = k.1
+
+    here : (r : Reason V) → w.thread ≡ t → reason_of t (w ∷ ws) ≡ Some r → AllAsleep P (with_sleeper w.thread r (sleepers_of ws)) → P (record { thread = t; due = due })
+    here (Taking m) own q k = let z : ◌≡◌ {A = Option (Reason V)} (Some (Taking m)) (Some (Sleeping due)) = sym q ∙ e in absurd (cc z)
+    here (Reading m) own q k = let z : ◌≡◌ {A = Option (Reason V)} (Some (Reading m)) (Some (Sleeping due)) = sym q ∙ e in absurd (cc z)
+    here (Putting m a) own q k = let z : ◌≡◌ {A = Option (Reason V)} (Some (Putting m a)) (Some (Sleeping due)) = sym q ∙ e in absurd (cc z)
+    here (Throwing u x) own q k = let z : ◌≡◌ {A = Option (Reason V)} (Some (Throwing u x)) (Some (Sleeping due)) = sym q ∙ e in absurd (cc z)
+    here (Sleeping d) own q k = let z : ◌≡◌ {A = Option (Reason V)} (Some (Sleeping d)) (Some (Sleeping due)) = sym q ∙ e in let same : d ≡ due = cc z in
+        subst (λ y. P (record { thread = y; due = due })) own (subst (λ y. P (record { thread = w.thread; due = y })) same k.0)
+
+-- where a sorted list is empty, so was the list
+pub none_sleep : (ss : List Sleeper) → sorted_sleepers ss ≡ [] → ss ≡ []
+none_sleep [] e = refl
+none_sleep (s ∷ ss) e = absurd (some (sorted_sleepers ss) e)
+  where
+    some : (rs : List Sleeper) → sleeper_added s rs ≡ [] → ⊥
+    some [] q = cc q
+    some (r ∷ rs) q = cond_cases (λ z. z ≡ [] → ⊥) (sleeper_before r s) (r ∷ sleeper_added s rs) (s ∷ r ∷ rs) (λ b k. cc k) (λ b k. cc k) q
+
+-- so who is blocked until a time is blocked until a later one
+pub none_is_due : (now : ℕ) (ws : List (Waiting V)) → first_awake now (sorted_sleepers (sleepers_of ws)) ≡ None → (t due : ℕ) → reason_of t ws ≡ Some (Sleeping due) → now < due
+none_is_due now ws e t due q = sleeper_in (λ y. now < y.due) t due ws (was_sorted (λ y. now < y.due) (sleepers_of ws) (none_due now (sorted_sleepers (sleepers_of ws)) e)) q

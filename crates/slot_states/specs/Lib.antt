@@ -1,0 +1,4 @@
+pub mod SlotStates
+pub mod Resting
+pub mod Printing
+pub mod Growing
