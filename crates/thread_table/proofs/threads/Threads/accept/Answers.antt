@@ -1,0 +1,55 @@
+use Rattle.std.proofs.Common.{◌≡◌, ◌++◌, refl, ap, ◌∙◌, subst, Some, arith}
+use Rattle.hs_base.specs.declared.mask.Mask.TheVariants.{Unmasked}
+use Rattle.slot_laws.specs.SlotRules.{locals}
+use Rattle.local_steps.specs.Machine.{funs_of}
+use Rattle.frame_stack.specs.Parts.{term_of}
+use Rattle.thread_table.specs.declared.thread.Thread.{Thread}
+use Rattle.thread_table.specs.Table.{with_stack, counted_frames}
+use Rattle.thread_table.specs.Listing.{counted_going}
+use Rattle.thread_table.proofs.Table.{lent_is, written_through}
+use Rattle.thread_table.proofs.Queues.{wanted_in, ready_test, has_pushed, not_waiting, kept_not}
+use Rattle.thread_table.proofs.Counts.{count_swapped, count_part, going_fits}
+use Rattle.thread_table.proofs.threads.Threads.accept.Goals as goal
+
+pub overflow_sub-self : goal.overflow_sub-self
+overflow_sub-self c =
+    let here = c.requires.there in
+    let lent = lent_is c.args.self.now.list.items c.args.slice.tid here.thread c.index_mut-thread.result.now here.is c.index_mut-thread.ensures.value in
+    count_part counted_frames c.args.self.now.list.items c.args.slice.tid here.thread c.args.self.now.frames c.counted_frames-had.result here.is (c.counted_frames-had.ensures.value ∙ ap counted_frames lent) c.args.self.now.framed
+
+pub overflow_sub-self-2 : goal.overflow_sub-self-2
+overflow_sub-self-2 c =
+    let here = c.requires.there in
+    let lent = lent_is c.args.self.now.list.items c.args.slice.tid here.thread c.index_mut-thread.result.now here.is c.index_mut-thread.ensures.value in
+    count_part counted_going c.args.self.now.list.items c.args.slice.tid here.thread c.args.self.now.going c.counted_going-went.result here.is (c.counted_going-went.ensures ∙ ap counted_going lent) c.args.self.now.gone
+
+pub overflow_add-self-2 : goal.overflow_add-self-2
+overflow_add-self-2 c =
+    let v = c.args.self.now.list in
+    let fits = going_fits v.items c.args.self.now.going v.len v.cap c.counted_going-goes.result (record c.index_mut-thread.result.now { stack = c.accept.new.self }) c.args.self.now.gone v.ok v.small c.counted_going-goes.ensures in
+    omega (arith, fits)
+
+pub invariant_of-self-2 : goal.invariant_of-self-2
+invariant_of-self-2 c =
+    let here = c.requires.there in
+    let lent = lent_is c.args.self.now.list.items c.args.slice.tid here.thread c.index_mut-thread.result.now here.is c.index_mut-thread.ensures.value in
+    let y : Thread = record c.index_mut-thread.result.now { stack = c.accept.new.self } in
+    record {
+      listed = has_pushed (wanted_in c.args.self.now.flight.list) _ _ _ c.args.slice.tid here.thread y here.is c.push_back_reserved.ensures.items c.args.self.now.listed;
+      queued = has_pushed ready_test _ _ _ c.args.slice.tid here.thread y here.is c.push_back_reserved-2.ensures.items c.args.self.now.queued;
+      kept = kept_not _ _ c.args.slice.tid here.thread y here.is (not_waiting y (ap (λ (x : Thread). x.blocked) lent ∙ here.holds.2)) (ap (λ (x : Thread). x.listed) lent) c.args.self.now.kept;
+      framed = count_swapped counted_frames c.args.self.now.list.items c.args.slice.tid here.thread y c.args.self.now.frames c.counted_frames-had.result c.counted_frames-has.result here.is (c.counted_frames-had.ensures.value ∙ ap counted_frames lent) c.counted_frames-has.ensures.value c.args.self.now.framed;
+      gone = count_swapped counted_going c.args.self.now.list.items c.args.slice.tid here.thread y c.args.self.now.going c.counted_going-went.result c.counted_going-goes.result here.is (c.counted_going-went.ensures ∙ ap counted_going lent) c.counted_going-goes.ensures c.args.self.now.gone;
+    }
+
+pub returns-clause-ok : goal.returns-clause-ok
+returns-clause-ok c = (
+  c.accept.new.self,
+  written_through _ _ (with_stack c.accept.new.self) c.requires.there.thread c.index_mut-thread.result.now _ c.requires.there.is c.index_mut-thread.ensures.value refl,
+  c.in_ok-accept.ensures.end.0,
+  λ th h.
+      let lent = lent_is c.args.self.now.list.items c.args.slice.tid th c.index_mut-thread.result.now h c.index_mut-thread.ensures.value in (
+        c.in_ok-accept.ensures.end.1 ∙ ap (λ (x : Thread). c.args.slice.pushed.list ++ x.stack.frames) lent,
+        subst (λ (x : Thread). ∥ locals (funs_of c.args.slice.of.value) Unmasked c.args.slice.steps (term_of c.args.slice.of.value x.stack) ≡ Some (term_of c.args.slice.of.value c.accept.new.self) ∥₁) lent c.in_ok-accept.ensures.moves,
+      ),
+)

@@ -1,0 +1,4 @@
+pub mod Table
+pub mod Listing
+pub mod Rooms
+pub mod Kinds
