@@ -1,0 +1,5 @@
+use Rattle.world_entries.proofs.Performing.{acquired_made}
+use Rattle.world_entries.proofs.world.World.acquired.Goals as goal
+
+pub returns : goal.returns
+returns c = acquired_made c.args.self.now c.args.t c.requires.goes c.answer.new.self c.requires.stands c.answer.ensures.list c.answer.ensures.flight

@@ -1,0 +1,3 @@
+pub mod Worlds
+pub mod Reading
+pub mod First
