@@ -1,0 +1,11 @@
+pub mod Controls
+pub mod Legal
+pub mod HowItEnds
+pub mod GoingOn
+pub mod Sizes
+pub mod Exceeding
+pub mod Resting
+pub mod Printing
+pub mod Finished
+pub mod Asking
+pub mod Begun

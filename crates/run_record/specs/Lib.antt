@@ -1,0 +1,3 @@
+pub mod Acts
+pub mod Records
+pub mod Pieces

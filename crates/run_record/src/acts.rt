@@ -1,0 +1,47 @@
+use hs_rules::Entry;
+
+/// What a thread, or the clock's time, makes possible: an entry other than a Tick, and local rules only of a value or an
+/// exception in a frame.
+#[derive(Clone, Copy, Debug, PartialEq, Eq)]
+pub enum Act {
+    Op(u32),
+    Finish(u32),
+    /// One local rule.
+    Local(u32),
+    Receive(u32),
+    Wake(u32),
+    Strand,
+}
+
+/// What can be done next.
+#[derive(Clone, Copy, Debug, PartialEq, Eq)]
+pub enum Next {
+    /// Nothing: the main thread has finished, by a value or not.
+    Over(bool),
+    Act(Act),
+    /// Local rules of threads that are to do an action, and Ticks.
+    Goes,
+    /// Ticks: the first sleeper may wake then.
+    Sleeps(u64),
+    /// Ticks, and nobody sleeps.
+    Stuck,
+}
+
+impl Act {
+    ghost use Rattle.std.specs.Prelude.{◌≡◌};
+    ghost use Rattle.run_record.specs.Acts.{entry_of};
+
+    /// The entry that it is.
+    pub fn entry(self) -> Entry
+        ensures { result ≡ entry_of self }
+    {
+        match self {
+            Act::Op(t) => Entry::Op { t },
+            Act::Finish(t) => Entry::Finish { t },
+            Act::Local(t) => Entry::Local { t, k: 1 },
+            Act::Receive(t) => Entry::Receive { t },
+            Act::Wake(t) => Entry::Wake { t },
+            Act::Strand => Entry::Stranded,
+        }
+    }
+}

@@ -1,0 +1,149 @@
+//! What an entry prints.
+ghost use Rattle.std.specs.Prelude.{◌≡◌, ◌++◌, ◌∷◌, [], codes, cond, IfOk, true, string_bytes};
+ghost use Rattle.std.specs.Fmt.{decimal};
+ghost use Rattle.hs_base.specs.ExceptionTexts.{text_of};
+ghost use Rattle.rules_code.specs.declared.code.Body.{Body};
+ghost use Rattle.hs_rules.specs.Primitives.{line_feed};
+ghost use Rattle.hs_rules.specs.Entries.{is_silent as is_silent_by, uncaught_line as uncaught_by};
+ghost use Rattle.slot_states.specs.Printing.{output_of, errors_of, line_by, output_by, errors_by};
+ghost use Rattle.frame_stack.specs.Parts.{part_of};
+ghost use Rattle.world_entries.specs.Worlds.{state_of};
+
+use crate::acts::Act;
+use crate::record::Record;
+use frame_stack::{Control, Prim};
+use hs_base::{Exn, NoMemory};
+use std::alloc::{AllocError, Global};
+
+/// Where a piece goes.
+#[derive(Clone, Copy, Debug, PartialEq, Eq)]
+pub enum Stream {
+    Output,
+    Errors,
+}
+
+/// What an entry prints, as it is put.
+#[derive(Drop)]
+pub struct Piece {
+    pub stream: Stream,
+    pub bytes: Vec<u8>,
+}
+
+/// These bytes, with a line feed where it is asked for.
+fn piece_of(alloc: Global, stream: Stream, text: &str, line: bool) -> Result<Piece, NoMemory>
+    ensures stream { IfOk result (λ p. p.stream ≡ stream) }
+    ensures bytes { IfOk result (λ p. p.bytes.items ≡ text.now ++ cond line line_feed []) }
+{
+    let mut bytes = Vec::new(alloc);
+    bytes
+        .extend_from_slice(text.as_bytes())
+        .map_err(AllocError::from)?;
+    if line {
+        bytes.push(b'\n').map_err(AllocError::from)?;
+    }
+    Ok(Piece { stream, bytes })
+}
+
+/// Whether a thread other than the main one ends by it without a line.
+fn is_silent(e: &Exn) -> bool
+    ensures { result ≡ is_silent_by e.now }
+{
+    matches!(e, Exn::ThreadKilled | Exn::BlockedIndefinitely)
+}
+
+/// The line of the main thread.
+fn main_line(alloc: Global, text: &str) -> Result<String, NoMemory>
+    ensures { IfOk result (λ line. string_bytes line ≡ codes "uncaught exception in main: " ++ text.now ++ line_feed) }
+{
+    let line = format!(in alloc; "uncaught exception in main: {}\n", text)?;
+    Ok(line)
+}
+
+/// The line of another thread.
+fn thread_line(alloc: Global, t: u32, text: &str) -> Result<String, NoMemory>
+    ensures { IfOk result (λ line. string_bytes line ≡ codes "uncaught exception in thread " ++ decimal t ++ codes ": " ++ text.now ++ line_feed) }
+{
+    let line = format!(in alloc; "uncaught exception in thread {}: {}\n", t, text)?;
+    Ok(line)
+}
+
+/// The line of a thread that ends by an exception that nothing catches.
+fn uncaught(alloc: Global, t: u32, e: &Exn) -> Result<Vec<u8>, NoMemory>
+    ensures { IfOk result (λ bytes. bytes.items ≡ uncaught_by t e.now) }
+{
+    if t == 0 {
+        let text = e.text(alloc)?;
+        return Ok(main_line(alloc, text.as_str())?.into_bytes());
+    }
+    if is_silent(e) {
+        return Ok(Vec::new(alloc));
+    }
+    let text = e.text(alloc)?;
+    Ok(thread_line(alloc, t, text.as_str())?.into_bytes())
+}
+
+impl Record {
+    ghost use Rattle.run_record.specs.Acts.{entry_of};
+    ghost use Rattle.run_record.specs.Pieces.{IsPiece};
+
+    /// What an act prints, if anything.
+    pub fn piece(&self, act: Act) -> Result<Option<Piece>, NoMemory>
+        ensures { IfOk result (λ piece. (b : Body) → IsPiece piece (output_by (state_of b self.now.world) (entry_of act)) (errors_by (state_of b self.now.world) (entry_of act))) }
+    {
+        let alloc = self.world.alloc;
+        match act {
+            Act::Op(t) => match self.world.threads.list.get(t as usize) {
+                Some(thread) => Record::printed(alloc, thread.stack.control()),
+                None => Ok(None),
+            },
+            Act::Finish(t) => match self.world.threads.list.get(t as usize) {
+                Some(thread) => Record::end_line(alloc, t, thread.stack.control()),
+                None => Ok(None),
+            },
+            _ => Ok(None),
+        }
+    }
+
+    /// What the operation of a control prints, if anything.
+    fn printed(alloc: Global, control: &Control) -> Result<Option<Piece>, NoMemory>
+        ensures { IfOk result (λ piece. (b : Body) → IsPiece piece (output_of (part_of b control.now)) (errors_of (part_of b control.now))) }
+    {
+        match control {
+            Control::Op(Prim::PutStr(text)) => Ok(Some(piece_of(
+                alloc,
+                Stream::Output,
+                text.as_str(),
+                false,
+            )?)),
+            Control::Op(Prim::PutStrLn(text)) => Ok(Some(piece_of(
+                alloc,
+                Stream::Output,
+                text.as_str(),
+                true,
+            )?)),
+            Control::Op(Prim::HPutStrLn(text)) => Ok(Some(piece_of(
+                alloc,
+                Stream::Errors,
+                text.as_str(),
+                true,
+            )?)),
+            _ => Ok(None),
+        }
+    }
+
+    /// What the end of a thread by a control prints, if anything.
+    fn end_line(alloc: Global, t: u32, control: &Control) -> Result<Option<Piece>, NoMemory>
+        ensures { IfOk result (λ piece. (b : Body) → IsPiece piece [] (line_by t (part_of b control.now))) }
+    {
+        match control {
+            Control::Throw(e) => {
+                let bytes = uncaught(alloc, t, e)?;
+                Ok(Some(Piece {
+                    stream: Stream::Errors,
+                    bytes,
+                }))
+            }
+            _ => Ok(None),
+        }
+    }
+}
