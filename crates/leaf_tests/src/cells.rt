@@ -76,6 +76,7 @@ fn a_full_cell_gives(rt: HostRuntime) -> Result<(), Fail> {
     let mut cells = Cells::new(rt.alloc());
     cells.room(1)?;
     assert_eq!(rt; cells.fresh(Some(Value::Int(7))), 0);
+    assert_eq!(rt; cells.len(), 1);
     assert!(rt; matches!(cells.try_take(0), Some((Value::Int(7), None))));
     Ok(())
 }
@@ -131,6 +132,7 @@ fn readers_behind_takers_come_first(rt: HostRuntime) -> Result<(), Fail> {
     assert_eq!(rt; took(cells.take(0, 1)), (-1, -1));
     assert_eq!(rt; saw(cells.read(0, 2)?), -1);
     assert_eq!(rt; saw(cells.read(0, 3)?), -1);
+    assert_eq!(rt; cells.readers(0), 2);
     assert_eq!(rt; cells.next_reader(0), Some(2));
     assert_eq!(rt; cells.next_reader(0), Some(3));
     assert_eq!(rt; cells.next_reader(0), None);

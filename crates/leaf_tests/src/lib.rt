@@ -1,5 +1,5 @@
-//! Tests of what the others stand on: values, the outside, the index of names, cells, exceptions in flight, sleepers and
-//! histories.
+//! Tests of what the others stand on: values, the outside, the index of names, cells, exceptions in flight, sleepers,
+//! histories and tickets.
 //!
 //! It has no code of its own, and promises nothing. Its tests call public functions alone, each once on its happy path
 //! and where a contract says nothing: that calls succeed, and that copies and drops don't grow with a value.
@@ -15,5 +15,7 @@ mod history;
 mod index;
 #[cfg(test)]
 mod outside;
+#[cfg(test)]
+mod tickets;
 #[cfg(test)]
 mod values;

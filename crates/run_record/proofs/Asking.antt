@@ -17,13 +17,12 @@ use Rattle.slot_states.specs.Printing.{line_by, end_line, output_by, errors_by}
 use Rattle.frame_stack.specs.declared.control.Operation.{Operation}
 use Rattle.frame_stack.specs.declared.control.Control.{Control}
 use Rattle.frame_stack.specs.declared.control.Control.TheVariants as c
-use Rattle.frame_stack.specs.declared.sliced.Slice.{Slice}
 use Rattle.frame_stack.specs.Parts.{IsOp, Stacked, part_of}
 use Rattle.thread_table.specs.Kinds.{Own, Hears, IsBare}
 use Rattle.thread_table.specs.Listing.{is_hit, waits_open}
 use Rattle.thread_table.proofs.Table.{slots_is}
 use Rattle.world_entries.specs.declared.world.World.{World}
-use Rattle.world_entries.specs.Worlds.{state_of, Live, Makes, SameState, Stands, Goes, Ends, Starts, end_bytes}
+use Rattle.world_entries.specs.Worlds.{state_of, Live, Makes, SameState, Stands, Ends, end_bytes}
 use Rattle.run_record.specs.declared.acts.Act.{Act}
 use Rattle.run_record.specs.declared.acts.Act.TheVariants as act
 use Rattle.run_record.specs.Acts.{entry_of}
@@ -69,9 +68,6 @@ module _ (old new : World) (b : Body) (same : SameState old new) (items : new.th
   hears_kept : (t : ℕ) → Hears t old.threads → Hears t new.threads
   hears_kept t h = record { thread = h.thread; is = ap (λ ths. slice_get ths t) items ∙ h.is; unfinished = h.unfinished; receptive = h.receptive; hit = ap (is_hit t) flight ∙ h.hit }
 
-  pub goes_kept : Goes old → Goes new
-  goes_kept g = record { main = g.main; is = ap (λ ths. slice_get ths 0) items ∙ g.is; unfinished = g.unfinished }
-
   awake_kept : (t : ℕ) → Can (act.Wake t) old → Can (act.Wake t) new
   awake_kept t h = ap (λ (x : SlotState). first_awake x.clock x.sleepers) (same b) ∙ h
 
@@ -88,9 +84,6 @@ module _ (old new : World) (b : Body) (same : SameState old new) (items : new.th
 
   pub prints_kept : (n : ℕ) (a : Act) → PrintsIn b n a old → PrintsIn b n a new
   prints_kept n a h = subst (λ x. n ≡ length (output_by x (entry_of a)) + length (errors_by x (entry_of a))) (sym (same b)) h
-
-  pub starts_kept : (s : Slice) → Starts s old → Starts s new
-  starts_kept s h = record { thread = h.thread; is = ap (λ ths. slice_get ths s.tid) items ∙ h.is; unfinished = h.unfinished; free = h.free; control = h.control; mask = h.mask }
 
 -- ---- the clock's time
 on_some : (o : Option named.Thread) (k : named.Thread → Option State) (u : State) → on_thread o k ≡ Some u → (th : named.Thread) × (k th ≡ Some u)

@@ -77,7 +77,7 @@ counted : (limits : Limits) (amount : LimitKind → ℕ) (u : State) → ((kind 
 counted limits amount u e = record { most = λ kind. omega (arith, e kind); over = λ kind h. omega (arith, e kind, h) }
 
 -- ---- what a live world has is within the limits
-pub live_within : (b : Body) (es : List Entry) (w : World) (limits : Limits) → (live : Live b es w) → StaysWithin limits (script_of b.of.value) es → (kind : LimitKind) → total 0 0 0 0 w kind ≤ allowed kind limits
+live_within : (b : Body) (es : List Entry) (w : World) (limits : Limits) → (live : Live b es w) → StaysWithin limits (script_of b.of.value) es → (kind : LimitKind) → total 0 0 0 0 w kind ≤ allowed kind limits
 live_within b es w limits live stays kind =
     let not = state_within limits (script_of b.of.value) es live.state stays live.run kind in
     let e = same_used (script_of b.of.value) (state_of b w) live.state live.represents kind ∙ used_is b w kind in
@@ -86,7 +86,7 @@ live_within b es w limits live stays kind =
 -- ---- an act
 
 -- it makes so many threads and cells, and prints so many bytes
-pub record Makes (b : Body) (i j n : ℕ) (a : Act) (w : World) : Type 0 where
+pub record Adds (b : Body) (i j n : ℕ) (a : Act) (w : World) : Type 0 where
   pub threads : i ≡ forked (op_of (doer (state_of b w) (entry_of a)))
   pub cells : j ≡ celled (op_of (doer (state_of b w) (entry_of a)))
   pub bytes : n ≡ growth limit.Output (state_of b w) (entry_of a)
@@ -95,7 +95,7 @@ module _ (b : Body) (es : List Entry) (w : World) (live : Live b es w) (goes : G
   abbrev ds : List Fn
   ds = script_of b.of.value
 
-  other_counted : (a : Act) → IsNoLocal (entry_of a) → Makes b i j n a w → (u : State) → Leads (code_of ds) live.state (entry_of a) u → Counted limits (total i j i n w) u
+  other_counted : (a : Act) → IsNoLocal (entry_of a) → Adds b i j n a w → (u : State) → Leads (code_of ds) live.state (entry_of a) u → Counted limits (total i j i n w) u
   other_counted a other m u leads = counted limits (total i j i n w) u by
     where
       by : (kind : LimitKind) → used kind u ≡ total i j i n w kind
@@ -104,7 +104,7 @@ module _ (b : Body) (es : List Entry) (w : World) (live : Live b es w) (goes : G
       by limit.Frames = let e = other_used b es w live (entry_of a) u leads other limit.Frames in omega (arith, e, m.threads)
       by limit.Output = let e = other_used b es w live (entry_of a) u leads other limit.Output in omega (arith, e, m.bytes)
 
-  local_counted : (t : ℕ) → Can (act.Local t) w → Makes b i j n (act.Local t) w → (u : State) → Leads (code_of ds) live.state (entry.Local t 1) u → Counted limits (total i j i n w) u
+  local_counted : (t : ℕ) → Can (act.Local t) w → Adds b i j n (act.Local t) w → (u : State) → Leads (code_of ds) live.state (entry.Local t 1) u → Counted limits (total i j i n w) u
   local_counted t own m u leads = record { most = most; over = over }
     where
       p : (st : SlotTerm) × (locals (funs_of b) Unmasked 1 (term_of b own.thread.stack) ≡ Some st) × (length st.frames ≤ length own.thread.stack.frames)
@@ -123,7 +123,7 @@ module _ (b : Body) (es : List Entry) (w : World) (live : Live b es w) (goes : G
       over limit.Frames h = let e = live_within b es w limits live stays limit.Frames in absurd (omega (arith, e, h, m.threads))
       over limit.Output h = let e = live_within b es w limits live stays limit.Output in absurd (omega (arith, e, h, m.bytes))
 
-  act_counted : (a : Act) → Can a w → Makes b i j n a w → (u : State) → Leads (code_of ds) live.state (entry_of a) u → Counted limits (total i j i n w) u
+  act_counted : (a : Act) → Can a w → Adds b i j n a w → (u : State) → Leads (code_of ds) live.state (entry_of a) u → Counted limits (total i j i n w) u
   act_counted (act.Op t) can m = other_counted (act.Op t) tt m
   act_counted (act.Finish t) can m = other_counted (act.Finish t) tt m
   act_counted (act.Local t) can m = local_counted t can m
@@ -147,10 +147,10 @@ act_short (act.Receive t) = tt
 act_short (act.Wake t) = tt
 act_short act.Strand = tt
 
-pub makes_so : (r : Record) (i j n : ℕ) (a : Act) → ((b : Body) → i ≡ forked (op_of (doer (state_of b r.world) (entry_of a)))) → ((b : Body) → j ≡ celled (op_of (doer (state_of b r.world) (entry_of a)))) → Prints n a r → Makes r.of.value i j n a r.world
-makes_so r i j n a threads cells bytes = record { threads = threads r.of.value; cells = cells r.of.value; bytes = bytes }
+pub adds_so : (r : Record) (i j n : ℕ) (a : Act) → ((b : Body) → i ≡ forked (op_of (doer (state_of b r.world) (entry_of a)))) → ((b : Body) → j ≡ celled (op_of (doer (state_of b r.world) (entry_of a)))) → Prints n a r → Adds r.of.value i j n a r.world
+adds_so r i j n a threads cells bytes = record { threads = threads r.of.value; cells = cells r.of.value; bytes = bytes }
 
-module _ (r : Record) (goes : Goes r.world) (a : Act) (can : Can a r.world) (i j n : ℕ) (m : Makes r.of.value i j n a r.world) where
+module _ (r : Record) (goes : Goes r.world) (a : Act) (can : Can a r.world) (i j n : ℕ) (m : Adds r.of.value i j n a r.world) where
   pub act_exceeds : steps_of r.history.list + 1 ≤ r.fuel → (kind : LimitKind) → FirstOver kind r.limits (total i j i n r.world) → WouldExceed kind (entry_of a) r
   act_exceeds fuel kind over =
       ∥∥₁_elim r.after ∥∥₁_prop (λ live. ∥∥₁_map r.limited (λ stays.

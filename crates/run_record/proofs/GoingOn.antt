@@ -21,7 +21,7 @@ use Rattle.run_record.specs.Records.{script, Fits}
 use Rattle.world_entries.specs.Worlds.{Live, IsLive, MakesOf, SameState}
 
 -- ---- nobody sees it
-pub live_same : (b : Body) (es : List Entry) (old new : World) → SameState old new → Live b es old → Live b es new
+live_same : (b : Body) (es : List Entry) (old new : World) → SameState old new → Live b es old → Live b es new
 live_same b es old new same l = record { accepted = l.accepted; code = l.code; state = l.state; run = l.run; represents = subst (λ z. Represents (script_of b.of.value) z l.state) (sym (same b)) l.represents }
 
 pub still_live : (b : Body) (es : List Entry) (old new : World) → SameState old new → ∥ Live b es old ∥₁ → ∥ Live b es new ∥₁
@@ -31,12 +31,12 @@ pub is_live : (b : Body) (es : List Entry) (w : World) → ∥ Live b es w ∥�
 is_live b es w h = ∥∥₁_map h (λ l. (b, es, l))
 
 -- ---- one more entry
-pub live_more : (b : Body) (es : List Entry) (e : Entry) (old new : World) → MakesOf b e old new → Live b es old → Live b (es ++ e ∷ []) new
+live_more : (b : Body) (es : List Entry) (e : Entry) (old new : World) → MakesOf b e old new → Live b es old → Live b (es ++ e ∷ []) new
 live_more b es e old new makes l =
     let k = makes l.accepted l.code es l.state l.run l.represents in
     record { accepted = l.accepted; code = l.code; state = k.0; run = run_more (script_of b.of.value) es e l.state k.0 l.run k.1; represents = k.2 }
 
-pub more_live : (b : Body) (es : List Entry) (e : Entry) (old new : World) → MakesOf b e old new → ∥ Live b es old ∥₁ → ∥ Live b (es ++ e ∷ []) new ∥₁
+more_live : (b : Body) (es : List Entry) (e : Entry) (old new : World) → MakesOf b e old new → ∥ Live b es old ∥₁ → ∥ Live b (es ++ e ∷ []) new ∥₁
 more_live b es e old new makes h = ∥∥₁_map h (live_more b es e old new makes)
 
 -- every state that the entry leaves after the history is within the limits
@@ -44,7 +44,7 @@ abbrev pub FitsAfter : Limits → List Fn → List Entry → Entry → Type 0
 FitsAfter limits ds es e = (s u : State) → IsRun ds es s → Leads (code_of ds) s e u → IsWithin limits u
 
 -- the history of a live world stays within limits by an entry that fits
-pub more_within : (b : Body) (limits : Limits) (es : List Entry) (e : Entry) (old new : World) → MakesOf b e old new → FitsAfter limits (script_of b.of.value) es e
+more_within : (b : Body) (limits : Limits) (es : List Entry) (e : Entry) (old new : World) → MakesOf b e old new → FitsAfter limits (script_of b.of.value) es e
     → ∥ Live b es old ∥₁ → ∥ StaysWithin limits (script_of b.of.value) es ∥₁ → ∥ StaysWithin limits (script_of b.of.value) (es ++ e ∷ []) ∥₁
 more_within b limits es e old new makes fits live stays =
     ∥∥₁_elim live ∥∥₁_prop (λ l. ∥∥₁_map stays (λ h.
@@ -70,7 +70,7 @@ relisted_stays limits ds es fs e h = subst (λ zs. ∥ StaysWithin limits ds zs 
 pub relisted_steps : (es fs : List Entry) (fuel : ℕ) → fs ≡ es → steps_of es ≤ fuel → steps_of fs ≤ fuel
 relisted_steps es fs fuel e h = subst (λ zs. steps_of zs ≤ fuel) (sym e) h
 
-pub more_steps : (es : List Entry) (e : Entry) → steps_of (es ++ e ∷ []) ≡ steps_of es + cost_of e
+more_steps : (es : List Entry) (e : Entry) → steps_of (es ++ e ∷ []) ≡ steps_of es + cost_of e
 more_steps [] e = omega arith
 more_steps (x ∷ es) e = let k = more_steps es e in omega (arith, k)
 

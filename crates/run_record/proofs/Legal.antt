@@ -1,5 +1,5 @@
 -- What can be done next is legal.
-use Rattle.std.proofs.Common.{◌≡◌, ℕ, List, [], false, Some, sym, ◌∙◌, subst, slice_get}
+use Rattle.std.proofs.Common.{refl, ◌≡◌, ℕ, List, [], false, Some, sym, ◌∙◌, subst, slice_get}
 use Rattle.hs_rules.specs.declared.entry.Entry.{Entry}
 use Rattle.hs_rules.specs.declared.entry.Entry.TheVariants as entry
 use Rattle.rules_trees.specs.Trees.{T}
@@ -26,6 +26,7 @@ use Rattle.frame_stack.specs.Parts.{IsOp, Meets, Stacked}
 use Rattle.thread_table.specs.declared.thread.Thread.{Thread}
 use Rattle.thread_table.specs.Kinds.{Own, Hears, IsBare}
 use Rattle.thread_table.specs.Table.{slot_of}
+use Rattle.thread_table.proofs.Slots.{receptive_same, hit_is, open_waits}
 use Rattle.thread_table.proofs.Table.{slots_is}
 use Rattle.world_entries.specs.declared.world.World.{World}
 use Rattle.world_entries.specs.Worlds.{state_of, Live, Goes, IsAtRest, SomeWaitOpen}
@@ -34,7 +35,7 @@ use Rattle.run_record.specs.declared.acts.Act.{Act}
 use Rattle.run_record.specs.declared.acts.Act.TheVariants as act
 use Rattle.run_record.specs.Acts.{entry_of}
 use Rattle.run_record.specs.Records.{Can}
-use Rattle.run_record.proofs.Controls.{receptive_slot, hit_by, open_waits, own_op, own_finish, own_local}
+use Rattle.run_record.proofs.Controls.{own_op, own_finish, own_local}
 
 -- an entry is legal in the state that a live world stands for
 abbrev pub Legal : (b : Body) (es : List Entry) (w : World) → Live b es w → Entry → Type 0
@@ -89,16 +90,16 @@ module _ (b : Body) (es : List Entry) (w : World) (live : Live b es w) (goes : G
 
   receive_legal : (t : ℕ) → Hears t w.threads → Legal b es w live (entry.Receive t)
   receive_legal t h =
-      let f = hit_by _ h.hit in
+      let f = hit_is t w.threads.flight.list h.hit in
       entered_legal (entry.Receive t) _
-      (receive_entered b.of.value live.accepted x t f.0 f.1 (slot_of b h.thread) (slots_is b w.threads.list.items t h.thread h.is) h.unfinished (receptive_slot b h.thread ∙ h.receptive) f.2 (main_goes w goes b))
+      (receive_entered b.of.value live.accepted x t f.0.0 f.0.1 (slot_of b h.thread) (slots_is b w.threads.list.items t h.thread h.is) h.unfinished (receptive_same b h.thread ∙ h.receptive) f.1 (main_goes w goes b))
 
   wake_legal : (t : ℕ) → first_awake w.clock w.sleepers.list ≡ Some t → Legal b es w live (entry.Wake t)
   wake_legal t e = entered_legal (entry.Wake t) _ (wake_entered b.of.value live.accepted x t e (main_goes w goes b))
 
   strand_legal : IsAtRest w → w.sleepers.list ≡ [] → SomeWaitOpen w → Legal b es w live entry.Stranded
   strand_legal quiet asleep some =
-      let waits = waits_named ds x live.state live.represents (standing_of ds es live.state live.run) some.0 (open_waits b w some.0 some.1) in
+      let waits = waits_named ds x live.state live.represents (standing_of ds es live.state live.run) some.0 (open_waits b w.threads.list.items x some.0 refl some.1) in
       (stranded_exactly b.of.value live.accepted es live.state live.run).1
       (record {
         main = main;

@@ -1,59 +1,43 @@
 -- What is left where no thread has anything of its own to do and nobody is due.
 use Rattle.std.proofs.Common.{Vec, Global, ◌≡◌, ℕ, List, [], ◌∷◌, Bool, true, false, cond, not, ◌&&◌, Some, None, refl, sym, ap, ◌∙◌, subst, slice_get}
 use Rattle.rules_code.specs.declared.code.Body.{Body}
-use Rattle.rules_waiting.specs.Waiting.{Sleeper, flying_to, first_awake, earliest}
+use Rattle.rules_waiting.specs.Waiting.{Sleeper, first_awake, earliest}
 use Rattle.slot_states.specs.SlotStates.{SlotThread}
 use Rattle.slot_states.specs.Resting as rest
-use Rattle.slot_states.specs.Resting.{IsDoing, AllRest, NobodyActs}
+use Rattle.slot_states.specs.Resting.{IsDoing, WaitsOpen, AllRest, NobodyActs}
 use Rattle.slot_states.proofs.Settled.{all_rest}
-use Rattle.exn_flight.specs.Flights.{InFlight}
 use Rattle.thread_table.specs.declared.thread.Thread.{Thread}
 use Rattle.thread_table.specs.declared.threads.Threads.{Threads}
-use Rattle.thread_table.specs.Listing.{is_doing, has_own, is_receptive, is_hit, wanted, NobodyWants}
+use Rattle.thread_table.specs.Listing.{is_doing, is_receptive, is_hit, wanted, waits_open, NobodyWants}
 use Rattle.thread_table.specs.Table.{slot_of, slots_of, unlisted}
+use Rattle.thread_table.proofs.Slots.{slot_back, waits_are_open, nobody_hears}
 use Rattle.thread_table.proofs.Table.{slots_is, thread_alike}
 use Rattle.world_entries.specs.declared.world.World.{World}
 use Rattle.world_entries.specs.Worlds.{state_of, Goes, IsAtRest, SameState}
-use Rattle.run_record.specs.declared.acts.Next.{Next}
-use Rattle.run_record.specs.declared.acts.Next.TheVariants as next
-use Rattle.run_record.specs.declared.record.Record.{Record}
-use Rattle.run_record.specs.Records.{SomeGoes, IsNextOf, IsNext}
-use Rattle.run_record.proofs.Controls.{thread_there, doing_part, part_doing, receptive_slot, none_hit}
+use Rattle.run_record.specs.Records.{SomeGoes}
+use Rattle.run_record.proofs.Controls.{doing_part, part_doing}
 
 -- ---- who wants nothing
-unwanted : (f o r h : Bool) → f ≡ false → cond f false (cond o true (cond r h false)) ≡ false → (o ≡ false) × (r ≡ true → h ≡ false)
-unwanted true o r h e n = absurd (cc e)
-unwanted false true r h e n = absurd (cc n)
-unwanted false false true h e n = (refl, λ z. n)
-unwanted false false false h e n = (refl, λ z. absurd (cc z))
-
-not_own : (x y : Bool) → x ≡ false → not x && not y ≡ false → y ≡ true
-not_own true y e n = absurd (cc e)
-not_own false true e n = refl
-not_own false false e n = absurd (cc n)
+not_own : (f x y : Bool) (r : Bool) → f ≡ false → x ≡ false → cond f false (cond (not x && not y) true r) ≡ false → y ≡ true
+not_own true x y r g e n = absurd (cc g)
+not_own false true y r g e n = absurd (cc e)
+not_own false false true r g e n = refl
+not_own false false false r g e n = absurd (cc n)
 
 module _ (w : World) (none : NobodyWants w.threads.list.items w.threads.flight.list) (b : Body) where
-  -- a thread that hasn't finished has no entry of its own, and where it is receptive nothing is in flight to it
-  idle : (t : ℕ) (th : Thread) → slice_get w.threads.list.items t ≡ Some th → th.finished ≡ false → (has_own th ≡ false) × (is_receptive th ≡ true → is_hit t w.threads.flight.list ≡ false)
-  idle t th is going =
-      unwanted th.finished (has_own th) (is_receptive th) (is_hit t w.threads.flight.list) going
-      (ap (λ o. wanted t o w.threads.flight.list) (sym is) ∙ none t)
-
+  -- a thread that hasn't finished and isn't blocked is to do an action
   own : (t : ℕ) (h : SlotThread) → slice_get (state_of b w).threads t ≡ Some h → h.finished ≡ false → h.blocked ≡ false → IsDoing h.term.part
   own t h is going free =
-      let th = thread_there b w.threads.list.items t h is in
-      let k = idle t th.0 th.1 (ap (λ (z : SlotThread). z.finished) th.2 ∙ going) in
-      let d : is_doing th.0.stack.control ≡ true = not_own th.0.blocked (is_doing th.0.stack.control) (ap (λ (z : SlotThread). z.blocked) th.2 ∙ free) k.0 in
-      subst (λ (z : SlotThread). IsDoing z.term.part) th.2 (doing_part b th.0.stack.control d)
-
-  unheard : (t : ℕ) (h : SlotThread) → slice_get (state_of b w).threads t ≡ Some h → h.finished ≡ false → rest.is_receptive h ≡ true → flying_to t w.threads.flight.list ≡ []
-  unheard t h is going receptive =
-      let th = thread_there b w.threads.list.items t h is in
-      let k = idle t th.0 th.1 (ap (λ (z : SlotThread). z.finished) th.2 ∙ going) in
-      none_hit (flying_to t w.threads.flight.list) (k.1 (sym (receptive_slot b th.0) ∙ (ap rest.is_receptive th.2 ∙ receptive)))
+      let s = slot_back b w.threads.list.items t h is in
+      let th = s.0 in
+      let d : is_doing th.stack.control ≡ true =
+      not_own th.finished th.blocked (is_doing th.stack.control) (cond (is_receptive th) (is_hit t w.threads.flight.list) false)
+      (ap (λ (z : SlotThread). z.finished) s.2 ∙ going) (ap (λ (z : SlotThread). z.blocked) s.2 ∙ free)
+      (ap (λ o. wanted t o w.threads.flight.list) (sym s.1) ∙ none t) in
+      subst (λ (z : SlotThread). IsDoing z.term.part) s.2 (doing_part b th.stack.control d)
 
   pub nobody_acts : first_awake w.clock w.sleepers.list ≡ None → NobodyActs (state_of b w)
-  nobody_acts awake = record { own = own; unheard = unheard; asleep = awake }
+  nobody_acts awake = record { own = own; unheard = nobody_hears b w.threads.list.items w.threads.flight.list none; asleep = awake }
 
 -- ---- who goes
 pub some_goes : (w : World) (t : ℕ) (th : Thread) → slice_get w.threads.list.items t ≡ Some th → th.finished ≡ false → th.blocked ≡ false → is_doing th.stack.control ≡ true → SomeGoes w
@@ -61,7 +45,7 @@ some_goes w t th is going free does = (t, λ b. record { thread = slot_of b th; 
 
 none_goes : (w : World) → ((t : ℕ) (th : Thread) → slice_get w.threads.list.items t ≡ Some th → (th.finished ≡ false) × (th.blocked ≡ false) × (is_doing th.stack.control ≡ true) → ⊥) → (b : Body) (t : ℕ) → rest.Goes (state_of b w) t → ⊥
 none_goes w none b t g =
-    let th = thread_there b w.threads.list.items t g.thread g.is in
+    let th = slot_back b w.threads.list.items t g.thread g.is in
     none t th.0 th.1 (
       ap (λ (z : SlotThread). z.finished) th.2 ∙ g.unfinished,
       ap (λ (z : SlotThread). z.blocked) th.2 ∙ g.free,
@@ -94,9 +78,6 @@ same_state w ts slots flight b = λ i. record {
   printed = w.printed;
 }
 
-pub same_list : (w : World) (ts : Threads) → ts.list ≡ w.threads.list → ts.flight ≡ w.threads.flight → SameState w (with_threads w ts)
-same_list w ts list flight = same_state w ts (λ b. ap (λ (l : Vec Thread Global). slots_of b l.items) list) (ap (λ (f : InFlight). f.list) flight)
-
 pub goes_alike : (w : World) (ts : Threads) → ts.list ≡ w.threads.list → Goes w → Goes (with_threads w ts)
 goes_alike w ts e g = record { main = g.main; is = ap (λ (l : Vec Thread Global). slice_get l.items 0) e ∙ g.is; unfinished = g.unfinished }
 
@@ -109,10 +90,6 @@ goes_unlisted w ts e g =
 pub rest_alike : (old new : World) → SameState old new → IsAtRest old → IsAtRest new
 rest_alike old new same quiet b = subst AllRest (sym (same b)) (quiet b)
 
--- ---- what is next
-pub next_in : (n : Next) (r : Record) → IsNextOf n r.world → IsNext n r
-next_in (next.Over value) r h = absurd h
-next_in (next.Act a) r h = h
-next_in next.Goes r h = h
-next_in (next.Sleeps due) r h = h
-next_in next.Stuck r h = h
+-- where nobody waits open nobody does with slots
+pub none_waits_open : (b : Body) (w : World) → ((t : ℕ) → waits_open (slice_get w.threads.list.items t) ≡ false) → (t : ℕ) → ¬ WaitsOpen (state_of b w) t
+none_waits_open b w none t h = let z : true ≡ false = sym (waits_are_open b w.threads.list.items (state_of b w) t refl h) ∙ none t in cc z

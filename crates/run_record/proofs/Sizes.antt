@@ -2,7 +2,6 @@
 use Rattle.std.proofs.Common.{◌≡◌, ◌≤◌, ◌<◌, ◌+◌, ℕ, zero, suc, List, [], ◌∷◌, ◌++◌, length, Bool, true, false, cond, Some, refl, sym, ap, ◌∙◌, arith, slice_get, slice_set}
 use Rattle.hs_base.specs.declared.exn.Exn.{Exn}
 use Rattle.hs_base.specs.declared.mask.Mask.TheVariants.{Unmasked, Masked}
-use Rattle.hs_base.specs.declared.value.Value.{Value}
 use Rattle.hs_base.specs.Masks.{join_of}
 use Rattle.hs_rules.specs.declared.entry.Entry.{Entry}
 use Rattle.hs_rules.specs.declared.entry.Entry.TheVariants as entry
@@ -14,7 +13,6 @@ use Rattle.rules_meaning.specs.Values as val
 use Rattle.rules_meaning.specs.CoreMeaning.{code_of}
 use Rattle.rules_code.specs.declared.code.Body.{Body}
 use Rattle.rules_code.specs.CodeTrees.{SlottedFunction}
-use Rattle.rules_waiting.specs.OneCell.{Cell}
 use Rattle.hs_rules.specs.State.{State}
 use Rattle.hs_rules.specs.Entries.{next, Leads}
 use Rattle.hs_rules.specs.Endings as endings
@@ -34,25 +32,17 @@ use Rattle.frame_stack.specs.declared.control.Control.TheVariants as c
 use Rattle.frame_stack.specs.Parts.{MeetsOne, part_of, term_of}
 use Rattle.thread_table.specs.declared.thread.Thread.{Thread}
 use Rattle.thread_table.specs.Table.{slot_of, slots_of, frames_over}
+use Rattle.thread_table.proofs.Slots.{frames_same}
 use Rattle.thread_table.proofs.Table.{slots_is, slots_count}
 use Rattle.world_entries.specs.declared.world.World.{World}
-use Rattle.world_entries.specs.Worlds.{state_of, slot_cells, Live, Goes}
+use Rattle.world_entries.specs.Worlds.{state_of, Live, Goes}
+use Rattle.world_entries.proofs.CellsOf.{cells_count}
 use Rattle.world_entries.proofs.Making.{main_goes}
 
 -- ---- what there is
 pub frames_count : (b : Body) (fs : List Frame) → length (frames_of b fs) ≡ length fs
 frames_count b [] = refl
 frames_count b (f ∷ fs) = ap suc (frames_count b fs)
-
-slots_frames : (b : Body) (ths : List Thread) → frames_in (slots_of b ths) ≡ frames_over ths
-slots_frames b [] = refl
-slots_frames b (th ∷ ths) =
-    ap (λ n. cond th.finished 0 n + frames_in (slots_of b ths)) (frames_count b th.stack.frames)
-    ∙ ap (λ n. cond th.finished 0 (length th.stack.frames) + n) (slots_frames b ths)
-
-cells_count : (cs : List (Cell Value)) → length (slot_cells cs) ≡ length cs
-cells_count [] = refl
-cells_count (x ∷ cs) = ap suc (cells_count cs)
 
 -- so much of each, and so many threads, cells, frames and bytes more
 abbrev pub total : (i j k n : ℕ) → World → LimitKind → ℕ
@@ -64,7 +54,7 @@ total i j k n w limit.Output = w.printed + n
 pub used_is : (b : Body) (w : World) (kind : LimitKind) → used kind (state_of b w) ≡ total 0 0 0 0 w kind
 used_is b w limit.Threads = let e = slots_count b w.threads.list.items in omega (arith, e)
 used_is b w limit.Cells = let e = cells_count w.cells.cells in omega (arith, e)
-used_is b w limit.Frames = let e = slots_frames b w.threads.list.items in omega (arith, e)
+used_is b w limit.Frames = let e = frames_same b w.threads.list.items in omega (arith, e)
 used_is b w limit.Output = omega arith
 
 -- ---- a thread with other frames
@@ -99,7 +89,7 @@ module _ (b : Body) (es : List Entry) (w : World) (live : Live b es w) (goes : G
   abbrev x : SlotState
   x = state_of b w
 
-  pub local_used : (kind : LimitKind) → endings.used kind u ≡ used kind (moves t st x)
+  local_used : (kind : LimitKind) → endings.used kind u ≡ used kind (moves t st x)
   local_used kind =
       let m =
       local_entered b.of.value live.accepted x t k (slot_of b th) st (slots_is b w.threads.list.items t th is) going free some
@@ -112,7 +102,7 @@ module _ (b : Body) (es : List Entry) (w : World) (live : Live b es w) (goes : G
   local_frames =
       let a = local_used limit.Frames in
       let m = frames_moved (slots_of b w.threads.list.items) t (slot_of b th) st (slots_is b w.threads.list.items t th is) going in
-      let n = slots_frames b w.threads.list.items in
+      let n = frames_same b w.threads.list.items in
       let l = frames_count b th.stack.frames in
       omega (arith, a, m, n, l)
 

@@ -1,6 +1,6 @@
 //! One entry.
 ghost use Rattle.std.specs.Prelude.{◌≡◌, ◌<◌, ◌≤◌, ◌+◌, OnErr, IfOk, OnOk, MatchOption};
-ghost use Rattle.rules_code.specs.declared.code.Body.{Body as ABody};
+ghost use Rattle.rules_code.specs.declared.code.Body.{Body};
 ghost use Rattle.hs_rules.specs.Histories.{steps_of};
 ghost use Rattle.hs_rules.specs.declared.entry.Entry.TheVariants as entry;
 ghost use Rattle.hs_rules.specs.declared.entry.LimitKind.TheVariants as limit;
@@ -16,7 +16,8 @@ use hs_rules::{Entry, LimitKind};
 use world_entries::World;
 
 impl Record {
-    /// Appends the entry of an act, which prints so many bytes, and changes the world by it, or answers the limit that this entry would exceed.
+    /// Appends the entry of an act, which prints so many bytes, and changes the world by it, or answers the limit that this
+    /// entry would exceed.
     pub fn act(&mut self, act: Act, bytes: usize) -> Result<Option<LimitKind>, NoMemory>
         requires goes { Goes self.old.world }
         requires can { Can act self.old.world }
@@ -96,7 +97,7 @@ fn change(world: &mut World, act: Act, bytes: u32) -> Result<(), NoMemory>
     requires goes { Goes world.old }
     requires room { HasRoom world.old }
     requires can { Can act world.old }
-    requires bytes { (b : ABody) × PrintsIn b bytes act world.old }
+    requires bytes { (b : Body) × PrintsIn b bytes act world.old }
     ensures ok { OnOk result (Makes (entry_of act) world.old world.new) }
     ensures err { OnErr result (SameState world.old world.new) }
 {

@@ -1,4 +1,14 @@
 //! A history that is a run of a script, and the world that stands for the state that it leaves.
+//!
+//! To a contract a `Record` is its history, its world, its fuel, its limits and the code that it is a run of. It keeps that
+//! the history is a run of that code's script within the fuel and the limits, and that the world stands for the state that
+//! this run leaves (`src/record.rt`). `next` says what can be done next (`IsNext` of `specs/Records`); `act`, `tick` and
+//! `accept` append one entry and change the world by it, or answer the limit that the entry would exceed; `piece` is what an
+//! act prints.
+//!
+//! The promise: each entry that is appended is legal, an entry that isn't leaves a state beyond a limit, and what `next`
+//! answers decides how the history ends (`endings`). Where memory runs out the record is the same as before. Which slice is
+//! accepted, when the clock goes on, and the writing of what is printed are left to the caller.
 #![tactic(auto)]
 
 mod acting;

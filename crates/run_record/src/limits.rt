@@ -1,5 +1,5 @@
 //! Entries that would exceed a limit.
-ghost use Rattle.std.specs.Prelude.{◌≡◌, ◌<◌, ◌^◌, ◌≤◌, ◌+◌, length, true, false, IfSome, IfNone};
+ghost use Rattle.std.specs.Prelude.{◌≡◌, ◌<◌, ◌^◌, ◌≤◌, ◌+◌, true, false, IfSome, IfNone};
 ghost use Rattle.rules_code.specs.declared.code.Body.{Body};
 ghost use Rattle.hs_rules.specs.Histories.{steps_of};
 ghost use Rattle.hs_rules.specs.declared.entry.Entry.TheVariants as entry;

@@ -1,7 +1,6 @@
 //! What an entry prints.
-ghost use Rattle.std.specs.Prelude.{◌≡◌, ◌++◌, ◌∷◌, [], codes, cond, IfOk, true, string_bytes};
+ghost use Rattle.std.specs.Prelude.{◌≡◌, ◌++◌, [], codes, cond, IfOk, true, string_bytes};
 ghost use Rattle.std.specs.Fmt.{decimal};
-ghost use Rattle.hs_base.specs.ExceptionTexts.{text_of};
 ghost use Rattle.rules_code.specs.declared.code.Body.{Body};
 ghost use Rattle.hs_rules.specs.Primitives.{line_feed};
 ghost use Rattle.hs_rules.specs.Entries.{is_silent as is_silent_by, uncaught_line as uncaught_by};

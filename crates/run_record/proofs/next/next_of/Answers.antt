@@ -1,7 +1,6 @@
 use Rattle.std.proofs.Common.{sym, ap}
 use Rattle.exn_flight.specs.Flights.{InFlight}
-use Rattle.run_record.proofs.Controls.{none_waits_open}
-use Rattle.run_record.proofs.Resting.{with_threads, same_state, goes_alike, goes_unlisted, rest_alike, nobody_acts, some_goes, at_rest, none_sleep}
+use Rattle.run_record.proofs.Resting.{none_waits_open, with_threads, same_state, goes_alike, goes_unlisted, rest_alike, nobody_acts, some_goes, at_rest, none_sleep}
 use Rattle.run_record.proofs.next.next_of.Goals as goal
 
 pub returns-then-some_goes-clause-next : goal.returns-then-some_goes-clause-next

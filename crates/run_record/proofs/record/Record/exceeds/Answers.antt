@@ -1,6 +1,6 @@
 use Rattle.std.proofs.Common.{arith}
 use Rattle.hs_rules.specs.declared.entry.LimitKind.TheVariants as limit
-use Rattle.run_record.proofs.Exceeding.{makes_so, act_exceeds, act_fits, record_within}
+use Rattle.run_record.proofs.Exceeding.{adds_so, act_exceeds, act_fits, record_within}
 use Rattle.run_record.proofs.record.Record.exceeds.Goals as goal
 
 pub overflow_sub-threads_left : goal.overflow_sub-threads_left
@@ -15,7 +15,7 @@ overflow_sub-output_left c = let k = record_within c.args.self.now limit.Output 
 pub returns-then-from-threads_left-clause-some : goal.returns-then-from-threads_left-clause-some
 returns-then-from-threads_left-clause-some c =
     let r = c.args.self.now in
-    let m = makes_so r c.makes-makes.result.threads c.makes-makes.result.cells c.args.bytes c.args.act c.makes-makes.ensures.threads c.makes-makes.ensures.cells c.requires.bytes in
+    let m = adds_so r c.makes-makes.result.threads c.makes-makes.result.cells c.args.bytes c.args.act c.makes-makes.ensures.threads c.makes-makes.ensures.cells c.requires.bytes in
     let size = r.world.threads.list.ok.0 in
     let threads = record_within r limit.Threads in
     let cells = record_within r limit.Cells in
@@ -25,7 +25,7 @@ returns-then-from-threads_left-clause-some c =
 pub returns-then-from-cells_left-clause-some : goal.returns-then-from-cells_left-clause-some
 returns-then-from-cells_left-clause-some c =
     let r = c.args.self.now in
-    let m = makes_so r c.makes-makes.result.threads c.makes-makes.result.cells c.args.bytes c.args.act c.makes-makes.ensures.threads c.makes-makes.ensures.cells c.requires.bytes in
+    let m = adds_so r c.makes-makes.result.threads c.makes-makes.result.cells c.args.bytes c.args.act c.makes-makes.ensures.threads c.makes-makes.ensures.cells c.requires.bytes in
     let size = r.world.threads.list.ok.0 in
     let threads = record_within r limit.Threads in
     let cells = record_within r limit.Cells in
@@ -35,7 +35,7 @@ returns-then-from-cells_left-clause-some c =
 pub returns-then-from-frames_left-clause-some : goal.returns-then-from-frames_left-clause-some
 returns-then-from-frames_left-clause-some c =
     let r = c.args.self.now in
-    let m = makes_so r c.makes-makes.result.threads c.makes-makes.result.cells c.args.bytes c.args.act c.makes-makes.ensures.threads c.makes-makes.ensures.cells c.requires.bytes in
+    let m = adds_so r c.makes-makes.result.threads c.makes-makes.result.cells c.args.bytes c.args.act c.makes-makes.ensures.threads c.makes-makes.ensures.cells c.requires.bytes in
     let size = r.world.threads.list.ok.0 in
     let threads = record_within r limit.Threads in
     let cells = record_within r limit.Cells in
@@ -45,7 +45,7 @@ returns-then-from-frames_left-clause-some c =
 pub returns-then-bytes-output_left-clause-some : goal.returns-then-bytes-output_left-clause-some
 returns-then-bytes-output_left-clause-some c =
     let r = c.args.self.now in
-    let m = makes_so r c.makes-makes.result.threads c.makes-makes.result.cells c.args.bytes c.args.act c.makes-makes.ensures.threads c.makes-makes.ensures.cells c.requires.bytes in
+    let m = adds_so r c.makes-makes.result.threads c.makes-makes.result.cells c.args.bytes c.args.act c.makes-makes.ensures.threads c.makes-makes.ensures.cells c.requires.bytes in
     let size = r.world.threads.list.ok.0 in
     let threads = record_within r limit.Threads in
     let cells = record_within r limit.Cells in
@@ -55,7 +55,7 @@ returns-then-bytes-output_left-clause-some c =
 pub returns-clause-none : goal.returns-clause-none
 returns-clause-none c =
     let r = c.args.self.now in
-    let m = makes_so r c.makes-makes.result.threads c.makes-makes.result.cells c.args.bytes c.args.act c.makes-makes.ensures.threads c.makes-makes.ensures.cells c.requires.bytes in
+    let m = adds_so r c.makes-makes.result.threads c.makes-makes.result.cells c.args.bytes c.args.act c.makes-makes.ensures.threads c.makes-makes.ensures.cells c.requires.bytes in
     let size = r.world.threads.list.ok.0 in
     let threads = record_within r limit.Threads in
     let cells = record_within r limit.Cells in
