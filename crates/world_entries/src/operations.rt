@@ -40,6 +40,7 @@ impl World {
         self.threads.answer(t, Value::Unit);
     }
 
+    /// The thread is answered its own number.
     pub fn my_thread(&mut self, t: u32)
         requires live { IsLive self.old }
         requires goes { Goes self.old }
@@ -50,6 +51,7 @@ impl World {
         self.threads.answer(t, Value::Thread(t));
     }
 
+    /// The thread is answered the name of its masking state. Want of memory is the only error.
     pub fn masking(&mut self, t: u32) -> Result<(), NoMemory>
         requires live { IsLive self.old }
         requires goes { Goes self.old }
@@ -64,6 +66,7 @@ impl World {
         Ok(())
     }
 
+    /// The thread is answered the clock, in microseconds: the largest integer where the clock is beyond it.
     pub fn clock(&mut self, t: u32)
         requires live { IsLive self.old }
         requires goes { Goes self.old }
@@ -75,6 +78,7 @@ impl World {
         self.threads.answer(t, Value::Int(now as i64));
     }
 
+    /// The thread is answered the exception of the next timeout; no other has its number.
     pub fn new_timeout(&mut self, t: u32)
         requires live { IsLive self.old }
         requires goes { Goes self.old }
@@ -87,6 +91,7 @@ impl World {
         self.threads.answer(t, Value::Exn(Exn::Timeout(number)));
     }
 
+    /// The thread is answered the next number of what a bracket holds.
     pub fn acquired(&mut self, t: u32)
         requires live { IsLive self.old }
         requires goes { Goes self.old }
@@ -99,6 +104,7 @@ impl World {
         self.threads.answer(t, Value::Inst(number));
     }
 
+    /// What a bracket held is released: the entry alone says so, and the thread is answered the unit.
     pub fn release(&mut self, t: u32, i: u32)
         requires live { IsLive self.old }
         requires goes { Goes self.old }
