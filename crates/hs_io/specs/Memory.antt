@@ -3,6 +3,7 @@ use Rattle.std.specs.Prelude.{ℕ, ◌-◌, List, length, drop}
 use Rattle.std.specs.declared.option.Option.{Option}
 use Rattle.hs_base.specs.declared.clock_choice.ClockChoice.{ClockChoice}
 use Rattle.hs_io.specs.declared.clock.VirtualClock.{VirtualClock}
+use Rattle.hs_io.specs.declared.standing_clock.StandingClock.{StandingClock}
 use Rattle.hs_io.specs.declared.mem_source.MemSource.{MemSource}
 use Rattle.hs_io.specs.declared.mem_source.PlainSource.{PlainSource}
 use Rattle.hs_io.specs.declared.mem_sink.MemSink.{MemSink}
@@ -14,6 +15,14 @@ moment_of c = c.last
 -- its choice, if any
 abbrev pub choice_of : VirtualClock → Option ClockChoice
 choice_of c = c.choice
+
+-- the choice of a standing clock, if any
+abbrev pub standing_choice_of : StandingClock → Option ClockChoice
+standing_choice_of c = c.choice
+
+-- how many of its waits were early
+abbrev pub standing_early_waits : StandingClock → ℕ
+standing_early_waits c = c.early_waits
 
 -- the bytes that a source has left
 abbrev pub bytes_left : MemSource → List ℕ

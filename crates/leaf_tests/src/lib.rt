@@ -8,6 +8,8 @@
 #[cfg(test)]
 mod cells;
 #[cfg(test)]
+mod clocks;
+#[cfg(test)]
 mod flight;
 #[cfg(test)]
 mod history;
