@@ -1,10 +1,10 @@
-//! Tickets of jobs that are out, and threads whose jobs came back.
+//! Tickets of jobs that are out.
 //!
-//! To a contract `Tickets` is the thread of each ticket that is out, and the list of threads whose tickets came back and which
-//! nobody has asked for yet (`specs/Out`). The promise: a ticket that is out is taken back without memory, and its thread is
-//! handed on once.
+//! To a contract `Tickets` says the job of each ticket that is out, the ticket of each thread that has a job out, and which of
+//! these tickets are overtaken: their thread received an exception since (`specs/Out`). The promise: a thread has at most one
+//! job out, a ticket is taken back once, overtaken ones in order of their numbers, and only `room` takes memory.
 #![tactic(auto)]
 
 mod tickets;
 
-pub use tickets::Tickets;
+pub use tickets::{Out, Tickets};
