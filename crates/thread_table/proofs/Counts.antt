@@ -102,12 +102,19 @@ who_goes th h = all_three th.finished th.blocked (is_doing th.stack.control) h
 pub goes_true : (th : Thread) → Goes th → goes th ≡ true
 goes_true th g = ap (λ b. not b && not th.blocked && is_doing th.stack.control) g.0 ∙ (ap (λ b. not b && is_doing th.stack.control) g.1 ∙ g.2)
 
+-- who doesn't go
+pub not_doing : (th : Thread) → is_doing th.stack.control ≡ false → goes th ≡ false
+not_doing th e = ap (λ b. not th.finished && not th.blocked && b) e ∙ last_not (not th.finished) (not th.blocked)
+
+pub not_free : (th : Thread) → th.blocked ≡ true → goes th ≡ false
+not_free th e = ap (λ b. not th.finished && not b && is_doing th.stack.control) e ∙ middle_not (not th.finished) (is_doing th.stack.control)
+
 -- who isn't counted
 pub still_control : (th : Thread) → is_doing th.stack.control ≡ false → counted_going th ≡ 0
-still_control th e = ap (λ b. cond b 1 0) (ap (λ b. not th.finished && not th.blocked && b) e ∙ last_not (not th.finished) (not th.blocked))
+still_control th e = stays_still th (not_doing th e)
 
 pub still_blocked : (th : Thread) → th.blocked ≡ true → counted_going th ≡ 0
-still_blocked th e = ap (λ b. cond b 1 0) (ap (λ b. not th.finished && not b && is_doing th.stack.control) e ∙ middle_not (not th.finished) (is_doing th.stack.control))
+still_blocked th e = stays_still th (not_free th e)
 
 pub op_still : (x : Control) → IsOp x → is_doing x ≡ false
 op_still (c.Doing i vs) h = absurd h

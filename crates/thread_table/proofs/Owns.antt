@@ -7,7 +7,7 @@ use Rattle.frame_stack.specs.declared.control.Control.{Control}
 use Rattle.frame_stack.specs.declared.control.Control.TheVariants as c
 use Rattle.frame_stack.specs.Parts.{MeetsOne}
 use Rattle.thread_table.specs.declared.thread.Thread.{Thread}
-use Rattle.thread_table.specs.Listing.{is_doing, has_own, wanted, is_ready}
+use Rattle.thread_table.specs.Listing.{is_doing, has_own, wanted}
 use Rattle.thread_table.specs.Kinds.{IsEnd}
 
 goes_on : (f r : Bool) → cond f false r ≡ true → f ≡ false
@@ -18,10 +18,6 @@ goes_on false r h = refl
 pub who_wants : (t : ℕ) (o : Option Thread) (fs : List Flying) → wanted t o fs ≡ true → (th : Thread) × (o ≡ Some th) × (th.finished ≡ false)
 who_wants t None fs h = absurd (cc h)
 who_wants t (Some th) fs h = (th, refl, goes_on th.finished _ h)
-
-pub who_is_ready : (o : Option Thread) → is_ready o ≡ true → (th : Thread) × (o ≡ Some th)
-who_is_ready None h = absurd (cc h)
-who_is_ready (Some th) h = (th, refl)
 
 both_not : (a b : Bool) → (not a && not b) ≡ true → (a ≡ false) × (b ≡ false)
 both_not false false h = (refl, refl)

@@ -1,5 +1,5 @@
 -- The lists have each thread that has something to do.
-use Rattle.std.proofs.Common.{◌≡◌, ◌≢◌, ℕ, zero, suc, ◌==◌, List, [], ◌∷◌, ◌++◌, length, Bool, true, false, cond, not, ◌&&◌, drop, is_some, is_none, Option, Some, None, slice_get, slice_set, refl, sym, ap, ◌∙◌, subst, ⊎_elim}
+use Rattle.std.proofs.Common.{◌≡◌, ◌≢◌, ℕ, zero, suc, ◌==◌, List, [], ◌∷◌, ◌++◌, length, Bool, true, false, cond, ◌&&◌, drop, is_some, Option, Some, None, slice_get, slice_set, refl, sym, ap, ◌∙◌, subst, ⊎_elim}
 use Rattle.hs_base.specs.declared.exn.Exn.{Exn}
 use Rattle.rules_waiting.specs.Waiting.{Flying, flying_to, first_thrown, withdrawn}
 use Rattle.hs_rules.specs.Entries.{is_interruptible}
@@ -10,7 +10,7 @@ use Rattle.frame_stack.specs.declared.control.Control.TheVariants as c
 use Rattle.frame_stack.specs.Parts.{IsThrow}
 use Rattle.thread_table.specs.declared.thread.Thread.{Thread}
 use Rattle.thread_table.specs.Table.{unlisted}
-use Rattle.thread_table.specs.Listing.{mask_of, is_doing, has_own, is_receptive, is_hit, wanted, wants, is_in, Listed, NobodyWants, is_ready, Queued, NobodyReady, is_at_cell, waits_open, is_listed, Kept}
+use Rattle.thread_table.specs.Listing.{mask_of, has_own, is_receptive, is_hit, wanted, wants, is_in, Listed, NobodyWants, Flagged, is_at_cell, waits_open}
 use Rattle.thread_table.proofs.Table.{set_twice, thread_alike}
 
 -- ---- numbers in a list
@@ -25,6 +25,9 @@ in_more u t (v ∷ vs) h =
     (λ e. cond_true (v == u) true (is_in u (vs ++ t ∷ [])) e.0)
     (λ e. cond_false (v == u) true (is_in u (vs ++ t ∷ [])) e.0 ∙ in_more u t vs (sym (cond_false (v == u) true (is_in u vs) e.0) ∙ h))
     (equal_or v u)
+
+in_more_of : (t : ℕ) (q : List ℕ) (u : ℕ) → is_in u q ≡ true → is_in u (q ++ t ∷ []) ≡ true
+in_more_of t q u h = in_more u t q h
 
 in_rest : (u t : ℕ) (q : List ℕ) → u ≢ t → is_in u (t ∷ q) ≡ true → is_in u q ≡ true
 in_rest u t q n h = ⊎_elim (λ e. absurd (n (sym e.1))) (λ e. sym (cond_false (t == u) true (is_in u q) e.0) ∙ h) (equal_or t u)
@@ -120,42 +123,78 @@ has_new_not p ths q y e k = at_more (λ u o. p u o ≡ true → is_in u q ≡ tr
 abbrev pub wanted_in : List Flying → ℕ → Option Thread → Bool
 wanted_in fs t o = wanted t o fs
 
-abbrev pub ready_test : ℕ → Option Thread → Bool
-ready_test t o = is_ready o
-
-abbrev pub listed_test : ℕ → Option Thread → Bool
-listed_test t o = is_listed o
-
 pub none_wants : (ths : List Thread) (fs : List Flying) → Listed ths fs [] → NobodyWants ths fs
 none_wants ths fs h = has_none (wanted_in fs) ths h
 
-pub none_ready : (ths : List Thread) → Queued ths [] → NobodyReady ths
-none_ready ths h = has_none ready_test ths h
+-- ---- those who say that they are in a list
+-- a flag, as a test of each number
+abbrev at_any : (Option Thread → Bool) → ℕ → Option Thread → Bool
+at_any flag t o = flag o
 
-third_not : (a b d : Bool) → (a && b && false && d) ≡ false
-third_not false b d = refl
-third_not true false d = refl
-third_not true true d = refl
+module _ (test flag : Option Thread → Bool) where
+  -- another thread y stands at number t, and says that it is in the list only where the one before said so
+  pub flagged_when : (ths : List Thread) (q : List ℕ) (t : ℕ) (th y : Thread) → slice_get ths t ≡ Some th → (test (Some y) ≡ true → flag (Some y) ≡ true) → (flag (Some y) ≡ true → flag (Some th) ≡ true) → Flagged test flag ths q → Flagged test flag (slice_set ths t y) q
+  flagged_when ths q t th y h a b k = record {
+    says = at_each (λ u o. test o ≡ true → flag o ≡ true) ths t th y h a (λ u n. k.says u);
+    has = has_still (at_any flag) ths q t th y h b k.has;
+  }
 
-second_not : (a c d : Bool) → (a && false && c && d) ≡ false
-second_not false c d = refl
-second_not true c d = refl
+  -- the test isn't true of it
+  pub flagged_not : (ths : List Thread) (q : List ℕ) (t : ℕ) (th y : Thread) → slice_get ths t ≡ Some th → test (Some y) ≡ false → flag (Some y) ≡ flag (Some th) → Flagged test flag ths q → Flagged test flag (slice_set ths t y) q
+  flagged_not ths q t th y h a e k = flagged_when ths q t th y h (λ i. absurd (both_cannot a i)) (λ i. sym e ∙ i) k
 
-fourth_not : (a b c : Bool) → (a && b && c && false) ≡ false
-fourth_not false b c = refl
-fourth_not true false c = refl
-fourth_not true true false = refl
-fourth_not true true true = refl
+  -- the test is true of it where it was
+  pub flagged_same : (ths : List Thread) (q : List ℕ) (t : ℕ) (th y : Thread) → slice_get ths t ≡ Some th → test (Some y) ≡ test (Some th) → flag (Some y) ≡ flag (Some th) → Flagged test flag ths q → Flagged test flag (slice_set ths t y) q
+  flagged_same ths q t th y h a e k = flagged_when ths q t th y h (λ i. e ∙ subst (λ o. flag o ≡ true) h (k.says t (ap test h ∙ (sym a ∙ i)))) (λ i. sym e ∙ i) k
 
--- who isn't ready
-pub not_doing : (th : Thread) → is_doing th.stack.control ≡ false → is_ready (Some th) ≡ false
-not_doing th e = ap (λ b. not th.finished && not th.blocked && b && is_none th.ticket) e ∙ third_not (not th.finished) (not th.blocked) (is_none th.ticket)
+  -- it says that it is in the list, and is
+  flagged_in : (ths : List Thread) (q q' : List ℕ) (t : ℕ) (th y : Thread) → slice_get ths t ≡ Some th → flag (Some y) ≡ true → is_in t q' ≡ true → ((u : ℕ) → is_in u q ≡ true → is_in u q' ≡ true) → Flagged test flag ths q → Flagged test flag (slice_set ths t y) q'
+  flagged_in ths q q' t th y h l i more k = record {
+    says = at_each (λ u o. test o ≡ true → flag o ≡ true) ths t th y h (λ _. l) (λ u n. k.says u);
+    has = at_each (λ u o. flag o ≡ true → is_in u q' ≡ true) ths t th y h (λ _. i) (λ u n j. more u (k.has u j));
+  }
 
-pub not_free : (th : Thread) → th.blocked ≡ true → is_ready (Some th) ≡ false
-not_free th e = ap (λ b. not th.finished && not b && is_doing th.stack.control && is_none th.ticket) e ∙ second_not (not th.finished) (is_doing th.stack.control) (is_none th.ticket)
+  -- it is pushed, and says so
+  pub flagged_pushed : (ths : List Thread) (q q' : List ℕ) (t : ℕ) (th y : Thread) → slice_get ths t ≡ Some th → flag (Some y) ≡ true → q' ≡ q ++ t ∷ [] → Flagged test flag ths q → Flagged test flag (slice_set ths t y) q'
+  flagged_pushed ths q q' t th y h l e k = subst (Flagged test flag (slice_set ths t y)) (sym e) (flagged_in ths q (q ++ t ∷ []) t th y h l (in_last t q) (in_more_of t q) k)
 
-pub not_spare : (th : Thread) → is_none th.ticket ≡ false → is_ready (Some th) ≡ false
-not_spare th e = ap (λ b. not th.finished && not th.blocked && is_doing th.stack.control && b) e ∙ fourth_not (not th.finished) (not th.blocked) (is_doing th.stack.control)
+  -- it says that it is in the list, and was pushed where the one before didn't say so
+  pub flagged_joined : (ths : List Thread) (q q' : List ℕ) (t : ℕ) (th y : Thread) (said : Bool) → slice_get ths t ≡ Some th → flag (Some th) ≡ said → flag (Some y) ≡ true → q' ≡ cond said q (q ++ t ∷ []) → Flagged test flag ths q → Flagged test flag (slice_set ths t y) q'
+  flagged_joined ths q q' t th y true h s l e k = subst (Flagged test flag (slice_set ths t y)) (sym e) (flagged_in ths q q t th y h l (k.has t (ap flag h ∙ s)) (λ u i. i) k)
+  flagged_joined ths q q' t th y false h s l e k = flagged_pushed ths q q' t th y h l e k
+
+  -- the first leaves the list and says so, and the test isn't true of it
+  pub flagged_taken : (ths : List Thread) (q : List ℕ) (t : ℕ) (th y : Thread) → slice_get ths t ≡ Some th → test (Some y) ≡ false → flag (Some y) ≡ false → Flagged test flag ths (t ∷ q) → Flagged test flag (slice_set ths t y) q
+  flagged_taken ths q t th y h a l k = record {
+    says = at_each (λ u o. test o ≡ true → flag o ≡ true) ths t th y h (λ i. absurd (both_cannot a i)) (λ u n. k.says u);
+    has = has_taken (at_any flag) ths q t th y h l k.has;
+  }
+
+  -- the first goes to the end
+  pub flagged_turned : (ths : List Thread) (q q' : List ℕ) (t : ℕ) → q' ≡ q ++ t ∷ [] → Flagged test flag ths (t ∷ q) → Flagged test flag ths q'
+  flagged_turned ths q q' t e k = record { says = k.says; has = has_turned (at_any flag) ths q q' t e k.has }
+
+  -- the first leaves the list, and nobody with its number says that it is there
+  pub flagged_gone : (ths : List Thread) (q : List ℕ) (t : ℕ) → flag (slice_get ths t) ≡ false → Flagged test flag ths (t ∷ q) → Flagged test flag ths q
+  flagged_gone ths q t h k = record { says = k.says; has = has_popped (at_any flag) ths q t h k.has }
+
+  -- written twice
+  pub flagged_twice : (ths : List Thread) (q : List ℕ) (t : ℕ) (y z : Thread) → Flagged test flag (slice_set ths t z) q → Flagged test flag (slice_set (slice_set ths t y) t z) q
+  flagged_twice ths q t y z k = subst (λ l. Flagged test flag l q) (sym (set_twice ths t y z)) k
+
+  -- one thread more
+  pub flagged_new : (ths : List Thread) (q : List ℕ) (y : Thread) → test (Some y) ≡ false → flag (Some y) ≡ false → Flagged test flag ths q → Flagged test flag (ths ++ y ∷ []) q
+  flagged_new ths q y a l k = record {
+    says = at_more (λ u o. test o ≡ true → flag o ≡ true) ths y (λ i. absurd (both_cannot a i)) k.says;
+    has = has_new_not (at_any flag) ths q y l k.has;
+  }
+
+  -- one thread more, which is pushed and says so
+  pub flagged_more : (ths : List Thread) (q q' : List ℕ) (t : ℕ) (y : Thread) → t ≡ length ths → flag (Some y) ≡ true → q' ≡ q ++ t ∷ [] → Flagged test flag ths q → Flagged test flag (ths ++ y ∷ []) q'
+  flagged_more ths q q' t y l f e k = record {
+    says = at_more (λ u o. test o ≡ true → flag o ≡ true) ths y (λ _. f) k.says;
+    has = has_new (at_any flag) ths q q' t y l e k.has;
+  }
 
 -- ---- those who may be stranded
 pub not_waiting : (th : Thread) → th.blocked ≡ false → waits_open (Some th) ≡ false
@@ -163,49 +202,6 @@ not_waiting th e = ap (λ b. b && is_at_cell th.stack.control && is_interruptibl
 
 abbrev pub strands : Thread → Bool
 strands th = is_at_cell th.stack.control && is_interruptible (mask_of th)
-
--- another thread stands at number t, and says that it is in the list only where the one before said so
-pub kept_when : (ths : List Thread) (stuck : List ℕ) (t : ℕ) (th y : Thread) → slice_get ths t ≡ Some th → (waits_open (Some y) ≡ true → y.listed ≡ true) → (y.listed ≡ true → th.listed ≡ true) → Kept ths stuck → Kept (slice_set ths t y) stuck
-kept_when ths stuck t th y h a b k = record {
-  says = at_each (λ u o. waits_open o ≡ true → is_listed o ≡ true) ths t th y h a (λ u n. k.says u);
-  has = has_still listed_test ths stuck t th y h b k.has;
-}
-
-pub kept_not : (ths : List Thread) (stuck : List ℕ) (t : ℕ) (th y : Thread) → slice_get ths t ≡ Some th → waits_open (Some y) ≡ false → y.listed ≡ th.listed → Kept ths stuck → Kept (slice_set ths t y) stuck
-kept_not ths stuck t th y h a e k = kept_when ths stuck t th y h (λ i. absurd (both_cannot a i)) (λ i. sym e ∙ i) k
-
-pub kept_same : (ths : List Thread) (stuck : List ℕ) (t : ℕ) (th y : Thread) → slice_get ths t ≡ Some th → waits_open (Some y) ≡ waits_open (Some th) → y.listed ≡ th.listed → Kept ths stuck → Kept (slice_set ths t y) stuck
-kept_same ths stuck t th y h a e k = kept_when ths stuck t th y h (λ i. e ∙ subst (λ o. is_listed o ≡ true) h (k.says t (ap waits_open h ∙ (sym a ∙ i)))) (λ i. sym e ∙ i) k
-
--- it is pushed, and says so
-pub kept_pushed : (ths : List Thread) (stuck stuck' : List ℕ) (t : ℕ) (th y : Thread) → slice_get ths t ≡ Some th → y.listed ≡ true → stuck' ≡ stuck ++ t ∷ [] → Kept ths stuck → Kept (slice_set ths t y) stuck'
-kept_pushed ths stuck stuck' t th y h l e k = record {
-  says = at_each (λ u o. waits_open o ≡ true → is_listed o ≡ true) ths t th y h (λ i. l) (λ u n. k.says u);
-  has = has_pushed listed_test ths stuck stuck' t th y h e k.has;
-}
-
--- the first leaves the list, and doesn't wait any more
-pub kept_taken : (ths : List Thread) (stuck : List ℕ) (t : ℕ) (th y : Thread) → slice_get ths t ≡ Some th → waits_open (Some y) ≡ false → y.listed ≡ false → Kept ths (t ∷ stuck) → Kept (slice_set ths t y) stuck
-kept_taken ths stuck t th y h a l k = record {
-  says = at_each (λ u o. waits_open o ≡ true → is_listed o ≡ true) ths t th y h (λ i. absurd (both_cannot a i)) (λ u n. k.says u);
-  has = has_taken listed_test ths stuck t th y h l k.has;
-}
-
-pub kept_twice : (ths : List Thread) (stuck : List ℕ) (t : ℕ) (y z : Thread) → Kept (slice_set ths t z) stuck → Kept (slice_set (slice_set ths t y) t z) stuck
-kept_twice ths stuck t y z k = subst (λ l. Kept l stuck) (sym (set_twice ths t y z)) k
-
--- nobody has its number
-pub kept_gone : (ths : List Thread) (stuck : List ℕ) (t : ℕ) → slice_get ths t ≡ None → Kept ths (t ∷ stuck) → Kept ths stuck
-kept_gone ths stuck t h k = record { says = k.says; has = has_popped listed_test ths stuck t (ap is_listed h) k.has }
-
-pub kept_new : (ths : List Thread) (stuck : List ℕ) (y : Thread) → y.blocked ≡ false → y.listed ≡ false → Kept ths stuck → Kept (ths ++ y ∷ []) stuck
-kept_new ths stuck y b l k = record {
-  says = at_more (λ u o. waits_open o ≡ true → is_listed o ≡ true) ths y (λ i. absurd (both_cannot (not_waiting y b) i)) k.says;
-  has = has_new_not listed_test ths stuck y l k.has;
-}
-
-pub none_waits : (ths : List Thread) → Kept ths [] → (t : ℕ) → waits_open (slice_get ths t) ≡ false
-none_waits ths k t = not_true (waits_open (slice_get ths t)) (λ i. cc (k.has t (k.says t i)))
 
 -- ---- who waits, but for whether it is in the list
 there_waits : (o : Option Thread) → waits_open o ≡ true → (th : Thread) × (o ≡ Some th) × (th.blocked ≡ true) × (is_at_cell th.stack.control ≡ true)

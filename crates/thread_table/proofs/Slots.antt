@@ -1,5 +1,5 @@
 -- What the lists say of the threads with slots.
-use Rattle.std.proofs.Common.{◌≡◌, ◌≢◌, ℕ, suc, ◌+◌, List, [], ◌∷◌, length, Bool, true, false, cond, not, ◌&&◌, is_some, is_none, Option, Some, None, option_map, slice_get, refl, sym, ap, ◌∙◌, subst}
+use Rattle.std.proofs.Common.{◌≡◌, ◌≢◌, ℕ, suc, ◌+◌, List, [], ◌∷◌, length, Bool, true, false, cond, not, ◌&&◌, is_some, Option, Some, None, option_map, slice_get, refl, sym, ap, ◌∙◌, subst}
 use Rattle.hs_base.specs.declared.mask.Mask.{Mask}
 use Rattle.hs_base.specs.declared.mask.Mask.TheVariants.{Unmasked, Uninterruptible}
 use Rattle.hs_base.specs.declared.exn.Exn.{Exn}
@@ -22,7 +22,7 @@ use Rattle.frame_stack.specs.declared.control.Control.TheVariants as c
 use Rattle.frame_stack.specs.Parts.{part_of}
 use Rattle.thread_table.specs.declared.thread.Thread.{Thread}
 use Rattle.thread_table.specs.Table.{slot_of, slots_of, frames_over}
-use Rattle.thread_table.specs.Listing.{mask_of, is_throw, is_doing, has_own, is_receptive, is_hit, wanted, NobodyWants, is_ready, NobodyReady, is_at_cell, WaitsAtCell, waits_open}
+use Rattle.thread_table.specs.Listing.{mask_of, is_throw, has_own, is_receptive, is_hit, wanted, NobodyWants, is_at_cell, WaitsAtCell, waits_open}
 use Rattle.thread_table.proofs.Table.{slots_at}
 
 -- ---- the thread that stands at a number
@@ -147,25 +147,6 @@ waits_are_open b ths x t e w =
     ap waits_open back.1 ∙ three th.blocked (is_at_cell th.stack.control) (is_interruptible (mask_of th)) (ap (λ (y : SlotThread). y.blocked) back.2 ∙ w.blocked) at_cell (is_open_there (mask_of th) (λ m. w.open_now (sym mask ∙ m)))
 
 -- ---- where nobody has anything to do
-blocked_from : (f a d n r : Bool) → f ≡ false → n ≡ true → cond f false (cond (not a && not d) true r) ≡ false → (not f && not a && d && n) ≡ false → a ≡ true
-blocked_from true a d n r e k w q = absurd (cc e)
-blocked_from false true d n r e k w q = refl
-blocked_from false false true true r e k w q = absurd (cc q)
-blocked_from false false true false r e k w q = absurd (cc k)
-blocked_from false false false n r e k w q = absurd (cc w)
-
-pub all_blocked : (ths : List Thread) (fs : List Flying) → NobodyWants ths fs → NobodyReady ths → (t : ℕ) (th : Thread) → slice_get ths t ≡ Some th → th.finished ≡ false → is_none th.ticket ≡ true → th.blocked ≡ true
-all_blocked ths fs w q t th h f n =
-    blocked_from th.finished th.blocked (is_doing th.stack.control) (is_none th.ticket) (cond (is_receptive th) (is_hit t fs) false) f n
-    (sym (ap (λ o. wanted t o fs) h) ∙ w t)
-    (sym (ap is_ready h) ∙ q t)
-
--- all threads with slots that haven't finished are blocked, where no job is out
-pub nobody_is_free : (b : Body) (ths : List Thread) (fs : List Flying) → NobodyWants ths fs → NobodyReady ths → ((t : ℕ) (th : Thread) → slice_get ths t ≡ Some th → is_none th.ticket ≡ true) → (t : ℕ) (y : SlotThread) → slice_get (slots_of b ths) t ≡ Some y → y.finished ≡ false → y.blocked ≡ true
-nobody_is_free b ths fs w q back t y h f =
-    let s = slot_back b ths t y h in
-    sym (ap (λ (z : SlotThread). z.blocked) s.2) ∙ all_blocked ths fs w q t s.0 s.1 (ap (λ (z : SlotThread). z.finished) s.2 ∙ f) (back t s.0 s.1)
-
 unheard_from : (f o r h : Bool) → f ≡ false → r ≡ true → cond f false (cond o true (cond r h false)) ≡ false → h ≡ false
 unheard_from true o r h e k w = absurd (cc e)
 unheard_from false true r h e k w = absurd (cc w)

@@ -1,5 +1,5 @@
 -- Threads after one of them changed, and what their list stands for.
-use Rattle.std.proofs.Common.{◌≡◌, ◌≢◌, ℕ, zero, suc, List, [], ◌∷◌, ◌++◌, length, Bool, true, false, Option, Some, None, option_map, slice_get, slice_set, slice_index_or, refl, sym, ap, ◌∙◌}
+use Rattle.std.proofs.Common.{◌≡◌, ◌≢◌, ℕ, zero, suc, List, [], ◌∷◌, ◌++◌, length, Bool, true, false, Option, Some, None, option_map, map, slice_get, slice_set, slice_index_or, refl, sym, ap, ◌∙◌}
 use Rattle.std.proofs.lemmas.List.{length-set}
 use Rattle.std.proofs.lemmas.Option.{get_or_from_slice_get}
 use Rattle.rules_code.specs.declared.code.Body.{Body}
@@ -9,7 +9,7 @@ use Rattle.slot_states.specs.SlotStates.{SlotThread, resumed, blocked_at, finish
 use Rattle.frame_stack.specs.declared.control.Control.{Control}
 use Rattle.frame_stack.specs.Parts.{Stacked, part_of, term_of}
 use Rattle.thread_table.specs.declared.thread.Thread.{Thread}
-use Rattle.thread_table.specs.Table.{slot_of, slots_of, set_thread, changed, with_control, finishing, with_stack, with_ticket, with_listed, new_thread, unlisted}
+use Rattle.thread_table.specs.Table.{slot_of, slots_of, set_thread, changed, with_control, finishing, with_stack, with_queued, with_listed, new_thread, unqueued, unlisted}
 
 -- ---- writing to a thread that is lent
 -- the one that is lent is the one at its number
@@ -86,19 +86,6 @@ slots_changed_at b ths t f g e = changed_from b ths t f g (slice_get ths t) e �
 pub slots_changed : (b : Body) (ths : List Thread) (t : ℕ) (f : Thread → Thread) (g : SlotThread → SlotThread) → ((th : Thread) → slot_of b (f th) ≡ g (slot_of b th)) → slots_of b (changed t f ths) ≡ slots.changed t g (slots_of b ths)
 slots_changed b ths t f g e = slots_changed_at b ths t f g (λ th h. e th)
 
-same_set : (b : Body) (ths : List Thread) (t : ℕ) (th y : Thread) → slice_get ths t ≡ Some th → slot_of b y ≡ slot_of b th → slots_of b (slice_set ths t y) ≡ slots_of b ths
-same_set b [] t th y h e = refl
-same_set b (x ∷ ths) zero th y h e = let q : th ≡ x = cc h in ap (λ s. s ∷ slots_of b ths) (e ∙ ap (slot_of b) q)
-same_set b (x ∷ ths) (suc t) th y h e = ap (λ xs. slot_of b x ∷ xs) (same_set b ths t th y h e)
-
-same_from : (b : Body) (ths : List Thread) (t : ℕ) (f : Thread → Thread) (o : Option Thread) → slice_get ths t ≡ o → ((th : Thread) → slot_of b (f th) ≡ slot_of b th) → slots_of b (set_thread t f o ths) ≡ slots_of b ths
-same_from b ths t f None h e = refl
-same_from b ths t f (Some th) h e = same_set b ths t th (f th) h (e th)
-
--- one that nobody sees there
-pub slots_same : (b : Body) (ths : List Thread) (t : ℕ) (f : Thread → Thread) → ((th : Thread) → slot_of b (f th) ≡ slot_of b th) → slots_of b (changed t f ths) ≡ slots_of b ths
-slots_same b ths t f e = same_from b ths t f (slice_get ths t) refl e
-
 -- each change of this table
 pub slots_resumed : (b : Body) (ths : List Thread) (t : ℕ) (c : Control) → slots_of b (changed t (with_control c) ths) ≡ resumed t (part_of b c) (slots_of b ths)
 slots_resumed b ths t c = slots_changed b ths t (with_control c) (slots.resumed_by (part_of b c)) (λ th. refl)
@@ -115,33 +102,42 @@ slots_moved b ths t k = slots_changed b ths t (with_stack k) (slots.moving (term
 pub slots_spawned : (b : Body) (ths : List Thread) (k : Stacked) → slots_of b (ths ++ new_thread k ∷ []) ≡ spawned (term_of b k) (slots_of b ths)
 slots_spawned b ths k = slots_more b ths (new_thread k)
 
-pub slots_ticket : (b : Body) (ths : List Thread) (t : ℕ) (o : Option ℕ) → slots_of b (changed t (with_ticket o) ths) ≡ slots_of b ths
-slots_ticket b ths t o = slots_same b ths t (with_ticket o) (λ th. refl)
+-- ---- threads but for a flag that slots don't see
+-- what f makes of each thread, where one of them became another of which f makes the same
+masked_set : (f : Thread → Thread) (ths : List Thread) (t : ℕ) (th y : Thread) → slice_get ths t ≡ Some th → f y ≡ f th → map f (slice_set ths t y) ≡ map f ths
+masked_set f [] t th y h e = refl
+masked_set f (x ∷ ths) zero th y h e = let q : th ≡ x = cc h in ap (λ z. z ∷ map f ths) (e ∙ ap f q)
+masked_set f (x ∷ ths) (suc t) th y h e = ap (λ xs. f x ∷ xs) (masked_set f ths t th y h e)
 
--- ---- threads but for whether they are in the list of those who may be stranded
-pub unlisted_at : (ths : List Thread) (t : ℕ) → slice_get (unlisted ths) t ≡ option_map (with_listed false) (slice_get ths t)
+masked_from : (f g : Thread → Thread) (ths : List Thread) (t : ℕ) (o : Option Thread) → ((th : Thread) → f (g th) ≡ f th) → slice_get ths t ≡ o → map f (set_thread t g o ths) ≡ map f ths
+masked_from f g ths t None e h = refl
+masked_from f g ths t (Some th) e h = masked_set f ths t th (g th) h (e th)
+
+masked_slots : (b : Body) (f : Thread → Thread) (ths : List Thread) → ((th : Thread) → slot_of b (f th) ≡ slot_of b th) → slots_of b (map f ths) ≡ slots_of b ths
+masked_slots b f [] e = refl
+masked_slots b f (th ∷ ths) e = ap (λ y. y ∷ slots_of b (map f ths)) (e th) ∙ ap (λ xs. slot_of b th ∷ xs) (masked_slots b f ths e)
+
+masked_alike : (b : Body) (f : Thread → Thread) (ths ths' : List Thread) → ((th : Thread) → slot_of b (f th) ≡ slot_of b th) → map f ths ≡ map f ths' → slots_of b ths ≡ slots_of b ths'
+masked_alike b f ths ths' k e = sym (masked_slots b f ths k) ∙ (ap (slots_of b) e ∙ masked_slots b f ths' k)
+
+-- but for whether they are in the list of the ready
+pub unqueued_same : (ths : List Thread) (t : ℕ) (q : Bool) → unqueued (changed t (with_queued q) ths) ≡ unqueued ths
+unqueued_same ths t q = masked_from (with_queued false) (with_queued q) ths t (slice_get ths t) (λ th. refl) refl
+
+pub slots_unqueued : (b : Body) (ths ths' : List Thread) → unqueued ths ≡ unqueued ths' → slots_of b ths ≡ slots_of b ths'
+slots_unqueued b ths ths' e = masked_alike b (with_queued false) ths ths' (λ th. refl) e
+
+-- but for whether they are in the list of those who may be stranded
+pub unlisted_same : (ths : List Thread) (t : ℕ) (l : Bool) → unlisted (changed t (with_listed l) ths) ≡ unlisted ths
+unlisted_same ths t l = masked_from (with_listed false) (with_listed l) ths t (slice_get ths t) (λ th. refl) refl
+
+pub slots_alike : (b : Body) (ths ths' : List Thread) → unlisted ths ≡ unlisted ths' → slots_of b ths ≡ slots_of b ths'
+slots_alike b ths ths' e = masked_alike b (with_listed false) ths ths' (λ th. refl) e
+
+unlisted_at : (ths : List Thread) (t : ℕ) → slice_get (unlisted ths) t ≡ option_map (with_listed false) (slice_get ths t)
 unlisted_at [] t = refl
 unlisted_at (th ∷ ths) zero = refl
 unlisted_at (th ∷ ths) (suc t) = unlisted_at ths t
-
-unlisted_set : (ths : List Thread) (t : ℕ) (th y : Thread) → slice_get ths t ≡ Some th → with_listed false y ≡ with_listed false th → unlisted (slice_set ths t y) ≡ unlisted ths
-unlisted_set [] t th y h e = refl
-unlisted_set (x ∷ ths) zero th y h e = let q : th ≡ x = cc h in ap (λ z. z ∷ unlisted ths) (e ∙ ap (with_listed false) q)
-unlisted_set (x ∷ ths) (suc t) th y h e = ap (λ xs. with_listed false x ∷ xs) (unlisted_set ths t th y h e)
-
-unlisted_from : (ths : List Thread) (t : ℕ) (l : Bool) (o : Option Thread) → slice_get ths t ≡ o → unlisted (set_thread t (with_listed l) o ths) ≡ unlisted ths
-unlisted_from ths t l None h = refl
-unlisted_from ths t l (Some th) h = unlisted_set ths t th (with_listed l th) h refl
-
-pub unlisted_same : (ths : List Thread) (t : ℕ) (l : Bool) → unlisted (changed t (with_listed l) ths) ≡ unlisted ths
-unlisted_same ths t l = unlisted_from ths t l (slice_get ths t) refl
-
-unlisted_slots : (b : Body) (ths : List Thread) → slots_of b (unlisted ths) ≡ slots_of b ths
-unlisted_slots b [] = refl
-unlisted_slots b (th ∷ ths) = ap (λ xs. slot_of b th ∷ xs) (unlisted_slots b ths)
-
-pub slots_alike : (b : Body) (ths ths' : List Thread) → unlisted ths ≡ unlisted ths' → slots_of b ths ≡ slots_of b ths'
-slots_alike b ths ths' e = sym (unlisted_slots b ths) ∙ (ap (slots_of b) e ∙ unlisted_slots b ths')
 
 -- the same thread stands at a number of both, but for that
 some_back : (o : Option Thread) (x : Thread) → option_map (with_listed false) o ≡ Some x → (th : Thread) × (o ≡ Some th) × (with_listed false th ≡ x)

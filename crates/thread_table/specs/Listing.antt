@@ -1,5 +1,5 @@
 -- Which threads have something to do, and that the lists have them (own).
-use Rattle.std.specs.Prelude.{◌≡◌, ℕ, Bool, true, false, cond, not, ◌&&◌, is_some, is_none, List, Option, Some, None, slice_get}
+use Rattle.std.specs.Prelude.{◌≡◌, ℕ, Bool, true, false, cond, not, ◌&&◌, is_some, List, [], ◌∷◌, ◌++◌, Option, Some, None, slice_get}
 use Rattle.hs_base.specs.declared.mask.Mask.{Mask}
 use Rattle.hs_base.specs.declared.mask.Mask.TheVariants.{Unmasked}
 use Rattle.rules_waiting.specs.Waiting.{Flying, flying_to, first_thrown, has}
@@ -58,17 +58,46 @@ Listed ths fs work = (t : ℕ) → wants t ths fs ≡ true → is_in t work ≡ 
 abbrev pub NobodyWants : List Thread → List Flying → Type 0
 NobodyWants ths fs = (t : ℕ) → wants t ths fs ≡ false
 
--- ---- the list of the ready
+-- ---- those who say that they are in a list
 
-abbrev pub is_ready : Option Thread → Bool
-is_ready None = false
-is_ready (Some th) = not th.finished && not th.blocked && is_doing th.stack.control && is_none th.ticket
+-- whoever the test is true of says that it is in the list, and whoever says so is
+pub record Flagged (test flag : Option Thread → Bool) (ths : List Thread) (list : List ℕ) : Type 0 where
+  pub says : (t : ℕ) → test (slice_get ths t) ≡ true → flag (slice_get ths t) ≡ true
+  pub has : (t : ℕ) → flag (slice_get ths t) ≡ true → is_in t list ≡ true
 
+-- ---- those who are to do an action, and the list of the ready
+
+-- it hasn't finished, isn't blocked, and is to do an action
+abbrev pub goes : Thread → Bool
+goes th = not th.finished && not th.blocked && is_doing th.stack.control
+
+abbrev pub Goes : Thread → Type 0
+Goes th = (th.finished ≡ false) × (th.blocked ≡ false) × (is_doing th.stack.control ≡ true)
+
+-- the thread at a number, where there is one
+abbrev pub goes_at : Option Thread → Bool
+goes_at None = false
+goes_at (Some th) = goes th
+
+abbrev pub counted_going : Thread → ℕ
+counted_going th = cond (goes th) 1 0
+
+-- how many there are
+abbrev pub going_over : List Thread → ℕ
+going_over ths = sum_over counted_going ths
+
+-- it says that it is in the list of the ready
+abbrev pub is_queued : Option Thread → Bool
+is_queued None = false
+is_queued (Some th) = th.queued
+
+-- the list after thread t joined it, which said whether it was there
+abbrev pub queued_after : Bool → ℕ → List ℕ → List ℕ
+queued_after said t ready = cond said ready (ready ++ t ∷ [])
+
+-- whoever is to do an action is in the list of the ready
 abbrev pub Queued : List Thread → List ℕ → Type 0
-Queued ths ready = (t : ℕ) → is_ready (slice_get ths t) ≡ true → is_in t ready ≡ true
-
-abbrev pub NobodyReady : List Thread → Type 0
-NobodyReady ths = (t : ℕ) → is_ready (slice_get ths t) ≡ false
+Queued ths ready = Flagged goes_at is_queued ths ready
 
 -- ---- the list of those who may be stranded
 
@@ -94,22 +123,6 @@ abbrev pub is_listed : Option Thread → Bool
 is_listed None = false
 is_listed (Some th) = th.listed
 
--- whoever may be stranded says that it is in the list, and whoever says so is
-pub record Kept (ths : List Thread) (stuck : List ℕ) : Type 0 where
-  pub says : (t : ℕ) → waits_open (slice_get ths t) ≡ true → is_listed (slice_get ths t) ≡ true
-  pub has : (t : ℕ) → is_listed (slice_get ths t) ≡ true → is_in t stuck ≡ true
-
--- ---- those who are to do an action
-
-abbrev pub goes : Thread → Bool
-goes th = not th.finished && not th.blocked && is_doing th.stack.control
-
-abbrev pub Goes : Thread → Type 0
-Goes th = (th.finished ≡ false) × (th.blocked ≡ false) × (is_doing th.stack.control ≡ true)
-
-abbrev pub counted_going : Thread → ℕ
-counted_going th = cond (goes th) 1 0
-
--- how many there are
-abbrev pub going_over : List Thread → ℕ
-going_over ths = sum_over counted_going ths
+-- whoever may be stranded is in the list of those
+abbrev pub Kept : List Thread → List ℕ → Type 0
+Kept ths stuck = Flagged waits_open is_listed ths stuck

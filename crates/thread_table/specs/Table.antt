@@ -1,5 +1,5 @@
 -- Threads in memory, and how one of them changes (own).
-use Rattle.std.specs.Prelude.{◌≡◌, ℕ, ◌+◌, Bool, true, false, cond, List, [], ◌∷◌, length, Option, Some, None, slice_get, slice_set}
+use Rattle.std.specs.Prelude.{◌≡◌, ℕ, ◌+◌, Bool, true, false, cond, List, [], ◌∷◌, length, Option, Some, None, map, slice_get, slice_set}
 use Rattle.rules_code.specs.declared.code.Body.{Body}
 use Rattle.slot_states.specs.SlotStates.{SlotThread}
 use Rattle.frame_stack.specs.declared.control.Control.{Control}
@@ -34,23 +34,27 @@ blocking th = record th { blocked = true }
 abbrev pub finishing : Thread → Thread
 finishing th = record th { finished = true }
 
+-- this stack, and it is in the list of the ready
 abbrev pub with_stack : Stacked → Thread → Thread
-with_stack s th = record th { stack = s }
+with_stack s th = record th { stack = s; queued = true }
 
-abbrev pub with_ticket : Option ℕ → Thread → Thread
-with_ticket o th = record th { ticket = o }
+abbrev pub with_queued : Bool → Thread → Thread
+with_queued q th = record th { queued = q }
 
 abbrev pub with_listed : Bool → Thread → Thread
 with_listed l th = record th { listed = l }
 
+-- threads but for whether they are in the list of the ready
+abbrev pub unqueued : List Thread → List Thread
+unqueued ths = map (with_queued false) ths
+
 -- threads but for whether they are in the list of those who may be stranded
 abbrev pub unlisted : List Thread → List Thread
-unlisted [] = []
-unlisted (th ∷ ths) = with_listed false th ∷ unlisted ths
+unlisted ths = map (with_listed false) ths
 
--- a new thread
+-- a new thread, which is in the list of the ready
 abbrev pub new_thread : Stacked → Thread
-new_thread s = record { stack = s; blocked = false; finished = false; ticket = None; listed = false }
+new_thread s = record { stack = s; blocked = false; finished = false; queued = true; listed = false }
 
 -- thread t is there, and this is true of it
 pub record IsAt (t : ℕ) (P : Thread → Type 0) (ths : List Thread) : Type 0 where

@@ -101,28 +101,28 @@ pub fn counted_frames(thread: &Thread) -> u64
     }
 }
 
-/// Counts it where it is to do an action: where it hasn't finished and isn't blocked.
+/// Whether it is to do an action: it hasn't finished and isn't blocked.
+fn goes(thread: &Thread) -> bool
+    ensures { result ≡ lists.goes thread.now }
+{
+    !thread.finished && !thread.blocked && is_doing(thread.stack.control())
+}
+
+/// Counts it where it is to do an action.
 pub fn counted_going(thread: &Thread) -> u64
     ensures { result ≡ lists.counted_going thread.now }
 {
-    if !thread.finished && !thread.blocked && is_doing(thread.stack.control()) {
-        1
-    } else {
-        0
-    }
+    if goes(thread) { 1 } else { 0 }
 }
 
-/// Whether a job of it may be made.
-pub fn is_ready(list: &Vec<Thread>, t: u32) -> bool
-    ensures { result ≡ lists.is_ready (slice_get list.now.items t) }
+/// Whether the thread of this number is to do an action.
+pub fn goes_at(list: &Vec<Thread>, t: u32) -> bool
+    ensures { result ≡ lists.goes_at (slice_get list.now.items t) }
 {
     let Some(thread) = list.get(t as usize) else {
         return false;
     };
-    !thread.finished
-        && !thread.blocked
-        && is_doing(thread.stack.control())
-        && thread.ticket.is_none()
+    goes(thread)
 }
 
 /// Whether it stands at an operation that waits at a cell.

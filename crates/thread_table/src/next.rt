@@ -1,18 +1,20 @@
 //! Which thread is next, whether some thread is to do an action, and which may be stranded.
-ghost use Rattle.std.specs.Prelude.{◌≡◌, ◌<◌, ◌≤◌, ◌∷◌, ℕ, length, Some, None, true, false, IfSome, IfNone, OnSome, MatchBool, List, slice_get};
+ghost use Rattle.std.specs.Prelude.{◌≡◌, ◌<◌, ◌≤◌, ◌∷◌, ◌++◌, ℕ, length, drop, Some, None, true, false, nat_eq, IsSome, IfSome, IfNone, OnSome, MatchBool, List, option_to_list, slice_get};
+ghost use Rattle.std.specs.HashMap.{get};
 ghost use Rattle.hs_base.specs.declared.exn.Exn.TheVariants.{BlockedIndefinitely};
 ghost use Rattle.slot_laws.specs.SlotRules.{throw};
 ghost use Rattle.slot_states.specs.SlotStates.{resumed};
 ghost use Rattle.rules_code.specs.declared.code.Body.{Body};
 ghost use Rattle.thread_table.specs.declared.thread.Thread.{Thread};
-ghost use Rattle.thread_table.specs.Table.{slots_of, changed, with_ticket, with_listed, unlisted, IsAt};
-ghost use Rattle.thread_table.specs.Listing.{wants as wants_by, is_ready as ready_by, waits_open, WaitsAtCell, NobodyWants, NobodyReady, Goes};
+ghost use Rattle.thread_table.specs.Table.{slots_of, changed, with_listed, unqueued, unlisted, IsAt};
+ghost use Rattle.thread_table.specs.Listing.{wants as wants_by, waits_open, WaitsAtCell, NobodyWants, Goes};
 
 use crate::kinds::Kind;
-use crate::listing::{cell_of, has_own, is_ready, waits_open, wants};
+use crate::listing::{cell_of, goes_at, has_own, waits_open, wants};
 use crate::threads::Threads;
 use frame_stack::Control;
 use hs_base::Exn;
+use std::collections::HashMap;
 
 impl Threads {
     ghost use Rattle.thread_table.specs.Rooms.{work_room, ready_room, Spends};
@@ -52,33 +54,44 @@ impl Threads {
         }
     }
 
-    /// A thread of which a job may be made, where there is one: the one that has been ready for the longest time. It leaves
-    /// the list, and its job has this ticket.
-    pub fn next_ready(&mut self, ticket: u64) -> Option<u32>
-        ensures some { IfSome result (λ t. (ready_by (slice_get self.old.list.items t) ≡ true) × (self.new.list.items ≡ changed t (with_ticket (Some ticket)) self.old.list.items)) }
-        ensures none { IfNone result (NobodyReady self.old.list.items × (self.new.list.items ≡ self.old.list.items)) }
+    /// A thread that is to do an action and has no job out, where there is one. The list goes round: a thread that is to do an
+    /// action stays in it, at its end, and one that isn't leaves it.
+    pub fn next_ready(&mut self, out: &HashMap<u32, u64>) -> Option<u32>
+        ensures some { IfSome result (λ t. IsAt t Goes self.new.list.items × (get nat_eq out.now t ≡ None)) }
+        ensures none { IfNone result ((t : ℕ) → IsAt t Goes self.new.list.items → IsSome (get nat_eq out.now t)) }
+        ensures others { unqueued self.new.list.items ≡ unqueued self.old.list.items }
+        ensures slots { (b : Body) → slots_of b self.new.list.items ≡ slots_of b self.old.list.items }
         ensures flight { self.new.flight ≡ self.old.flight }
         ensures spends { Spends 0 0 0 0 self.old self.new }
     {
-        while let Some(t) = self.ready.pop_front() {
-            if is_ready(&self.list, t) {
-                self.list[t as usize].ticket = Some(ticket);
-                return Some(t);
+        for _turn in 0..self.ready.len() {
+            if let Some(t) = self.turn() {
+                if !out.contains_key(&t) {
+                    return Some(t);
+                }
             }
         }
         None
     }
 
-    /// The thread's job is out no more.
-    pub fn job_back(&mut self, t: u32)
-        requires there { IsAt t (λ th. Unit {0}) self.old.list.items }
-        requires ready { 1 ≤ ready_room self.old }
-        ensures list { self.new.list.items ≡ changed t (with_ticket None) self.old.list.items }
+    /// Takes the first thread of the list of the ready to its end, and answers it, where it is to do an action; and out of the
+    /// list where it isn't.
+    fn turn(&mut self) -> Option<u32>
+        ensures some { IfSome result (λ t. IsAt t Goes self.new.list.items) }
+        ensures ready { self.new.ready.items ≡ drop 1 self.old.ready.items ++ option_to_list result }
+        ensures others { unqueued self.new.list.items ≡ unqueued self.old.list.items }
         ensures flight { self.new.flight ≡ self.old.flight }
-        ensures spends { Spends 0 1 0 0 self.old self.new }
+        ensures spends { Spends 0 0 0 0 self.old self.new }
     {
-        self.list[t as usize].ticket = None;
-        self.ready.push_back_reserved(t);
+        let t = self.ready.pop_front()?;
+        if goes_at(&self.list, t) {
+            self.ready.push_back_reserved(t);
+            return Some(t);
+        }
+        if (t as usize) < self.list.len() {
+            self.list[t as usize].queued = false;
+        }
+        None
     }
 
     /// Whether some thread is to do an action: it hasn't finished and isn't blocked.

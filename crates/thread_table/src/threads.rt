@@ -9,8 +9,8 @@ ghost use Rattle.frame_stack.specs.declared.control.Control.TheVariants as contr
 ghost use Rattle.frame_stack.specs.Parts.{IsOp, IsThrow, Meets, Stacked, part_of, term_of};
 ghost use Rattle.rules_code.specs.declared.code.Body.{Body};
 ghost use Rattle.thread_table.specs.declared.thread.Thread.{Thread};
-ghost use Rattle.thread_table.specs.Table.{changed, with_control, finishing, with_stack, new_thread, IsAt, frames_over};
-ghost use Rattle.thread_table.specs.Listing.{Listed, Queued, Kept, going_over};
+ghost use Rattle.thread_table.specs.Table.{changed, with_control, finishing, with_stack, with_queued, new_thread, IsAt, frames_over};
+ghost use Rattle.thread_table.specs.Listing.{Listed, Queued, Kept, queued_after, going_over};
 
 use crate::listing::{counted_frames, counted_going, may_strand};
 use crate::thread::Thread;
@@ -30,7 +30,7 @@ pub struct Threads {
     pub flight: Flight,
     /// Each thread that has an entry of its own or something to receive.
     pub work: VecDeque<u32>,
-    /// Each thread of which a job may be made.
+    /// Each thread that is to do an action.
     pub ready: VecDeque<u32>,
     /// Each thread that may be stranded.
     pub stuck: VecDeque<u32>,
@@ -180,10 +180,10 @@ impl Threads {
         thread.stack.pop_step();
         let has = counted_frames(thread);
         let going = counted_going(thread);
+        queue(thread, &mut self.ready, t);
         self.frames = self.frames - had + has;
         self.going += going;
         self.work.push_back_reserved(t);
-        self.ready.push_back_reserved(t);
     }
 
     /// The thread moves by the rules of a slice that starts with its control, in its masking state. Where memory runs out the
@@ -206,10 +206,10 @@ impl Threads {
         thread.stack.accept(slice)?;
         let has = counted_frames(thread);
         let goes = counted_going(thread);
+        queue(thread, &mut self.ready, t);
         self.frames = self.frames - had + has;
         self.going = self.going - went + goes;
         self.work.push_back_reserved(t);
-        self.ready.push_back_reserved(t);
         Ok(())
     }
 
@@ -230,7 +230,7 @@ impl Threads {
             stack,
             blocked: false,
             finished: false,
-            ticket: None,
+            queued: true,
             listed: false,
         };
         let frames = counted_frames(&thread);
@@ -274,5 +274,18 @@ impl Threads {
         ensures spends { Spends 0 0 0 0 self.old self.new }
     {
         let _ = self.flight.withdraw(thrower);
+    }
+}
+
+/// The thread of this number is in the list of the ready from now on: it is pushed where it didn't say so.
+fn queue(thread: &mut Thread, ready: &mut VecDeque<u32>, t: u32)
+    requires room { length ready.old.items < ready.old.cap }
+    ensures says { thread.new ≡ with_queued true thread.old }
+    ensures list { ready.new.items ≡ queued_after thread.old.queued t ready.old.items }
+    ensures cap { ready.new.cap ≡ ready.old.cap }
+{
+    if !thread.queued {
+        thread.queued = true;
+        ready.push_back_reserved(t);
     }
 }

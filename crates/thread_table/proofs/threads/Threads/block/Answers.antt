@@ -2,10 +2,10 @@ use Rattle.std.proofs.Common.{refl, sym, ap, ◌∙◌, Bool, true, slice_set}
 use Rattle.hs_laws.proofs.Lists.{item_same}
 use Rattle.thread_table.specs.declared.thread.Thread.{Thread}
 use Rattle.thread_table.specs.Table.{with_listed, counted_frames}
-use Rattle.thread_table.specs.Listing.{counted_going}
+use Rattle.thread_table.specs.Listing.{goes_at, is_queued, waits_open, is_listed, counted_going}
 use Rattle.thread_table.proofs.Table.{lent_is, written_through, set_twice}
-use Rattle.thread_table.proofs.Queues.{wanted_in, ready_test, has_pushed, has_not, has_twice, not_free, kept_when, kept_not, kept_pushed, kept_twice, strands}
-use Rattle.thread_table.proofs.Counts.{count_same, count_twice, still_control, still_blocked, op_still}
+use Rattle.thread_table.proofs.Queues.{wanted_in, has_pushed, has_twice, flagged_when, flagged_not, flagged_pushed, flagged_twice, strands}
+use Rattle.thread_table.proofs.Counts.{count_same, count_twice, not_free, still_control, still_blocked, op_still}
 use Rattle.thread_table.proofs.threads.Threads.block.Goals.{else-may_strand-via-then-may_strand+else-not-index, else-may_strand-via-else-may_strand}
 use Rattle.thread_table.proofs.threads.Threads.block.Goals as goal
 
@@ -20,8 +20,8 @@ invariant_of-self c =
     let z : Thread = record c.index_mut.result.now { listed = true } in
     record {
       listed = has_twice (wanted_in s.flight.list) s.list.items _ c.args.t y z (has_pushed (wanted_in s.flight.list) _ _ _ c.args.t here.thread z here.is c.push_back_reserved.ensures.items s.listed);
-      queued = has_twice ready_test s.list.items _ c.args.t y z (has_not ready_test _ _ c.args.t here.thread z here.is (not_free z (ap (λ (th : Thread). th.blocked) again)) s.queued);
-      kept = kept_twice s.list.items _ c.args.t y z (kept_pushed _ _ _ c.args.t here.thread z here.is refl c.push_back_reserved-then-not-index.ensures.items s.kept);
+      queued = flagged_twice goes_at is_queued s.list.items _ c.args.t y z (flagged_not goes_at is_queued _ _ c.args.t here.thread z here.is (not_free z (ap (λ (th : Thread). th.blocked) again)) (ap (λ (th : Thread). th.queued) again ∙ ap (λ (th : Thread). th.queued) lent) s.queued);
+      kept = flagged_twice waits_open is_listed s.list.items _ c.args.t y z (flagged_pushed waits_open is_listed _ _ _ c.args.t here.thread z here.is refl c.push_back_reserved-then-not-index.ensures.items s.kept);
       framed = count_twice counted_frames s.list.items c.args.t y z s.frames (count_same counted_frames s.list.items c.args.t here.thread z s.frames here.is (ap counted_frames again ∙ ap counted_frames lent) s.framed);
       gone = count_twice counted_going s.list.items c.args.t y z s.going (count_same counted_going s.list.items c.args.t here.thread z s.going here.is (still_blocked z (ap (λ (th : Thread). th.blocked) again) ∙ sym (still_control here.thread (op_still here.thread.stack.control here.holds))) s.gone);
     }
@@ -37,8 +37,8 @@ invariant_of-self-else-not-index c =
     let said = sym (ap (λ (th : Thread). th.listed) again) ∙ c.if-not-index.false in
     record {
       listed = has_pushed (wanted_in s.flight.list) _ _ _ c.args.t here.thread y here.is c.push_back_reserved.ensures.items s.listed;
-      queued = has_not ready_test _ _ c.args.t here.thread y here.is (not_free y refl) s.queued;
-      kept = kept_when _ _ c.args.t here.thread y here.is (λ h. said) (λ h. sym (ap (λ (th : Thread). th.listed) lent) ∙ h) s.kept;
+      queued = flagged_not goes_at is_queued _ _ c.args.t here.thread y here.is (not_free y refl) (ap (λ (th : Thread). th.queued) lent) s.queued;
+      kept = flagged_when waits_open is_listed _ _ c.args.t here.thread y here.is (λ h. said) (λ h. sym (ap (λ (th : Thread). th.listed) lent) ∙ h) s.kept;
       framed = count_same counted_frames s.list.items c.args.t here.thread y s.frames here.is (ap counted_frames lent) s.framed;
       gone = count_same counted_going s.list.items c.args.t here.thread y s.going here.is (still_blocked y refl ∙ sym (still_control here.thread (op_still here.thread.stack.control here.holds))) s.gone;
     }
@@ -54,8 +54,8 @@ invariant_of-self-else-may_strand c =
     let not_open = sym (ap strands again) ∙ (sym c.may_strand.ensures ∙ c.if-may_strand.false) in
     record {
       listed = has_pushed (wanted_in s.flight.list) _ _ _ c.args.t here.thread y here.is c.push_back_reserved.ensures.items s.listed;
-      queued = has_not ready_test _ _ c.args.t here.thread y here.is (not_free y refl) s.queued;
-      kept = kept_not _ _ c.args.t here.thread y here.is not_open (ap (λ (th : Thread). th.listed) lent) s.kept;
+      queued = flagged_not goes_at is_queued _ _ c.args.t here.thread y here.is (not_free y refl) (ap (λ (th : Thread). th.queued) lent) s.queued;
+      kept = flagged_not waits_open is_listed _ _ c.args.t here.thread y here.is not_open (ap (λ (th : Thread). th.listed) lent) s.kept;
       framed = count_same counted_frames s.list.items c.args.t here.thread y s.frames here.is (ap counted_frames lent) s.framed;
       gone = count_same counted_going s.list.items c.args.t here.thread y s.going here.is (still_blocked y refl ∙ sym (still_control here.thread (op_still here.thread.stack.control here.holds))) s.gone;
     }

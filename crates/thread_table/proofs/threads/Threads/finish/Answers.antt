@@ -1,9 +1,9 @@
 use Rattle.std.proofs.Common.{refl, ap, ◌∙◌, true}
 use Rattle.thread_table.specs.declared.thread.Thread.{Thread}
 use Rattle.thread_table.specs.Table.{finishing, counted_frames}
-use Rattle.thread_table.specs.Listing.{counted_going}
+use Rattle.thread_table.specs.Listing.{goes_at, is_queued, waits_open, is_listed, counted_going}
 use Rattle.thread_table.proofs.Table.{lent_is, written_through}
-use Rattle.thread_table.proofs.Queues.{wanted_in, ready_test, has_not, not_waiting, kept_not}
+use Rattle.thread_table.proofs.Queues.{wanted_in, has_not, not_waiting, flagged_not}
 use Rattle.thread_table.proofs.Counts.{count_less, count_part}
 use Rattle.thread_table.proofs.threads.Threads.finish.Goals as goal
 
@@ -26,8 +26,8 @@ invariant_of-self c =
     let y : Thread = record c.index_mut-thread.result.now { finished = true } in
     record {
       listed = has_not (wanted_in c.args.self.now.flight.list) _ _ c.args.t here.thread y here.is refl c.args.self.now.listed;
-      queued = has_not ready_test _ _ c.args.t here.thread y here.is refl c.args.self.now.queued;
-      kept = kept_not _ _ c.args.t here.thread y here.is (not_waiting y (ap (λ (x : Thread). x.blocked) lent ∙ here.holds)) (ap (λ (x : Thread). x.listed) lent) c.args.self.now.kept;
+      queued = flagged_not goes_at is_queued _ _ c.args.t here.thread y here.is refl (ap (λ (x : Thread). x.queued) lent) c.args.self.now.queued;
+      kept = flagged_not waits_open is_listed _ _ c.args.t here.thread y here.is (not_waiting y (ap (λ (x : Thread). x.blocked) lent ∙ here.holds)) (ap (λ (x : Thread). x.listed) lent) c.args.self.now.kept;
       framed = count_less counted_frames c.args.self.now.list.items c.args.t here.thread y c.args.self.now.frames c.counted_frames-frames.result here.is (c.counted_frames-frames.ensures.value ∙ ap counted_frames lent) refl c.args.self.now.framed;
       gone = count_less counted_going c.args.self.now.list.items c.args.t here.thread y c.args.self.now.going c.counted_going-going.result here.is (c.counted_going-going.ensures ∙ ap counted_going lent) refl c.args.self.now.gone;
     }

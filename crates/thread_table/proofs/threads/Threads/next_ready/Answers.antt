@@ -1,32 +1,33 @@
-use Rattle.std.proofs.Common.{◌≡◌, refl, sym, ap, ◌∙◌, subst, Some, true, slice_get}
-use Rattle.thread_table.specs.declared.thread.Thread.{Thread}
-use Rattle.thread_table.specs.Listing.{wanted, waits_open, is_ready, Queued, counted_going}
-use Rattle.thread_table.specs.Table.{changed, with_ticket, counted_frames}
-use Rattle.thread_table.proofs.Table.{lent_is, written_through}
-use Rattle.thread_table.proofs.Owns.{who_is_ready}
-use Rattle.thread_table.proofs.Queues.{wanted_in, ready_test, has_still, has_taken, not_spare, kept_same}
-use Rattle.thread_table.proofs.Counts.{count_same}
+use Rattle.std.proofs.Common.{◌≡◌, ℕ, ◌+◌, ◌-◌, [], Some, nat_eq, IsSome, option_to_list, sym, ◌∙◌, subst, arith}
+use Rattle.std.specs.HashMap.{get}
+use Rattle.thread_table.proofs.Table.{slots_unqueued}
+use Rattle.thread_table.proofs.Spending.{spends_both}
+use Rattle.thread_table.proofs.Rounds.{Looked, looked_on, looked_one, looked_none}
+use Rattle.thread_table.proofs.threads.Threads.next_ready.Goals.{in-Some+else-not-contains_key, in_default}
 use Rattle.thread_table.proofs.threads.Threads.next_ready.Goals as goal
 
-pub invariant_of-self : goal.invariant_of-self
-invariant_of-self c =
-    let s = c.loop-t.self in
-    let w = who_is_ready (slice_get s.list.items c.in-Some.t) (sym c.is_ready.ensures ∙ c.if-is_ready.true) in
-    let lent = lent_is s.list.items c.in-Some.t w.0 c.index_mut.result.now w.1 c.index_mut.ensures.value in
-    let y : Thread = record c.index_mut.result.now { ticket = Some c.args.ticket } in
+pub returns-then-not-contains_key-clause-slots : goal.returns-then-not-contains_key-clause-slots
+returns-then-not-contains_key-clause-slots c = λ b. slots_unqueued b _ _ (c.turn.ensures.others ∙ c.loop-turn.invariant.others)
+
+pub loop-turn-preserved : goal.loop-turn-preserved
+loop-turn-preserved c =
+    let before = c.loop-turn.invariant in
+    let after = c.turn.ensures in
+    let IsOut : ℕ → Type 0 = λ t. IsSome (get nat_eq c.args.out.now t) in
+    let left = c.len-turn-end.result - (c.loop-turn._turn + 1) in
+    let one : c.len-turn-end.result - c.loop-turn._turn ≡ 1 + left = omega arith in
+    let q = c.loop-turn.self.ready.items in
+    let q' = c.turn.new.self.ready.items in
+    let looked = subst (λ n. Looked IsOut n q) one before.looked in
     record {
-      listed = has_still (wanted_in s.flight.list) _ _ c.in-Some.t w.0 y w.1 (λ h. subst (λ (x : Thread). wanted c.in-Some.t (Some x) s.flight.list ≡ true) lent h) s.listed;
-      queued = has_taken ready_test _ _ c.in-Some.t w.0 y w.1 (not_spare y refl) (subst (λ ready. Queued s.list.items ready) c.in-Some.ensures.items s.queued);
-      kept = kept_same _ _ c.in-Some.t w.0 y w.1 (ap (λ (x : Thread). waits_open (Some x)) lent) (ap (λ (x : Thread). x.listed) lent) s.kept;
-      framed = count_same counted_frames s.list.items c.in-Some.t w.0 y s.frames w.1 (ap counted_frames lent) s.framed;
-      gone = count_same counted_going s.list.items c.in-Some.t w.0 y s.going w.1 (ap counted_going lent) s.gone;
+      looked = elim c.match-turn.branch [
+        | in-Some+else-not-contains_key w ↦ looked_on IsOut left q q' (option_to_list (Some w.in-Some.t)) w.in-Some.ensures.ready (looked_one IsOut w.in-Some.t (sym w.contains_key.ensures ∙ w.if-not-contains_key.false)) looked
+        | in_default w ↦ looked_on IsOut left q q' [] w.in_default.ensures.ready (looked_none IsOut) looked
+      ];
+      others = after.others ∙ before.others;
+      flight = after.flight ∙ before.flight;
+      spends = spends_both 0 0 0 0 0 0 0 0 _ _ _ before.spends after.spends;
     }
 
-pub returns-then-is_ready-clause-some : goal.returns-then-is_ready-clause-some
-returns-then-is_ready-clause-some c =
-    let s = c.loop-t.self in
-    let ready = sym c.is_ready.ensures ∙ c.if-is_ready.true in
-    let w = who_is_ready (slice_get s.list.items c.in-Some.t) ready in (
-      subst (λ list. is_ready (slice_get list.items c.in-Some.t) ≡ true) c.loop-t.invariant.list ready,
-      written_through _ _ (with_ticket (Some c.args.ticket)) w.0 c.index_mut.result.now _ w.1 c.index_mut.ensures.value refl ∙ ap (λ list. changed c.in-Some.t (with_ticket (Some c.args.ticket)) list.items) c.loop-t.invariant.list,
-    )
+pub returns-clause-slots : goal.returns-clause-slots
+returns-clause-slots c = λ b. slots_unqueued b _ _ c.loop-turn.invariant.others

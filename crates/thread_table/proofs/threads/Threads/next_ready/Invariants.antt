@@ -1,15 +1,15 @@
-use Rattle.std.proofs.Common.{◌≡◌, ◌≤◌, length}
+use Rattle.std.proofs.Common.{◌≡◌, ℕ, ◌-◌, drop, true, nat_eq, IsSome}
+use Rattle.std.specs.HashMap.{get}
+use Rattle.thread_table.specs.Listing.{is_in}
+use Rattle.thread_table.specs.Rooms.{Spends}
+use Rattle.thread_table.specs.Table.{unqueued}
 use Rattle.thread_table.proofs.threads.Threads.next_ready.Given as goal
 
-abbrev pub invariant-loop-t : goal.invariant-loop-t
-invariant-loop-t l = record {
-  list : l.self.list ≡ l.initial.self.list;
+-- behind those that haven't been looked at stand threads that have a job out
+abbrev pub invariant-loop-turn : goal.invariant-loop-turn
+invariant-loop-turn l = record {
+  looked : (t : ℕ) → is_in t (drop (l._turn-end - l._turn) l.self.ready.items) ≡ true → IsSome (get nat_eq l.out t);
+  others : unqueued l.self.list.items ≡ unqueued l.initial.self.list.items;
   flight : l.self.flight ≡ l.initial.self.flight;
-  work : l.self.work ≡ l.initial.self.work;
-  stuck : l.self.stuck ≡ l.initial.self.stuck;
-  cap : l.self.ready.cap ≡ l.initial.self.ready.cap;
-  len : length l.self.ready.items ≤ length l.initial.self.ready.items;
+  spends : Spends 0 0 0 0 l.initial.self l.self;
 }
-
-abbrev pub decreases-loop-t : goal.decreases-loop-t
-decreases-loop-t l = length l.self.ready.items

@@ -6,11 +6,11 @@ use Rattle.slot_states.specs.SlotStates.{resumed, resumed_by}
 use Rattle.frame_stack.specs.declared.control.Control.TheVariants as control
 use Rattle.frame_stack.specs.Parts.{Stacked}
 use Rattle.thread_table.specs.declared.thread.Thread.{Thread}
-use Rattle.thread_table.specs.Listing.{is_doing, is_at_cell, waits_open, WaitsAtCell, Kept, counted_going}
+use Rattle.thread_table.specs.Listing.{is_doing, goes_at, is_queued, is_at_cell, waits_open, is_listed, WaitsAtCell, Kept, counted_going}
 use Rattle.thread_table.specs.Table.{slots_of, with_listed, with_control, counted_frames}
 use Rattle.thread_table.proofs.Table.{lent_is, written_through, slots_changed, thread_alike}
-use Rattle.thread_table.proofs.Queues.{wanted_in, ready_test, has_pushed, has_not, not_doing, not_waiting, not_true, both_cannot, kept_taken, front_waits, who_waits, waits_alike, at_cell_throws_not}
-use Rattle.thread_table.proofs.Counts.{count_same, still_control, still_blocked}
+use Rattle.thread_table.proofs.Queues.{wanted_in, has_pushed, not_waiting, not_true, both_cannot, flagged_not, flagged_taken, front_waits, who_waits, waits_alike, at_cell_throws_not}
+use Rattle.thread_table.proofs.Counts.{count_same, not_doing, still_control, still_blocked}
 use Rattle.thread_table.proofs.threads.Threads.strand.Goals as goal
 
 pub returns-then-not-may_strand-clause-none : goal.returns-then-not-may_strand-clause-none
@@ -57,8 +57,8 @@ invariant_of-self-2 c =
     let y : Thread = record x { stack = c.receive.new.self; blocked = false; listed = false } in
     record {
       listed = has_pushed (wanted_in s.flight.list) _ _ _ c.in_ok-t.t w.0 y w.1 c.push_back_reserved.ensures.items s.listed;
-      queued = has_not ready_test _ _ c.in_ok-t.t w.0 y w.1 (not_doing y (ap (λ (k : Stacked). is_doing k.control) c.receive.ensures)) s.queued;
-      kept = kept_taken _ _ c.in_ok-t.t w.0 y w.1 (not_waiting y refl) refl (subst (λ stuck. Kept s.list.items stuck) c.in_ok-t.ensures.items s.kept);
+      queued = flagged_not goes_at is_queued _ _ c.in_ok-t.t w.0 y w.1 (not_doing y (ap (λ (k : Stacked). is_doing k.control) c.receive.ensures)) (ap (λ (th : Thread). th.queued) lent) s.queued;
+      kept = flagged_taken waits_open is_listed _ _ c.in_ok-t.t w.0 y w.1 (not_waiting y refl) refl (subst (λ stuck. Kept s.list.items stuck) c.in_ok-t.ensures.items s.kept);
       framed = count_same counted_frames s.list.items c.in_ok-t.t w.0 y s.frames w.1 (ap (λ (k : Stacked). cond x.finished 0 (length k.frames)) c.receive.ensures ∙ ap counted_frames lent) s.framed;
       gone = count_same counted_going s.list.items c.in_ok-t.t w.0 y s.going w.1 (still_control y (ap (λ (k : Stacked). is_doing k.control) c.receive.ensures) ∙ sym (still_blocked w.0 w.2)) s.gone;
     }

@@ -2,11 +2,11 @@ use Rattle.std.proofs.Common.{refl, ap, false, ◌∙◌, cond, length}
 use Rattle.frame_stack.specs.declared.control.Control.TheVariants as control
 use Rattle.frame_stack.specs.Parts.{Stacked}
 use Rattle.thread_table.specs.declared.thread.Thread.{Thread}
-use Rattle.thread_table.specs.Listing.{is_doing, counted_going}
+use Rattle.thread_table.specs.Listing.{is_doing, goes_at, is_queued, waits_open, is_listed, counted_going}
 use Rattle.thread_table.specs.Table.{with_control, counted_frames}
 use Rattle.thread_table.proofs.Table.{lent_is, written_through}
-use Rattle.thread_table.proofs.Queues.{wanted_in, ready_test, has_pushed, has_not, not_doing, not_waiting, kept_not}
-use Rattle.thread_table.proofs.Counts.{count_same, count_less, count_part, still_control}
+use Rattle.thread_table.proofs.Queues.{wanted_in, has_pushed, not_waiting, flagged_not}
+use Rattle.thread_table.proofs.Counts.{count_same, count_less, count_part, not_doing, still_control}
 use Rattle.thread_table.proofs.threads.Threads.throw.Goals as goal
 
 pub overflow_sub-self : goal.overflow_sub-self
@@ -23,8 +23,8 @@ invariant_of-self c =
     let y : Thread = record x { stack = c.receive.new.self; blocked = false } in
     record {
       listed = has_pushed (wanted_in c.args.self.now.flight.list) _ _ _ c.args.t here.thread y here.is c.push_back_reserved.ensures.items c.args.self.now.listed;
-      queued = has_not ready_test _ _ c.args.t here.thread y here.is (not_doing y (ap (λ (s : Stacked). is_doing s.control) c.receive.ensures)) c.args.self.now.queued;
-      kept = kept_not _ _ c.args.t here.thread y here.is (not_waiting y refl) (ap (λ (th : Thread). th.listed) (lent_is c.args.self.now.list.items c.args.t here.thread x here.is c.index_mut-thread.ensures.value)) c.args.self.now.kept;
+      queued = flagged_not goes_at is_queued _ _ c.args.t here.thread y here.is (not_doing y (ap (λ (s : Stacked). is_doing s.control) c.receive.ensures)) (ap (λ (x : Thread). x.queued) lent) c.args.self.now.queued;
+      kept = flagged_not waits_open is_listed _ _ c.args.t here.thread y here.is (not_waiting y refl) (ap (λ (x : Thread). x.listed) lent) c.args.self.now.kept;
       framed = count_same counted_frames c.args.self.now.list.items c.args.t here.thread y c.args.self.now.frames here.is (ap (λ (s : Stacked). cond x.finished 0 (length s.frames)) c.receive.ensures ∙ ap counted_frames lent) c.args.self.now.framed;
       gone = count_less counted_going c.args.self.now.list.items c.args.t here.thread y c.args.self.now.going c.counted_going-going.result here.is (c.counted_going-going.ensures ∙ ap counted_going lent) (still_control y (ap (λ (s : Stacked). is_doing s.control) c.receive.ensures)) c.args.self.now.gone;
     }

@@ -2,10 +2,10 @@ use Rattle.std.proofs.Common.{◌≡◌, ◌<◌, ◌≤◌, refl, sym, ap, ◌�
 use Rattle.std.proofs.lemmas.Option.{slice_get_past}
 use Rattle.hs_laws.proofs.Lists.{some_item}
 use Rattle.thread_table.specs.declared.thread.Thread.{Thread}
-use Rattle.thread_table.specs.Listing.{wanted, waits_open, is_ready, Kept, counted_going}
+use Rattle.thread_table.specs.Listing.{wanted, goes, goes_at, is_queued, waits_open, is_listed, Kept, counted_going}
 use Rattle.thread_table.specs.Table.{with_listed, counted_frames}
 use Rattle.thread_table.proofs.Table.{lent_is, written_through}
-use Rattle.thread_table.proofs.Queues.{wanted_in, ready_test, has_still, rest_of, kept_taken, kept_gone}
+use Rattle.thread_table.proofs.Queues.{wanted_in, has_still, rest_of, flagged_same, flagged_taken, flagged_gone}
 use Rattle.thread_table.proofs.Counts.{count_same}
 use Rattle.thread_table.proofs.threads.Threads.unlist.Goals as goal
 
@@ -18,8 +18,8 @@ invariant_of-self c =
     let y : Thread = record c.index_mut.result.now { listed = false } in
     record {
       listed = has_still (wanted_in s.flight.list) _ _ c.args.t w.0 y w.1 (λ h. subst (λ (x : Thread). wanted c.args.t (Some x) s.flight.list ≡ true) lent h) s.listed;
-      queued = has_still ready_test _ _ c.args.t w.0 y w.1 (λ h. subst (λ (x : Thread). is_ready (Some x) ≡ true) lent h) s.queued;
-      kept = kept_taken _ _ c.args.t w.0 y w.1 (ap (λ (x : Thread). waits_open (Some x)) lent ∙ (sym (ap waits_open w.1) ∙ c.requires.not)) refl (subst (λ stuck. Kept s.list.items stuck) rest s.kept);
+      queued = flagged_same goes_at is_queued _ _ c.args.t w.0 y w.1 (ap goes lent) (ap (λ (x : Thread). x.queued) lent) s.queued;
+      kept = flagged_taken waits_open is_listed _ _ c.args.t w.0 y w.1 (ap (λ (x : Thread). waits_open (Some x)) lent ∙ (sym (ap waits_open w.1) ∙ c.requires.not)) refl (subst (λ stuck. Kept s.list.items stuck) rest s.kept);
       framed = count_same counted_frames s.list.items c.args.t w.0 y s.frames w.1 (ap counted_frames lent) s.framed;
       gone = count_same counted_going s.list.items c.args.t w.0 y s.going w.1 (ap counted_going lent) s.gone;
     }
@@ -29,7 +29,7 @@ invariant_of-self-else-t-len c =
     let s = c.args.self.now in
     let none = slice_get_past s.list.items c.args.t (subst (λ n. n ≤ c.args.t) (c.len.ensures ∙ s.list.ok.0) c.if-t-len.false) in
     let rest = rest_of _ _ c.requires.first.0 c.args.t c.requires.first.1 c.pop_front.ensures.rest in
-    record { listed = s.listed; queued = s.queued; kept = kept_gone _ _ c.args.t none (subst (λ stuck. Kept s.list.items stuck) rest s.kept); framed = s.framed; gone = s.gone }
+    record { listed = s.listed; queued = s.queued; kept = flagged_gone waits_open is_listed _ _ c.args.t (ap is_listed none) (subst (λ stuck. Kept s.list.items stuck) rest s.kept); framed = s.framed; gone = s.gone }
 
 pub returns-then-t-len-clause-list : goal.returns-then-t-len-clause-list
 returns-then-t-len-clause-list c =
