@@ -9,3 +9,4 @@ pub mod Printing
 pub mod Finished
 pub mod Asking
 pub mod Begun
+pub mod Goers
