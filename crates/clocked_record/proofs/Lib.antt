@@ -1,0 +1,6 @@
+pub mod ClockStays
+pub mod Keeping
+pub mod LastEntry
+pub mod Going
+pub mod Timed
+pub mod Ticks
