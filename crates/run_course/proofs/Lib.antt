@@ -1,0 +1,5 @@
+pub mod Printed
+pub mod Ended
+pub mod Kept
+pub mod Going
+pub mod More
