@@ -1,0 +1,6 @@
+pub mod Knowing
+pub mod Opening
+pub mod Making
+pub mod Desks
+pub mod Closing
+pub mod Turning

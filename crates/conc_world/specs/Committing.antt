@@ -1,0 +1,57 @@
+-- Slices that come back, and what becomes of them (own).
+use Rattle.std.specs.Prelude.{◌≡◌, ◌<◌, ◌≤◌, ℕ, true, false, Option, Some, None, IsSome, slice_get}
+use Rattle.hs_base.specs.declared.mask.Mask.TheVariants.{Unmasked}
+use Rattle.local_steps.specs.Frames.{mask_inside}
+use Rattle.frame_stack.specs.declared.sliced.Slice.{Slice}
+use Rattle.thread_table.specs.declared.thread.Thread.{Thread}
+use Rattle.world_entries.specs.Worlds.{Starts}
+use Rattle.run_record.specs.declared.record.Record.{Record}
+use Rattle.run_record.specs.Records.{Same}
+use Rattle.run_course.specs.declared.ends.RunEnd.{RunEnd}
+use Rattle.run_course.specs.declared.ends.RunEnd.TheVariants as end
+use Rattle.run_course.specs.Settled.{Accepted}
+use Rattle.job_tickets.specs.declared.tickets.Tickets.{Tickets}
+use Rattle.conc_world.specs.declared.answers.Why.{Why}
+use Rattle.conc_world.specs.declared.answers.Why.TheVariants as why
+use Rattle.conc_world.specs.declared.answers.Committed.{Committed}
+use Rattle.conc_world.specs.declared.answers.Committed.TheVariants.{Taken, Stale, Short, Ended, NoMemory}
+use Rattle.conc_world.specs.Jobs.{left, TakenBack, SameJobs}
+
+-- thread t is there and hasn't finished, and this is true of it
+pub record Unfinished (t : ℕ) (P : Thread → Type 0) (r : Record) : Type 0 where
+  pub thread : Thread
+  pub is : slice_get r.world.threads.list.items t ≡ Some thread
+  pub unfinished : thread.finished ≡ false
+  pub holds : P thread
+
+abbrev pub Anything : Thread → Type 0
+Anything th = Unit {0}
+
+abbrev pub IsBlocked : Thread → Type 0
+IsBlocked th = th.blocked ≡ true
+
+-- it isn't blocked, and its control or its masking state is not the slice's start
+abbrev pub Differs : Slice → Thread → Type 0
+Differs s th = (th.blocked ≡ false) × ((th.stack.control ≡ s.start) × (mask_inside Unmasked th.stack.frames ≡ s.mask) → ⊥)
+
+abbrev pub IsStale : Why → Slice → Record → Type 0
+IsStale why.Finished s r = Unfinished s.tid Anything r → ⊥
+IsStale why.Blocked s r = Unfinished s.tid IsBlocked r
+IsStale why.Differs s r = Unfinished s.tid (Differs s) r
+
+-- What became of a slice, and why. Each answer but the first and the last comes exactly where its condition holds and none
+-- before it does.
+abbrev pub IsCommitted : Committed → Slice → (old_end : Option RunEnd) (old : Record) (new_end : Option RunEnd) (new : Record) → Type 0
+IsCommitted Ended s old_end old new_end new = IsSome old_end × (new ≡ old) × (new_end ≡ old_end)
+IsCommitted (Stale w) s old_end old new_end new = (old_end ≡ None) × IsStale w s old × (new ≡ old) × (new_end ≡ None)
+IsCommitted (Short n) s old_end old new_end new = (old_end ≡ None) × Starts s old.world × (n ≡ left old) × (n < s.steps) × (new ≡ old) × (new_end ≡ None)
+IsCommitted Taken s old_end old new_end new = (old_end ≡ None) × Starts s old.world × (s.steps ≤ left old) × Accepted s new_end old new
+IsCommitted NoMemory s old_end old new_end new = (old_end ≡ None) × Same old new × (new_end ≡ Some end.Memory)
+
+-- every answer but Ended and NoMemory takes the ticket back where it is out
+abbrev pub TicketBack : Committed → ℕ → Tickets → Tickets → Type 0
+TicketBack Ended k old new = SameJobs old new
+TicketBack (Stale w) k old new = TakenBack k old new
+TicketBack (Short n) k old new = TakenBack k old new
+TicketBack Taken k old new = TakenBack k old new
+TicketBack NoMemory k old new = SameJobs old new

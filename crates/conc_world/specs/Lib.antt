@@ -1,0 +1,4 @@
+pub mod Sets
+pub mod Jobs
+pub mod Committing
+pub mod Runs

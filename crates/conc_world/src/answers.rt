@@ -1,0 +1,42 @@
+use hs_rules::History;
+use run_course::RunEnd;
+
+/// Why a slice is stale.
+#[derive(Clone, Copy, Debug, PartialEq, Eq)]
+pub enum Why {
+    /// The thread isn't where the slice starts.
+    Differs,
+    /// The thread is blocked.
+    Blocked,
+    /// There is no such thread that hasn't finished.
+    Finished,
+}
+
+/// What became of a slice.
+#[derive(Clone, Copy, Debug, PartialEq, Eq)]
+pub enum Committed {
+    /// Its steps are in the history, or would exceed the limit of frames, which is the ending then.
+    Taken,
+    Stale(Why),
+    /// Its steps exceed the fuel that is left.
+    Short(u64),
+    /// There is an ending.
+    Ended,
+    NoMemory,
+}
+
+/// What is lent to a run.
+#[derive(Drop)]
+pub struct Parts<O, E, K> {
+    pub out: O,
+    pub err: E,
+    pub clock: K,
+}
+
+/// What a run leaves.
+#[derive(Drop)]
+pub struct Closed<O, E, K> {
+    pub end: Option<RunEnd>,
+    pub history: History,
+    pub parts: Parts<O, E, K>,
+}

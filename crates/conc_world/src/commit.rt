@@ -1,0 +1,153 @@
+//! Slices that come back.
+ghost use Rattle.std.specs.Prelude.{◌≡◌, ◌≤◌, ◌↔◌, IsTrue, MatchOption, None, OnOk, OnErr};
+ghost use Rattle.hs_base.specs.declared.mask.Mask.TheVariants.{Unmasked};
+ghost use Rattle.local_steps.specs.Frames.{mask_inside};
+ghost use Rattle.world_entries.specs.Worlds.{Starts};
+ghost use Rattle.frame_stack.specs.Slicing.{IsDoing};
+ghost use Rattle.run_record.specs.Records.{Same};
+ghost use Rattle.run_course.specs.Settled.{Accepted};
+ghost use Rattle.conc_world.specs.Jobs.{left};
+ghost use Rattle.conc_world.specs.Committing.{IsCommitted, IsStale, TicketBack};
+
+use crate::answers::{Committed, Why};
+use crate::desk::Desk;
+use frame_stack::{Control, Slice};
+use hs_base::NoMemory;
+use hs_io::{Clock, Sink};
+use run_record::Record;
+use thread_table::Thread;
+use value_equality::same_env;
+
+/// Whether a control is the start of a slice: to do the same action with the same values.
+fn same_start(control: &Control, start: &Control) -> bool
+    requires { IsDoing start.now }
+    ensures { IsTrue result ↔ (control.now ≡ start.now) }
+{
+    let Control::Doing(b, y) = start else {
+        unreachable!()
+    };
+    match control {
+        Control::Doing(a, x) => *a == *b && same_env(x, y),
+        _ => false,
+    }
+}
+
+/// Whether a slice starts with the control and the masking state of a thread.
+fn starts_at(thread: &Thread, slice: &Slice) -> bool
+    ensures { IsTrue result ↔ ((thread.now.stack.control ≡ slice.now.start) × (mask_inside Unmasked thread.now.stack.frames ≡ slice.now.mask)) }
+{
+    thread.stack.mask() == slice.mask && same_start(thread.stack.control(), &slice.start)
+}
+
+/// Why a slice doesn't start where its thread is, if it doesn't.
+fn stale(run: &Record, slice: &Slice) -> Option<Why>
+    ensures { MatchOption result (Starts slice.now run.now.world) (λ why. IsStale why slice.now run.now) }
+{
+    let Some(thread) = run.world.threads.list.get(slice.tid as usize) else {
+        return Some(Why::Finished);
+    };
+    if thread.finished {
+        return Some(Why::Finished);
+    }
+    if thread.blocked {
+        return Some(Why::Blocked);
+    }
+    if starts_at(thread, slice) {
+        None
+    } else {
+        Some(Why::Differs)
+    }
+}
+
+impl<O: Sink, E: Sink, K: Clock> Desk<O, E, K> {
+    /// Appends the local rules of a slice of this desk's code, and sets the ending that then holds; or says why not.
+    ///
+    /// In this order: `Ended` where there is an ending, `Stale` where no thread of that number is unfinished, or it is blocked,
+    /// or its control or masking state isn't the slice's start, `Short` with the fuel that is left where the steps exceed it.
+    /// `Taken` in every other case, also where the limit of frames would be exceeded: then nothing is appended, and that is
+    /// the ending. Where memory runs out nothing is appended, and the ending is Memory.
+    pub fn commit(&mut self, slice: Slice) -> Committed
+        requires code { slice.of.value ≡ self.old.course.clocked.record.of.value }
+        ensures committed { IsCommitted result slice self.old.course.end self.old.course.clocked.record self.new.course.end self.new.course.clocked.record }
+        ensures ticket { TicketBack result slice.ticket self.old.tickets self.new.tickets }
+        ensures lent { (self.new.course.out_lent ≡ self.old.course.out_lent) × (self.new.course.err_lent ≡ self.old.course.err_lent) × (self.new.course.clocked.lent ≡ self.old.course.clocked.lent) }
+        ensures kept { (self.new.course.out ≡ self.old.course.out) × (self.new.course.err ≡ self.old.course.err) × (self.new.course.clocked.clock ≡ self.old.course.clocked.clock) }
+        ensures given { self.new.given ≡ self.old.given }
+        ensures code { self.new.code ≡ self.old.code }
+    {
+        let ticket = slice.ticket;
+        let answer = self.append(slice);
+        self.take_back(answer, ticket);
+        answer
+    }
+
+    /// The same, but that the ticket stays out.
+    fn append(&mut self, slice: Slice) -> Committed
+        requires code { slice.of.value ≡ self.old.course.clocked.record.of.value }
+        ensures committed { IsCommitted result slice self.old.course.end self.old.course.clocked.record self.new.course.end self.new.course.clocked.record }
+        ensures lent { (self.new.course.out_lent ≡ self.old.course.out_lent) × (self.new.course.err_lent ≡ self.old.course.err_lent) × (self.new.course.clocked.lent ≡ self.old.course.clocked.lent) }
+        ensures kept { (self.new.course.out ≡ self.old.course.out) × (self.new.course.err ≡ self.old.course.err) × (self.new.course.clocked.clock ≡ self.old.course.clocked.clock) }
+        ensures tickets { (self.new.tickets ≡ self.old.tickets) × (self.new.given ≡ self.old.given) }
+        ensures code { self.new.code ≡ self.old.code }
+    {
+        if let Some(refused) = self.refusal(&slice) {
+            return refused;
+        }
+        match self.accept(slice) {
+            Ok(()) => Committed::Taken,
+            Err(NoMemory) => {
+                self.no_memory();
+                Committed::NoMemory
+            }
+        }
+    }
+
+    /// Why a slice is not taken, if it isn't.
+    fn refusal(&self, slice: &Slice) -> Option<Committed>
+        ensures { MatchOption result ((self.now.course.end ≡ None) × Starts slice.now self.now.course.clocked.record.world × (slice.now.steps ≤ left self.now.course.clocked.record)) (λ why. IsCommitted why slice.now self.now.course.end self.now.course.clocked.record self.now.course.end self.now.course.clocked.record) }
+    {
+        if self.course.end.is_some() {
+            return Some(Committed::Ended);
+        }
+        let run = &self.course.clocked.record;
+        if let Some(why) = stale(run, slice) {
+            return Some(Committed::Stale(why));
+        }
+        let left = u64::from(run.fuel) - run.history.steps();
+        if left < u64::from(slice.steps) {
+            Some(Committed::Short(left))
+        } else {
+            None
+        }
+    }
+
+    /// Takes the ticket back where it is to come back by this answer.
+    fn take_back(&mut self, answer: Committed, ticket: u64)
+        ensures ticket { TicketBack answer ticket self.old.tickets self.new.tickets }
+        ensures given { self.new.given ≡ self.old.given }
+        ensures course { self.new.course ≡ self.old.course }
+        ensures code { self.new.code ≡ self.old.code }
+    {
+        match answer {
+            Committed::Ended | Committed::NoMemory => {}
+            Committed::Taken | Committed::Stale(_) | Committed::Short(_) => self.drop_job(ticket),
+        }
+    }
+
+    /// Appends the local rules of a slice that starts where its thread stands and is within the fuel, or sets the ending. Want
+    /// of memory is left to the caller.
+    fn accept(&mut self, slice: Slice) -> Result<(), NoMemory>
+        requires none { self.old.course.end ≡ None }
+        requires code { slice.of.value ≡ self.old.course.clocked.record.of.value }
+        requires starts { Starts slice self.old.course.clocked.record.world }
+        requires fuel { slice.steps ≤ left self.old.course.clocked.record }
+        ensures ok { OnOk result (Accepted slice self.new.course.end self.old.course.clocked.record self.new.course.clocked.record) }
+        ensures err { OnErr result (Same self.old.course.clocked.record self.new.course.clocked.record × (self.new.course.end ≡ None)) }
+        ensures lent { (self.new.course.out_lent ≡ self.old.course.out_lent) × (self.new.course.err_lent ≡ self.old.course.err_lent) × (self.new.course.clocked.lent ≡ self.old.course.clocked.lent) }
+        ensures kept { (self.new.course.out ≡ self.old.course.out) × (self.new.course.err ≡ self.old.course.err) × (self.new.course.clocked.clock ≡ self.old.course.clocked.clock) }
+        ensures tickets { (self.new.tickets ≡ self.old.tickets) × (self.new.given ≡ self.old.given) }
+        ensures code { self.new.code ≡ self.old.code }
+    {
+        self.course.accept(slice)
+    }
+}

@@ -1,0 +1,51 @@
+//! One capability alone.
+ghost use Rattle.std.specs.Prelude.{◌≡◌, ◌<◌, ◌⊎◌, None, OnOk, IsSome};
+ghost use Rattle.hs_rules.specs.Histories.{steps_of};
+ghost use Rattle.run_course.specs.Settled.{Begins, GoesOn, KeepsPlan};
+ghost use Rattle.conc_world.specs.Jobs.{NoneOut};
+
+use crate::desk::Desk;
+use frame_stack::slice;
+use hs_base::NoMemory;
+use hs_io::{Clock, NeverCut, Sink};
+
+/// Runs the desk to an ending with one capability, without waiting for another thread. Jobs that are out are taken back first.
+pub fn alone<O: Sink, E: Sink, K: Clock>(desk: &mut Desk<O, E, K>)
+    ensures ended { IsSome desk.new.course.end }
+    ensures goes { GoesOn desk.old.course.end desk.old.course.clocked.record.history.list desk.new.course.end desk.new.course.clocked.record.history.list }
+    ensures plan { KeepsPlan desk.old.course.clocked.record desk.new.course.clocked.record }
+    ensures lent { (desk.new.course.out_lent ≡ desk.old.course.out_lent) × (desk.new.course.err_lent ≡ desk.old.course.err_lent) × (desk.new.course.clocked.lent ≡ desk.old.course.clocked.lent) }
+    ensures over { IsSome desk.old.course.end → (desk.new.course.out ≡ desk.old.course.out) × (desk.new.course.err ≡ desk.old.course.err) × (desk.new.course.clocked.clock ≡ desk.old.course.clocked.clock) }
+    ensures code { desk.new.code ≡ desk.old.code }
+{
+    desk.recall();
+    while desk.course.end.is_none() {
+        if turn(desk).is_err() {
+            desk.no_memory();
+        }
+    }
+}
+
+/// Settles, and runs and commits one slice.
+fn turn<O: Sink, E: Sink, K: Clock>(desk: &mut Desk<O, E, K>) -> Result<(), NoMemory>
+    requires none { desk.old.course.end ≡ None }
+    requires idle { NoneOut desk.old.tickets }
+    ensures more { OnOk result (IsSome desk.new.course.end ⊎ (NoneOut desk.new.tickets × (steps_of desk.old.course.clocked.record.history.list < steps_of desk.new.course.clocked.record.history.list))) }
+    ensures begins { Begins desk.old.course.clocked.record.history.list desk.new.course.clocked.record.history.list }
+    ensures plan { KeepsPlan desk.old.course.clocked.record desk.new.course.clocked.record }
+    ensures lent { (desk.new.course.out_lent ≡ desk.old.course.out_lent) × (desk.new.course.err_lent ≡ desk.old.course.err_lent) × (desk.new.course.clocked.lent ≡ desk.old.course.clocked.lent) }
+    ensures code { desk.new.code ≡ desk.old.code }
+{
+    desk.settle()?;
+    let Some(job) = desk.next_job()? else {
+        return Ok(());
+    };
+    let alloc = desk.course.clocked.record.world.alloc;
+    match slice(alloc, &desk.code, job, &mut NeverCut) {
+        Ok(slice) => {
+            let _ = desk.commit(slice);
+            Ok(())
+        }
+        Err(_) => Err(NoMemory),
+    }
+}
