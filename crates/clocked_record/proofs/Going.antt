@@ -16,10 +16,7 @@ use Rattle.hs_laws.proofs.RunParts.{run_before}
 use Rattle.slot_states.specs.SlotStates.{SlotState}
 use Rattle.world_entries.specs.declared.world.World.{World}
 use Rattle.world_entries.specs.Worlds.{Live}
-use Rattle.run_record.specs.declared.acts.Act.{Act}
-use Rattle.run_record.specs.declared.acts.Act.TheVariants as act
 use Rattle.run_record.specs.declared.record.Record.{Record}
-use Rattle.run_record.specs.Acts.{entry_of}
 use Rattle.run_record.specs.Records.{script, Same, Appended}
 use Rattle.run_record.proofs.GoingOn.{one_state, relisted_live}
 use Rattle.clocked_record.specs.Clocks.{TicksKept}
@@ -74,14 +71,6 @@ appended_kept old new e lent before now le other h k =
     kept_as old new (old.history.list ++ e ∷ []) lent now h.plan.2 h.history (∥∥₁_map k (λ z. ticks_worked (script old) old.history.list lent before now le z e other))
 
 -- ---- what a call of the record did
-pub act_no_tick : (a : Act) → ¬ IsTick (entry_of a)
-act_no_tick (act.Op t) h = h
-act_no_tick (act.Finish t) h = h
-act_no_tick (act.Local t) h = h
-act_no_tick (act.Receive t) h = h
-act_no_tick (act.Wake t) h = h
-act_no_tick act.Strand h = h
-
 -- the entry was appended, or nobody sees a change
 abbrev pub Went : Entry → Record → Record → Type 0
 Went e old new = Appended e old new ⊎ Same old new

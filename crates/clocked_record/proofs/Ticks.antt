@@ -25,9 +25,10 @@ use Rattle.run_record.specs.declared.record.Record.{Record}
 use Rattle.run_record.specs.Acts.{entry_of}
 use Rattle.run_record.specs.Records.{script, IsNext, Same, Appended}
 use Rattle.run_record.proofs.GoingOn.{one_state}
+use Rattle.run_record.proofs.HowItEnds.{act_no_tick}
 use Rattle.run_record.proofs.Legal.{Legal, acts_are_legal, goers_are_legal}
 use Rattle.clocked_record.specs.Clocks.{work, Asks, IsWanted, TicksKept}
-use Rattle.clocked_record.proofs.Going.{Kept, kept_as, same_time, same_kept, act_no_tick}
+use Rattle.clocked_record.proofs.Going.{Kept, kept_as, same_time, same_kept}
 use Rattle.clocked_record.proofs.Keeping.{ticks_ticked, ticks_early}
 
 -- ---- main goes where work is

@@ -1,22 +1,22 @@
 -- What stays of a desk whose history goes on, and what a desk has at first.
-use Rattle.std.specs.Prelude.{Result, Ok, Err, OnOk, OnErr, ◌↔◌, IsTrue, drop}
-use Rattle.std.proofs.Common.{◌≡◌, ◌++◌, ◌≤◌, ℕ, List, Option, Some, None, arith, sym, ap, ◌∙◌, subst, length-append}
+use Rattle.std.specs.Prelude.{Result, Ok, Err, OnOk, OnErr}
+use Rattle.std.proofs.Common.{◌≡◌, ◌≤◌, ℕ, List, Option, Some, None, arith, sym, ap, ◌∙◌, subst}
 use Rattle.std.proofs.Math.Logic.{∥∥₁_map}
-use Rattle.std.proofs.lemmas.List.{take-append-le}
 use Rattle.std.specs.declared.snapshot.Snapshot.{Snapshot}
 use Rattle.hs_base.specs.declared.no_memory.NoMemory.{NoMemory}
 use Rattle.rules_code.specs.declared.code.Body.{Body}
 use Rattle.hs_rules.specs.declared.entry.Entry.{Entry}
 use Rattle.job_tickets.specs.declared.tickets.Out.{Out}
 use Rattle.job_tickets.specs.declared.tickets.Tickets.{Tickets}
-use Rattle.job_tickets.specs.Out.{job, is_overtaken, IsIdle}
+use Rattle.job_tickets.specs.Out.{job, IsIdle}
 use Rattle.run_record.specs.declared.record.Record.{Record}
 use Rattle.run_record.specs.Records.{Same}
 use Rattle.run_course.specs.declared.ends.RunEnd.{RunEnd}
 use Rattle.run_course.specs.declared.ends.RunEnd.TheVariants as end
 use Rattle.run_course.specs.Endings.{IsConcluded, IsOpen}
 use Rattle.run_course.specs.Settled.{GoesOn, IsAtRest, KeepsPlan}
-use Rattle.conc_world.specs.Jobs.{Knows, Received}
+use Rattle.conc_world.specs.Jobs.{Knows}
+use Rattle.conc_world.proofs.Knowing.{knows_more}
 
 -- ---- no ending holds where none was set
 pub concluded_open : (ended : Option RunEnd) (r : Record) → IsConcluded ended r → ended ≡ None → IsOpen r
@@ -34,16 +34,6 @@ pub code_alike : (b : Body) (old new : Record) → b ≡ old.of.value → Same o
 code_alike b old new e h = e ∙ sym (ap (λ (z : Snapshot Body). z.value) h.plan.2)
 
 -- ---- what the tickets know of a history that goes on
-pub knows_more : (s : Tickets) (seen : ℕ) (es more : List Entry) → Knows s seen es → Knows s seen (es ++ more)
-knows_more s seen es more k =
-    let within = k.within in
-    let long = length-append es more in
-    record {
-      within = omega (arith, within, long);
-      made = k.made;
-      marked = λ t o out. subst (λ zs. IsTrue (is_overtaken s t) ↔ Received o.thread (drop o.since zs)) (sym (take-append-le seen es more within)) (k.marked t o out);
-    }
-
 pub knows_on : (s : Tickets) (seen : ℕ) (before after : Option RunEnd) (old new : List Entry) → GoesOn before old after new → ∥ Knows s seen old ∥₁ → ∥ Knows s seen new ∥₁
 knows_on s seen before after old new g known = ∥∥₁_map known (λ k. subst (Knows s seen) (sym g.begins) (knows_more s seen old g.more k))
 

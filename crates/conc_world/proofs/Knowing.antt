@@ -140,15 +140,15 @@ fresh_ticket s ticket given next few None e = refl
 fresh_ticket s ticket given next few (Some o) e = let le = few ticket o e in absurd (omega (arith, le, next))
 
 -- ---- a history that goes on
-pub knows_more : (s : Tickets) (seen : ℕ) (es more : List Entry) → ∥ Knows s seen es ∥₁ → ∥ Knows s seen (es ++ more) ∥₁
-knows_more s seen es more known = ∥∥₁_map known (λ k.
+pub knows_more : (s : Tickets) (seen : ℕ) (es more : List Entry) → Knows s seen es → Knows s seen (es ++ more)
+knows_more s seen es more k =
     let within = k.within in
     let long = length-append es more in
     record {
       within = omega (arith, within, long);
       made = k.made;
       marked = λ t o out. subst (λ zs. IsTrue (is_overtaken s t) ↔ Received o.thread (drop o.since zs)) (sym (take-append-le seen es more within)) (k.marked t o out);
-    })
+    }
 
 pub knows_as : (s : Tickets) (seen : ℕ) (es fs : List Entry) → fs ≡ es → ∥ Knows s seen es ∥₁ → ∥ Knows s seen fs ∥₁
 knows_as s seen es fs same known = subst (λ zs. ∥ Knows s seen zs ∥₁) (sym same) known

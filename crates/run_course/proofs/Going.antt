@@ -1,20 +1,18 @@
 -- What calls of the record beside its clock did.
-use Rattle.std.specs.Prelude.{Result, Ok, Err, IfOk, OnOk, OnErr, MatchOption}
-use Rattle.std.proofs.Common.{ℕ, Bool, Option, Some, None, inl, inr, refl}
+use Rattle.std.specs.Prelude.{Result, Ok, Err, IfOk, OnOk, OnErr}
+use Rattle.std.proofs.Common.{ℕ, Bool, inl, inr, refl}
 use Rattle.hs_base.specs.declared.no_memory.NoMemory.{NoMemory}
 use Rattle.hs_rules.specs.declared.entry.Entry.{Entry}
 use Rattle.hs_rules.specs.declared.entry.Entry.TheVariants as entry
-use Rattle.hs_rules.specs.declared.entry.LimitKind.{LimitKind}
 use Rattle.run_record.specs.declared.record.Record.{Record}
 use Rattle.run_record.specs.Records.{Same, Appended}
 use Rattle.clocked_record.specs.Clocks.{Looked}
+use Rattle.clocked_record.proofs.Going as so
 use Rattle.run_course.proofs.Kept.{IsSilent, Went, looked}
 
-pub went_by : (r : Result (Option LimitKind) NoMemory) (A : LimitKind → Type 0) (e : Entry) (old new : Record) → ((kind : LimitKind) → A kind → Same old new) → IsSilent e
-    → IfOk r (λ over. MatchOption over (Appended e old new) A) → OnErr r (Same old new) → Went old new
-went_by (Ok None) A e old new same silent ok err = inr (e, ok, silent)
-went_by (Ok (Some kind)) A e old new same silent ok err = inl (same kind ok)
-went_by (Err x) A e old new same silent ok err = inl err
+pub silently : (e : Entry) (old new : Record) → IsSilent e → so.Went e old new → Went old new
+silently e old new silent (inl h) = inr (e, h, silent)
+silently e old new silent (inr h) = inl h
 
 pub went_look : (r : Result Bool NoMemory) (old new : Record) → IfOk r (λ ticked. Looked ticked old new) → OnErr r (Same old new) → Went old new
 went_look (Ok ticked) old new ok err = looked ticked old new ok

@@ -36,7 +36,7 @@ pub uncaught_ends : (r : Record) → HasFinished false r → EndsAs Uncaught r
 uncaught_ends r h = ∥∥₁_map h (λ k. record { state = k.0; run = k.1; ends = (λ d. one_result _ d k.2, k.2) })
 
 -- ---- main goes on
-act_no_tick : (a : Act) → ¬ IsTick (entry_of a)
+pub act_no_tick : (a : Act) → ¬ IsTick (entry_of a)
 act_no_tick (act.Op t) h = h
 act_no_tick (act.Finish t) h = h
 act_no_tick (act.Local t) h = h

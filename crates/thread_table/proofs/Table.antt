@@ -45,14 +45,6 @@ set_count ths t f (Some th) = length-set ths t (f th)
 pub changed_count : (ths : List Thread) (t : ℕ) (f : Thread → Thread) → length (changed t f ths) ≡ length ths
 changed_count ths t f = set_count ths t f (slice_get ths t)
 
--- two changes that make the same of the one at its number
-alike_at : (ths : List Thread) (t : ℕ) (f g : Thread → Thread) (o : Option Thread) → ((th : Thread) → o ≡ Some th → f th ≡ g th) → set_thread t f o ths ≡ set_thread t g o ths
-alike_at ths t f g None e = refl
-alike_at ths t f g (Some th) e = ap (slice_set ths t) (e th refl)
-
-pub changed_alike : (ths : List Thread) (t : ℕ) (f g : Thread → Thread) → ((th : Thread) → slice_get ths t ≡ Some th → f th ≡ g th) → changed t f ths ≡ changed t g ths
-changed_alike ths t f g e = alike_at ths t f g (slice_get ths t) e
-
 -- ---- what the list stands for
 pub slots_at : (b : Body) (ths : List Thread) (t : ℕ) → slice_get (slots_of b ths) t ≡ option_map (slot_of b) (slice_get ths t)
 slots_at b [] t = refl

@@ -1,7 +1,8 @@
 use Rattle.std.proofs.Common.{arith}
 use Rattle.run_record.specs.Acts.{entry_of}
 use Rattle.run_record.specs.Records.{Same, WouldExceed}
-use Rattle.clocked_record.proofs.Going.{act_no_tick, went_so, went_time, went_kept}
+use Rattle.run_record.proofs.HowItEnds.{act_no_tick}
+use Rattle.clocked_record.proofs.Going.{went_so, went_time, went_kept}
 use Rattle.clocked_record.proofs.clocked.Clocked.act.Goals as goal
 
 pub invariant_of-self : goal.invariant_of-self

@@ -29,5 +29,5 @@ invariant_of-self g c =
       of_code = s.of_code ∙ sym (ap (λ z. z.value) (same_code c.args.slice course.end old new c.accept.result ok err));
       open_still = ∥∥₁_map s.open_still (λ f. open_after c.args.slice course.end old new c.accept.result ok err (f c.requires.none));
       few = s.few;
-      knows = knows_as s.tickets s.seen _ new.history.list more.1 (knows_more s.tickets s.seen old.history.list more.0 s.knows);
+      knows = knows_as s.tickets s.seen _ new.history.list more.1 (∥∥₁_map s.knows (knows_more s.tickets s.seen old.history.list more.0));
     }

@@ -2,7 +2,8 @@ use Rattle.run_record.specs.Records.{Same, WouldExceed}
 use Rattle.hs_rules.specs.declared.entry.Entry.TheVariants as entry
 use Rattle.hs_rules.specs.declared.entry.LimitKind.TheVariants as limit
 use Rattle.std.proofs.Common.{◌≡◌, refl}
-use Rattle.run_course.proofs.Going.{went_by}
+use Rattle.clocked_record.proofs.Going.{went_so}
+use Rattle.run_course.proofs.Going.{silently}
 use Rattle.run_course.proofs.Kept.{ended_none, told_went}
 use Rattle.run_course.proofs.course.Course.append.Goals as goal
 
@@ -12,9 +13,9 @@ invariant_of-self g c =
     let old = s.clocked.«record» in
     let new = c.accept.new.self.«record» in
     let e = entry.Local c.args.slice.tid c.args.slice.steps in
-    let went = went_by c.accept.result (λ kind. (kind ≡ limit.Frames) × Same old new × WouldExceed kind e old) e old new (λ kind h. h.1) (λ x. (refl, refl)) c.accept.ensures.ok c.accept.ensures.err in
+    let went = went_so c.accept.result (λ kind. (kind ≡ limit.Frames) × Same old new × WouldExceed kind e old) e old new (λ kind h. h.1) c.accept.ensures.ok c.accept.ensures.err in
     record {
-      told = told_went old new went s.end c.requires.none _ _ _ _ s.told;
+      told = told_went old new (silently e old new (λ x. (refl, refl)) went) s.end c.requires.none _ _ _ _ s.told;
       out_faults = s.out_faults;
       err_faults = s.err_faults;
       calm = s.calm;
