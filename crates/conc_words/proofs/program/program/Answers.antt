@@ -1,0 +1,35 @@
+use Rattle.std.proofs.Common.{◌≡◌, ◌∙◌, ap, ap₂, codes, true}
+use Rattle.std.proofs.lemmas.Result.{IfOk-weaker}
+use Rattle.clap.specs.Simple.{App, Shape, app_of, app_of_fields, new_app, on_top, with_subcommand}
+use Rattle.conc_words.specs.Program.{alone}
+use Rattle.conc_words.proofs.program.program.Goals as goal
+
+-- each setting, in turn
+abbrev without_name : App → App
+without_name = on_top (λ s. record s { no_binary_name = true })
+
+abbrev without_help : App → App
+without_help = on_top (λ s. record s { disable_help_flag = true })
+
+abbrev without_help_command : App → App
+without_help_command = on_top (λ s. record s { disable_help_subcommand = true })
+
+abbrev with_need : App → App
+with_need = on_top (λ s. record s { subcommand_required = true })
+
+abbrev top_of : App → Shape
+top_of a = a.top
+
+pub returns : goal.returns
+returns c =
+    let named : app_of c.no_binary_name.result ≡ without_name (new_app (codes "conc_run")) =
+    ap app_of_fields c.no_binary_name.ensures ∙ ap without_name c.new.ensures.app in
+    let quiet : app_of c.disable_help_flag.result ≡ without_help (without_name (new_app (codes "conc_run"))) =
+    ap app_of_fields c.disable_help_flag.ensures ∙ ap without_help named in
+    let quieter : app_of c.disable_help_subcommand.result ≡ without_help_command (without_help (without_name (new_app (codes "conc_run")))) =
+    ap app_of_fields c.disable_help_subcommand.ensures ∙ ap without_help_command quiet in
+    let alone_is : app_of c.subcommand_required.result ≡ alone =
+    ap app_of_fields c.subcommand_required.ensures ∙ ap with_need quieter in
+    let with_run = c.in_ok-subcommand.ensures.shape c.in_ok-run.ensures.local ∙ ap₂ with_subcommand alone_is (ap top_of c.in_ok-run.ensures.shape) in
+    let with_check = c.in_ok-subcommand-2.ensures.shape c.check.ensures.local ∙ ap₂ with_subcommand with_run (ap top_of c.check.ensures.shape) in
+    IfOk-weaker c.subcommand-3.result _ _ (λ r h. h.shape c.in_ok-bench.ensures.local ∙ ap₂ with_subcommand with_check (ap top_of c.in_ok-bench.ensures.shape)) c.subcommand-3.ensures

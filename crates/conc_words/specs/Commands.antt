@@ -1,0 +1,84 @@
+-- Which command the words are (own).
+use Rattle.std.specs.Prelude.{◌≡◌, ◌≤◌, ◌⊎◌, ℕ, ◌^◌, ◌&&◌, List, Option, Some, None, codes, false, if◌then◌else◌, nat_lt, option_and_then, option_map}
+use Rattle.std.specs.Str.{bytes_eq}
+use Rattle.std.specs.Str.Parse.{digits_value, without_leading_plus}
+use Rattle.clap.specs.ValueTests.{is_numeral}
+use Rattle.clap.specs.Walk.{Row, Text, first_of, one_of}
+use Rattle.clap.specs.Simple.{subcommand_of}
+use Rattle.clap.specs.Takes.{takes}
+use Rattle.hs_base.specs.declared.clock_choice.ClockChoice.{ClockChoice}
+use Rattle.hs_base.specs.declared.clock_choice.ClockChoice.TheVariants.{Real, Virtual}
+use Rattle.conc_words.specs.declared.command.Command.{Command}
+use Rattle.conc_words.specs.declared.command.Command.TheVariants.{Run, Check, Bench}
+use Rattle.conc_words.specs.declared.command.WordsFault.{WordsFault}
+use Rattle.conc_words.specs.declared.command.WordsFault.TheVariants.{NotUnderstood, NoMemory}
+use Rattle.conc_words.specs.Program.{program}
+
+-- the number of so many bits that the text writes in decimal
+abbrev pub written : ℕ → Text → Option ℕ
+written bits text =
+    let digits = without_leading_plus text in
+    if is_numeral digits && nat_lt (digits_value 10 digits) (2 ^ bits) then Some (digits_value 10 digits) else None
+
+-- the number that an entry has
+abbrev pub number_of : ℕ → Text → List Row → Option ℕ
+number_of bits id rows = option_and_then (written bits) (one_of id rows)
+
+-- the clock that a text names
+abbrev pub named_clock : Text → Option ClockChoice
+named_clock text =
+    if bytes_eq text (codes "real") then Some Real
+    else if bytes_eq text (codes "virtual") then Some Virtual
+    else None
+
+-- the clock that the entries have
+abbrev pub clock_of : List Row → Option ClockChoice
+clock_of rows = option_and_then named_clock (first_of (codes "clock") rows)
+
+-- `run`, by its entries
+abbrev pub run_of : List Row → Option Command
+run_of rows =
+    option_and_then (λ capabilities. option_and_then (λ fuel. option_map (λ clock. Run capabilities fuel clock)
+    (clock_of rows)) (number_of 32 (codes "fuel") rows)) (number_of 8 (codes "caps") rows)
+
+-- `bench`, by its entries
+abbrev pub bench_of : List Row → Option Command
+bench_of rows =
+    option_and_then (λ threads. option_and_then (λ capabilities. option_map (λ fuel. Bench threads capabilities fuel)
+    (number_of 32 (codes "fuel") rows)) (number_of 8 (codes "caps") rows)) (number_of 32 (codes "threads") rows)
+
+-- the command of a subcommand, by its name and its entries
+abbrev pub named : Text × List Row → Option Command
+named sub =
+    if bytes_eq sub.0 (codes "run") then run_of sub.1
+    else if bytes_eq sub.0 (codes "check") then Some Check
+    else if bytes_eq sub.0 (codes "bench") then bench_of sub.1
+    else None
+
+abbrev pub command_in : Option (Text × List Row) → Option Command
+command_in = option_and_then named
+
+-- the command that the words are: the program takes them, and the subcommand that they name says which it is
+abbrev pub command_of : List Text → Option Command
+command_of words = if takes program words then command_in (subcommand_of program words) else None
+
+-- P holds where the words were not understood. Want of memory alone is free
+abbrev pub WhenNotUnderstood : Type 0 → WordsFault → Type 0
+WhenNotUnderstood P NotUnderstood = P
+WhenNotUnderstood P NoMemory = Unit {0}
+
+-- the numbers of a command lie in their ranges
+abbrev pub IsWithin : Command → Type 0
+IsWithin (Run capabilities fuel clock) = (1 ≤ capabilities) × (capabilities ≤ 16) × (1 ≤ fuel) × (fuel ≤ 4000000)
+IsWithin Check = Unit {0}
+IsWithin (Bench threads capabilities fuel) =
+    (1 ≤ threads) × (threads ≤ 4000) × (1 ≤ capabilities) × (capabilities ≤ 16) × (1 ≤ fuel) × (fuel ≤ 4000000)
+
+-- the words give `run` a clock of another name
+abbrev pub NamesOtherClock : List Text → Type 0
+NamesOtherClock words =
+    (rows : List Row) × (subcommand_of program words ≡ Some (codes "run", rows)) × (clock_of rows ≡ None)
+
+-- the words are refused: the program does not take them, or it does, and their clock has another name
+abbrev pub IsRefused : List Text → Type 0
+IsRefused words = (takes program words ≡ false) ⊎ NamesOtherClock words

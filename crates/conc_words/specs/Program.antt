@@ -1,0 +1,66 @@
+-- The command line that the program takes (own): a table, in the words of the crate that reads it.
+--     run      --caps N --fuel N --clock C
+--     check
+--     bench N  --caps N --fuel N
+-- One of the three has to stand. An option that is left out has its default.
+use Rattle.std.specs.Prelude.{ℕ, [], ◌∷◌, Some, codes, pos, true}
+use Rattle.clap.specs.Simple.{App, new_app, new_rule, on_top, with_rule, with_subcommand}
+use Rattle.clap.specs.Walk.{Rule}
+use Rattle.clap.specs.declared.builder.value_parser.ValueParser.{ValueParser}
+use Rattle.clap.specs.declared.builder.value_parser.ValueParser.TheVariants as parser
+
+-- a number from low to high
+abbrev pub from_to : ℕ → ℕ → ValueParser
+from_to low high = parser.Signed (pos low) (pos high)
+
+-- `--caps N`
+abbrev pub capabilities_option : Rule
+capabilities_option = record (new_rule (codes "caps")) {
+  long = Some (codes "caps");
+  parser = Some (from_to 1 16);
+  defaults = codes "1" ∷ [];
+}
+
+-- `--fuel N`
+abbrev pub fuel_option : Rule
+fuel_option = record (new_rule (codes "fuel")) {
+  long = Some (codes "fuel");
+  parser = Some (from_to 1 4000000);
+  defaults = codes "1000000" ∷ [];
+}
+
+-- `--clock C`. Which texts name a clock says `named_clock` in `Commands`
+abbrev pub clock_option : Rule
+clock_option = record (new_rule (codes "clock")) {
+  long = Some (codes "clock");
+  defaults = codes "real" ∷ [];
+}
+
+-- the `N` of `bench`, which has to stand
+abbrev pub threads_place : Rule
+threads_place = record (new_rule (codes "threads")) {
+  parser = Some (from_to 1 4000);
+  required = true;
+}
+
+abbrev pub run : App
+run = with_rule (with_rule (with_rule (new_app (codes "run")) capabilities_option) fuel_option) clock_option
+
+abbrev pub check : App
+check = new_app (codes "check")
+
+abbrev pub bench : App
+bench = with_rule (with_rule (with_rule (new_app (codes "bench")) threads_place) capabilities_option) fuel_option
+
+-- the program before its subcommands: the words begin after its name, it has no help, and a subcommand has to stand
+abbrev pub alone : App
+alone = on_top (λ s. record s {
+  no_binary_name = true;
+  disable_help_flag = true;
+  disable_help_subcommand = true;
+  subcommand_required = true;
+}) (new_app (codes "conc_run"))
+
+-- the program with its subcommands
+abbrev pub program : App
+program = with_subcommand (with_subcommand (with_subcommand alone run.top) check.top) bench.top

@@ -1,0 +1,60 @@
+ghost use Rattle.std.specs.Prelude.{◌≡◌, ◌↔◌, ◌≢◌};
+ghost use Rattle.clap.specs.Words.{kind_of};
+ghost use Rattle.clap.specs.declared.error.kind.ErrorKind.TheVariants.{OutOfMemory};
+ghost use Rattle.conc_words.specs.declared.command.WordsFault.TheVariants.{NoMemory, NotUnderstood};
+
+use clap::error::ErrorKind;
+use hs_base::ClockChoice;
+use std::alloc::AllocError;
+
+/// What the words ask for.
+#[derive(Clone, Copy, Debug, PartialEq, Eq)]
+pub enum Command {
+    /// `run`: checks the script on the source and runs it.
+    Run {
+        /// How many threads may evaluate at a time, 1 to 16.
+        capabilities: u8,
+        /// How many steps the run may take, 1 to 4,000,000.
+        fuel: u32,
+        clock: ClockChoice,
+    },
+    /// `check`: checks the script on the source alone.
+    Check,
+    /// `bench N`: runs a script of the program's own.
+    Bench {
+        /// How many threads the script forks, 1 to 4,000.
+        threads: u32,
+        /// How many threads may evaluate at a time, 1 to 16.
+        capabilities: u8,
+        /// How many steps the run may take, 1 to 4,000,000.
+        fuel: u32,
+    },
+}
+
+/// Why the words gave no command.
+#[derive(Clone, Copy, Debug, PartialEq, Eq)]
+pub enum WordsFault {
+    /// The words are no command.
+    NotUnderstood,
+    /// Want of memory.
+    NoMemory,
+}
+
+impl From<AllocError> for WordsFault {
+    ghost from_gives = { λ _ fault. fault ≡ NoMemory };
+
+    fn from(_: AllocError) -> WordsFault {
+        WordsFault::NoMemory
+    }
+}
+
+impl From<clap::Error> for WordsFault {
+    ghost from_gives = { λ error fault. (fault ≡ NoMemory) ↔ (kind_of error ≡ OutOfMemory) };
+
+    fn from(error: clap::Error) -> WordsFault {
+        match error.kind() {
+            ErrorKind::OutOfMemory => WordsFault::NoMemory,
+            _ => WordsFault::NotUnderstood,
+        }
+    }
+}

@@ -1,0 +1,94 @@
+//! The command line that the program takes.
+ghost use Rattle.std.specs.Prelude.{◌≡◌, IfOk, false};
+ghost use Rattle.clap.specs.Words.{app_of, rule_of};
+ghost use Rattle.clap.specs.declared.builder.command.Command.TheViews.{out-Command as fields_of};
+ghost use Rattle.conc_words.specs.Program.{bench, capabilities_option, check, clock_option, fuel_option, program, run, threads_place};
+
+use clap::{Arg, Command, value_parser};
+use std::alloc::{AllocError, Global};
+
+/// The ids of the arguments, which are the long names of the options too.
+pub(crate) const CAPABILITIES: &str = "caps";
+
+pub(crate) const FUEL: &str = "fuel";
+
+pub(crate) const CLOCK: &str = "clock";
+
+pub(crate) const THREADS: &str = "threads";
+
+fn capabilities_option<'a>(alloc: Global) -> Arg<'a>
+    ensures rule { rule_of result ≡ capabilities_option }
+    ensures local { result.global ≡ false }
+{
+    Arg::new(alloc, CAPABILITIES)
+        .long(CAPABILITIES)
+        .value_parser(value_parser!(u8).range(1..=16))
+        .default_value("1")
+}
+
+fn fuel_option<'a>(alloc: Global) -> Arg<'a>
+    ensures rule { rule_of result ≡ fuel_option }
+    ensures local { result.global ≡ false }
+{
+    Arg::new(alloc, FUEL)
+        .long(FUEL)
+        .value_parser(value_parser!(u32).range(1..=4_000_000))
+        .default_value("1000000")
+}
+
+fn clock_option<'a>(alloc: Global) -> Arg<'a>
+    ensures rule { rule_of result ≡ clock_option }
+    ensures local { result.global ≡ false }
+{
+    Arg::new(alloc, CLOCK).long(CLOCK).default_value("real")
+}
+
+fn threads_place<'a>(alloc: Global) -> Arg<'a>
+    ensures rule { rule_of result ≡ threads_place }
+    ensures local { result.global ≡ false }
+{
+    Arg::new(alloc, THREADS)
+        .value_parser(value_parser!(u32).range(1..=4_000))
+        .required(true)
+}
+
+fn run<'a>(alloc: Global) -> Result<Command<'a>, AllocError>
+    ensures shape { IfOk result (λ c. app_of c ≡ run) }
+    ensures local { IfOk result (λ c. (fields_of c).has_globals ≡ false) }
+{
+    Command::new(alloc, "run")
+        .arg(capabilities_option(alloc))?
+        .arg(fuel_option(alloc))?
+        .arg(clock_option(alloc))
+}
+
+fn check<'a>(alloc: Global) -> Command<'a>
+    ensures shape { app_of result ≡ check }
+    ensures local { (fields_of result).has_globals ≡ false }
+{
+    Command::new(alloc, "check")
+}
+
+fn bench<'a>(alloc: Global) -> Result<Command<'a>, AllocError>
+    ensures shape { IfOk result (λ c. app_of c ≡ bench) }
+    ensures local { IfOk result (λ c. (fields_of c).has_globals ≡ false) }
+{
+    Command::new(alloc, "bench")
+        .arg(threads_place(alloc))?
+        .arg(capabilities_option(alloc))?
+        .arg(fuel_option(alloc))
+}
+
+/// The program, which takes the words after its name and one of its subcommands among them.
+pub(crate) fn program<'a>(alloc: Global) -> Result<Command<'a>, AllocError>
+    ensures { IfOk result (λ c. app_of c ≡ program) }
+{
+    Command::new(alloc, "conc_run")
+        .no_binary_name(true)
+        .disable_help_flag(true)
+        .disable_help_subcommand(true)
+        .subcommand_required(true)
+        .subcommand(run(alloc)?)?
+        .subcommand(check(alloc))?
+        .subcommand(bench(alloc)?)
+}

@@ -1,0 +1,97 @@
+ghost use Rattle.std.specs.Prelude.{◌≡◌, IfErr, IfOk, MatchResult, None, Some, codes, false, map, string_bytes, true};
+ghost use Rattle.clap.specs.Words.{found_of, rows_of, subcommand_of, subcommand_rows_of, takes};
+ghost use Rattle.conc_words.specs.Program.{program};
+ghost use Rattle.conc_words.specs.Commands.{IsRefused, IsWithin, bench_of, command_in, command_of, number_of, run_of, WhenNotUnderstood, clock_of};
+
+use crate::program::{CAPABILITIES, CLOCK, FUEL, THREADS, program};
+use crate::{Command, WordsFault};
+use clap::ArgMatches;
+use hs_base::ClockChoice;
+use std::alloc::Global;
+
+/// Reads the words after the program's name.
+///
+/// Words that ask for help or for a version are no command.
+pub fn read_words(alloc: Global, words: &[String]) -> Result<Command, WordsFault>
+    // The command that the words are. Want of memory alone is free.
+    ensures exact { MatchResult result
+        (λ c. command_of (map (λ word. string_bytes word) words.now) ≡ Some c)
+        (WhenNotUnderstood (command_of (map (λ word. string_bytes word) words.now) ≡ None)) }
+
+    // Its numbers lie in the ranges of the program, so that no reading of a number is refused.
+    ensures within { IfOk result IsWithin }
+    ensures refused { IfErr result (WhenNotUnderstood (IsRefused (map (λ word. string_bytes word) words.now))) }
+{
+    let matches = matches_of(alloc, words)?;
+    command_in(&matches).ok_or(WordsFault::NotUnderstood)
+}
+
+fn matches_of<'a>(alloc: Global, words: &'a [String]) -> Result<ArgMatches<'a>, WordsFault>
+    ensures { MatchResult result
+        (λ m. (takes program (map (λ word. string_bytes word) words.entry.now) ≡ true) × (subcommand_rows_of m ≡ subcommand_of program (map (λ word. string_bytes word) words.entry.now)))
+        (WhenNotUnderstood (takes program (map (λ word. string_bytes word) words.entry.now) ≡ false)) }
+{
+    let command = program(alloc)?;
+    Ok(command.try_get_matches_from(words)?)
+}
+
+// The command that the matches of a subcommand say.
+fn command_in(matches: &ArgMatches<'_>) -> Option<Command>
+    ensures { result ≡ command_in (subcommand_rows_of matches.now) }
+{
+    let (name, entries) = matches.subcommand()?;
+    match name {
+        "run" => run_in(entries),
+        "check" => Some(Command::Check),
+        "bench" => bench_in(entries),
+        _ => None,
+    }
+}
+
+fn run_in(entries: &ArgMatches<'_>) -> Option<Command>
+    ensures { result ≡ run_of (rows_of (found_of entries.now)) }
+{
+    Some(Command::Run {
+        capabilities: capabilities_in(entries)?,
+        fuel: fuel_in(entries)?,
+        clock: clock_in(entries)?,
+    })
+}
+
+fn bench_in(entries: &ArgMatches<'_>) -> Option<Command>
+    ensures { result ≡ bench_of (rows_of (found_of entries.now)) }
+{
+    Some(Command::Bench {
+        threads: threads_in(entries)?,
+        capabilities: capabilities_in(entries)?,
+        fuel: fuel_in(entries)?,
+    })
+}
+
+fn capabilities_in(entries: &ArgMatches<'_>) -> Option<u8>
+    ensures { result ≡ number_of 8 (codes "caps") (rows_of (found_of entries.now)) }
+{
+    entries.get_one(CAPABILITIES)
+}
+
+fn fuel_in(entries: &ArgMatches<'_>) -> Option<u32>
+    ensures { result ≡ number_of 32 (codes "fuel") (rows_of (found_of entries.now)) }
+{
+    entries.get_one(FUEL)
+}
+
+fn threads_in(entries: &ArgMatches<'_>) -> Option<u32>
+    ensures { result ≡ number_of 32 (codes "threads") (rows_of (found_of entries.now)) }
+{
+    entries.get_one(THREADS)
+}
+
+fn clock_in(entries: &ArgMatches<'_>) -> Option<ClockChoice>
+    ensures { result ≡ clock_of (rows_of (found_of entries.now)) }
+{
+    match entries.get_str(CLOCK)? {
+        "real" => Some(ClockChoice::Real),
+        "virtual" => Some(ClockChoice::Virtual),
+        _ => None,
+    }
+}
