@@ -1,1 +1,2 @@
-pub mod Stages
+mod Stages
+pub mod Verdicts

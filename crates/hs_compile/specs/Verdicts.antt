@@ -17,7 +17,7 @@ use Rattle.hs_types.specs.Faults as types
 use Rattle.hs_typing.specs.declared.fault.TypeFault.{TypeFault}
 use Rattle.hs_typing.specs.declared.fault.TypeFault.TheVariants as fault
 use Rattle.hs_compile.specs.declared.refusal.Refusal.{Refusal}
-use Rattle.hs_compile.specs.declared.refusal.Refusal.TheVariants.{TooLong, Lex, Parse, Types, NotYet}
+use Rattle.hs_compile.specs.declared.refusal.Refusal.TheVariants.{TooLong, Lex, Parse, Types}
 use Rattle.hs_compile.specs.declared.refusal.CompileFault.{CompileFault}
 use Rattle.hs_compile.specs.declared.refusal.CompileFault.TheVariants.{Refused, NoMemory}
 
@@ -69,7 +69,6 @@ IsRefused TooLong bytes = script_limit < length bytes
 IsRefused (Lex fault) bytes = (length bytes ≤ script_limit) × IsFirstFault fault bytes
 IsRefused (Parse fault) bytes = (length bytes ≤ script_limit) × IsMisspelled fault bytes
 IsRefused (Types f) bytes = IsMistyped f bytes
-IsRefused NotYet bytes = ⊥
 
 -- why there is no accepted script; memory may be refused for any bytes
 abbrev pub Denied : List ℕ → CompileFault → Type 0
@@ -82,5 +81,4 @@ Misspelled bytes (Refused TooLong) = IsRefused TooLong bytes
 Misspelled bytes (Refused (Lex fault)) = IsRefused (Lex fault) bytes
 Misspelled bytes (Refused (Parse fault)) = IsRefused (Parse fault) bytes
 Misspelled bytes (Refused (Types f)) = ⊥
-Misspelled bytes (Refused NotYet) = ⊥
 Misspelled bytes NoMemory = ⊤

@@ -7,7 +7,9 @@
 #![tactic(auto)]
 
 mod compiling;
+mod laws;
 mod refusal;
 
 pub use compiling::{accept, compile};
+pub use laws::one_verdict;
 pub use refusal::{CompileFault, Refusal};

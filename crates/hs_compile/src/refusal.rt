@@ -13,8 +13,6 @@ pub enum Refusal {
     Parse(ParseFault),
     /// The script breaks a typing rule.
     Types(TypeFault),
-    /// An accepted script that can't be run yet. Neither `accept` nor `compile` answers it.
-    NotYet,
 }
 
 /// Why there is no code.
