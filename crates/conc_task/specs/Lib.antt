@@ -1,0 +1,4 @@
+pub mod Commands
+pub mod Inputs
+pub mod Stops
+pub mod Tasks

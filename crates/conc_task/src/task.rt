@@ -1,0 +1,169 @@
+ghost use Rattle.std.specs.Prelude.{◌≡◌, ◌≤◌, IfOk, MatchResult, Some, map, string_bytes};
+ghost use Rattle.std.specs.Io.KnownBytes.{Consumes};
+ghost use Rattle.hs_io.specs.Causes.{Rose};
+ghost use Rattle.rules_code.specs.Codes.{body_of};
+ghost use Rattle.hs_compile.specs.Verdicts.{IsAccepted};
+ghost use Rattle.conc_gen.specs.Ring.{ring_text};
+ghost use Rattle.conc_words.specs.Commands.{command_of, IsWithin};
+ghost use Rattle.conc_task.specs.Commands.{ReadsSource};
+ghost use Rattle.conc_task.specs.Inputs.{HadScript, HadSome, IsScript, IsWhole};
+ghost use Rattle.conc_task.specs.Stops.{Counted, HadNone, HasNone, IsDenied, IsUnclear, stop_of};
+ghost use Rattle.conc_task.specs.Tasks.{HasFuel, HasTask};
+
+use crate::input::{Input, read_input};
+use crate::stop::Stop;
+use conc_gen::ring;
+use conc_words::{Command, WordsFault, read_words};
+use hs_base::ClockChoice;
+use hs_compile::{CompileFault, accept, compile};
+use hs_io::Source;
+use rules_code::Code;
+use std::alloc::Global;
+
+/// A script to run, and what it runs with.
+#[derive(Drop)]
+pub struct Program {
+    pub code: Code,
+    /// How many steps the run may take, 1 to 4,000,000.
+    pub fuel: u32,
+    pub clock: ClockChoice,
+}
+
+/// What is left to do once the words and the input are read.
+#[derive(Drop)]
+pub enum Task {
+    /// To run a script.
+    Run(Program),
+    /// To say that the script is accepted.
+    Accept,
+}
+
+/// What the words after the program's name ask for.
+///
+/// `run` and `check` read the source to its end, or to the first byte that no script has; no other words read it. Want of memory
+/// is free.
+pub fn task_of<S: Source>(alloc: Global, words: &[String], source: &mut S) -> Result<Task, Stop>
+    ensures comes { MatchResult result
+        (HasTask (command_of (map (λ word. string_bytes word) words.now)) (S.left source.old) (S.left source.new))
+        (HasNone (command_of (map (λ word. string_bytes word) words.now)) (Rose (S.faults source.old) (S.faults source.new)) (S.left source.old) (S.left source.new)) }
+
+    // There is fuel for what is run, and not too much.
+    ensures fuel { IfOk result HasFuel }
+
+    // A failed read is told, and nothing else raises the source's count of faults.
+    ensures counts { MatchResult result (λ task. S.faults source.new ≡ S.faults source.old) (λ stop. Counted stop (S.faults source.old) (S.faults source.new)) }
+    ensures unread { ¬ ReadsSource (command_of (map (λ word. string_bytes word) words.now)) → source.new ≡ source.old }
+{
+    match understood(alloc, words)? {
+        Command::Run {
+            capabilities: _,
+            fuel,
+            clock,
+        } => {
+            let code = read_code(alloc, source)?;
+            Ok(Task::Run(Program { code, fuel, clock }))
+        }
+        Command::Check => {
+            read_checked(alloc, source)?;
+            Ok(Task::Accept)
+        }
+        Command::Bench {
+            threads,
+            capabilities: _,
+            fuel,
+        } => {
+            let code = ring_code(alloc, threads)?;
+            let clock = ClockChoice::Virtual;
+            Ok(Task::Run(Program { code, fuel, clock }))
+        }
+    }
+}
+
+// The command that the words are.
+fn understood(alloc: Global, words: &[String]) -> Result<Command, Stop>
+    ensures exact { MatchResult result
+        (λ c. command_of (map (λ word. string_bytes word) words.now) ≡ Some c)
+        (IsUnclear (command_of (map (λ word. string_bytes word) words.now))) }
+    ensures within { IfOk result IsWithin }
+{
+    match read_words(alloc, words) {
+        Ok(command) => Ok(command),
+        Err(WordsFault::NotUnderstood) => Err(Stop::Words),
+        Err(WordsFault::NoMemory) => Err(Stop::Memory),
+    }
+}
+
+// The code of the script that the source has.
+fn read_code<S: Source>(alloc: Global, source: &mut S) -> Result<Code, Stop>
+    ensures comes { MatchResult result (λ code. HadScript (S.left source.old) (S.left source.new) (body_of code).of.value)
+        (HadNone (Rose (S.faults source.old) (S.faults source.new)) (S.left source.old) (S.left source.new)) }
+    ensures counts { MatchResult result (λ code. S.faults source.new ≡ S.faults source.old) (λ stop. Counted stop (S.faults source.old) (S.faults source.new)) }
+{
+    let bytes = read_bytes(alloc, source)?;
+    code_of(alloc, &bytes)
+}
+
+// Whether the source has an accepted script.
+fn read_checked<S: Source>(alloc: Global, source: &mut S) -> Result<(), Stop>
+    ensures comes { MatchResult result (λ done. HadSome (S.left source.old) (S.left source.new))
+        (HadNone (Rose (S.faults source.old) (S.faults source.new)) (S.left source.old) (S.left source.new)) }
+    ensures counts { MatchResult result (λ done. S.faults source.new ≡ S.faults source.old) (λ stop. Counted stop (S.faults source.old) (S.faults source.new)) }
+{
+    let bytes = read_bytes(alloc, source)?;
+    check_of(alloc, &bytes)
+}
+
+// All that the source has left, or the first bytes where there are more than a script may have.
+fn read_bytes<S: Source>(alloc: Global, source: &mut S) -> Result<Vec<u8>, Stop>
+    ensures read { MatchResult result (λ bytes. Consumes (S.left source.old) (S.left source.new) bytes.items × IsWhole bytes.items (S.left source.new))
+        (HadNone (Rose (S.faults source.old) (S.faults source.new)) (S.left source.old) (S.left source.new)) }
+    ensures counts { MatchResult result (λ bytes. S.faults source.new ≡ S.faults source.old) (λ stop. Counted stop (S.faults source.old) (S.faults source.new)) }
+{
+    match read_input(alloc, source) {
+        Input::Bytes(bytes) => Ok(bytes),
+        Input::Fault => Err(Stop::Read),
+        Input::NoMemory => Err(Stop::Memory),
+    }
+}
+
+// The code of the ring of so many threads.
+fn ring_code(alloc: Global, threads: u32) -> Result<Code, Stop>
+    requires some { 1 ≤ threads }
+    requires few { threads ≤ 4000 }
+    ensures { MatchResult result (λ code. IsAccepted (ring_text threads) (body_of code).of.value) (IsDenied (ring_text threads)) }
+{
+    match ring(alloc, threads) {
+        Ok(text) => code_of(alloc, text.as_str().as_bytes()),
+        Err(_) => Err(Stop::Memory),
+    }
+}
+
+// The code of the script that these bytes are.
+fn code_of(alloc: Global, bytes: &[u8]) -> Result<Code, Stop>
+    ensures { MatchResult result (λ code. IsAccepted bytes.now (body_of code).of.value) (IsDenied bytes.now) }
+{
+    match compile(alloc, bytes) {
+        Ok(code) => Ok(code),
+        Err(fault) => Err(stop_of(fault)),
+    }
+}
+
+// Whether these bytes are an accepted script.
+fn check_of(alloc: Global, bytes: &[u8]) -> Result<(), Stop>
+    ensures { MatchResult result (λ done. IsScript bytes.now) (IsDenied bytes.now) }
+{
+    match accept(alloc, bytes) {
+        Ok(_) => Ok(()),
+        Err(fault) => Err(stop_of(fault)),
+    }
+}
+
+// Why there is no script, where the front has none.
+fn stop_of(fault: CompileFault) -> Stop
+    ensures { result ≡ stop_of fault }
+{
+    match fault {
+        CompileFault::Refused(refusal) => Stop::Refused(refusal),
+        CompileFault::NoMemory => Stop::Memory,
+    }
+}
