@@ -2,7 +2,7 @@
 #![tactic(auto)]
 
 use conc_top::run;
-use hs_io::{OpenGate, StdSink, StdSource, VirtualClock};
+use hs_io::{HostClock, OpenGate, StdSink, StdSource};
 use std::alloc::AllocError;
 use std::env;
 use std::io::ErrorKind;
@@ -17,7 +17,7 @@ fn main(rt: HostRuntime) -> ExitCode {
     let mut source = StdSource::new(rt.stdin());
     let out = StdSink::new(rt.stdout());
     let err = StdSink::new(rt.stderr());
-    let clock = VirtualClock::new();
+    let clock = HostClock::new(&rt);
     let done = run(rt.alloc(), &words, &mut source, out, err, clock, &OpenGate);
     ExitCode::from(done.status)
 }

@@ -1,4 +1,3 @@
-pub mod PlainTrees
-pub mod Answered
-pub mod PlainRuns
-pub mod Taking
+mod Telling
+mod Playing
+mod Complete

@@ -1,162 +1,135 @@
--- What the top call answers, when, and what it tells (own).
-use Rattle.std.specs.Prelude.{◌≡◌, ◌⊎◌, ◌≤◌, ◌+◌, ℕ, List, [], ◌∷◌, take, drop, Option, Some, None, IfSome, codes, ⊤}
+-- What a call of the top call keeps and tells (own).
+use Rattle.std.specs.Prelude.{◌≡◌, ◌≢◌, ◌⊎◌, ◌≤◌, ◌++◌, ℕ, Bool, true, false, List, [], take, Option, Some, IfSome, ⊤}
 use Rattle.std.specs.Io.KnownBytes.{Appends}
+use Rattle.hs_base.specs.declared.clock_choice.ClockChoice.{ClockChoice}
+use Rattle.hs_base.specs.declared.limits.Limits.{Limits}
+use Rattle.hs_base.specs.declared.tree.script.Script.{Script}
 use Rattle.hs_io.specs.Causes.{Rose}
 use Rattle.hs_rules.specs.declared.entry.Entry.{Entry}
-use Rattle.hs_base.specs.declared.tree.script.Script.{Script}
-use Rattle.rules_trees.specs.Programs.{Fn, script_of}
-use Rattle.conc_top.specs.PlainScripts.{PlainScript}
 use Rattle.hs_rules.specs.State.{State}
-use Rattle.hs_rules.specs.Runs.{IsRun}
-use Rattle.hs_rules.specs.Endings.{IsDone}
-use Rattle.conc_top.specs.declared.ending.RunEnd.{RunEnd}
-use Rattle.conc_top.specs.declared.ending.RunEnd.TheVariants as end
-use Rattle.hs_compile.specs.Verdicts as verdict
-use Rattle.hs_compile.specs.Verdicts.{script_limit, IsAccepted}
-use Rattle.hs_compile.specs.declared.refusal.Refusal.{Refusal}
-use Rattle.hs_compile.specs.declared.refusal.Refusal.TheVariants.{TooLong, Lex, Parse, Types, NotYet}
+use Rattle.hs_rules.specs.Histories.{steps_of}
+use Rattle.hs_rules.specs.Runs.{IsRun, out, err}
+use Rattle.rules_trees.specs.Programs.{Fn, script_of}
+use Rattle.hs_laws.specs.BracketLaw.{Brackets}
+use Rattle.hs_laws.specs.BracketPhases.{BracketsKept}
+use Rattle.hs_laws.specs.CellLaw.{CellsKept}
+use Rattle.hs_laws.specs.MaskLaw.{MasksKept}
+use Rattle.hs_laws.specs.HistoryEndings.{StaysWithin}
+use Rattle.clocked_record.specs.Clocks.{TicksKept}
+use Rattle.run_course.specs.declared.ends.RunEnd.{RunEnd}
+use Rattle.run_course.specs.Told.{AppendsPart, IsCutOff, is_write}
+use Rattle.run_course.specs.Endings.{EndedBy}
+use Rattle.conc_world.specs.Runs.{Shown}
+use Rattle.conc_words.specs.declared.command.Command.{Command}
+use Rattle.hs_compile.specs.Verdicts.{IsAccepted}
+use Rattle.conc_task.specs.Commands.{IsInput, ReadsSource, RunsWith}
 use Rattle.conc_top.specs.declared.ending.Ending.{Ending}
 use Rattle.conc_top.specs.declared.ending.Ending.TheVariants.{Ran, Accepted, Words, Refused, Read, Memory, Write}
+use Rattle.conc_top.specs.Causes.{HasFault, IsDue, IsReadThrough}
+use Rattle.conc_top.specs.Lines.{accepted_line, HasPlace, line_of, run_line}
 
--- The only good words are the one word `run`.
-abbrev pub AreGood : List (List ℕ) → Type 0
-AreGood words = words ≡ codes "run" ∷ []
+-- the limits of a run: threads and cells ever made, frames over all unfinished threads, bytes of output and error output
+abbrev pub limits : Limits
+limits = record { threads = 65536; cells = 262144; frames = 200000; output = 8388608 }
 
--- These bytes are a plain script with these lines.
-abbrev pub HasLines : List ℕ → List (List ℕ) → Type 0
-HasLines bytes lines = (s : Script) × IsAccepted bytes s × PlainScript (script_of s) lines
+-- the laws of every history hold of this one, which leaves this state; among them that each bracket of a finished thread was
+-- released exactly once
+pub record KeepsLaws (ds : List Fn) (es : List Entry) (s : State) : Type 0 where
+  pub released : Brackets s
+  pub brackets : BracketsKept ds es
+  pub cells : CellsKept ds es
+  pub masks : MasksKept ds es
 
--- These bytes are this script, which can be run: an accepted and plain one.
-abbrev pub IsScript : List ℕ → List Fn → Type 0
-IsScript bytes ds = (s : Script) × IsAccepted bytes s × (ds ≡ script_of s) × (lines : List (List ℕ)) × PlainScript ds lines
+-- What a run told: all that it printed, and then the line of its ending; where the put of that line failed, a part of the line,
+-- and the answer is Write. A run that ended by a failed put told what all but its last entry print, and a part of what that one
+-- prints.
+abbrev pub TellsBy : Bool → RunEnd → (given : Ending) → List Fn → List Entry → (lent now : Shown) → Type 0
+TellsBy true r given ds es lent now = (given ≡ Ran r) × IsCutOff ds es lent.output now.output lent.errors now.errors
+TellsBy false r given ds es lent now = Appends lent.output now.output (out ds es)
+    × (((given ≡ Ran r) × Appends lent.errors now.errors (err ds es ++ run_line r))
+    ⊎ ((given ≡ Write) × AppendsPart lent.errors now.errors (err ds es) (err ds es ++ run_line r) × (run_line r ≢ []) × Rose lent.err_faults now.err_faults))
 
--- ---- when each answer comes
-
--- the bytes are an accepted script, and no plain one
-abbrev pub IsNotYet : List ℕ → Type 0
-IsNotYet bytes = (s : Script) × IsAccepted bytes s × ((lines : List (List ℕ)) → PlainScript (script_of s) lines → ⊥)
-
--- the cause of a refusal
-abbrev pub IsRefused : Refusal → List ℕ → Type 0
-IsRefused NotYet bytes = IsNotYet bytes
-IsRefused TooLong bytes = verdict.IsRefused TooLong bytes
-IsRefused (Lex fault) bytes = verdict.IsRefused (Lex fault) bytes
-IsRefused (Parse fault) bytes = verdict.IsRefused (Parse fault) bytes
-IsRefused (Types fault) bytes = verdict.IsRefused (Types fault) bytes
-
--- what a run has ended with; a plain script always ends by a value
-abbrev pub MayEnd : RunEnd → List ℕ → Type 0
-MayEnd end.Done bytes = (lines : List (List ℕ)) × HasLines bytes lines
-MayEnd end.Uncaught bytes = ⊥
-MayEnd end.Deadlock bytes = ⊥
-MayEnd end.Fuel bytes = ⊥
-MayEnd end.Memory bytes = ⊥
-MayEnd end.Write bytes = ⊥
-MayEnd (end.Limit kind entry) bytes = ⊥
-
--- These are the bytes that a source had left, where it tells them.
-abbrev pub IsLeft : Option (List ℕ) → List ℕ → Type 0
-IsLeft None bytes = ⊤
-IsLeft (Some known) bytes = known ≡ bytes
-
--- The cause of each answer, by whether the words are good, the bytes of the input, and the causes of a read fault and of
--- a write fault. Want of memory is free.
-abbrev pub IsDue : (good : Type 0) (bytes : List ℕ) (read_fault write_fault : Type 0) → Ending → Type 0
-IsDue good bytes read_fault write_fault Words = ¬ good
-IsDue good bytes read_fault write_fault Read = good × read_fault
-IsDue good bytes read_fault write_fault (Refused r) = good × IsRefused r bytes
-IsDue good bytes read_fault write_fault (Ran r) = good × MayEnd r bytes
-IsDue good bytes read_fault write_fault Memory = good
-IsDue good bytes read_fault write_fault Write = write_fault
-IsDue good bytes read_fault write_fault Accepted = ⊥
-
--- the answers of a call in which a read failed
-abbrev pub IsFaulty : Ending → Type 0
-IsFaulty Read = ⊤
-IsFaulty Memory = ⊤
-IsFaulty Write = ⊤
-IsFaulty (Ran r) = ⊥
-IsFaulty (Refused r) = ⊥
-IsFaulty Accepted = ⊥
-IsFaulty Words = ⊥
-
--- ---- what is kept and told
-
--- This history is a run of the script that these bytes are, from its first state to its end. It printed this output and
--- this error output, and its clock never passed the last reading.
-pub record RunsScript (bytes : List ℕ) (history : List Entry) (output errors : List ℕ) (last : ℕ) : Type 0 where
-  pub script : List Fn
-  pub spelled : IsScript bytes script
+-- This history is a run of the script that these bytes are, from its first state to its ending, which came for its cause. Its
+-- clock never passed the last reading of the clock that was handed in.
+pub record RunsScript (fuel : ℕ) (bytes : List ℕ) (r : RunEnd) (given : Ending) (es : List Entry) (lent now : Shown) : Type 0 where
+  pub script : Script
+  pub accepted : IsAccepted bytes script
   pub state : State
-  pub run : IsRun script history state
-  pub done : IsDone state
-  pub output_is : output ≡ state.output
-  pub errors_is : errors ≡ state.errors
-  pub clock : state.clock ≤ last
+  pub run : IsRun (script_of script) es state
+  pub clock : state.clock ≤ now.last
+  pub within : steps_of es ≤ fuel
+  pub limited : StaysWithin limits (script_of script) es
+  pub laws : KeepsLaws (script_of script) es state
+  pub ticks : TicksKept (script_of script) es lent.early now.early
+  pub ended : ∥ EndedBy (Some r) (script_of script) es fuel limits lent.out_faults lent.err_faults now.out_faults now.err_faults ∥₁
+  pub told : TellsBy (is_write (Some r)) r given (script_of script) es lent now
 
--- no entry, no output and no error output
-pub record IsIdle (history : List Entry) (output errors : List ℕ) : Type 0 where
-  pub no_entry : history ≡ []
-  pub no_output : output ≡ []
-  pub no_errors : errors ≡ []
+-- A line was put on a sink: whole, or a part of it where the put failed, and the answer is Write then.
+abbrev pub TellsLine : List ℕ → (came given : Ending) → (told told_now : Option (List ℕ)) → (faults faults_now : ℕ) → Type 0
+TellsLine line came given told told_now faults faults_now = ((given ≡ came) × Appends told told_now line × (faults_now ≡ faults))
+    ⊎ ((given ≡ Write) × ((n : ℕ) × Appends told told_now (take n line)) × (line ≢ []) × Rose faults faults_now × (faults ≤ faults_now))
 
--- what the answer keeps and has to tell: a run, or nothing
-abbrev pub Keeps : List ℕ → Ending → List Entry → (output errors : List ℕ) → ℕ → Type 0
-Keeps bytes (Ran r) history output errors last = RunsScript bytes history output errors last
-Keeps bytes Accepted history output errors last = IsIdle history output errors
-Keeps bytes Words history output errors last = IsIdle history output errors
-Keeps bytes (Refused r) history output errors last = IsIdle history output errors
-Keeps bytes Read history output errors last = IsIdle history output errors
-Keeps bytes Memory history output errors last = IsIdle history output errors
-Keeps bytes Write history output errors last = IsIdle history output errors
+-- the line of an answer was put, where want of memory stands in the place of an answer whose line has a place in it
+abbrev pub TellsAnswer : (came given : Ending) → (told told_now : Option (List ℕ)) → (faults faults_now : ℕ) → Type 0
+TellsAnswer came given told told_now faults faults_now = TellsLine (line_of came) came given told told_now faults faults_now
+    ⊎ (HasPlace came × TellsLine (line_of Memory) Memory given told told_now faults faults_now)
 
--- at most one byte more than a script may have was taken from the source
-abbrev pub TookFew : (before now : Option (List ℕ)) → Type 0
-TookFew before now = IfSome before (λ bytes. (n : ℕ) × (n ≤ script_limit + 1) × (now ≡ Some (drop n bytes)))
+-- Nothing ran: the line of the answer was put on the error sink, and the clock waited for nothing.
+pub record IsIdle (came given : Ending) (es : List Entry) (lent now : Shown) : Type 0 where
+  pub no_entry : es ≡ []
+  pub no_output : (now.output ≡ lent.output) × (now.out_faults ≡ lent.out_faults)
+  pub no_wait : now.early ≡ lent.early
+  pub told : TellsLine (line_of came) came given lent.errors now.errors lent.err_faults now.err_faults
 
--- The source was read to its end, or to the first byte past the limit, before a script was refused or run.
-abbrev pub IsReadThrough : Ending → (before now : Option (List ℕ)) → Type 0
-IsReadThrough (Ran r) before now = IfSome before (λ bytes. now ≡ Some (drop (script_limit + 1) bytes))
-IsReadThrough (Refused r) before now = IfSome before (λ bytes. now ≡ Some (drop (script_limit + 1) bytes))
-IsReadThrough Accepted before now = ⊤
-IsReadThrough Words before now = ⊤
-IsReadThrough Read before now = TookFew before now
-IsReadThrough Memory before now = TookFew before now
-IsReadThrough Write before now = ⊤
+-- The script is accepted and nothing ran: `accepted` was put on the output sink, and the clock waited for nothing.
+pub record IsChecked (given : Ending) (es : List Entry) (lent now : Shown) : Type 0 where
+  pub no_entry : es ≡ []
+  pub no_errors : (now.errors ≡ lent.errors) × (now.err_faults ≡ lent.err_faults)
+  pub no_wait : now.early ≡ lent.early
+  pub told : TellsLine accepted_line Accepted given lent.output now.output lent.out_faults now.out_faults
 
--- What a call came to, before it told anything: one answer that is due, and what it kept. A write fault is none.
-pub record Comes (good read_fault : Type 0) (before now : Option (List ℕ)) (came : Ending) (history : List Entry) (output errors : List ℕ) (last : ℕ) : Type 0 where
+-- what the answer keeps and tells: a run by the clock of the command, or a line
+abbrev pub Keeps : Option Command → List ℕ → (choice : Option ClockChoice) → (came given : Ending) → List Entry → (lent now : Shown) → Type 0
+Keeps command bytes choice (Ran r) given es lent now =
+    (fuel : ℕ) × (clock : ClockChoice) × RunsWith command fuel clock × (choice ≡ Some clock) × RunsScript fuel bytes r given es lent now
+Keeps command bytes choice Accepted given es lent now = IsChecked given es lent now
+Keeps command bytes choice Words given es lent now = IsIdle Words given es lent now
+Keeps command bytes choice (Refused r) given es lent now = IsIdle (Refused r) given es lent now
+Keeps command bytes choice Read given es lent now = IsIdle Read given es lent now
+Keeps command bytes choice Memory given es lent now = IsIdle Memory given es lent now
+Keeps command bytes choice Write given es lent now = ⊥
+
+-- some put failed
+abbrev pub WriteFault : (lent now : Shown) → Type 0
+WriteFault lent now = Rose lent.out_faults now.out_faults ⊎ Rose lent.err_faults now.err_faults
+
+-- What is kept and told where a script is to run: its run, or want of memory before it began.
+abbrev pub Plays : (fuel : ℕ) → List ℕ → (given : Ending) → List Entry → (lent now : Shown) → Type 0
+Plays fuel bytes given es lent now = IsIdle Memory given es lent now
+    ⊎ ((r : RunEnd) × HasFault r (WriteFault lent now) × RunsScript fuel bytes r given es lent now)
+
+-- the answers of a call that has a script to run, and the cause of each
+abbrev pub IsPlayed : (write_fault : Type 0) → Ending → Type 0
+IsPlayed write_fault (Ran r) = HasFault r write_fault
+IsPlayed write_fault Memory = ⊤
+IsPlayed write_fault Write = write_fault
+IsPlayed write_fault (Refused r) = ⊥
+IsPlayed write_fault Accepted = ⊥
+IsPlayed write_fault Words = ⊥
+IsPlayed write_fault Read = ⊥
+
+-- What a call came to, one answer that is due, and what it kept and told; where the put of its line failed, Write stands in the
+-- answer's place.
+pub record Call (command : Option Command) (read_fault read_rose : Type 0) (before left_now : Option (List ℕ)) (choice : Option ClockChoice) (given : Ending) (es : List Entry) (lent now : Shown) : Type 0 where
   -- the bytes of the input
   pub bytes : List ℕ
-  pub left : IsLeft before bytes
-  pub due : IsDue good bytes read_fault ⊥ came
-  pub kept : Keeps bytes came history output errors last
-  pub through : IsReadThrough came before now
-
--- the first bytes of the piece were told, as many as it may be
-abbrev pub AppendsPart : Option (List ℕ) → Option (List ℕ) → List ℕ → Type 0
-AppendsPart old new piece = (n : ℕ) × Appends old new (take n piece)
-
--- A put of the output failed, and nothing more was put.
-pub record OutputFailed {O E : Type 0} (told : O → Option (List ℕ)) (faults : O → ℕ) (output : List ℕ) (out out_now : O) (err err_now : E) : Type 0 where
-  pub cut : AppendsPart (told out) (told out_now) output
-  pub rose : Rose (faults out) (faults out_now)
-  pub no_more : err_now ≡ err
-
--- The output was told whole, and then a put of what goes to the error sink failed.
-pub record ErrorsFailed {O E : Type 0} (out_told : O → Option (List ℕ)) (told : E → Option (List ℕ)) (faults : E → ℕ) (output line : List ℕ) (out out_now : O) (err err_now : E) : Type 0 where
-  pub whole : Appends (out_told out) (out_told out_now) output
-  pub cut : AppendsPart (told err) (told err_now) line
-  pub rose : Rose (faults err) (faults err_now)
-
--- What a call told: the output as one piece to the one sink, and then this text as one piece to the other, or as much as
--- could be told. An empty piece was not put.
-pub record Tells {O E : Type 0} (out_told : O → Option (List ℕ)) (out_faults : O → ℕ) (err_told : E → Option (List ℕ)) (err_faults : E → ℕ)
-    (came given : Ending) (output text : List ℕ) (out out_now : O) (err err_now : E) : Type 0 where
-  pub whole : ¬ (given ≡ Write) → (given ≡ came) × Appends (out_told out) (out_told out_now) output × Appends (err_told err) (err_told err_now) text
-  pub cut_off : given ≡ Write → OutputFailed out_told out_faults output out out_now err err_now ⊎ ErrorsFailed out_told err_told err_faults output text out out_now err err_now
-  pub no_output : output ≡ [] → out_now ≡ out
-  pub no_text : text ≡ [] → err_now ≡ err
+  pub input : IsInput command before bytes
+  pub came : Ending
+  pub due : IsDue command bytes read_fault (WriteFault lent now) came
+  -- where the source's count of faults rose
+  pub faulty : read_rose → came ≡ Read
+  pub through : ReadsSource command → IsReadThrough came before left_now
+  pub kept : Keeps command bytes choice came given es lent now
 
 -- a sink that tells its bytes was told nothing yet
 abbrev pub WasToldNothing : Option (List ℕ) → Type 0

@@ -1,6 +1,3 @@
-pub mod Reading
 pub mod Lines
+pub mod Causes
 pub mod Answers
-pub mod Inputs
-pub mod Outcomes
-pub mod PlainScripts

@@ -10,8 +10,8 @@ use Rattle.hs_typing.specs.declared.fault.TypeFault.{TypeFault}
 use Rattle.hs_typing.specs.declared.fault.TypeFault.TheVariants as types
 use Rattle.hs_rules.specs.Primitives.{line_feed}
 use Rattle.hs_rules.specs.Endings.{limit_line, memory_line}
-use Rattle.conc_top.specs.declared.ending.RunEnd.{RunEnd}
-use Rattle.conc_top.specs.declared.ending.RunEnd.TheVariants as end
+use Rattle.run_course.specs.declared.ends.RunEnd.{RunEnd}
+use Rattle.run_course.specs.declared.ends.RunEnd.TheVariants as end
 use Rattle.hs_compile.specs.declared.refusal.Refusal.{Refusal}
 use Rattle.hs_compile.specs.declared.refusal.Refusal.TheVariants as refusal
 use Rattle.conc_top.specs.declared.ending.Line.{Line}
@@ -85,7 +85,10 @@ refusal_line refusal.TooLong = codes "refused: TooLong" ++ line_feed
 refusal_line (refusal.Lex fault) = lex_line fault
 refusal_line (refusal.Parse fault) = parse_line fault
 refusal_line (refusal.Types fault) = types_line fault
-refusal_line refusal.NotYet = codes "refused: NotYet" ++ line_feed
+
+-- the line that goes to the output sink where `check` accepts a script
+abbrev pub accepted_line : List ℕ
+accepted_line = codes "accepted" ++ line_feed
 
 -- the line that goes to the error sink, or nothing
 abbrev pub line_of : Ending → List ℕ
@@ -128,7 +131,6 @@ RefusesAPlace refusal.TooLong = ⊥
 RefusesAPlace (refusal.Lex fault) = PlacesLexFault fault
 RefusesAPlace (refusal.Parse fault) = PlacesParseFault fault
 RefusesAPlace (refusal.Types fault) = PlacesTypeFault fault
-RefusesAPlace refusal.NotYet = ⊥
 
 abbrev pub HasPlace : Ending → Type 0
 HasPlace (Ran r) = ⊥

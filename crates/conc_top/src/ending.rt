@@ -1,44 +1,29 @@
 ghost use Rattle.std.specs.Prelude.{◌≡◌, IfOk, OnErr};
 ghost use Rattle.conc_top.specs.Lines.{HasPlace, line_of, placed_line, PlacesTypeFault, refusal_line, RefusesAPlace, run_line, run_status, status_of, text_of, types_line};
 
+use conc_world::RunEnd;
 use hs_base::{NoMemory, Pos};
 use hs_compile::Refusal;
 use hs_lex::LexFault;
 use hs_parse::ParseFault;
-use hs_rules::{Entry, History, LimitKind};
+use hs_rules::{History, LimitKind};
 use hs_types::TypeFault;
 use std::alloc::Global;
 
+/// What `check` puts on the output sink where the script is accepted.
+pub const ACCEPTED: &str = "accepted\n";
+
 /// The line of the ending `Memory`.
 pub const OUT_OF_MEMORY: &str = "out of memory\n";
-
-/// How a run ended.
-#[derive(Debug, PartialEq, Eq, Drop)]
-pub enum RunEnd {
-    /// The main thread finished by a value.
-    Done,
-    /// The main thread finished by an exception.
-    Uncaught,
-    /// No entry but a tick is legal and nobody sleeps.
-    Deadlock,
-    /// The steps are the fuel.
-    Fuel,
-    /// Want of memory.
-    Memory,
-    /// A put of the run failed.
-    Write,
-    /// This entry would exceed this limit. It is not in the history.
-    Limit(LimitKind, Entry),
-}
 
 /// How a call of `run` ended.
 #[derive(Debug, Drop)]
 pub enum Ending {
     /// A script ran.
     Ran(RunEnd),
-    /// A script was checked alone. No command does so yet.
+    /// A script was checked alone, and is accepted.
     Accepted,
-    /// The words are not the one word `run`.
+    /// The words are no command (`conc_words`).
     Words,
     /// The script is refused.
     Refused(Refusal),
@@ -67,7 +52,7 @@ impl Ending {
         ensures { result ≡ status_of self.now }
     {
         match self {
-            Ending::Ran(end) => end.status(),
+            Ending::Ran(end) => run_status(end),
             Ending::Accepted => 0,
             Ending::Words => 2,
             Ending::Refused(_) => 3,
@@ -84,7 +69,7 @@ impl Ending {
         ensures err { OnErr result (HasPlace self.now) }
     {
         match self {
-            Ending::Ran(end) => Ok(Line::Fixed(end.line())),
+            Ending::Ran(end) => Ok(Line::Fixed(run_line(end))),
             Ending::Accepted | Ending::Write => Ok(Line::Fixed("")),
             Ending::Words => Ok(Line::Fixed("words not understood\n")),
             Ending::Refused(refusal) => refusal_line(alloc, refusal),
@@ -112,34 +97,33 @@ impl Line {
     }
 }
 
-impl RunEnd {
-    fn status(&self) -> u8
-        ensures { result ≡ run_status self.now }
-    {
-        match self {
-            RunEnd::Done => 0,
-            RunEnd::Uncaught => 1,
-            RunEnd::Deadlock => 4,
-            RunEnd::Fuel => 5,
-            RunEnd::Memory => 6,
-            RunEnd::Write => 8,
-            RunEnd::Limit(..) => 9,
-        }
+fn run_status(end: &RunEnd) -> u8
+    ensures { result ≡ run_status end.now }
+{
+    match end {
+        RunEnd::Done => 0,
+        RunEnd::Uncaught => 1,
+        RunEnd::Deadlock => 4,
+        RunEnd::Fuel => 5,
+        RunEnd::Memory => 6,
+        RunEnd::Write => 8,
+        RunEnd::Limit(..) => 9,
     }
+}
 
-    fn line(&self) -> &'static str
-        ensures { result.now ≡ run_line self.now }
-    {
-        match self {
-            RunEnd::Done | RunEnd::Uncaught | RunEnd::Write => "",
-            RunEnd::Deadlock => "deadlock\n",
-            RunEnd::Fuel => "out of fuel\n",
-            RunEnd::Memory => "out of memory\n",
-            RunEnd::Limit(LimitKind::Threads, _) => "limit: threads\n",
-            RunEnd::Limit(LimitKind::Cells, _) => "limit: cells\n",
-            RunEnd::Limit(LimitKind::Frames, _) => "limit: frames\n",
-            RunEnd::Limit(LimitKind::Output, _) => "limit: output\n",
-        }
+/// The line of a run's ending, with its line feed, or an empty text.
+pub fn run_line(end: &RunEnd) -> &'static str
+    ensures { result.now ≡ run_line end.now }
+{
+    match end {
+        RunEnd::Done | RunEnd::Uncaught | RunEnd::Write => "",
+        RunEnd::Deadlock => "deadlock\n",
+        RunEnd::Fuel => "out of fuel\n",
+        RunEnd::Memory => "out of memory\n",
+        RunEnd::Limit(LimitKind::Threads, _) => "limit: threads\n",
+        RunEnd::Limit(LimitKind::Cells, _) => "limit: cells\n",
+        RunEnd::Limit(LimitKind::Frames, _) => "limit: frames\n",
+        RunEnd::Limit(LimitKind::Output, _) => "limit: output\n",
     }
 }
 
@@ -149,7 +133,6 @@ fn refusal_line(alloc: Global, refusal: &Refusal) -> Result<Line, NoMemory>
 {
     match refusal {
         Refusal::TooLong => Ok(Line::Fixed("refused: TooLong\n")),
-        Refusal::NotYet => Ok(Line::Fixed("refused: NotYet\n")),
         Refusal::Lex(LexFault::NotUtf8(at)) => line_at(alloc, "NotUtf8", *at),
         Refusal::Lex(LexFault::BadChar(at)) => line_at(alloc, "BadChar", *at),
         Refusal::Lex(LexFault::OpenText(at)) => line_at(alloc, "OpenText", *at),

@@ -1,0 +1,380 @@
+-- What a run leaves and the put of its line come to.
+use Rattle.std.proofs.Common.{◌≡◌, ◌≤◌, ◌<◌, ◌+◌, ◌-◌, ◌^◌, ◌++◌, ◌⊎◌, ℕ, List, [], Bool, true, false, append-nil, take, refl, sym, ap, subst, ◌∙◌, inl, inr, arith, min}
+use Rattle.std.specs.Prelude.{Option, Some, None, IfSome, IsSome}
+use Rattle.std.specs.Io.KnownBytes.{Appends}
+use Rattle.std.proofs.KnownBytes.{Appends-trans}
+use Rattle.std.proofs.lemmas.Bool.{cases_lt}
+use Rattle.std.proofs.Math.Logic.{∥∥₁_elim, ∥∥₁_map}
+use Rattle.std.proofs.Props.{props}
+use Rattle.hs_base.specs.declared.clock_choice.ClockChoice.{ClockChoice}
+use Rattle.hs_base.specs.declared.limits.Limits.{Limits}
+use Rattle.hs_base.specs.declared.tree.script.Script.{Script}
+use Rattle.hs_io.specs.Causes.{Rose}
+use Rattle.hs_rules.specs.declared.entry.Entry.{Entry}
+use Rattle.hs_rules.specs.declared.kept.Plan.{Plan}
+use Rattle.hs_rules.specs.State.{State}
+use Rattle.hs_rules.specs.Runs.{IsRun, out, err}
+use Rattle.rules_trees.specs.Programs.{Fn, script_of}
+use Rattle.rules_code.specs.Codes.{body_of}
+use Rattle.hs_laws.specs.HistoryEndings.{StaysWithin}
+use Rattle.hs_laws.proofs.Expanded.{brackets_of, brackets_law, cells_law, masks_law}
+use Rattle.run_course.specs.declared.ends.RunEnd.{RunEnd}
+use Rattle.run_course.specs.declared.ends.RunEnd.TheVariants as end
+use Rattle.run_course.specs.Told.{AppendsPart, IsCutOff, is_write, ToldOf}
+use Rattle.run_course.specs.Endings.{EndedBy}
+use Rattle.conc_words.specs.declared.command.Command.{Command}
+use Rattle.conc_world.specs.Runs.{IsRunOf, Shown, script}
+use Rattle.hs_compile.specs.Verdicts.{IsAccepted}
+use Rattle.conc_task.specs.declared.task.Program.{Program}
+use Rattle.conc_task.specs.declared.task.Task.{Task}
+use Rattle.conc_task.specs.declared.task.Task.TheVariants.{Run}
+use Rattle.conc_task.specs.Commands.{IsInput, Runs}
+use Rattle.conc_task.specs.Inputs.{IsScript}
+use Rattle.conc_task.specs.Tasks.{HasProgram, HasTask}
+use Rattle.conc_top.specs.declared.ending.Ending.{Ending}
+use Rattle.conc_top.specs.declared.ending.Ending.TheVariants.{Ran, Accepted, Words, Refused, Read, Memory, Write}
+use Rattle.conc_top.specs.Lines.{line_of, run_line, run_status, status_of}
+use Rattle.conc_top.specs.Causes.{HasFault, IsDue, IsUnrun}
+use Rattle.conc_top.specs.Answers.{Call, IsPlayed, KeepsLaws, limits, Plays, RunsScript, TellsAnswer, TellsBy, TellsLine, WriteFault}
+use Rattle.conc_top.proofs.Telling.{few_through, idle, line_counted, never_rose}
+
+-- ---- counts of faults
+
+rose_later : (a b c : ℕ) → b ≤ c → Rose a b → Rose a c
+rose_later a b c le rose = omega arith
+
+rose_since : (a b c : ℕ) → a ≤ b → Rose b c → Rose a c
+rose_since a b c le rose = omega arith
+
+either_rose : (a b : ℕ) → Rose a b ⊎ (Rose a b → ⊥)
+either_rose a b = elim (cases_lt b (min (a + 1) (2 ^ 64 - 1))) [ inl less ↦ inr (λ rose. omega arith) | inr le ↦ inl le ]
+
+-- of two counts one rose, which can be looked up
+rose_of : (a b c d : ℕ) → ∥ (Rose a b ⊎ Rose c d) ∥₁ → Rose a b ⊎ Rose c d
+rose_of a b c d rose = by (either_rose a b) (either_rose c d)
+  where
+    by : Rose a b ⊎ (Rose a b → ⊥) → Rose c d ⊎ (Rose c d → ⊥) → Rose a b ⊎ Rose c d
+    by (inl first) second = inl first
+    by (inr none) (inl second) = inr second
+    by (inr none) (inr neither) = absurd (∥∥₁_elim rose (hlevel props) (λ one. elim one [ inl first ↦ none first | inr second ↦ neither second ]))
+
+-- ---- the cause of an ending
+
+ended_later : (r : RunEnd) (ds : List Fn) (es : List Entry) (most : ℕ) (bounds : Limits) (out_lent err_lent out_old err_old out_now err_now : ℕ) → out_old ≤ out_now → err_old ≤ err_now
+    → EndedBy (Some r) ds es most bounds out_lent err_lent out_old err_old → EndedBy (Some r) ds es most bounds out_lent err_lent out_now err_now
+ended_later end.Done ds es most bounds out_lent err_lent out_old err_old out_now err_now output errors ended = ended
+ended_later end.Uncaught ds es most bounds out_lent err_lent out_old err_old out_now err_now output errors ended = ended
+ended_later end.Deadlock ds es most bounds out_lent err_lent out_old err_old out_now err_now output errors ended = ended
+ended_later end.Fuel ds es most bounds out_lent err_lent out_old err_old out_now err_now output errors ended = ended
+ended_later end.Memory ds es most bounds out_lent err_lent out_old err_old out_now err_now output errors ended = ended
+ended_later end.Write ds es most bounds out_lent err_lent out_old err_old out_now err_now output errors (inl rose) = inl (rose_later out_lent out_old out_now output rose)
+ended_later end.Write ds es most bounds out_lent err_lent out_old err_old out_now err_now output errors (inr rose) = inr (rose_later err_lent err_old err_now errors rose)
+ended_later (end.Limit kind e) ds es most bounds out_lent err_lent out_old err_old out_now err_now output errors ended = ended
+
+has_fault : (r : RunEnd) (ds : List Fn) (es : List Entry) (most : ℕ) (bounds : Limits) (out_lent err_lent out_now err_now : ℕ)
+    → ∥ EndedBy (Some r) ds es most bounds out_lent err_lent out_now err_now ∥₁ → HasFault r (Rose out_lent out_now ⊎ Rose err_lent err_now)
+has_fault end.Done ds es most bounds out_lent err_lent out_now err_now ended = tt
+has_fault end.Uncaught ds es most bounds out_lent err_lent out_now err_now ended = tt
+has_fault end.Deadlock ds es most bounds out_lent err_lent out_now err_now ended = tt
+has_fault end.Fuel ds es most bounds out_lent err_lent out_now err_now ended = tt
+has_fault end.Memory ds es most bounds out_lent err_lent out_now err_now ended = tt
+has_fault end.Write ds es most bounds out_lent err_lent out_now err_now ended = rose_of out_lent out_now err_lent err_now ended
+has_fault (end.Limit kind e) ds es most bounds out_lent err_lent out_now err_now ended = tt
+
+-- ---- what the sinks were told
+
+same_bytes : (lent now : Option (List ℕ)) (bytes : List ℕ) → Appends lent now (bytes ++ []) → Appends lent now bytes
+same_bytes lent now bytes told = subst (Appends lent now) (append-nil bytes) told
+
+part_still : (lent old now : Option (List ℕ)) (front whole : List ℕ) → AppendsPart lent old front whole → Appends old now [] → AppendsPart lent now front whole
+part_still lent old now front whole part none =
+    let (rest, is, n, told) = part in
+    (rest, is, n, same_bytes lent now (front ++ take n rest) (Appends-trans lent old now (front ++ take n rest) [] told none))
+
+cut_still : (ds : List Fn) (es : List Entry) (out_lent out_now err_lent err_old err_now : Option (List ℕ)) → IsCutOff ds es out_lent out_now err_lent err_old → Appends err_old err_now []
+    → IsCutOff ds es out_lent out_now err_lent err_now
+cut_still ds es out_lent out_now err_lent err_old err_now cut none = record { front = cut.front; last = cut.last; is = cut.is; told = told cut.told; prints = cut.prints }
+  where
+    told : (AppendsPart out_lent out_now (out ds cut.front) (out ds es) × Appends err_lent err_old (err ds cut.front))
+        ⊎ (Appends out_lent out_now (out ds cut.front) × AppendsPart err_lent err_old (err ds cut.front) (err ds es))
+        → (AppendsPart out_lent out_now (out ds cut.front) (out ds es) × Appends err_lent err_now (err ds cut.front))
+        ⊎ (Appends out_lent out_now (out ds cut.front) × AppendsPart err_lent err_now (err ds cut.front) (err ds es))
+    told (inl part) = inl (part.0, same_bytes err_lent err_now (err ds cut.front) (Appends-trans err_lent err_old err_now (err ds cut.front) [] part.1 none))
+    told (inr part) = inr (part.0, part_still err_lent err_old err_now (err ds cut.front) (err ds es) part.1 none)
+
+-- where the run ended by a failed put there is no line
+cut_tells : (given : Ending) (ds : List Fn) (es : List Entry) (lent now : Shown) (err_old : Option (List ℕ)) (faults : ℕ) → IsCutOff ds es lent.output now.output lent.errors err_old
+    → TellsLine (line_of (Ran end.Write)) (Ran end.Write) given err_old now.errors faults now.err_faults → TellsBy true end.Write given ds es lent now
+cut_tells given ds es lent now err_old faults cut (inl same) = (same.0, cut_still ds es lent.output now.output lent.errors err_old now.errors cut same.1)
+cut_tells given ds es lent now err_old faults cut (inr failed) = absurd (failed.2 refl)
+
+whole_tells : (r : RunEnd) (given : Ending) (ds : List Fn) (es : List Entry) (lent now : Shown) (err_old : Option (List ℕ)) (faults : ℕ) → lent.err_faults ≤ faults
+    → Appends lent.output now.output (out ds es) × Appends lent.errors err_old (err ds es) → TellsLine (line_of (Ran r)) (Ran r) given err_old now.errors faults now.err_faults
+    → TellsBy false r given ds es lent now
+whole_tells r given ds es lent now err_old faults le told (inl same) =
+    (told.0, inl (same.0, Appends-trans lent.errors err_old now.errors (err ds es) (run_line r) told.1 same.1))
+whole_tells r given ds es lent now err_old faults le told (inr failed) =
+    let (n, part) = failed.1 in (
+      told.0,
+      inr (
+        failed.0,
+        (run_line r, refl, n, Appends-trans lent.errors err_old now.errors (err ds es) (take n (run_line r)) told.1 part),
+        failed.2,
+        rose_since lent.err_faults faults now.err_faults le failed.3,
+      ),
+    )
+
+tells : (r : RunEnd) (given : Ending) (ds : List Fn) (es : List Entry) (lent now : Shown) (err_old : Option (List ℕ)) (faults : ℕ) → lent.err_faults ≤ faults
+    → ToldOf (Some r) ds es lent.output now.output lent.errors err_old → TellsLine (line_of (Ran r)) (Ran r) given err_old now.errors faults now.err_faults
+    → TellsBy (is_write (Some r)) r given ds es lent now
+tells end.Done given ds es lent now err_old faults le told line = whole_tells end.Done given ds es lent now err_old faults le told line
+tells end.Uncaught given ds es lent now err_old faults le told line = whole_tells end.Uncaught given ds es lent now err_old faults le told line
+tells end.Deadlock given ds es lent now err_old faults le told line = whole_tells end.Deadlock given ds es lent now err_old faults le told line
+tells end.Fuel given ds es lent now err_old faults le told line = whole_tells end.Fuel given ds es lent now err_old faults le told line
+tells end.Memory given ds es lent now err_old faults le told line = whole_tells end.Memory given ds es lent now err_old faults le told line
+tells end.Write given ds es lent now err_old faults le told line = cut_tells given ds es lent now err_old faults told line
+tells (end.Limit kind e) given ds es lent now err_old faults le told line = whole_tells (end.Limit kind e) given ds es lent now err_old faults le told line
+
+-- ---- the run
+
+keeps_laws : (ds : List Fn) (es : List Entry) (s : State) → IsRun ds es s → KeepsLaws ds es s
+keeps_laws ds es s run = record { released = brackets_of ds es s run; brackets = brackets_law ds es s run; cells = cells_law ds es s run; masks = masks_law ds es s run }
+
+-- what is shown once the line of the ending was put on the error sink
+pub record Later (old now : Shown) : Type 0 where
+  pub output : now.output ≡ old.output
+  pub out_faults : now.out_faults ≡ old.out_faults
+  pub last : now.last ≡ old.last
+  pub early : now.early ≡ old.early
+
+-- A run of this plan, which is that of the program for this script, was closed, and its line was put.
+pub record Closing (p : Plan) (most : ℕ) (s : Script) (final : Option RunEnd) (given : Ending) (es : List Entry) (lent old now : Shown) : Type 0 where
+  pub script : p.body.of.value ≡ s
+  pub fuel : p.fuel ≡ most
+  pub limits : p.limits ≡ limits
+  pub ends : IsSome final
+  pub run : ∥ IsRunOf p final es lent old ∥₁
+  pub out_counted : lent.out_faults ≤ old.out_faults
+  pub err_counted : lent.err_faults ≤ old.err_faults
+  pub line : IfSome final (λ r. TellsLine (line_of (Ran r)) (Ran r) given old.errors now.errors old.err_faults now.err_faults)
+  pub line_counted : old.err_faults ≤ now.err_faults
+  pub later : Later old now
+
+module _ (p : Plan) (fuel : ℕ) (s : Script) (r : RunEnd) (given : Ending) (es : List Entry) (lent old now : Shown) (closing : Closing p fuel s (Some r) given es lent old now) where
+  ended : ∥ EndedBy (Some r) (script p) es p.fuel p.limits lent.out_faults lent.err_faults now.out_faults now.err_faults ∥₁
+  ended = ∥∥₁_elim closing.run (hlevel props) (λ run. ∥∥₁_map run.ended (λ cause.
+      ended_later r (script p) es p.fuel p.limits lent.out_faults lent.err_faults old.out_faults old.err_faults now.out_faults now.err_faults (omega (arith, closing.later.out_faults)) closing.line_counted cause))
+
+  fault : HasFault r (WriteFault lent now)
+  fault = has_fault r (script p) es p.fuel p.limits lent.out_faults lent.err_faults now.out_faults now.err_faults ended
+
+  runs : (bytes : List ℕ) → IsAccepted bytes s → IsRunOf p (Some r) es lent old → RunsScript fuel bytes r given es lent now
+  runs bytes accepted run = record {
+    script = p.body.of.value;
+    accepted = subst (IsAccepted bytes) (sym closing.script) accepted;
+    state = run.state;
+    run = run.run;
+    clock = omega (arith, run.clock, closing.later.last);
+    within = omega (arith, run.within, closing.fuel);
+    limited = subst (λ l. StaysWithin l (script p) es) closing.limits run.limited;
+    laws = keeps_laws (script p) es run.state run.run;
+    ticks = rw closing.later.early run.ticks;
+    ended = subst (λ l. ∥ EndedBy (Some r) (script p) es fuel l lent.out_faults lent.err_faults now.out_faults now.err_faults ∥₁) closing.limits
+        (subst (λ n. ∥ EndedBy (Some r) (script p) es n p.limits lent.out_faults lent.err_faults now.out_faults now.err_faults ∥₁) closing.fuel ended);
+    told = tells r given (script p) es lent now old.errors old.err_faults closing.err_counted
+        (subst (λ o. ToldOf (Some r) (script p) es lent.output o lent.errors old.errors) (sym closing.later.output) run.told) closing.line;
+  }
+
+  run_plays : (bytes : List ℕ) → IsAccepted bytes s → ∥ Plays fuel bytes given es lent now ∥₁
+  run_plays bytes accepted = ∥∥₁_map closing.run (λ run. inr (r, fault, runs bytes accepted run))
+
+  run_cause : IsPlayed (WriteFault lent now) given
+  run_cause = by closing.line
+    where
+      by : TellsLine (line_of (Ran r)) (Ran r) given old.errors now.errors old.err_faults now.err_faults → IsPlayed (WriteFault lent now) given
+      by (inl same) = subst (IsPlayed (WriteFault lent now)) (sym same.0) fault
+      by (inr failed) = subst (IsPlayed (WriteFault lent now)) (sym failed.0) (inr (rose_since lent.err_faults old.err_faults now.err_faults closing.err_counted failed.3))
+
+-- a status other than that of a failed put
+not_write : (r : RunEnd) → (run_status r ≡ 8 → ⊥) → is_write (Some r) ≡ false
+not_write end.Done other = refl
+not_write end.Uncaught other = refl
+not_write end.Deadlock other = refl
+not_write end.Fuel other = refl
+not_write end.Memory other = refl
+not_write end.Write other = absurd (other refl)
+not_write (end.Limit kind e) other = refl
+
+module _ (p : Plan) (fuel : ℕ) (s : Script) (r : RunEnd) (given : Ending) (es : List Entry) (lent old now : Shown) (closing : Closing p fuel s (Some r) given es lent old now) where
+  run_calm : (status_of given ≡ 8 → ⊥) → (now.out_faults ≡ lent.out_faults) × (now.err_faults ≡ lent.err_faults)
+  run_calm other = by closing.line
+    where
+      by : TellsLine (line_of (Ran r)) (Ran r) given old.errors now.errors old.err_faults now.err_faults → (now.out_faults ≡ lent.out_faults) × (now.err_faults ≡ lent.err_faults)
+      by (inl same) = ∥∥₁_elim closing.run (hlevel props) (λ run.
+          let calm = run.calm (not_write r (λ e. other (ap status_of same.0 ∙ e))) in
+          (closing.later.out_faults ∙ calm.0, same.2 ∙ calm.1))
+      by (inr failed) = absurd (other (ap status_of failed.0))
+
+-- ---- the same for an ending that is known to be there
+
+module _ (p : Plan) (fuel : ℕ) (s : Script) where
+  pub closing_plays : (final : Option RunEnd) (given : Ending) (es : List Entry) (lent old now : Shown) → Closing p fuel s final given es lent old now
+      → (bytes : List ℕ) → IsAccepted bytes s → ∥ Plays fuel bytes given es lent now ∥₁
+  closing_plays None given es lent old now closing bytes accepted = let none : false ≡ true = closing.ends in absurd (cc none)
+  closing_plays (Some r) given es lent old now closing bytes accepted = run_plays p fuel s r given es lent old now closing bytes accepted
+
+  pub closing_cause : (final : Option RunEnd) (given : Ending) (es : List Entry) (lent old now : Shown) → Closing p fuel s final given es lent old now → IsPlayed (WriteFault lent now) given
+  closing_cause None given es lent old now closing = let none : false ≡ true = closing.ends in absurd (cc none)
+  closing_cause (Some r) given es lent old now closing = run_cause p fuel s r given es lent old now closing
+
+  pub closing_calm : (final : Option RunEnd) (given : Ending) (es : List Entry) (lent old now : Shown) → Closing p fuel s final given es lent old now
+      → (status_of given ≡ 8 → ⊥) → (now.out_faults ≡ lent.out_faults) × (now.err_faults ≡ lent.err_faults)
+  closing_calm None given es lent old now closing other = let none : false ≡ true = closing.ends in absurd (cc none)
+  closing_calm (Some r) given es lent old now closing other = run_calm p fuel s r given es lent old now closing other
+
+-- ---- what the calls leave, the one after the other
+
+bounded : ℕ → ℕ → ℕ → ℕ → Limits
+bounded t c f o = record { threads = t; cells = c; frames = f; output = o }
+
+pub shipped : (l : Limits) → l.threads ≡ 65536 → l.cells ≡ 262144 → l.frames ≡ 200000 → l.output ≡ 8388608 → l ≡ limits
+unfolding bounded
+shipped l threads cells frames output =
+    ap (λ n. bounded n l.cells l.frames l.output) threads ∙ ap (λ n. bounded 65536 n l.frames l.output) cells
+    ∙ ap (λ n. bounded 65536 262144 n l.output) frames ∙ ap (λ n. bounded 65536 262144 200000 n) output
+
+counted_line : (final : Option RunEnd) (given : Ending) (told told_now : Option (List ℕ)) (faults faults_now : ℕ) → IsSome final
+    → IfSome final (λ r. TellsLine (line_of (Ran r)) (Ran r) given told told_now faults faults_now) → faults ≤ faults_now
+counted_line None given told told_now faults faults_now some line = let none : false ≡ true = some in absurd (cc none)
+counted_line (Some r) given told told_now faults faults_now some line = line_counted (line_of (Ran r)) (Ran r) given told told_now faults faults_now line
+
+module _ {O E K : Type 0} (out_told : O → Option (List ℕ)) (out_faults : O → ℕ) (err_told : E → Option (List ℕ)) (err_faults : E → ℕ) (last early : K → ℕ) where
+  abbrev pub shown : O → E → K → Shown
+  shown o e k = record { output = out_told o; errors = err_told e; out_faults = out_faults o; err_faults = err_faults e; last = last k; early = early k }
+
+  -- What was lent was handed in, and what is handed back was closed, but for the error sink.
+  pub closed : (p : Plan) (fuel : ℕ) (s : Script) (final : Option RunEnd) (given : Ending) (es es_now : List Entry)
+      (o o_lent o_old o_now : O) (e e_lent e_old e_now : E) (k k_lent k_old k_now : K)
+      → o_lent ≡ o → e_lent ≡ e → k_lent ≡ k → es_now ≡ es → o_now ≡ o_old → k_now ≡ k_old
+      → p.body.of.value ≡ s → p.fuel ≡ fuel → p.limits ≡ limits → IsSome final
+      → ∥ IsRunOf p final es (shown o_lent e_lent k_lent) (shown o_old e_old k_old) ∥₁
+      → out_faults o_lent ≤ out_faults o_old → err_faults e_lent ≤ err_faults e_old
+      → IfSome final (λ r. TellsLine (line_of (Ran r)) (Ran r) given (err_told e_old) (err_told e_now) (err_faults e_old) (err_faults e_now))
+      → Closing p fuel s final given es_now (shown o e k) (shown o_old e_old k_old) (shown o_now e_now k_now)
+  closed p fuel s final given es es_now o o_lent o_old o_now e e_lent e_old e_now k k_lent k_old k_now o_is e_is k_is es_is o_kept k_kept script_is fuel_is limits_is some run out_le err_le line = record {
+    script = script_is;
+    fuel = fuel_is;
+    limits = limits_is;
+    ends = some;
+    run = subst (λ z. ∥ IsRunOf p final z (shown o e k) (shown o_old e_old k_old) ∥₁) (sym es_is)
+        (subst (λ z. ∥ IsRunOf p final es (shown z e k) (shown o_old e_old k_old) ∥₁) o_is
+        (subst (λ z. ∥ IsRunOf p final es (shown o_lent z k) (shown o_old e_old k_old) ∥₁) e_is
+        (subst (λ z. ∥ IsRunOf p final es (shown o_lent e_lent z) (shown o_old e_old k_old) ∥₁) k_is run)));
+    out_counted = subst (λ z. out_faults z ≤ out_faults o_old) o_is out_le;
+    err_counted = subst (λ z. err_faults z ≤ err_faults e_old) e_is err_le;
+    line = line;
+    line_counted = counted_line final given (err_told e_old) (err_told e_now) (err_faults e_old) (err_faults e_now) some line;
+    later = record { output = ap out_told o_kept; out_faults = ap out_faults o_kept; last = ap last k_kept; early = ap early k_kept };
+  }
+
+  -- no run began, and what was handed in came back
+  pub gave_up : (fuel : ℕ) (bytes : List ℕ) (given : Ending) (es : List Entry) (o o_now : O) (e e_back e_now : E) (k k_now : K) → o_now ≡ o → e_back ≡ e → k_now ≡ k → es ≡ []
+      → TellsAnswer Memory given (err_told e_back) (err_told e_now) (err_faults e_back) (err_faults e_now) → Plays fuel bytes given es (shown o e k) (shown o_now e_now k_now)
+  gave_up fuel bytes given es o o_now e e_back e_now k k_now o_is e_is k_is none (inl line) =
+      inl (idle Memory given es (shown o e k) (shown o_now e_now k_now) none (ap out_told o_is) (ap out_faults o_is) (ap early k_is)
+      (subst (λ z. TellsLine (line_of Memory) Memory given (err_told z) (err_told e_now) (err_faults z) (err_faults e_now)) e_is line))
+  gave_up fuel bytes given es o o_now e e_back e_now k k_now o_is e_is k_is none (inr place) = absurd (place.0)
+
+-- ---- the clock was told its choice before
+
+-- what is shown, but for the last reading of the clock
+abbrev read_at : Shown → ℕ → Shown
+read_at lent last = record { output = lent.output; errors = lent.errors; out_faults = lent.out_faults; err_faults = lent.err_faults; last = last; early = lent.early }
+
+runs_since : (fuel : ℕ) (bytes : List ℕ) (r : RunEnd) (given : Ending) (es : List Entry) (lent now : Shown) (last : ℕ) → RunsScript fuel bytes r given es (read_at lent last) now
+    → RunsScript fuel bytes r given es lent now
+runs_since fuel bytes r given es lent now last runs = record {
+  script = runs.script;
+  accepted = runs.accepted;
+  state = runs.state;
+  run = runs.run;
+  clock = runs.clock;
+  within = runs.within;
+  limited = runs.limited;
+  laws = runs.laws;
+  ticks = runs.ticks;
+  ended = runs.ended;
+  told = told_since (is_write (Some r)) runs.told;
+}
+  where
+    told_since : (b : Bool) → TellsBy b r given (script_of runs.script) es (read_at lent last) now → TellsBy b r given (script_of runs.script) es lent now
+    told_since true told = told
+    told_since false told = told
+
+pub plays_since : (fuel : ℕ) (bytes : List ℕ) (given : Ending) (es : List Entry) (lent now : Shown) (last early : ℕ) → early ≡ lent.early
+    → Plays fuel bytes given es (record { output = lent.output; errors = lent.errors; out_faults = lent.out_faults; err_faults = lent.err_faults; last = last; early = early }) now
+    → Plays fuel bytes given es lent now
+plays_since fuel bytes given es lent now last early same plays =
+    since (subst (λ n. Plays fuel bytes given es (record { output = lent.output; errors = lent.errors; out_faults = lent.out_faults; err_faults = lent.err_faults; last = last; early = n }) now) same plays)
+  where
+    since : Plays fuel bytes given es (read_at lent last) now → Plays fuel bytes given es lent now
+    since (inl idle) = inl (record { no_entry = idle.no_entry; no_output = idle.no_output; no_wait = idle.no_wait; told = idle.told })
+    since (inr ran) = inr (ran.0, ran.1, runs_since fuel bytes ran.0 given es lent now last ran.2)
+
+-- ---- what the call came to
+
+pub has_program : (command : Option Command) (before now : Option (List ℕ)) (task : Task) (program : Program) → task ≡ Run program → HasTask command before now task → HasProgram command before now program
+has_program command before now task program is has = subst (HasTask command before now) is has
+
+module _ (command : Option Command) (fault : Type 0) (a b : ℕ) (before left_now : Option (List ℕ)) (choice : Option ClockChoice) (program : Program) where
+  played_call : (given : Ending) (es : List Entry) (lent now : Shown) (has : HasProgram command before left_now program) → b ≡ a → choice ≡ Some program.clock
+      → Plays program.fuel has.bytes given es lent now → Call command fault (a < b) before left_now choice given es lent now
+  played_call given es lent now has same chosen (inl idle) = record {
+    bytes = has.bytes;
+    input = has.input;
+    came = Memory;
+    due = tt;
+    faulty = λ rose. absurd (never_rose a b same rose);
+    through = λ reads. few_through before left_now (has.through reads);
+    kept = idle;
+  }
+  played_call given es lent now has same chosen (inr ran) = record {
+    bytes = has.bytes;
+    input = has.input;
+    came = Ran ran.0;
+    due = ((program.fuel, program.clock, has.runs), ((body_of program.code).of.value, has.accepted), ran.1);
+    faulty = λ rose. absurd (never_rose a b same rose);
+    through = has.through;
+    kept = (program.fuel, program.clock, has.runs, chosen, ran.2);
+  }
+
+  pub program_call : (given : Ending) (es : List Entry) (lent now : Shown) → HasProgram command before left_now program → b ≡ a → choice ≡ Some program.clock
+      → ((bytes : List ℕ) → IsAccepted bytes (body_of program.code).of.value → ∥ Plays program.fuel bytes given es lent now ∥₁)
+      → ∥ Call command fault (a < b) before left_now choice given es lent now ∥₁
+  program_call given es lent now has same chosen plays = ∥∥₁_map (plays has.bytes has.accepted) (played_call given es lent now has same chosen)
+
+-- a played script has no answer that comes without a run
+pub played_ran : (write_fault : Type 0) (given : Ending) → IsPlayed write_fault given → IsUnrun given → ⊥
+played_ran write_fault (Ran r) played unrun = unrun
+played_ran write_fault Memory played unrun = unrun
+played_ran write_fault Write played unrun = unrun
+played_ran write_fault (Refused r) played unrun = played
+played_ran write_fault Accepted played unrun = played
+played_ran write_fault Words played unrun = played
+played_ran write_fault Read played unrun = played
+
+-- the cause of the answer
+played_due : (command : Option Command) (bytes : List ℕ) (read_fault write_fault : Type 0) (given : Ending) → Runs command → IsScript bytes → IsPlayed write_fault given
+    → IsDue command bytes read_fault write_fault given
+played_due command bytes read_fault write_fault (Ran r) asked found played = (asked, found, played)
+played_due command bytes read_fault write_fault Memory asked found played = tt
+played_due command bytes read_fault write_fault Write asked found played = played
+played_due command bytes read_fault write_fault (Refused r) asked found played = absurd played
+played_due command bytes read_fault write_fault Accepted asked found played = absurd played
+played_due command bytes read_fault write_fault Words asked found played = absurd played
+played_due command bytes read_fault write_fault Read asked found played = absurd played
+
+pub program_due : (command : Option Command) (read_fault write_fault : Type 0) (before left_now : Option (List ℕ)) (program : Program) (given : Ending) → HasProgram command before left_now program
+    → IsPlayed write_fault given → (bytes : List ℕ) × IsInput command before bytes × IsDue command bytes read_fault write_fault given
+program_due command read_fault write_fault before left_now program given has played =
+    (has.bytes, has.input, played_due command has.bytes read_fault write_fault given (program.fuel, program.clock, has.runs) ((body_of program.code).of.value, has.accepted) played)
