@@ -1,10 +1,11 @@
 //! One call of the top call, and what it left.
 
-use crate::clock::StandingClock;
 use crate::flaw::Flaw;
 use crate::row::{ClockPlan, Row};
-use conc_top::{Done, Ending, Refusal, RunEnd, run};
-use hs_io::{Clock, MemSink, MemSource, OpenGate, PlainSource, Source, VirtualClock};
+use conc_top::{Done, Ending, RunEnd, run};
+use hs_io::{
+    Clock, MemSink, MemSource, OpenGate, PlainSource, Source, StandingClock, VirtualClock,
+};
 use hs_rules::{Entry, History};
 use std::alloc::Global;
 
@@ -70,7 +71,7 @@ fn call_at<S: Source, K: Clock + Drop>(
 fn is_accepted(ending: &Ending) -> bool {
     match ending {
         Ending::Ran(RunEnd::Memory | RunEnd::Write) => false,
-        Ending::Ran(_) | Ending::Accepted | Ending::Refused(Refusal::NotYet) => true,
+        Ending::Ran(_) | Ending::Accepted => true,
         _ => false,
     }
 }

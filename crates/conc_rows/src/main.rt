@@ -8,7 +8,6 @@
 
 mod came;
 mod cases;
-mod clock;
 mod draft;
 mod flaw;
 mod keys;
@@ -26,13 +25,15 @@ use std::fs;
 use std::process::ExitCode;
 
 /// The files of rows, by topic.
-const FILES: [&str; 6] = [
+const FILES: [&str; 8] = [
     "tokens.rows",
     "grammar.rows",
     "typing.rows",
     "limits.rows",
     "plain.rows",
+    "words.rows",
     "running.rows",
+    "tour.rows",
 ];
 
 const FAILED: u8 = 1;

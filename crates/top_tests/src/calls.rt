@@ -1,6 +1,8 @@
 //! Calls of the top call that a row can't say.
 
+use crate::AskedClock;
 use conc_top::{Done, Ending, RunEnd, run};
+use hs_base::ClockChoice;
 use hs_io::{MemSink, MemSource, NullSink, OpenGate, VirtualClock};
 use hs_rules::Entry;
 use std::test::Fail;
@@ -59,6 +61,36 @@ fn a_source_is_not_read_where_the_words_are_not_understood(rt: HostRuntime) -> R
         );
         assert_eq!(rt; done.status, status, "{word}");
         assert_eq!(rt; done.err.told(), told, "{word}");
+    }
+    Ok(())
+}
+
+#[test]
+fn the_clock_has_its_choice_before_it_is_asked(rt: HostRuntime) -> Result<(), Fail> {
+    let alloc = rt.alloc();
+    for (name, choice) in [
+        ("virtual", ClockChoice::Virtual),
+        ("real", ClockChoice::Real),
+    ] {
+        let words = [
+            String::from_str(alloc, "run")?,
+            String::from_str(alloc, "--clock")?,
+            String::from_str(alloc, name)?,
+        ];
+        let mut source = MemSource::of(alloc, b"main :: IO () = { threadDelay 5 };", 64, &[])?;
+        let done = run(
+            alloc,
+            &words,
+            &mut source,
+            NullSink,
+            NullSink,
+            AskedClock::new(),
+            &OpenGate,
+        );
+        assert_eq!(rt; done.status, 0);
+        assert_eq!(rt; done.clock.last, 5);
+        assert_eq!(rt; done.clock.choice, Some(choice));
+        assert!(rt; !done.clock.asked_first);
     }
     Ok(())
 }

@@ -2,5 +2,9 @@
 //! `conc_rows` (`docs/ROWS.md`).
 #![tactic(auto)]
 
+mod asked;
+
+pub use asked::AskedClock;
+
 #[cfg(test)]
 mod calls;

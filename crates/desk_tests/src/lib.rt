@@ -1,0 +1,12 @@
+//! Tests of what rows can't say of a run: the calls on a desk one by one, jobs that are held while the run goes on, and slices
+//! that come back late.
+#![tactic(auto)]
+
+mod desks;
+
+pub use desks::{Quiet, at, job_of, ran};
+
+#[cfg(test)]
+mod calls;
+#[cfg(test)]
+mod overtaken;
