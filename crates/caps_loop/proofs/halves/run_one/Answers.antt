@@ -1,0 +1,9 @@
+use Rattle.std.proofs.Common.{All, subst}
+use Rattle.std.proofs.lemmas.List.Elements.{All-head}
+use Rattle.conc_hands.specs.Hands.{IsHandOf}
+use Rattle.caps_loop.proofs.Places.{said_of}
+use Rattle.caps_loop.proofs.halves.run_one.Goals as goal
+
+pub work-seat-requires-clause-hand : goal.work-seat-requires-clause-hand
+work-seat-requires-clause-hand g c =
+    All-head (IsHandOf c.args.hands.now) c.unwrap-hand.result _ (subst (All (IsHandOf c.args.hands.now)) (said_of _ _ c.take.result c.unwrap-hand.result c.unwrap-hand.ensures c.take.ensures).0 c.requires.list)

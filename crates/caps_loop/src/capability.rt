@@ -1,0 +1,10 @@
+use conc_hands::Hand;
+use conc_turn::Seat;
+use hs_rules::Ticketed;
+
+/// One capability: its right to ask for the turn, and its hand.
+#[derive(Drop)]
+pub(crate) struct Capability<J: Ticketed, S: Ticketed> {
+    pub(crate) seat: Seat,
+    pub(crate) hand: Hand<J, S>,
+}

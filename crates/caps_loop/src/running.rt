@@ -1,0 +1,147 @@
+//! One job of a capability, and what becomes of its slice.
+ghost use Rattle.std.specs.Prelude.{◌≡◌, ◌<◌, IfSome, vec_len};
+ghost use Rattle.rules_code.specs.Codes.{body_of};
+ghost use Rattle.hs_rules.specs.declared.kept.Plan.{Plan};
+ghost use Rattle.rules_code.specs.declared.code.Body.{Body};
+ghost use Rattle.conc_turn.specs.Seats.{IsLater};
+ghost use Rattle.conc_turn.specs.Turns.{IsSeatOf, turn_plan};
+ghost use Rattle.conc_hands.specs.Hands.{IsHandOf, hands_code, hands_count};
+ghost use Rattle.caps_loop.specs.Nexts.{RunsOf};
+
+use crate::capability::Capability;
+use crate::cutting::run_slice;
+use crate::next::Next;
+use crate::parkers::{Parkers, wake_all};
+use crate::runs::{Runs, Unsliced};
+use crate::turns::{give_up, try_visit, visit};
+use crate::visit::Visit;
+use conc_hands::Hands;
+use conc_turn::Turn;
+use hs_io::Gate;
+use hs_rules::{Code, Ticketed};
+use std::alloc::Global;
+use std::sync::Wait;
+
+/// Runs a job. A slice that was cut is dropped, since its ticket was taken back.
+pub(crate) fn run_job<D: Runs<J, S>, J: Ticketed + Drop, S: Ticketed + Drop, G: Gate, R: Wait>(
+    rt: &R,
+    alloc: Global,
+    turn: &Turn<D>,
+    hands: &Hands<J, S>,
+    code: &Code,
+    parkers: &Parkers,
+    gate: &G,
+    me: Capability<J, S>,
+    job: J,
+) -> (Capability<J, S>, Next<J>)
+    requires seat { IsSeatOf D.plan turn.now me.seat }
+    requires hand { IsHandOf hands.now me.hand }
+    requires code { (hands_code hands.now ≡ (turn_plan D.plan turn.now).body) × (body_of code.now ≡ hands_code hands.now) }
+    requires job { J.belongs job ≡ hands_code hands.now }
+    ensures seat { IsLater me.seat result.0.seat }
+    ensures hand { IsHandOf hands.now result.0.hand }
+    ensures next { RunsOf J.belongs (hands_code hands.now) result.1 }
+{
+    let Capability { seat, hand } = me;
+    let (hand, slice) = run_slice::<D, J, S, G>(alloc, hands, code, gate, hand, job);
+    match slice {
+        Ok(slice) => {
+            let me = Capability { seat, hand };
+            bring(rt, alloc, turn, hands, parkers, gate, me, slice)
+        }
+        Err(Unsliced::Cut) => (Capability { seat, hand }, Next::Look),
+        Err(Unsliced::NoMemory) => {
+            let seat = give_up(rt, turn, seat);
+            (Capability { seat, hand }, Next::Look)
+        }
+    }
+}
+
+// Hands a slice in, and tries the turn. A slice that the inbox has no room for is committed under the turn.
+fn bring<D: Runs<J, S>, J: Ticketed + Drop, S: Ticketed + Drop, G: Gate, R: Wait>(
+    rt: &R,
+    alloc: Global,
+    turn: &Turn<D>,
+    hands: &Hands<J, S>,
+    parkers: &Parkers,
+    gate: &G,
+    me: Capability<J, S>,
+    slice: S,
+) -> (Capability<J, S>, Next<J>)
+    requires seat { IsSeatOf D.plan turn.now me.seat }
+    requires hand { IsHandOf hands.now me.hand }
+    requires code { hands_code hands.now ≡ (turn_plan D.plan turn.now).body }
+    requires slice { S.belongs slice ≡ hands_code hands.now }
+    ensures seat { IsLater me.seat result.0.seat }
+    ensures hand { IsHandOf hands.now result.0.hand }
+    ensures next { RunsOf J.belongs (hands_code hands.now) result.1 }
+{
+    let Capability { seat, mut hand } = me;
+    match hands.hand_in(rt, &mut hand, slice) {
+        Ok(()) => {
+            let (seat, visit) = try_visit(rt, alloc, turn, hands, seat, &mut hand);
+            let me = Capability { seat, hand };
+            match visit {
+                Some(visit) => (me, leave(parkers, gate, visit)),
+                None => (me, Next::Look),
+            }
+        }
+        Err(slice) => {
+            let (seat, visit) = visit(rt, alloc, turn, hands, seat, &mut hand, Some(slice));
+            (Capability { seat, hand }, leave(parkers, gate, visit))
+        }
+    }
+}
+
+/// Waits for the turn. Where it finds nothing to do it gives the turn and parks.
+pub(crate) fn ask<D: Runs<J, S>, J: Ticketed + Drop, S: Ticketed + Drop, G: Gate, R: Wait>(
+    rt: &R,
+    alloc: Global,
+    turn: &Turn<D>,
+    hands: &Hands<J, S>,
+    parkers: &Parkers,
+    gate: &G,
+    me: Capability<J, S>,
+) -> (Capability<J, S>, Next<J>)
+    requires seat { IsSeatOf D.plan turn.now me.seat }
+    requires hand { IsHandOf hands.now me.hand }
+    requires code { hands_code hands.now ≡ (turn_plan D.plan turn.now).body }
+    requires parkers { vec_len parkers.now ≡ hands_count hands.now }
+    ensures seat { IsLater me.seat result.0.seat }
+    ensures hand { IsHandOf hands.now result.0.hand }
+    ensures next { RunsOf J.belongs (hands_code hands.now) result.1 }
+{
+    let Capability { seat, mut hand } = me;
+    let (seat, visit) = visit(rt, alloc, turn, hands, seat, &mut hand, None);
+    let idle = !visit.stirred && !visit.ended;
+    let next = leave(parkers, gate, visit);
+    if idle {
+        parkers[hand.number() as usize].park(rt);
+    }
+    (Capability { seat, hand }, next)
+}
+
+// What follows a visit, after the turn was given back.
+fn leave<J: Ticketed + Drop, G: Gate>(parkers: &Parkers, gate: &G, visit: Visit<J>) -> Next<J>
+    ensures { (c : Body) → IfSome visit.kept (λ job. J.belongs job ≡ c) → RunsOf J.belongs c result }
+{
+    let Visit {
+        committed,
+        kept,
+        stirred,
+        ended,
+    } = visit;
+    for ticket in &committed {
+        gate.committed(*ticket);
+    }
+    if stirred || ended {
+        wake_all(parkers);
+    }
+    if ended {
+        return Next::Stop;
+    }
+    match kept {
+        Some(job) => Next::Run(job),
+        None => Next::Look,
+    }
+}

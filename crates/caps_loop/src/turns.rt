@@ -1,0 +1,77 @@
+//! The turns of one capability. Each ends with the seat, which has seen what it leaves.
+ghost use Rattle.std.specs.Prelude.{◌≡◌, IfSome};
+ghost use Rattle.hs_rules.specs.declared.kept.Plan.{Plan};
+ghost use Rattle.conc_turn.specs.Seats.{IsLater};
+ghost use Rattle.conc_turn.specs.Turns.{IsSeatOf, turn_plan};
+ghost use Rattle.conc_hands.specs.Hands.{IsHandOf, hands_code};
+
+use crate::runs::Runs;
+use crate::visit::Visit;
+use crate::visiting::attend;
+use conc_hands::{Hand, Hands};
+use conc_turn::{Seat, Tried, Turn};
+use hs_rules::Ticketed;
+use std::alloc::Global;
+use std::sync::Wait;
+
+/// Waits for the turn.
+pub(crate) fn visit<D: Runs<J, S>, J: Ticketed + Drop, S: Ticketed + Drop, R: Wait>(
+    rt: &R,
+    alloc: Global,
+    turn: &Turn<D>,
+    hands: &Hands<J, S>,
+    seat: Seat,
+    hand: &mut Hand<J, S>,
+    refused: Option<S>,
+) -> (Seat, Visit<J>)
+    requires seat { IsSeatOf D.plan turn.now seat }
+    requires hand { IsHandOf hands.now hand.old }
+    requires code { hands_code hands.now ≡ (turn_plan D.plan turn.now).body }
+    requires slice { IfSome refused (λ slice. S.belongs slice ≡ hands_code hands.now) }
+    ensures seat { IsLater seat result.0 }
+    ensures hand { IsHandOf hands.now hand.new }
+    ensures job { IfSome result.1.kept (λ job. J.belongs job ≡ hands_code hands.now) }
+{
+    let mut held = turn.take(rt, seat);
+    let visit = attend(rt, alloc, hands, hand, held.kept(), refused);
+    (held.give(), visit)
+}
+
+/// Tries the turn once. Nothing where somebody else has it.
+pub(crate) fn try_visit<D: Runs<J, S>, J: Ticketed + Drop, S: Ticketed + Drop, R: Wait>(
+    rt: &R,
+    alloc: Global,
+    turn: &Turn<D>,
+    hands: &Hands<J, S>,
+    seat: Seat,
+    hand: &mut Hand<J, S>,
+) -> (Seat, Option<Visit<J>>)
+    requires seat { IsSeatOf D.plan turn.now seat }
+    requires hand { IsHandOf hands.now hand.old }
+    requires code { hands_code hands.now ≡ (turn_plan D.plan turn.now).body }
+    ensures seat { IsLater seat result.0 }
+    ensures hand { IsHandOf hands.now hand.new }
+    ensures job { IfSome result.1 (λ visit. IfSome visit.kept (λ job. J.belongs job ≡ hands_code hands.now)) }
+{
+    match turn.try_take(seat) {
+        Tried::Got(mut held) => {
+            let visit = attend(rt, alloc, hands, hand, held.kept(), None);
+            (held.give(), Some(visit))
+        }
+        Tried::Busy { seat, word: _ } => (seat, None),
+    }
+}
+
+/// Waits for the turn, and sets an ending where there is none.
+pub(crate) fn give_up<D: Runs<J, S>, J: Ticketed, S: Ticketed, R: Wait>(
+    rt: &R,
+    turn: &Turn<D>,
+    seat: Seat,
+) -> Seat
+    requires { IsSeatOf D.plan turn.now seat }
+    ensures { IsLater seat result }
+{
+    let mut held = turn.take(rt, seat);
+    held.kept().no_memory();
+    held.give()
+}
