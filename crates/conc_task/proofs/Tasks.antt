@@ -20,12 +20,12 @@ use Rattle.conc_task.proofs.Reading.{any_left}
 -- ---- a script to run or to check
 
 pub run_program : (command : Option Command) (capabilities fuel : ℕ) (clock : ClockChoice) (before now : Option (List ℕ)) (code : Code) → command ≡ Some (Run capabilities fuel clock)
-    → HadScript before now (body_of code).of.value → HasProgram command before now (record { code = code; fuel = fuel; clock = clock })
+    → HadScript before now (body_of code).of.value → HasProgram command before now (record { code = code; capabilities = capabilities; fuel = fuel; clock = clock })
 run_program command capabilities fuel clock before now code is had =
-    subst (λ c. HasProgram c before now (record { code = code; fuel = fuel; clock = clock })) (sym is) here
+    subst (λ c. HasProgram c before now (record { code = code; capabilities = capabilities; fuel = fuel; clock = clock })) (sym is) here
   where
-    here : HasProgram (Some (Run capabilities fuel clock)) before now (record { code = code; fuel = fuel; clock = clock })
-    here = record { runs = (refl, refl); bytes = had.bytes; input = had.left; accepted = had.accepted; through = λ reads. had.through }
+    here : HasProgram (Some (Run capabilities fuel clock)) before now (record { code = code; capabilities = capabilities; fuel = fuel; clock = clock })
+    here = record { runs = (refl, refl); shared = refl; bytes = had.bytes; input = had.left; accepted = had.accepted; through = λ reads. had.through }
 
 pub checked : (command : Option Command) (before now : Option (List ℕ)) → command ≡ Some Check → HadSome before now → HasChecked command before now
 checked command before now is (s, had) = subst (λ c. HasChecked c before now) (sym is) here
@@ -34,12 +34,12 @@ checked command before now is (s, had) = subst (λ c. HasChecked c before now) (
     here = record { checks = refl; bytes = had.bytes; input = had.left; accepted = (s, had.accepted); through = had.through }
 
 pub ring_program : (command : Option Command) (threads capabilities fuel : ℕ) (before now : Option (List ℕ)) (code : Code) → command ≡ Some (Bench threads capabilities fuel)
-    → IsAccepted (ring_text threads) (body_of code).of.value → HasProgram command before now (record { code = code; fuel = fuel; clock = Virtual })
+    → IsAccepted (ring_text threads) (body_of code).of.value → HasProgram command before now (record { code = code; capabilities = capabilities; fuel = fuel; clock = Virtual })
 ring_program command threads capabilities fuel before now code is accepted =
-    subst (λ c. HasProgram c before now (record { code = code; fuel = fuel; clock = Virtual })) (sym is) here
+    subst (λ c. HasProgram c before now (record { code = code; capabilities = capabilities; fuel = fuel; clock = Virtual })) (sym is) here
   where
-    here : HasProgram (Some (Bench threads capabilities fuel)) before now (record { code = code; fuel = fuel; clock = Virtual })
-    here = record { runs = (refl, refl); bytes = ring_text threads; input = refl; accepted = accepted; through = λ reads. absurd reads }
+    here : HasProgram (Some (Bench threads capabilities fuel)) before now (record { code = code; capabilities = capabilities; fuel = fuel; clock = Virtual })
+    here = record { runs = (refl, refl); shared = refl; bytes = ring_text threads; input = refl; accepted = accepted; through = λ reads. absurd reads }
 
 -- ---- no script
 

@@ -32,6 +32,13 @@ RunsWith (Some (Run capabilities fuel clock)) most choice = (most ≡ fuel) × (
 RunsWith (Some Check) most choice = ⊥
 RunsWith (Some (Bench threads capabilities fuel)) most choice = (most ≡ fuel) × (choice ≡ Virtual)
 
+-- The command runs its input on so many capabilities.
+abbrev pub RunsOn : Option Command → ℕ → Type 0
+RunsOn None count = ⊥
+RunsOn (Some (Run capabilities fuel clock)) count = count ≡ capabilities
+RunsOn (Some Check) count = ⊥
+RunsOn (Some (Bench threads capabilities fuel)) count = count ≡ capabilities
+
 -- the command runs its input
 abbrev pub Runs : Option Command → Type 0
 Runs command = (fuel : ℕ) × (choice : ClockChoice) × RunsWith command fuel choice

@@ -7,12 +7,13 @@ use Rattle.hs_compile.specs.Verdicts.{IsAccepted}
 use Rattle.conc_task.specs.declared.task.Program.{Program}
 use Rattle.conc_task.specs.declared.task.Task.{Task}
 use Rattle.conc_task.specs.declared.task.Task.TheVariants.{Run, Accept}
-use Rattle.conc_task.specs.Commands.{IsInput, ReadsSource, RunsWith}
+use Rattle.conc_task.specs.Commands.{IsInput, ReadsSource, RunsOn, RunsWith}
 use Rattle.conc_task.specs.Inputs.{IsScript, ReadThrough}
 
 -- the command runs its input, which is the script that this program was made of
 pub record HasProgram (command : Option Command) (before now : Option (List ℕ)) (program : Program) : Type 0 where
   pub runs : RunsWith command program.fuel program.clock
+  pub shared : RunsOn command program.capabilities
   pub bytes : List ℕ
   pub input : IsInput command before bytes
   pub accepted : IsAccepted bytes (body_of program.code).of.value
@@ -35,3 +36,8 @@ HasTask command before now Accept = HasChecked command before now
 abbrev pub HasFuel : Task → Type 0
 HasFuel (Run program) = (1 ≤ program.fuel) × (program.fuel ≤ 4000000)
 HasFuel Accept = ⊤
+
+-- what is run has a capability, and not more of them than any run may have
+abbrev pub HasCapabilities : Task → Type 0
+HasCapabilities (Run program) = (1 ≤ program.capabilities) × (program.capabilities ≤ 16)
+HasCapabilities Accept = ⊤

@@ -1,7 +1,7 @@
 //! What the words and the input come to: a script to run, word that one is accepted, or why there is neither.
 //!
-//! To a contract a task is the fuel, the clock and the script that it runs (`specs/Tasks`). The one promise is that of `task_of`:
-//! its answer is what the command that the words are asks for, of the bytes that the source had left, or of the ring that
+//! To a contract a task is the capabilities, the fuel, the clock and the script that it runs (`specs/Tasks`). The one promise is that
+//! of `task_of`: its answer is what the command that the words are asks for, of the bytes that the source had left, or of the ring that
 //! `bench` names; a refusal comes only for its cause, and of a script that was judged the whole source was taken. What words are
 //! a command is left to `conc_words`, which bytes are a script to `hs_compile`, and what is run and told to the top call.
 #![tactic(auto)]

@@ -8,7 +8,7 @@ ghost use Rattle.conc_words.specs.Commands.{command_of, IsWithin};
 ghost use Rattle.conc_task.specs.Commands.{ReadsSource};
 ghost use Rattle.conc_task.specs.Inputs.{HadScript, HadSome, IsScript, IsWhole};
 ghost use Rattle.conc_task.specs.Stops.{Counted, HadNone, HasNone, IsDenied, IsUnclear, stop_of};
-ghost use Rattle.conc_task.specs.Tasks.{HasFuel, HasTask};
+ghost use Rattle.conc_task.specs.Tasks.{HasCapabilities, HasFuel, HasTask};
 
 use crate::input::{Input, read_input};
 use crate::stop::Stop;
@@ -24,6 +24,8 @@ use std::alloc::Global;
 #[derive(Drop)]
 pub struct Program {
     pub code: Code,
+    /// How many threads may evaluate at a time, 1 to 16.
+    pub capabilities: u8,
     /// How many steps the run may take, 1 to 4,000,000.
     pub fuel: u32,
     pub clock: ClockChoice,
@@ -47,8 +49,9 @@ pub fn task_of<S: Source>(alloc: Global, words: &[String], source: &mut S) -> Re
         (HasTask (command_of (map (λ word. string_bytes word) words.now)) (S.left source.old) (S.left source.new))
         (HasNone (command_of (map (λ word. string_bytes word) words.now)) (Rose (S.faults source.old) (S.faults source.new)) (S.left source.old) (S.left source.new)) }
 
-    // There is fuel for what is run, and not too much.
+    // There is fuel for what is run, and not too much; and so with its capabilities.
     ensures fuel { IfOk result HasFuel }
+    ensures capabilities { IfOk result HasCapabilities }
 
     // A failed read is told, and nothing else raises the source's count of faults.
     ensures counts { MatchResult result (λ task. S.faults source.new ≡ S.faults source.old) (λ stop. Counted stop (S.faults source.old) (S.faults source.new)) }
@@ -56,12 +59,17 @@ pub fn task_of<S: Source>(alloc: Global, words: &[String], source: &mut S) -> Re
 {
     match understood(alloc, words)? {
         Command::Run {
-            capabilities: _,
+            capabilities,
             fuel,
             clock,
         } => {
             let code = read_code(alloc, source)?;
-            Ok(Task::Run(Program { code, fuel, clock }))
+            Ok(Task::Run(Program {
+                code,
+                capabilities,
+                fuel,
+                clock,
+            }))
         }
         Command::Check => {
             read_checked(alloc, source)?;
@@ -69,12 +77,17 @@ pub fn task_of<S: Source>(alloc: Global, words: &[String], source: &mut S) -> Re
         }
         Command::Bench {
             threads,
-            capabilities: _,
+            capabilities,
             fuel,
         } => {
             let code = ring_code(alloc, threads)?;
             let clock = ClockChoice::Virtual;
-            Ok(Task::Run(Program { code, fuel, clock }))
+            Ok(Task::Run(Program {
+                code,
+                capabilities,
+                fuel,
+                clock,
+            }))
         }
     }
 }
