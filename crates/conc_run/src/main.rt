@@ -18,7 +18,16 @@ fn main(rt: HostRuntime) -> ExitCode {
     let out = StdSink::new(rt.stdout());
     let err = StdSink::new(rt.stderr());
     let clock = HostClock::new(&rt);
-    let done = run(rt.alloc(), &words, &mut source, out, err, clock, &OpenGate);
+    let done = run(
+        rt.alloc(),
+        &rt,
+        &words,
+        &mut source,
+        out,
+        err,
+        clock,
+        &OpenGate,
+    );
     ExitCode::from(done.status)
 }
 

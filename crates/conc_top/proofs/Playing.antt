@@ -252,26 +252,28 @@ module _ {O E K : Type 0} (out_told : O → Option (List ℕ)) (out_faults : O �
   abbrev pub shown : O → E → K → Shown
   shown o e k = record { output = out_told o; errors = err_told e; out_faults = out_faults o; err_faults = err_faults e; last = last k; early = early k }
 
-  -- What was lent was handed in, and what is handed back was closed, but for the error sink.
+  pub same_shown : (o o_lent : O) (e e_lent : E) (k k_lent : K) → out_told o_lent ≡ out_told o → err_told e_lent ≡ err_told e → out_faults o_lent ≡ out_faults o
+      → err_faults e_lent ≡ err_faults e → last k_lent ≡ last k → early k_lent ≡ early k → shown o_lent e_lent k_lent ≡ shown o e k
+  same_shown o o_lent e e_lent k k_lent output errors output_faults errors_faults reading waits = rw (output, errors, output_faults, errors_faults, reading, waits) refl
+
+  -- What was lent shows what was handed in, and what is handed back was closed, but for the error sink.
   pub closed : (p : Plan) (fuel : ℕ) (s : Script) (final : Option RunEnd) (given : Ending) (es es_now : List Entry)
       (o o_lent o_old o_now : O) (e e_lent e_old e_now : E) (k k_lent k_old k_now : K)
-      → o_lent ≡ o → e_lent ≡ e → k_lent ≡ k → es_now ≡ es → o_now ≡ o_old → k_now ≡ k_old
+      → shown o_lent e_lent k_lent ≡ shown o e k → es_now ≡ es → o_now ≡ o_old → k_now ≡ k_old
       → p.body.of.value ≡ s → p.fuel ≡ fuel → p.limits ≡ limits → IsSome final
       → ∥ IsRunOf p final es (shown o_lent e_lent k_lent) (shown o_old e_old k_old) ∥₁
       → out_faults o_lent ≤ out_faults o_old → err_faults e_lent ≤ err_faults e_old
       → IfSome final (λ r. TellsLine (line_of (Ran r)) (Ran r) given (err_told e_old) (err_told e_now) (err_faults e_old) (err_faults e_now))
       → Closing p fuel s final given es_now (shown o e k) (shown o_old e_old k_old) (shown o_now e_now k_now)
-  closed p fuel s final given es es_now o o_lent o_old o_now e e_lent e_old e_now k k_lent k_old k_now o_is e_is k_is es_is o_kept k_kept script_is fuel_is limits_is some run out_le err_le line = record {
+  closed p fuel s final given es es_now o o_lent o_old o_now e e_lent e_old e_now k k_lent k_old k_now lent_is es_is o_kept k_kept script_is fuel_is limits_is some run out_le err_le line = record {
     script = script_is;
     fuel = fuel_is;
     limits = limits_is;
     ends = some;
     run = subst (λ z. ∥ IsRunOf p final z (shown o e k) (shown o_old e_old k_old) ∥₁) (sym es_is)
-        (subst (λ z. ∥ IsRunOf p final es (shown z e k) (shown o_old e_old k_old) ∥₁) o_is
-        (subst (λ z. ∥ IsRunOf p final es (shown o_lent z k) (shown o_old e_old k_old) ∥₁) e_is
-        (subst (λ z. ∥ IsRunOf p final es (shown o_lent e_lent z) (shown o_old e_old k_old) ∥₁) k_is run)));
-    out_counted = subst (λ z. out_faults z ≤ out_faults o_old) o_is out_le;
-    err_counted = subst (λ z. err_faults z ≤ err_faults e_old) e_is err_le;
+        (subst (λ z. ∥ IsRunOf p final es z (shown o_old e_old k_old) ∥₁) lent_is run);
+    out_counted = subst (λ z. z.out_faults ≤ out_faults o_old) lent_is out_le;
+    err_counted = subst (λ z. z.err_faults ≤ err_faults e_old) lent_is err_le;
     line = line;
     line_counted = counted_line final given (err_told e_old) (err_told e_now) (err_faults e_old) (err_faults e_now) some line;
     later = record { output = ap out_told o_kept; out_faults = ap out_faults o_kept; last = ap last k_kept; early = ap early k_kept };

@@ -10,6 +10,7 @@
 #![tactic(auto)]
 
 mod ending;
+mod running;
 mod top;
 
 pub use conc_world::RunEnd;

@@ -13,28 +13,42 @@ ghost use Rattle.conc_top.specs.Causes.{ending_of, IsDue, IsExpected, IsFault, I
 ghost use Rattle.conc_top.specs.Lines.{accepted_line, HasPlace, line_of, status_of, text_of};
 
 use crate::ending::{ACCEPTED, Done, Ending, Line, OUT_OF_MEMORY, run_line};
+use crate::running::run_desk;
 use conc_task::{Program, Stop, Task, task_of};
-use conc_world::{Closed, Desk, Parts, alone};
+use conc_world::{Closed, Desk, Parts};
 use hs_base::Limits;
 use hs_io::{Clock, Failed, Gate, Sink, Source};
 use hs_rules::{Code, History};
 use std::alloc::Global;
+use std::sync::Wait;
+use std::thread::Threads;
 
 /// Does all that the program does: reads the words, reads the script from the source, checks it, runs it, and tells what it
 /// printed and how it ended.
 ///
 /// `words` are the words after the program's name (`conc_words`). What a run prints goes to `out` and to `err` while it runs,
 /// each entry's as one piece, and then the line of the ending to `err` as one piece; `check` puts `accepted` on `out`. An empty
-/// piece is not put, and nothing is put after a failed put. The clock is told its choice before a run begins. Every run has one
-/// capability, whatever the words say. Want of memory is free. The gate is not called yet.
-pub fn run<S: Source, O: Sink, E: Sink, K: Clock, G: Gate>(
+/// piece is not put, and nothing is put after a failed put. The clock is told its choice before a run begins. Want of memory is
+/// free.
+///
+/// A run on one capability needs no other thread and calls no gate. One on more starts threads by `rt`, waits for all of them
+/// before it returns, and calls the gate from any of them (`hs_io::Gate`).
+pub fn run<
+    S: Source,
+    O: Sink + Send,
+    E: Sink + Send,
+    K: Clock + Send,
+    G: Gate + Sync,
+    R: Threads + Wait + Sync,
+>(
     alloc: Global,
+    rt: &R,
     words: &[String],
     source: &mut S,
     out: O,
     err: E,
     clock: K,
-    _gate: &G,
+    gate: &G,
 ) -> Done<O, E, K>
     requires out { WasToldNothing (O.told out) }
     requires err { WasToldNothing (E.told err) }
@@ -83,21 +97,24 @@ pub fn run<S: Source, O: Sink, E: Sink, K: Clock, G: Gate>(
     ensures choice { IsChosen (command_of (map (λ word. string_bytes word) words.now)) (K.choice clock) (K.choice result.clock) }
 {
     match task_of(alloc, words, source) {
-        Ok(Task::Run(program)) => play(alloc, program, out, err, clock),
+        Ok(Task::Run(program)) => play(alloc, rt, program, gate, out, err, clock),
         Ok(Task::Accept) => tell_accepted(alloc, out, err, clock),
         Err(stop) => tell(alloc, ending_of(stop), out, err, clock),
     }
 }
 
 // Runs the program by the clock that it chooses, and tells how it ended.
-fn play<O: Sink, E: Sink, K: Clock>(
+fn play<O: Sink + Send, E: Sink + Send, K: Clock + Send, G: Gate + Sync, R: Threads + Wait + Sync>(
     alloc: Global,
+    rt: &R,
     program: Program,
+    gate: &G,
     out: O,
     err: E,
     clock: K,
 ) -> Done<O, E, K>
     requires fuel { 1 ≤ program.fuel }
+    requires capabilities { (1 ≤ program.capabilities) × (program.capabilities ≤ 16) }
     ensures status { result.status ≡ status_of result.ending }
     ensures cause { IsPlayed (Rose (O.faults out) (O.faults result.out) ⊎ Rose (E.faults err) (E.faults result.err)) result.ending }
     ensures plays { (bytes : List ℕ) → IsAccepted bytes (body_of program.code).of.value → ∥ Plays program.fuel bytes result.ending result.history.list
@@ -109,24 +126,35 @@ fn play<O: Sink, E: Sink, K: Clock>(
 {
     let Program {
         code,
+        capabilities,
         fuel,
         clock: choice,
     } = program;
     let mut clock = clock;
     clock.choose(choice);
-    play_code(alloc, code, fuel, out, err, clock)
+    play_code(alloc, rt, code, capabilities, fuel, gate, out, err, clock)
 }
 
-// Runs the code with so much fuel, and tells how it ended.
-fn play_code<O: Sink, E: Sink, K: Clock>(
+// Runs the code on so many capabilities with so much fuel, and tells how it ended.
+fn play_code<
+    O: Sink + Send,
+    E: Sink + Send,
+    K: Clock + Send,
+    G: Gate + Sync,
+    R: Threads + Wait + Sync,
+>(
     alloc: Global,
+    rt: &R,
     code: Code,
+    capabilities: u8,
     fuel: u32,
+    gate: &G,
     out: O,
     err: E,
     clock: K,
 ) -> Done<O, E, K>
     requires fuel { 1 ≤ fuel }
+    requires capabilities { (1 ≤ capabilities) × (capabilities ≤ 16) }
     ensures status { result.status ≡ status_of result.ending }
     ensures cause { IsPlayed (Rose (O.faults out) (O.faults result.out) ⊎ Rose (E.faults err) (E.faults result.err)) result.ending }
     ensures plays { (bytes : List ℕ) → IsAccepted bytes (body_of code).of.value → ∥ Plays fuel bytes result.ending result.history.list
@@ -137,10 +165,7 @@ fn play_code<O: Sink, E: Sink, K: Clock>(
     ensures choice { K.choice result.clock ≡ K.choice clock }
 {
     match Desk::begin(alloc, code, fuel, Limits::shipped(), out, err, clock) {
-        Ok(mut desk) => {
-            alone(&mut desk);
-            end(desk.close())
-        }
+        Ok(desk) => end(run_desk(alloc, rt, desk, capabilities, gate).close()),
         Err(Parts { out, err, clock }) => tell(alloc, Ending::Memory, out, err, clock),
     }
 }
