@@ -8,6 +8,8 @@ use hs_io::{
 };
 use hs_rules::{Entry, History};
 use std::alloc::Global;
+use std::sync::Wait;
+use std::thread::Threads;
 
 /// What a call left.
 #[derive(Debug, Drop)]
@@ -22,28 +24,42 @@ pub struct Came {
     pub limit_at: Option<Entry>,
 }
 
-/// Calls the top call as the row says, on this input.
-pub fn call(alloc: Global, row: &Row, input: &[u8]) -> Result<Came, Flaw> {
+/// Calls the top call as the row says, with these words, on this input.
+pub fn call<R: Threads + Wait + Sync>(
+    alloc: Global,
+    rt: &R,
+    row: &Row,
+    words: &[String],
+    input: &[u8],
+) -> Result<Came, Flaw> {
     match &row.source {
-        None => call_with(alloc, row, &mut PlainSource::of(alloc, input)?),
+        None => call_with(alloc, rt, row, words, &mut PlainSource::of(alloc, input)?),
         Some(plan) => {
             let piece = plan.piece.max(1);
             let mut source = MemSource::of(alloc, input, piece, &plan.fails)?;
-            call_with(alloc, row, &mut source)
+            call_with(alloc, rt, row, words, &mut source)
         }
     }
 }
 
-fn call_with<S: Source>(alloc: Global, row: &Row, source: &mut S) -> Result<Came, Flaw> {
+fn call_with<S: Source, R: Threads + Wait + Sync>(
+    alloc: Global,
+    rt: &R,
+    row: &Row,
+    words: &[String],
+    source: &mut S,
+) -> Result<Came, Flaw> {
     match row.clock {
-        ClockPlan::Virtual => call_at(alloc, row, source, VirtualClock::new()),
-        ClockPlan::Standing => call_at(alloc, row, source, StandingClock::new()),
+        ClockPlan::Virtual => call_at(alloc, rt, row, words, source, VirtualClock::new()),
+        ClockPlan::Standing => call_at(alloc, rt, row, words, source, StandingClock::new()),
     }
 }
 
-fn call_at<S: Source, K: Clock + Drop>(
+fn call_at<S: Source, K: Clock + Drop + Send, R: Threads + Wait + Sync>(
     alloc: Global,
+    rt: &R,
     row: &Row,
+    words: &[String],
     source: &mut S,
     clock: K,
 ) -> Result<Came, Flaw> {
@@ -56,7 +72,7 @@ fn call_at<S: Source, K: Clock + Drop>(
         out,
         err,
         clock: _,
-    } = run(alloc, &row.words, source, out, err, clock, &OpenGate);
+    } = run(alloc, rt, words, source, out, err, clock, &OpenGate);
     Ok(Came {
         out: out.told().to_vec(alloc)?,
         err: err.told().to_vec(alloc)?,

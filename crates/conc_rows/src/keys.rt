@@ -3,7 +3,8 @@
 use crate::draft::Draft;
 use crate::flaw::Flaw;
 use crate::plans::{
-    byte_ranges, entries_of, entry_of, number_of, refusal_of, sink_of, source_of, words_of,
+    byte_ranges, entries_of, entry_of, number_of, numbers_of, refusal_of, sink_of, source_of,
+    words_of,
 };
 use crate::row::{Cases, ClockPlan};
 use crate::text::Text;
@@ -71,10 +72,21 @@ fn read_mark(draft: &mut Draft, line: &str) -> Result<(), Flaw> {
     match line {
         "later" => draft.later = true,
         "accepted" => draft.accepted = true,
-        "each part" => draft.cases = Cases::Parts,
+        "each part" => set_cases(draft, Cases::Parts)?,
         _ => return Err(Flaw::Says("this is no line of a row")),
     }
     Ok(())
+}
+
+// A row has cases of one kind.
+fn set_cases(draft: &mut Draft, cases: Cases) -> Result<(), Flaw> {
+    match draft.cases {
+        Cases::One => {
+            draft.cases = cases;
+            Ok(())
+        }
+        _ => Err(Flaw::Says("a row has one line that begins with `each`")),
+    }
 }
 
 // A line `key: value`.
@@ -86,7 +98,9 @@ fn read_key(draft: &mut Draft, key: &str, value: &str) -> Result<(), Flaw> {
         "out sink" => draft.out_sink = sink_of(alloc, value)?,
         "err sink" => draft.err_sink = sink_of(alloc, value)?,
         "clock" => draft.clock = clock_of(value)?,
-        "each byte" => draft.cases = Cases::Bytes(byte_ranges(alloc, value)?),
+        "each byte" => set_cases(draft, Cases::Bytes(byte_ranges(alloc, value)?))?,
+        "each capabilities" => set_cases(draft, Cases::Capabilities(numbers_of(alloc, value)?))?,
+        "times" => draft.times = times_of(value)?,
         _ => return read_wanted(draft, key, value),
     }
     Ok(())
@@ -113,6 +127,13 @@ fn add_line(text: &mut Text, line: &str) -> Result<(), Flaw> {
     text.add(line.as_bytes())?;
     text.add(b"\n")?;
     Ok(())
+}
+
+fn times_of(value: &str) -> Result<u32, Flaw> {
+    match number_of(value)? {
+        0 => Err(Flaw::Says("a row is tried once or more often")),
+        times => Ok(times),
+    }
 }
 
 fn clock_of(value: &str) -> Result<ClockPlan, Flaw> {

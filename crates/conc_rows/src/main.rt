@@ -21,11 +21,15 @@ use crate::cases::problem_of;
 use crate::flaw::{Fault, Flaw};
 use crate::reader::read_rows;
 use crate::row::Row;
+use std::alloc::Global;
 use std::fs;
 use std::process::ExitCode;
+use std::rt::Files;
+use std::sync::Wait;
+use std::thread::Threads;
 
 /// The files of rows, by topic.
-const FILES: [&str; 8] = [
+const FILES: [&str; 9] = [
     "tokens.rows",
     "grammar.rows",
     "typing.rows",
@@ -34,6 +38,7 @@ const FILES: [&str; 8] = [
     "words.rows",
     "running.rows",
     "tour.rows",
+    "capabilities.rows",
 ];
 
 const FAILED: u8 = 1;
@@ -53,7 +58,7 @@ fn main(rt: HostRuntime) -> ExitCode {
         later: 0,
     };
     for name in FILES {
-        if let Err(fault) = try_file(&rt, name, &mut count) {
+        if let Err(fault) = try_file(&rt, rt.alloc(), name, &mut count) {
             let _ = println!(rt; "{name}: {fault}");
             return ExitCode::from(FAILED);
         }
@@ -71,18 +76,23 @@ fn main(rt: HostRuntime) -> ExitCode {
 }
 
 // Tries the rows of a file, and prints those that give something else.
-fn try_file(rt: &HostRuntime, name: &'static str, count: &mut Count) -> Result<(), Fault> {
+fn try_file<R: Files + Print + Alloc + Threads + Wait + Sync>(
+    rt: &R,
+    alloc: Global,
+    name: &'static str,
+    count: &mut Count,
+) -> Result<(), Fault> {
     let Ok(file) = fs::read_to_string(rt, name) else {
         return Err(Fault::NoFile(name));
     };
-    let rows = read_rows(rt.alloc(), file.as_str())?;
+    let rows = read_rows(alloc, file.as_str())?;
     for row in &rows {
         count.rows = count.rows.saturating_add(1);
         if row.later {
             count.later = count.later.saturating_add(1);
             continue;
         }
-        if !passes(rt, name, row)? {
+        if !passes(rt, alloc, name, row)? {
             count.failed = count.failed.saturating_add(1);
         }
     }
@@ -90,8 +100,13 @@ fn try_file(rt: &HostRuntime, name: &'static str, count: &mut Count) -> Result<(
 }
 
 // Tries a row, and prints what it gives where that is something else.
-fn passes(rt: &HostRuntime, file: &'static str, row: &Row) -> Result<bool, Fault> {
-    match problem_of(rt.alloc(), row) {
+fn passes<R: Print + Alloc + Threads + Wait + Sync>(
+    rt: &R,
+    alloc: Global,
+    file: &'static str,
+    row: &Row,
+) -> Result<bool, Fault> {
+    match problem_of(alloc, rt, row) {
         Ok(None) => Ok(true),
         Ok(Some(problem)) => {
             let name = row.name.as_str();

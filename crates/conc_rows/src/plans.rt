@@ -157,6 +157,18 @@ pub fn byte_ranges(alloc: Global, value: &str) -> Result<Vec<(u8, u8)>, Flaw> {
     Ok(ranges)
 }
 
+/// Numbers with blanks between, at least one.
+pub fn numbers_of(alloc: Global, value: &str) -> Result<Vec<u8>, Flaw> {
+    let mut numbers = Vec::new(alloc);
+    for text in value.split_whitespace() {
+        numbers.push(number_of(text)?)?;
+    }
+    if numbers.is_empty() {
+        return Err(Flaw::Says("a number is wanted here, and it has to fit"));
+    }
+    Ok(numbers)
+}
+
 fn byte_of(high: u8, low: u8) -> Result<u8, Flaw> {
     Ok(
         hex_digit(high)?

@@ -4,7 +4,7 @@ use crate::text::Text;
 use hs_rules::Entry;
 use std::alloc::Global;
 
-/// How often a row is tried.
+/// Which calls a row makes.
 #[derive(Debug, Drop)]
 pub enum Cases {
     One,
@@ -12,6 +12,8 @@ pub enum Cases {
     Bytes(Vec<(u8, u8)>),
     /// Once for each part of the input from its start, of one byte or more, but the whole.
     Parts,
+    /// Once on each of these numbers of capabilities, which follow the words as `--caps N`.
+    Capabilities(Vec<u8>),
 }
 
 /// A source that gives so many bytes a call and fails at these calls.
@@ -82,6 +84,8 @@ pub struct Row {
     pub words: Vec<String>,
     pub input: Text,
     pub cases: Cases,
+    /// How often each case is tried.
+    pub times: u32,
     pub source: Option<SourcePlan>,
     pub out: SinkPlan,
     pub err: SinkPlan,

@@ -24,6 +24,7 @@ fn a_run_over_sinks_that_tell_nothing_keeps_its_history(rt: HostRuntime) -> Resu
         clock: _,
     } = run(
         alloc,
+        &rt,
         &words,
         &mut source,
         NullSink,
@@ -52,6 +53,7 @@ fn a_source_is_not_read_where_the_words_are_not_understood(rt: HostRuntime) -> R
         let words = [String::from_str(alloc, word)?];
         let done = run(
             alloc,
+            &rt,
             &words,
             &mut source,
             NullSink,
@@ -80,6 +82,7 @@ fn the_clock_has_its_choice_before_it_is_asked(rt: HostRuntime) -> Result<(), Fa
         let mut source = MemSource::of(alloc, b"main :: IO () = { threadDelay 5 };", 64, &[])?;
         let done = run(
             alloc,
+            &rt,
             &words,
             &mut source,
             NullSink,
