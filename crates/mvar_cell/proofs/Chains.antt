@@ -1,13 +1,12 @@
 -- What writes of single nodes do to chains.
-use Rattle.std.proofs.Common.{◌≡◌, ◌≢◌, ℕ, zero, suc, ◌<◌, ◌≤◌, List, [], ◌∷◌, ◌++◌, Option, Some, None, refl, ap, sym, subst, ◌∙◌, arith, inl, inr, ◌+◌, ◌-◌, Bool, true, false, cond, IsSome, eq-eqb}
+use Rattle.std.proofs.Common.{◌≡◌, ◌≢◌, ℕ, zero, suc, ◌≤◌, List, [], ◌∷◌, ◌++◌, Option, Some, None, refl, ap, sym, subst, ◌∙◌, arith, inl, inr, Bool, true, false, cond, IsSome, eq-eqb}
 use Rattle.std.proofs.lemmas.Bool.{cases_eq, ne_eqb}
 use Rattle.hs_base.specs.declared.value.Value.{Value}
 use Rattle.rules_waiting.specs.OneCell.{Place}
 use Rattle.slab.specs.Slab.{Slab, get}
 use Rattle.mvar_cell.specs.declared.lines.Node.{Node}
-use Rattle.mvar_cell.specs.declared.lines.Ends.{Ends}
 use Rattle.mvar_cell.specs.declared.lines.Sought.{Sought}
-use Rattle.mvar_cell.specs.Nodes.{place, place_of, next_of, places, IsOn, IsTail, IsChain, IsLine, is_sought, any_sought, walk, last_after_leaving, behind, Walks, StandsBefore, Unlinks}
+use Rattle.mvar_cell.specs.Nodes.{place, place_of, next_of, places, IsOn, IsTail, IsChain, is_sought, any_sought, walk, last_after_leaving, Unlinks}
 
 -- from a node there is one way to the last
 pub tail_once : (s : Slab Node) (k a b i z : ℕ) → IsTail s k a i z → IsTail s k b i z → a ≡ b
@@ -20,7 +19,7 @@ tail_once s k (suc a) (suc b) i z p q = ap suc (tail_once s k a b (next_of (get 
 pub record Keeps (s u : Slab Node) (k n z : ℕ) : Type 0 where
   pub same : (j d : ℕ) → d ≤ n → IsOn k (get s j) → IsTail s k d j z → get u j ≡ get s j
 
-shorter : {s u : Slab Node} {k n z : ℕ} → Keeps s u k (suc n) z → Keeps s u k n z
+pub shorter : {s u : Slab Node} {k n z : ℕ} → Keeps s u k (suc n) z → Keeps s u k n z
 shorter h = record { same = λ j d le. h.same j d (omega arith) }
 
 pub record Kept (s u : Slab Node) (k n i z : ℕ) : Type 0 where
@@ -138,10 +137,10 @@ walk_far s k (suc a) (suc m) i z le t =
     let r = walk_far s k a m (next_of (get s i)) z (omega arith) t.2 in
     (r.0, omega (arith, r.1), r.2)
 
-at_last : (p j z : ℕ) → j ≡ z → last_after_leaving p j z ≡ p
+pub at_last : (p j z : ℕ) → j ≡ z → last_after_leaving p j z ≡ p
 at_last p j z e = ap (λ b. cond b p z) (eq-eqb j z e)
 
-not_last : (p j z : ℕ) → (j ≡ z → ⊥) → last_after_leaving p j z ≡ z
+pub not_last : (p j z : ℕ) → (j ≡ z → ⊥) → last_after_leaving p j z ≡ z
 not_last p j z ne = ap (λ b. cond b p z) (ne_eqb j z ne)
 
 -- neither of the two that change
@@ -212,11 +211,11 @@ walk_on s k zero m i z le on t = on
 walk_on s k (suc a) zero i z le on t = let no : ⊥ = omega arith in absurd no
 walk_on s k (suc a) (suc m) i z le on t = walk_on s k a m (next_of (get s i)) z (omega arith) t.1 t.2
 
-places_more : (s : Slab Node) (n i : ℕ) → places s (suc n) i ≡ places s n i ++ place_of (get s (walk s n i)) ∷ []
+pub places_more : (s : Slab Node) (n i : ℕ) → places s (suc n) i ≡ places s n i ++ place_of (get s (walk s n i)) ∷ []
 places_more s zero i = refl
 places_more s (suc n) i = ap (λ ps. place_of (get s i) ∷ ps) (places_more s n (next_of (get s i)))
 
-none_later : (b c : Bool) → cond b true c ≡ false → (b ≡ false) × (c ≡ false)
+pub none_later : (b c : Bool) → cond b true c ≡ false → (b ≡ false) × (c ≡ false)
 none_later true c h = let no : ⊥ = cc in absurd no
 none_later false c h = (refl, h)
 
@@ -226,62 +225,13 @@ none_append sought (p ∷ ps) qs h g =
     let r = none_later (is_sought sought p) (any_sought sought ps) h in
     ap (λ b. cond b true (any_sought sought (ps ++ qs))) r.0 ∙ none_append sought ps qs r.1 g
 
-none_alone : (sought : Sought) (p : Place Value) → is_sought sought p ≡ false → any_sought sought (p ∷ []) ≡ false
+pub none_alone : (sought : Sought) (p : Place Value) → is_sought sought p ≡ false → any_sought sought (p ∷ []) ≡ false
 none_alone sought p h = ap (λ b. cond b true false) h
-
-pub walks_first : (s : Slab Node) (k : ℕ) (e : Ends) (sought : Sought) → IsLine s k e → 0 < e.len → is_sought sought (place_of (get s e.first)) ≡ false → any_sought sought (behind s e) ≡ true → Walks s e sought 1 e.first
-walks_first s k e sought h some first stands =
-    let q : e.len ≡ suc (e.len - 1) = omega (arith, some) in
-    let c : IsChain s k (suc (e.len - 1)) e.first e.last = subst (λ n. IsChain s k n e.first e.last) q h in
-    record { line = k; is = refl; on = c.0; tail = c.1; stands = stands; clear = none_alone sought (place_of (get s e.first)) first }
 
 pub found_later : (b c : Bool) → cond b true c ≡ true → b ≡ false → c ≡ true
 found_later true c h e = let no : ⊥ = cc in absurd no
 found_later false c h e = h
 
-pub walks_step : (s : Slab Node) (e : Ends) (sought : Sought) (step at : ℕ) → Walks s e sought step at → 1 ≤ step → step < e.len → is_sought sought (place_of (get s (next_of (get s at)))) ≡ false → Walks s e sought (step + 1) (next_of (get s at))
-walks_step s e sought step at w low lt other =
-    let q : e.len - step ≡ suc (e.len - (step + 1)) = omega (arith, lt) in
-    let tail : IsTail s w.line (suc (e.len - (step + 1))) at e.last = subst (λ n. IsTail s w.line n at e.last) q w.tail in
-    let stands : any_sought sought (places s (suc (e.len - (step + 1))) (next_of (get s at))) ≡ true = subst (λ n. any_sought sought (places s n (next_of (get s at))) ≡ true) q w.stands in
-    let more : suc (step - 1) ≡ step + 1 - 1 = omega (arith, low) in
-    let here : suc (step - 1) ≡ step = omega (arith, low) in
-    let next : next_of (get s at) ≡ walk s (suc (step - 1)) e.first = ap (λ x. next_of (get s x)) w.is ∙ sym (walk_next s (step - 1) e.first) in
-    let last : is_sought sought (place_of (get s (walk s step e.first))) ≡ false = subst (λ x. is_sought sought (place_of (get s x)) ≡ false) (next ∙ ap (λ n. walk s n e.first) here) other in
-    let all : any_sought sought (places s (suc step) e.first) ≡ false =
-    ap (any_sought sought) (places_more s step e.first) ∙ none_append sought (places s step e.first) (place_of (get s (walk s step e.first)) ∷ []) w.clear (none_alone sought (place_of (get s (walk s step e.first))) last) in
-    record {
-      line = w.line;
-      is = next ∙ ap (λ n. walk s n e.first) more;
-      on = tail.1;
-      tail = tail.2;
-      stands = found_later _ _ stands other;
-      clear = subst (λ n. any_sought sought (places s n e.first) ≡ false) (let z : suc step ≡ step + 1 = omega arith in z) all;
-    }
-
-pub walks_found : (s : Slab Node) (e : Ends) (sought : Sought) (step at : ℕ) → Walks s e sought step at → 1 ≤ step → step < e.len → is_sought sought (place_of (get s (next_of (get s at)))) ≡ true → StandsBefore s e sought at
-walks_found s e sought step at w low lt found =
-    let here : step ≡ suc (step - 1) = omega (arith, low) in
-    record {
-      steps = step - 1;
-      within = omega (arith, low, lt);
-      is = w.is;
-      found = found;
-      clear = subst (λ n. any_sought sought (places s n e.first) ≡ false) here w.clear;
-    }
-
--- the node behind, in a walk that is not done
-pub walks_on : (s : Slab Node) (e : Ends) (sought : Sought) (step at : ℕ) (w : Walks s e sought step at) → step < e.len → IsOn w.line (get s (next_of (get s at)))
-walks_on s e sought step at w lt =
-    let q : e.len - step ≡ suc (e.len - (step + 1)) = omega (arith, lt) in
-    (subst (λ n. IsTail s w.line n at e.last) q w.tail).1
-
 pub is_there : (k : ℕ) (o : Option Node) → IsOn k o → IsSome o
 is_there k None on = absurd on
 is_there k (Some n) on = refl
-
-pub walks_end : (s : Slab Node) (e : Ends) (sought : Sought) (step at : ℕ) → Walks s e sought step at → e.len ≤ step → ⊥
-walks_end s e sought step at w le =
-    let q : e.len - step ≡ 0 = omega (arith, le) in
-    let no : false ≡ true = subst (λ n. any_sought sought (places s n (next_of (get s at))) ≡ true) q w.stands in
-    let none : ⊥ = cc in none

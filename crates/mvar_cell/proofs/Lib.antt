@@ -1,5 +1,7 @@
+pub mod Backing
 pub mod CellLaws
 pub mod Chains
+pub mod Cursors
 pub mod Keeping
 pub mod Lists
 pub mod Seen

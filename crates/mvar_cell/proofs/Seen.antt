@@ -118,3 +118,7 @@ pub nowhere_at : (t : ℕ) (cs : List (Cell Value)) (k : ℕ) → stands_among t
 nowhere_at t [] k h = refl
 nowhere_at t (c ∷ cs) zero h = (step_false (stands_in t c.line) (stands_among t cs) h).0
 nowhere_at t (c ∷ cs) (suc k) h = nowhere_at t cs k (step_false (stands_in t c.line) (stands_among t cs) h).1
+
+-- who stands in no line of a cell stands in no line
+pub nowhere : (t : ℕ) (old : Mvars) (ss : List Stored) (ls : List (List (Place Value))) → AreCells ss ls → cells_of ss ls ≡ old.cells → stands_among t old.cells ≡ false → (k : ℕ) → stands_in t (get_or ls k []) ≡ false
+nowhere t old ss ls h seen alone k = ap (λ (c : Cell Value). stands_in t c.line) (sym (cell_seen k old ss ls h seen)) ∙ nowhere_at t old.cells k alone

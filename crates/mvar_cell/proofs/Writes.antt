@@ -1,5 +1,5 @@
 -- What one write of a line does to all lines.
-use Rattle.std.proofs.Common.{◌≡◌, ◌≢◌, ℕ, zero, suc, ◌<◌, ◌≤◌, ◌+◌, ◌-◌, List, [], ◌∷◌, ◌++◌, length, map, get_or, set, Some, None, refl, ap, sym, subst, ◌∙◌, arith, inl, inr, true, false}
+use Rattle.std.proofs.Common.{◌≡◌, ◌≢◌, ℕ, zero, suc, ◌<◌, ◌≤◌, ◌+◌, ◌-◌, List, [], ◌∷◌, ◌++◌, length, map, get_or, set, Option, Some, None, refl, ap, sym, subst, ◌∙◌, arith, inl, inr, true, false}
 use Rattle.std.proofs.lemmas.Bool.{cases_eq}
 use Rattle.std.proofs.lemmas.List.{get_or-set_same, get_or-set_other, length-set, length-map, get_or-map}
 use Rattle.std.proofs.lemmas.List.Sums.{sum_by-set}
@@ -43,7 +43,7 @@ after_write es s u m d e h lt others line fits =
 pub len_within : (es : List Ends) (s : Slab Node) (m : ℕ) (d : Ends) → IsSound es s → m < length es → (get_or es m d).len ≤ slab_len s
 len_within es s m d h lt =
     let len : Ends → ℕ = λ x. x.len in
-    omega (arith, h.fits, sum_by-set len es m (record { first = 0; last = 0; len = 0 }) d lt)
+    omega (arith, h.fits, sum_by-set len es m (record { first = 0; last = 0; len = 0; cursor = None }) d lt)
 
 -- where the place of this line is known, the line of all lines is
 pub line_is : (es : List Ends) (s : Slab Node) (m : ℕ) (e : Ends) → m < length es → e ≡ get_or es m e → get_or (map (line_at s) es) m [] ≡ line_at s e
@@ -54,13 +54,13 @@ places_length s zero i = refl
 places_length s (suc n) i = ap suc (places_length s n (next_of (get s i)))
 
 -- a line is as long as its ends say
-pub line_length : (es : List Ends) (s : Slab Node) (capacity m : ℕ) (e : Ends) (now : Lined) → lined es s capacity ≡ now → m < length es → e ≡ get_or es m e → length (line_of now m) ≡ e.len
-line_length es s capacity m e now view lt is =
+pub line_length : (es : List Ends) (s : Slab Node) (capacity more m : ℕ) (e : Ends) (now : Lined) → lined es s capacity more ≡ now → m < length es → e ≡ get_or es m e → length (line_of now m) ≡ e.len
+line_length es s capacity more m e now view lt is =
     ap (λ (x : Lined). length (line_of x m)) (sym view) ∙ ap (λ (ps : List (Place Value)). length ps) (line_is es s m e lt is) ∙ places_length s e.len e.first
 
 -- the first place of a line
 pub first_joins : (es : List Ends) (s u : Slab Node) (m : ℕ) (e : Ends) (key : ℕ) (new : Node) → IsSound es s → m < length es → e ≡ get_or es m e → e.len ≡ 0 → get s key ≡ None → Updates s u key (Some new) → new.line ≡ m → slab_len u ≡ slab_len s + 1
-    → After es s u m (record { first = key; last = key; len = 1 })
+    → After es s u m (record { first = key; last = key; len = 1; cursor = None })
 first_joins es s u m e key new h lt is empty vacant updates on counted =
     let none : (get_or es m e).len ≡ 0 = ap (λ (x : Ends). x.len) (sym is) ∙ empty in
     after_write es s u m e _ h lt
@@ -69,7 +69,7 @@ first_joins es s u m e key new h lt is empty vacant updates on counted =
     (omega (arith, counted, none))
 
 pub record Joins (es : List Ends) (s u : Slab Node) (m : ℕ) (e : Ends) (key : ℕ) (new : Node) : Type 0 where
-  pub after : After es s u m (record { first = e.first; last = key; len = e.len + 1 })
+  pub after : After es s u m (record { first = e.first; last = key; len = e.len + 1; cursor = e.cursor })
   pub line : places u (e.len + 1) e.first ≡ line_at s e ++ place new.thread new.want ∷ []
 
 module _ (es : List Ends) (s : Slab Node) (m : ℕ) (e : Ends) (h : IsSound es s) (lt : m < length es) (is : e ≡ get_or es m e) where
@@ -118,9 +118,9 @@ module _ (es : List Ends) (s : Slab Node) (m : ℕ) (e : Ends) (h : IsSound es s
       }
 
   -- the first place of a line leaves it
-  pub first_leaves : (u : Slab Node) (n : ℕ) (node : Node) → e.len ≡ suc n → get s e.first ≡ Some node → Updates s u e.first None → slab_len u + 1 ≡ slab_len s
-      → After es s u m (record { first = node.next; last = e.last; len = n }) × (line_at s e ≡ place node.thread node.want ∷ places u n node.next)
-  first_leaves u n node q was updates counted =
+  pub first_leaves : (u : Slab Node) (cursor : Option ℕ) (n : ℕ) (node : Node) → e.len ≡ suc n → get s e.first ≡ Some node → Updates s u e.first None → slab_len u + 1 ≡ slab_len s
+      → After es s u m (record { first = node.next; last = e.last; len = n; cursor = cursor }) × (line_at s e ≡ place node.thread node.want ∷ places u n node.next)
+  first_leaves u cursor n node q was updates counted =
       let c = long_chain_of n q in
       let short = chain_shorter s u m n e.first e.last node was updates.others c in
       let size : e.len ≡ (get_or es m e).len = ap (λ (x : Ends). x.len) is in (
@@ -131,8 +131,8 @@ module _ (es : List Ends) (s : Slab Node) (m : ℕ) (e : Ends) (h : IsSound es s
       )
 
 -- the lines of a pool are those that callers see
-pub within_lines : (es : List Ends) (s : Slab Node) (capacity m : ℕ) (now : Lined) → lined es s capacity ≡ now → m < length now.lines → m < length es
-within_lines es s capacity m now view lt =
+pub within_lines : (es : List Ends) (s : Slab Node) (capacity more m : ℕ) (now : Lined) → lined es s capacity more ≡ now → m < length now.lines → m < length es
+within_lines es s capacity more m now view lt =
     let x : m < length (map (line_at s) es) = subst (λ (n : Lined). m < length n.lines) (sym view) lt in
     omega (arith, length-map es (line_at s), x)
 
@@ -177,13 +177,13 @@ module _ (es : List Ends) (s : Slab Node) (m : ℕ) (e : Ends) (h : IsSound es s
         apart = λ z. (let n = tail_once s m far.0 (suc far.0) p e.last (subst (λ x. IsTail s m far.0 x e.last) (sym z) at_p.2) at_p in let no : ⊥ = omega (arith, n) in no);
       }
 
-  pub followed : (sought : Sought) (p : ℕ) → StandsBefore s e sought p → IsFollowed s e p
+  pub followed : (sought : Sought) (p : ℕ) → StandsBefore s e sought p → IsFollowed s e.len p
   followed sought p w =
       let mid = middle_of sought p w in
       record { line = m; long = omega (arith, w.within); before_on = mid.before_on; gone_on = mid.gone_on; apart = mid.apart }
 
-  pub record Leaves (u : Slab Node) (sought : Sought) (p : ℕ) (gone : Node) : Type 0 where
-    pub after : After es s u m (ends_after_leaving s p e)
+  pub record Leaves (u : Slab Node) (cursor : Option ℕ) (sought : Sought) (p : ℕ) (gone : Node) : Type 0 where
+    pub after : After es s u m (ends_after_leaving s p cursor e)
     pub front : List (Place Value)
     pub back : List (Place Value)
     pub clear : any_sought sought front ≡ false
@@ -191,8 +191,8 @@ module _ (es : List Ends) (s : Slab Node) (m : ℕ) (e : Ends) (h : IsSound es s
     pub was : line_at s e ≡ front ++ place gone.thread gone.want ∷ back
     pub now : places u (e.len - 1) e.first ≡ front ++ back
 
-  pub middle_leaves : (u : Slab Node) (sought : Sought) (p : ℕ) (gone : Node) → StandsBefore s e sought p → Unlinked s u p gone → slab_len u + 1 ≡ slab_len s → Leaves u sought p gone
-  middle_leaves u sought p gone w unlinked counted =
+  pub middle_leaves : (u : Slab Node) (cursor : Option ℕ) (sought : Sought) (p : ℕ) (gone : Node) → StandsBefore s e sought p → Unlinked s u p gone → slab_len u + 1 ≡ slab_len s → Leaves u cursor sought p gone
+  middle_leaves u cursor sought p gone w unlinked counted =
       let j = next_of (get s p) in
       let mid = middle_of sought p w in
       let c = long_chain_of es s m e h lt is (suc mid.count) mid.len in
@@ -216,9 +216,9 @@ module _ (es : List Ends) (s : Slab Node) (m : ℕ) (e : Ends) (h : IsSound es s
       }
 
 -- the same, as callers see it
-pub leaves_first : (es : List Ends) (s u : Slab Node) (capacity m p : ℕ) (old : Ends) (sought : Sought) (gone : Node) (now new : Lined) (h : IsSound es s) (lt : m < length es) (is : old ≡ get_or es m old) → lined es s capacity ≡ now → new.lines ≡ map (line_at u) (set es m (ends_after_leaving s p old)) → Leaves es s m old h lt is u sought p gone
+pub leaves_first : (es : List Ends) (s u : Slab Node) (capacity more m p : ℕ) (cursor : Option ℕ) (old : Ends) (sought : Sought) (gone : Node) (now new : Lined) (h : IsSound es s) (lt : m < length es) (is : old ≡ get_or es m old) → lined es s capacity more ≡ now → new.lines ≡ map (line_at u) (set es m (ends_after_leaving s p cursor old)) → Leaves es s m old h lt is u cursor sought p gone
     → LeavesFirst sought m gone.thread gone.want now new
-leaves_first es s u capacity m p old sought gone now new h lt is view seen l =
+leaves_first es s u capacity more m p cursor old sought gone now new h lt is view seen l =
     record {
       front = l.front;
       back = l.back;
@@ -241,7 +241,7 @@ sought_some : (sought : Sought) (ps : List (Place Value)) → any_sought sought 
 sought_some sought [] h e = let no : ⊥ = cc in no
 sought_some sought (p ∷ ps) h e = let no : ⊥ = cc in no
 
-module _ (es : List Ends) (s : Slab Node) (capacity m : ℕ) (e : Ends) (now : Lined) (h : IsSound es s) (lt : m < length es) (is : e ≡ get_or es m e) (view : lined es s capacity ≡ now) where
+module _ (es : List Ends) (s : Slab Node) (capacity more m : ℕ) (e : Ends) (now : Lined) (h : IsSound es s) (lt : m < length es) (is : e ≡ get_or es m e) (view : lined es s capacity more ≡ now) where
   pub line_seen : line_of now m ≡ line_at s e
   line_seen = ap (λ (x : Lined). line_of x m) (sym view) ∙ line_is es s m e lt is
 

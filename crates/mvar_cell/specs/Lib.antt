@@ -1,4 +1,6 @@
+pub mod Befores
 pub mod Calls
+pub mod Cursors
 pub mod Lined
 pub mod Mvars
 pub mod Nodes

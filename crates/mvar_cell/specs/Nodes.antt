@@ -61,9 +61,10 @@ pub record IsSound (es : List Ends) (s : Slab Node) : Type 0 where
   pub chains : (k : ℕ) (d : Ends) → k < length es → IsLine s k (slice_index_or es k d)
   pub fits : sum_by (λ (e : Ends). e.len) es ≤ slab_len s
 
-abbrev pub lined : List Ends → Slab Node → ℕ → Lined
-lined es s capacity =
-    record { lines = map (line_at s) es; spare = min (capacity - length es) (s.capacity - slab_len s) }
+-- the lines that callers see, where so many lines fit, and so many more threads have room in the table
+abbrev pub lined : List Ends → Slab Node → ℕ → ℕ → Lined
+lined es s capacity more =
+    record { lines = map (line_at s) es; spare = min (min (capacity - length es) (s.capacity - slab_len s)) more }
 
 -- ---- a place is sought, and leaves
 abbrev pub is_sought : Sought → Place Value → Bool
@@ -96,15 +97,6 @@ pub record StandsBefore (s : Slab Node) (e : Ends) (sought : Sought) (p : ℕ) :
   pub found : is_sought sought (place_of (get s (next_of (get s p)))) ≡ true
   pub clear : any_sought sought (places s (suc steps) e.first) ≡ false
 
--- a walk along a line has come to this node, no place up to it is sought, and one behind it is
-pub record Walks (s : Slab Node) (e : Ends) (sought : Sought) (step at : ℕ) : Type 0 where
-  pub line : ℕ
-  pub is : at ≡ walk s (step - 1) e.first
-  pub on : IsOn line (get s at)
-  pub tail : IsTail s line (e.len - step) at e.last
-  pub stands : any_sought sought (places s (e.len - step) (next_of (get s at))) ≡ true
-  pub clear : any_sought sought (places s step e.first) ≡ false
-
 -- node p, and behind it node j, which leaves
 pub record Unlinks (s u : Slab Node) (p j : ℕ) (before gone : Node) : Type 0 where
   pub was : get s p ≡ Some before
@@ -113,10 +105,10 @@ pub record Unlinks (s u : Slab Node) (p j : ℕ) (before gone : Node) : Type 0 w
   pub linked : get u p ≡ Some (record before { next = gone.next })
   pub others : (x : ℕ) → x ≢ p → x ≢ j → get u x ≡ get s x
 
--- node p is followed by another, of the same line
-pub record IsFollowed (s : Slab Node) (e : Ends) (p : ℕ) : Type 0 where
+-- node p is followed by another, of the same line, which has so many places
+pub record IsFollowed (s : Slab Node) (len p : ℕ) : Type 0 where
   pub line : ℕ
-  pub long : 1 < e.len
+  pub long : 1 < len
   pub before_on : IsOn line (get s p)
   pub gone_on : IsOn line (get s (next_of (get s p)))
   pub apart : p ≢ next_of (get s p)
@@ -126,9 +118,9 @@ pub record Unlinked (s u : Slab Node) (p : ℕ) (gone : Node) : Type 0 where
   pub before : Node
   pub unlinks : Unlinks s u p (next_of (get s p)) before gone
 
--- the ends of a line once a node has left from behind node p
-abbrev pub ends_after_leaving : Slab Node → ℕ → Ends → Ends
-ends_after_leaving s p e = record { first = e.first; last = last_after_leaving p (next_of (get s p)) e.last; len = e.len - 1 }
+-- the ends of a line, with this cursor, once a node has left from behind node p
+abbrev pub ends_after_leaving : Slab Node → ℕ → Option ℕ → Ends → Ends
+ends_after_leaving s p cursor e = record { first = e.first; last = last_after_leaving p (next_of (get s p)) e.last; len = e.len - 1; cursor = cursor }
 
 -- the first place of line m that is sought is left out, and all other lines are as they were
 pub record LeavesFirst (sought : Sought) (m t : ℕ) (want : Want) (old new : Lined) : Type 0 where

@@ -176,7 +176,8 @@ impl Cells {
     }
 
     /// The first thread of the line that waits to read leaves it. A value that comes to the cell is first answered to all
-    /// of these. The time grows with how many stand in front of the reader; it is constant where nobody reads.
+    /// of these. The time is constant when spread over all calls: each place of a line is passed at most once, and each thread
+    /// that leaves takes one step more.
     pub fn next_reader(&mut self, m: u32) -> Option<u32>
         requires { m < length self.old.cells }
         ensures next { IsNextReader result m self.old self.new }
@@ -253,7 +254,7 @@ impl Cells {
         }
     }
 
-    /// The thread, which stands in the line, leaves it. The time grows with its place in that line alone.
+    /// The thread, which stands in the line, leaves it. The time is constant, wherever the thread stands.
     pub fn drop_waiter(&mut self, m: u32, t: u32)
         requires exists { m < length self.old.cells }
         requires stands { stands_in t (cell_at m self.old).line ≡ true }

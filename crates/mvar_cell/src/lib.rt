@@ -10,6 +10,7 @@
 //! is left to the caller.
 #![tactic(auto)]
 
+mod befores;
 mod cells;
 mod lines;
 pub mod readers;

@@ -1,13 +1,19 @@
-ghost use Rattle.std.specs.Prelude.{◌≡◌, ◌+◌, ◌^◌, ◌<◌, ◌≤◌, [], ◌∷◌, ◌++◌, length, slice_set, OnOk, Some, MatchOption, ℕ, true, false};
+ghost use Rattle.std.specs.Prelude.{◌≡◌, ◌≢◌, ◌+◌, ◌^◌, ◌<◌, ◌≤◌, [], ◌∷◌, ◌++◌, length, slice_set, OnOk, Some, IsSome, MatchOption, nat_eq, ℕ, true, false};
+ghost use Rattle.std.specs.HashMap as table;
 ghost use Rattle.slab.specs.Slab.{get, slab_len, ContainsKey, Updates};
 ghost use Rattle.mvar_cell.specs.Lined.{line_of};
 ghost use Rattle.mvar_cell.specs.Nodes.{place, place_of, want_of, is_sought, any_sought, IsLine, StandsBefore, LeavesFirst, IsFollowed, Unlinked, behind, ends_after_leaving};
-ghost use Rattle.rules_waiting.specs.OneCell.{reads_it};
+ghost use Rattle.mvar_cell.specs.Cursors.{moved_cursor, cursor_after_leaving, IsMarked};
+ghost use Rattle.mvar_cell.specs.Befores.{IsBacked, IsFirstNow, StoodBehind, IsClosed};
+ghost use Rattle.rules_waiting.specs.OneCell.{reads_it, stands_in};
 ghost use Rattle.mvar_cell.specs.declared.lines.Node.{Node};
+ghost use Rattle.mvar_cell.specs.declared.lines.Sought.TheVariants.{Reader};
 
+use crate::befores::{Befores, before_of, clear, put, replace};
 use hs_base::Value;
 use slab::Slab;
 use std::alloc::{AllocError, Global};
+use std::collections::HashMap;
 use std::marker::Model;
 
 /// What a waiting thread wants of its cell.
@@ -53,19 +59,23 @@ struct Node {
     next: usize,
 }
 
-/// The keys of the first and the last place of a line, and how many there are.
+/// The keys of the first and the last place of a line, how many there are, and the cursor: the key of a place up to which,
+/// itself included, no reader stands.
 #[derive(Clone, Copy)]
 struct Ends {
     first: usize,
     last: usize,
     len: usize,
+    cursor: Option<usize>,
 }
 
-/// Lines by number. Each place is a node of one pool, so a place that is left serves any line.
+/// Lines by number. Each place is a node of one pool, so a place that is left serves any line. A thread stands in one line
+/// only, so that it alone is the key to the node before its own.
 #[derive(Drop)]
 pub struct Lines {
     ends: Vec<Ends>,
     nodes: Slab<Node>,
+    befores: Befores,
 }
 
 impl Model for Lines {
@@ -77,11 +87,14 @@ impl Model for Lines {
 
     ghost coded = { Prim.hlevel (codes, value.the_row.coded) };
 
-    ghost use Rattle.mvar_cell.specs.Nodes.{lined, IsSound};
+    ghost use Rattle.std.specs.Prelude.{nat_eq};
+    ghost use Rattle.std.specs.HashMap.{get, spare};
+    ghost use Rattle.mvar_cell.specs.Nodes.{lined};
+    ghost use Rattle.mvar_cell.specs.Befores.{AreLines};
 
-    ghost view = { λ a. lined a.ends.items a.nodes a.ends.cap };
+    ghost view = { λ a. lined a.ends.items a.nodes a.ends.cap (spare a.befores) };
 
-    ghost invariant = { λ a. IsSound a.ends.items a.nodes };
+    ghost invariant = { λ a. AreLines (get nat_eq a.befores) a.ends.items a.nodes };
 }
 
 /// The place with this key is followed by that one.
@@ -97,18 +110,20 @@ fn link(nodes: &mut Slab<Node>, key: usize, next: usize)
     }
 }
 
-/// The node before the first that is sought, where the first of all isn't.
-fn before(nodes: &Slab<Node>, ends: Ends, sought: Sought) -> usize
+/// Looks from the cursor on for the node before the first reader's, where the first of all isn't one. That node is the next
+/// cursor, so that each place of a line is passed at most once: the time is constant when spread over all calls.
+fn search(nodes: &Slab<Node>, ends: Ends) -> usize
     requires chain { (k : ℕ) × IsLine nodes.now k ends }
+    requires marked { IsMarked nodes.now ends }
     requires some { 0 < ends.len }
-    requires first { is_sought sought (place_of (get nodes.now ends.first)) ≡ false }
-    requires stands { any_sought sought (behind nodes.now ends) ≡ true }
-    ensures { StandsBefore nodes.now ends sought result }
+    requires first { is_sought Reader (place_of (get nodes.now ends.first)) ≡ false }
+    requires stands { any_sought Reader (behind nodes.now ends) ≡ true }
+    ensures { StandsBefore nodes.now ends Reader result }
 {
-    let mut at = ends.first;
+    let mut at = ends.cursor.unwrap_or(ends.first);
     'walk: for _step in 1..ends.len {
         let next = nodes[at].next;
-        if sought.is_at(&nodes[next]) {
+        if nodes[next].want.reads() {
             return at;
         }
         at = next;
@@ -116,11 +131,51 @@ fn before(nodes: &Slab<Node>, ends: Ends, sought: Sought) -> usize
     unreachable!()
 }
 
+/// The node before the first that is sought, where the first of all isn't. The table has it for a thread.
+fn before(nodes: &Slab<Node>, befores: &Befores, ends: Ends, sought: Sought) -> usize
+    requires chain { (k : ℕ) × IsLine nodes.now k ends }
+    requires backed { IsBacked (table.get nat_eq befores.now) nodes.now ends }
+    requires marked { IsMarked nodes.now ends }
+    requires some { 0 < ends.len }
+    requires first { is_sought sought (place_of (get nodes.now ends.first)) ≡ false }
+    requires stands { any_sought sought (behind nodes.now ends) ≡ true }
+    ensures { StandsBefore nodes.now ends sought result }
+{
+    match sought {
+        Sought::Thread(thread) => match before_of(befores, thread) {
+            Some(key) => key,
+            None => unreachable!(),
+        },
+        Sought::Reader => search(nodes, ends),
+    }
+}
+
+/// The cursor of a line that this node leaves: where it stood there, it goes back to the node before, if there is one.
+fn moved(cursor: Option<usize>, gone: usize, before: Option<usize>) -> Option<usize>
+    ensures { result ≡ moved_cursor cursor gone before }
+{
+    match cursor {
+        Some(at) if at == gone => before,
+        _ => cursor,
+    }
+}
+
+/// The cursor of a line that the node behind this one leaves. Where the first reader was sought, none stands up to this one.
+fn cursor_without(nodes: &Slab<Node>, ends: Ends, sought: Sought, before: usize) -> Option<usize>
+    requires { IsFollowed nodes.now ends.len before }
+    ensures { result ≡ cursor_after_leaving nodes.now sought before ends.cursor }
+{
+    match sought {
+        Sought::Thread(_) => moved(ends.cursor, nodes[before].next, Some(before)),
+        Sought::Reader => Some(before),
+    }
+}
+
 /// Takes the node behind this one out of its line; answers it, and the ends of the line.
 fn unlink(nodes: &mut Slab<Node>, ends: Ends, before: usize) -> (Node, Ends)
-    requires { IsFollowed nodes.old ends before }
+    requires { IsFollowed nodes.old ends.len before }
     ensures unlinked { Unlinked nodes.old nodes.new before result.0 }
-    ensures ends { result.1 ≡ ends_after_leaving nodes.old before ends }
+    ensures ends { result.1 ≡ ends_after_leaving nodes.old before ends.cursor ends }
     ensures len { slab_len nodes.new + 1 ≡ slab_len nodes.old }
     ensures capacity { nodes.new.capacity ≡ nodes.old.capacity }
 {
@@ -128,11 +183,34 @@ fn unlink(nodes: &mut Slab<Node>, ends: Ends, before: usize) -> (Node, Ends)
     let gone = nodes.remove(key);
     link(nodes, before, gone.next);
     let ends = Ends {
-        first: ends.first,
         last: if key == ends.last { before } else { ends.last },
         len: ends.len - 1,
+        ..ends
     };
     (gone, ends)
+}
+
+/// The thread at the front of a line, where anybody is left, has nobody before it now.
+fn begin(befores: &mut Befores, nodes: &Slab<Node>, ends: Ends)
+    requires { ends.len ≢ 0 → IsSome (get nodes.now ends.first) }
+    ensures first { IsFirstNow (table.get nat_eq befores.old) (table.get nat_eq befores.new) nodes.now ends.len ends.first }
+    ensures spare { table.spare befores.old ≤ table.spare befores.new }
+{
+    if ends.len != 0 {
+        clear(befores, nodes[ends.first].thread);
+    }
+}
+
+/// Closes the gap that this node left behind that of `before`: who stood behind it, if anybody, has that one before it now.
+fn close(befores: &mut Befores, nodes: &Slab<Node>, gone: &Node, last: usize, before: usize)
+    requires { last ≢ before → StoodBehind (table.get nat_eq befores.old) nodes.now gone.now }
+    ensures closed { IsClosed (table.get nat_eq befores.old) (table.get nat_eq befores.new) nodes.now gone.now last before }
+    ensures spare { table.spare befores.old ≤ table.spare befores.new }
+{
+    clear(befores, gone.thread);
+    if last != before {
+        replace(befores, nodes[gone.next].thread, before);
+    }
 }
 
 impl Lines {
@@ -142,6 +220,7 @@ impl Lines {
         Lines {
             ends: Vec::new(alloc),
             nodes: Slab::new(alloc),
+            befores: HashMap::new(alloc),
         }
     }
 
@@ -152,7 +231,8 @@ impl Lines {
         ensures ok { OnOk result (n ≤ self.new.spare) }
     {
         self.ends.reserve(n)?;
-        self.nodes.reserve(n)
+        self.nodes.reserve(n)?;
+        self.befores.reserve(n)
     }
 
     pub fn len(&self) -> usize
@@ -171,13 +251,15 @@ impl Lines {
             first: 0,
             last: 0,
             len: 0,
+            cursor: None,
         });
     }
 
-    /// The thread stands in the line, last, and wants this.
+    /// The thread, which stands in no line, stands in this one, last, and wants this.
     pub fn join(&mut self, line: usize, thread: u32, want: Want)
         requires within { line < length self.old.lines }
         requires spare { 1 ≤ self.old.spare }
+        requires alone { (k : ℕ) → stands_in thread (line_of self.old k) ≡ false }
         ensures lines { self.new.lines ≡ slice_set self.old.lines line (line_of self.old line ++ place thread want ∷ []) }
         ensures short { length (line_of self.old line) + 1 < 2 ^ 64 }
         ensures spare { self.old.spare ≤ self.new.spare + 1 }
@@ -194,16 +276,18 @@ impl Lines {
                 first: key,
                 last: key,
                 len: 1,
+                cursor: None,
             };
         } else {
             link(&mut self.nodes, ends.last, key);
+            put(&mut self.befores, thread, ends.last);
 
             // A line is no longer than there are nodes, and their number fits.
             let _ = self.nodes.len();
             self.ends[line] = Ends {
-                first: ends.first,
                 last: key,
                 len: ends.len + 1,
+                ..ends
             };
         }
     }
@@ -225,16 +309,19 @@ impl Lines {
             want,
             next,
         } = self.nodes.remove(ends.first);
-        self.ends[line] = Ends {
+        let ends = Ends {
             first: next,
-            last: ends.last,
             len: ends.len - 1,
+            cursor: moved(ends.cursor, ends.first, None),
+            ..ends
         };
+        begin(&mut self.befores, &self.nodes, ends);
+        self.ends[line] = ends;
         Some((thread, want))
     }
 
-    /// The first place that is sought leaves the line: its thread, and what it wanted. The time grows with how many stand
-    /// in front of it.
+    /// The first place that is sought leaves the line: its thread, and what it wanted. The time is constant for a thread. For a
+    /// reader it is so when spread over all calls: each place is passed at most once, and each leave takes one step more.
     pub fn leave(&mut self, line: usize, sought: Sought) -> (u32, Want)
         requires within { line < length self.old.lines }
         requires stands { any_sought sought (line_of self.old line) ≡ true }
@@ -248,8 +335,10 @@ impl Lines {
                 None => unreachable!(),
             };
         }
-        let before = before(&self.nodes, ends, sought);
-        let (gone, ends) = unlink(&mut self.nodes, ends, before);
+        let before = before(&self.nodes, &self.befores, ends, sought);
+        let cursor = cursor_without(&self.nodes, ends, sought, before);
+        let (gone, ends) = unlink(&mut self.nodes, Ends { cursor, ..ends }, before);
+        close(&mut self.befores, &self.nodes, &gone, ends.last, before);
         self.ends[line] = ends;
         (gone.thread, gone.want)
     }

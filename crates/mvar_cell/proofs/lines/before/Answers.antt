@@ -1,15 +1,25 @@
--- The walk goes on where the next place isn't sought.
-use Rattle.std.proofs.Common.{◌≡◌, ◌+◌, Some, false, sym, ap, ◌∙◌, subst}
+-- The table has the node before a thread's.
+use Rattle.std.proofs.Common.{◌≡◌, nat_eq, true, false, sym, ◌∙◌, subst}
+use Rattle.std.specs.HashMap as table
 use Rattle.slab.specs.Slab.{get}
-use Rattle.mvar_cell.specs.Nodes.{next_of, place_of, is_sought, Walks}
-use Rattle.mvar_cell.proofs.Chains.{walks_step}
+use Rattle.mvar_cell.specs.declared.lines.Sought.{Sought}
+use Rattle.mvar_cell.specs.Nodes.{place_of, is_sought, any_sought, behind, StandsBefore}
+use Rattle.mvar_cell.proofs.Backing.{finds_before, finds_some}
 use Rattle.mvar_cell.proofs.lines.before.Goals as goal
 
-pub walk-preserved : goal.walk-preserved
-walk-preserved c =
+pub unreachable-requires : goal.unreachable-requires
+unreachable-requires c =
     let s = c.args.nodes.now in
-    let next : next_of (get s c.walk.at) ≡ c.index.result.now.next = ap next_of c.index.ensures in
-    let at : get s (next_of (get s c.walk.at)) ≡ Some c.index-in-walk.result.now = ap (get s) next ∙ c.index-in-walk.ensures in
-    let other : is_sought c.args.sought (place_of (get s (next_of (get s c.walk.at)))) ≡ false =
-    ap (λ o. is_sought c.args.sought (place_of o)) at ∙ sym c.is_at.ensures ∙ c.if-is_at.false in
-    subst (Walks s c.args.ends c.args.sought (c.walk._step + 1)) next (walks_step s c.args.ends c.args.sought c.walk._step c.walk.at c.walk.invariant c.walk.auto._step c.walk-test.true other)
+    finds_some (table.get nat_eq c.args.befores.now) s c.args.ends c.in-Thread.thread c.requires.backed
+    (subst (λ (k : Sought). is_sought k (place_of (get s c.args.ends.first)) ≡ false) c.in-Thread.is c.requires.first)
+    (subst (λ (k : Sought). any_sought k (behind s c.args.ends) ≡ true) c.in-Thread.is c.requires.stands)
+    (sym c.before_of.ensures ∙ c.in-None.is)
+
+pub returns-in-Some : goal.returns-in-Some
+returns-in-Some c =
+    let s = c.args.nodes.now in
+    subst (λ (k : Sought). StandsBefore s c.args.ends k c.in-Some.key) (sym c.in-Thread.is)
+    (finds_before (table.get nat_eq c.args.befores.now) s c.args.ends c.in-Thread.thread c.in-Some.key c.requires.backed c.requires.some
+    (subst (λ (k : Sought). is_sought k (place_of (get s c.args.ends.first)) ≡ false) c.in-Thread.is c.requires.first)
+    (subst (λ (k : Sought). any_sought k (behind s c.args.ends) ≡ true) c.in-Thread.is c.requires.stands)
+    (sym c.before_of.ensures ∙ c.in-Some.is))

@@ -6,7 +6,7 @@ use Rattle.mvar_cell.specs.Mvars.{Mvars, cells_of, no_content}
 use Rattle.mvar_cell.specs.Calls.{cell_at}
 use Rattle.mvar_cell.proofs.CellLaws.{read_empty, read_full, is_same_call}
 use Rattle.mvar_cell.proofs.Keeping.{no_other, reads_short}
-use Rattle.mvar_cell.proofs.Seen.{within, stored_at}
+use Rattle.mvar_cell.proofs.Seen.{nowhere, within, stored_at}
 use Rattle.mvar_cell.proofs.Steps.{content_is, joins, cells_join}
 use Rattle.mvar_cell.proofs.cells.Cells.read.Goals as goal
 
@@ -73,6 +73,13 @@ overflow_add-index_mut c =
     let count = ap (λ (x : Stored). x.readers) again in
     let cell = c.self.invariant.each c.args.m at.lines in
     omega (arith, count, cell.counted, reads_short (get_or ls c.args.m []), c.join.ensures.short)
+
+pub join-requires-clause-alone : goal.join-requires-clause-alone
+join-requires-clause-alone c =
+    let ss = c.self.inside.stored.items in
+    let ls = c.self.inside.lines.lines in
+    let seen : cells_of ss ls ≡ c.args.self.now.cells = ap (λ (x : Mvars). x.cells) c.self.view_is in
+    nowhere c.args.t c.args.self.now ss ls c.self.invariant seen c.requires.alone
 
 pub invariant_of-self : goal.invariant_of-self
 invariant_of-self c =

@@ -6,7 +6,7 @@ use Rattle.rules_waiting.specs.OneCell.{Take, To_take}
 use Rattle.mvar_cell.specs.Mvars.{Mvars, cells_of, no_content}
 use Rattle.mvar_cell.specs.Calls.{cell_at}
 use Rattle.mvar_cell.proofs.CellLaws.{take_empty, take_by_try, nothing_taken}
-use Rattle.mvar_cell.proofs.Seen.{within}
+use Rattle.mvar_cell.proofs.Seen.{nowhere, within}
 use Rattle.mvar_cell.proofs.Steps.{content_is, joins, cells_join}
 use Rattle.mvar_cell.proofs.cells.Cells.take.Goals as goal
 
@@ -19,6 +19,13 @@ join-requires-clause-within c =
     let lt = c.requires.exists in
     let at = within c.args.m c.args.self.now ss ls c.self.invariant seen lt in
     at.lines
+
+pub join-requires-clause-alone : goal.join-requires-clause-alone
+join-requires-clause-alone c =
+    let ss = c.self.inside.stored.items in
+    let ls = c.self.inside.lines.lines in
+    let seen : cells_of ss ls ≡ c.args.self.now.cells = ap (λ (x : Mvars). x.cells) c.self.view_is ∙ nothing_taken c.args.t c.args.m c.args.self.now _ _ c.in_default.ensures.from (c.in_default.ensures.call c.args.t) in
+    nowhere c.args.t c.args.self.now ss ls c.self.invariant seen c.requires.alone
 
 pub invariant_of-self : goal.invariant_of-self
 invariant_of-self c =
