@@ -1,5 +1,5 @@
 //! How far a control goes alone.
-ghost use Rattle.std.specs.Prelude.{◌≡◌, ◌<◌, ◌≤◌, ◌⊎◌, [], ◌↔◌, IsTrue, IfOk, IfErr, Some, List};
+ghost use Rattle.std.specs.Prelude.{◌≡◌, ◌<◌, ◌≤◌, ◌⊎◌, [], ◌↔◌, IsTrue, IfOk, IfErr, OnOk, Some, List};
 ghost use Rattle.rules_code.specs.declared.code.Body.{Body};
 ghost use Rattle.rules_code.specs.CodeTrees.{primitive_of};
 ghost use Rattle.rules_meaning.specs.Values.{values_of};
@@ -11,11 +11,12 @@ ghost use Rattle.frame_stack.specs.Slicing.{Cuts, Fits, IsDoing, MayGo, Stops};
 use crate::asking::asked;
 use crate::control::{Control, Operation};
 use crate::fault::SliceFault;
-use hs_base::{Mask, NoMemory};
+use hs_base::{Mask, NoMemory, Value};
 use hs_io::Cutter;
-use local_steps::{Active, Frames, Next, step};
+use local_steps::{Active, Frames, Next, step, step_in_place};
 use rules_code::Body;
 use std::alloc::Global;
+use std::mem;
 
 /// A slice asks its cutter before its first rule and before each of so many behind it.
 const LOOK: u32 = 64;
@@ -54,7 +55,7 @@ pub fn run<C: Cutter>(
         if done % LOOK == 0 {
             look(ticket, cutter)?;
         }
-        active = step_on(alloc, body, active, &mut frames)?;
+        step_on(alloc, body, &mut active, &mut frames)?;
         if stopped(&active, &frames) {
             return Ok(Ran {
                 pushed: frames,
@@ -85,19 +86,24 @@ fn look<C: Cutter>(ticket: u64, cutter: &mut C) -> Result<(), SliceFault>
 fn step_on(
     alloc: Global,
     body: &Body,
-    active: Active,
+    active: &mut Active,
     frames: &mut Frames,
-) -> Result<Active, NoMemory>
-    requires may { ∥ MayGo body.now frames.old.below (active_of body.now active) (frames_of body.now frames.old.list) ∥₁ }
-    requires goes { Stops (active_of body.now active) frames.old.list → ⊥ }
-    ensures rule { IfOk result (λ p. local (funs_of body.now) frames.old.below (active_of body.now active) (frames_of body.now frames.old.list) ≡ Some (at (active_of body.now p) (frames_of body.now frames.new.list))) }
+) -> Result<(), NoMemory>
+    requires may { ∥ MayGo body.now frames.old.below (active_of body.now active.old) (frames_of body.now frames.old.list) ∥₁ }
+    requires goes { Stops (active_of body.now active.old) frames.old.list → ⊥ }
+    ensures rule { OnOk result (local (funs_of body.now) frames.old.below (active_of body.now active.old) (frames_of body.now frames.old.list) ≡ Some (at (active_of body.now active.new) (frames_of body.now frames.new.list))) }
     ensures below { frames.new.below ≡ frames.old.below }
-    ensures may { IfOk result (λ p. ∥ MayGo body.now frames.old.below (active_of body.now p) (frames_of body.now frames.new.list) ∥₁) }
+    ensures may { OnOk result ∥ MayGo body.now frames.old.below (active_of body.now active.new) (frames_of body.now frames.new.list) ∥₁ }
 {
-    match step(alloc, body, active, frames)? {
-        Next::To(next) => Ok(next),
+    if step_in_place(alloc, body, active)? {
+        return Ok(());
+    }
+    let part = mem::replace(active, Active::Ret(Value::Unit));
+    match step(alloc, body, part, frames)? {
+        Next::To(next) => *active = next,
         Next::Stuck => unreachable!(),
     }
+    Ok(())
 }
 
 /// Whether a slice goes no further.

@@ -1,13 +1,13 @@
 -- What a value gives where it hasn't the form that is asked for.
-use Rattle.std.proofs.Common.{◌≡◌, ℕ, ℤ, Bool, List, [], ◌∷◌, map, refl, ap, ◌∙◌, sym, subst}
+use Rattle.std.proofs.Common.{◌≡◌, ℕ, ℤ, Bool, List, refl, ap, ◌∙◌, sym, subst}
 use Rattle.hs_base.specs.declared.exn.Exn.{Exn}
 use Rattle.hs_base.specs.declared.mask.Mask.{Mask}
 use Rattle.hs_base.specs.declared.value.Value.{Value, out-Value, roll-Value, roll-out-Value}
 use Rattle.hs_base.specs.declared.value.Value.TheVariants as raw
 use Rattle.hs_base.specs.declared.value.Value.TheOpen.{Value-F, ValueList-F}
 use Rattle.hs_base.specs.declared.value.Value.TheFolds.{fold-roll-Value}
-use Rattle.rules_meaning.specs.Values.{V, UnitValue, Int, Truth, Text, Pair, Nothing, Just, Left, Right, Nil, Cons, Cell, Thread, Exception, Restore, Inst, value_of, list_value_of, value_step, list_step, head_step, Outcome, Stuck}
-use Rattle.rules_meaning.specs.Meaning.{on_truth, on_number, on_text, on_pair, on_maybe, on_either, on_list, shown, same_value, order_of}
+use Rattle.rules_meaning.specs.Values.{V, UnitValue, Int, Truth, Text, Nothing, Nil, Cons, Cell, Thread, Exception, Restore, Inst, value_of, list_value_of, value_step, list_step, head_step, Outcome, Stuck}
+use Rattle.rules_meaning.specs.Meaning.{on_truth, on_number, on_text, on_pair, on_maybe, on_either, on_list}
 use Rattle.hs_base.specs.declared.value.ValueList.{ValueList, out-ValueList, roll-ValueList, roll-out-ValueList}
 use Rattle.hs_base.specs.declared.value.ValueList.TheVariants as items
 use Rattle.hs_base.specs.declared.value.Head.{Head}

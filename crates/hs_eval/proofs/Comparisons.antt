@@ -1,12 +1,11 @@
 -- What two values give where a comparison hasn't the form that is asked for.
-use Rattle.std.proofs.Common.{◌≡◌, ℕ, ℤ, Bool, List, [], ◌∷◌, Option, None, refl, ap, ◌∙◌, sym}
+use Rattle.std.proofs.Common.{◌≡◌, ℕ, ℤ, Bool, List, None, refl, ap}
 use Rattle.hs_base.specs.declared.exn.Exn.{Exn}
-use Rattle.hs_base.specs.declared.mask.Mask.{Mask}
 use Rattle.hs_base.specs.declared.value.Value.{Value}
 use Rattle.hs_base.specs.declared.value.Value.TheVariants as raw
 use Rattle.rules_meaning.specs.Values.{V, Int, Truth, Text, Thread, Exception, value_of}
 use Rattle.rules_meaning.specs.Meaning.{same_value, order_of, shown}
-use Rattle.rules_meaning.proofs.Values.{value_of-Pair, value_of-Just, value_of-Left, value_of-Right, value_of-List}
+use Rattle.rules_meaning.proofs.Values.{value_of-Pair, value_of-Just, value_of-Left, value_of-Right}
 use Rattle.hs_base.specs.declared.value.ValueList.{ValueList}
 use Rattle.hs_eval.proofs.Cases.{by_form, of_list, value_of-Unit, value_of-Int, value_of-Bool, value_of-Text, value_of-Nothing, value_of-Cell, value_of-Thread, value_of-Exn, value_of-Restore, value_of-Inst}
 

@@ -4,3 +4,4 @@ pub mod Comparisons
 pub mod Steps
 pub mod Named
 pub mod Readings
+pub mod Operands

@@ -1,5 +1,5 @@
 -- Slots of an environment alone.
-use Rattle.std.proofs.Common.{◌≡◌, List, [], ◌++◌, ap}
+use Rattle.std.proofs.Common.{◌≡◌, List, [], ap}
 use Rattle.std.proofs.lemmas.List.{append-nil}
 use Rattle.hs_base.specs.declared.value.Value.{Value}
 use Rattle.rules_meaning.specs.Values.{values_of}

@@ -1,5 +1,5 @@
 -- Steps of the evaluator.
-use Rattle.std.proofs.Common.{◌≡◌, ℕ, suc, ◌+◌, ◌<◌, ◌≤◌, zero, List, [], ◌∷◌, ◌++◌, length, take, drop, refl, ap, ◌∙◌, sym, arith, append_assoc, Option, Some, None}
+use Rattle.std.proofs.Common.{◌≡◌, ℕ, suc, ◌+◌, ◌<◌, ◌≤◌, zero, List, [], ◌∷◌, ◌++◌, length, take, drop, refl, ap, ◌∙◌, sym, arith, append_assoc, Some, None}
 use Rattle.std.specs.Prelude.{slice_get}
 use Rattle.std.proofs.Math.ListN.{drop_of_length-le}
 use Rattle.hs_base.specs.declared.exn.Exn.{Exn}
@@ -18,7 +18,7 @@ use Rattle.hs_base.specs.declared.value.ValueList.TheVariants as items
 use Rattle.hs_base.specs.Lists.{before}
 use Rattle.rules_meaning.specs.Values.{V, Nil, Cons, value_of, list_value_of, values_of, Outcome, Gives, Throws, Stuck, Outcomes, AllGive, OneThrows, OneStuck, and_one, and_then}
 use Rattle.rules_meaning.specs.Meaning.{put_before, then, then_all, binary_of, linked}
-use Rattle.rules_code.specs.Slots.{Sx, Sxs, s_none, s_more, Slinks, s_end, s_link, run, run_all, run_left, run_right, tree_in, trees_in, links_in, at_slot}
+use Rattle.rules_code.specs.Slots.{Sx, Slinks, s_end, s_link, run, run_all, run_right, tree_in, trees_in, links_in}
 use Rattle.hs_eval.specs.Evaluation.{slots, mirrored, operands_of, with_values, join_right, join_all, after}
 use Rattle.rules_meaning.proofs.Values.{value_of-List, list_value_of-Nil, list_value_of-before}
 use Rattle.hs_eval.proofs.Cases.{by_list}

@@ -1,12 +1,11 @@
 -- What the parts of the evaluator compute.
 use Rattle.std.specs.Prelude.{◌≡◌, ℕ, List, [], ◌∷◌, ◌++◌, take, cond, Option, Some, None}
 use Rattle.hs_base.specs.declared.value.Value.{Value}
-use Rattle.rules_trees.specs.declared.forms.BinaryForm.{BinaryForm}
 use Rattle.rules_code.specs.declared.node.ExprId.{ExprId}
 use Rattle.rules_code.specs.declared.node.NodeLink.{NodeLink}
 use Rattle.rules_code.specs.declared.node.Node.{Node}
 use Rattle.rules_code.specs.declared.node.Node.TheVariants as n
-use Rattle.rules_meaning.specs.Values.{V, Nil, Cons, value_of, values_of, Outcome, Gives, Throws, Stuck, Outcomes, AllGive, OneThrows, OneStuck, and_one}
+use Rattle.rules_meaning.specs.Values.{V, Nil, Cons, value_of, values_of, Outcome, Gives, Stuck, Outcomes, AllGive, OneThrows, OneStuck, and_one}
 use Rattle.rules_meaning.specs.Meaning.{then, binary_of, side_of, unary_of, on_truth, on_maybe, on_either, on_list, on_pair}
 use Rattle.rules_code.specs.Slots.{Sx, run, tree_in, trees}
 use Rattle.hs_eval.specs.declared.found.FoundAll.{FoundAll}

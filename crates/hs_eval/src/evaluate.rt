@@ -10,6 +10,7 @@ use crate::forms::{limited, side, unary};
 use crate::found::{Found, FoundAll};
 use crate::leaf::{closed, empty, listed, node_at, off, slot};
 use crate::lists::{Parted, id_at, joined, one, operand_ids, split_first};
+use crate::quick::of_node;
 use crate::read::as_truth;
 use hs_base::{NoMemory, Value, Values};
 use hs_items::Items;
@@ -32,7 +33,10 @@ pub fn eval_at(
 {
     match node_at(nodes, id) {
         None => Ok(Found::Stuck),
-        Some(node) => step(alloc, nodes, id.0, node, outer, inner),
+        Some(node) => match of_node(nodes, id.0, node, outer.as_slice(), inner.as_slice()) {
+            Some(found) => Ok(found),
+            None => step(alloc, nodes, id.0, node, outer, inner),
+        },
     }
 }
 

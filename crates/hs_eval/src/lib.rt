@@ -18,9 +18,11 @@ mod lists;
 mod meaning;
 mod numbers;
 mod outcome;
+mod quick;
 mod read;
 
 pub use evaluate::eval_at;
 pub use found::{Found, FoundAll};
 pub use meaning::{eval, eval_node, slots_mean};
 pub use outcome::Outcome;
+pub use quick::test_at;

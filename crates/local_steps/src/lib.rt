@@ -12,9 +12,11 @@ mod active;
 mod acts;
 mod choices;
 mod frames;
+mod in_place;
 mod parts;
 mod stepping;
 
 pub use active::{Active, Frame, Masking, Next};
 pub use frames::Frames;
+pub use in_place::step_in_place;
 pub use stepping::{meet_exception, meet_value, step};

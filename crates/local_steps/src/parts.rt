@@ -1,5 +1,5 @@
 //! The expressions of an action, and what follows what they give.
-ghost use Rattle.std.specs.Prelude.{◌≡◌, ◌==◌, ◌++◌, ◌∷◌, [], length, ◌<◌, cond, Some, None, IfOk, slice_get};
+ghost use Rattle.std.specs.Prelude.{◌≡◌, ◌==◌, ◌++◌, ◌∷◌, [], length, ◌<◌, cond, Some, None, IfOk, OnOk, slice_get};
 ghost use Rattle.rules_code.specs.declared.code.Body.{Body};
 ghost use Rattle.rules_meaning.specs.Values.{values_of};
 ghost use Rattle.rules_code.specs.Slots.{run, run_all, trees, tree_at, trees_in};
@@ -33,17 +33,15 @@ pub fn eval_all(
     alloc: Global,
     nodes: &Items<Node>,
     ids: &Items<ExprId>,
-    env: Env,
+    env: &mut Env,
 ) -> Result<FoundAll, NoMemory>
-    ensures { IfOk result (λ o. outs_of o ≡ run_all (trees_in (trees nodes.now) ids.now) (values_of env)) }
+    ensures value { IfOk result (λ o. outs_of o ≡ run_all (trees_in (trees nodes.now) ids.now) (values_of env.old)) }
+    ensures same { OnOk result (env.new ≡ env.old) }
 {
-    let mut env = env;
     let mut values = Items::new(alloc);
     'each: for i in 0..ids.len() {
         let id = id_at(ids.as_slice(), i);
-        let (found, same) = env.eval(alloc, nodes, id)?;
-        env = same;
-        match found {
+        match env.eval(alloc, nodes, id)? {
             Found::Throws(exn) => return Ok(FoundAll::Throws(exn)),
             Found::Stuck => return Ok(FoundAll::Stuck),
             Found::Value(value) => values.add(value)?,
@@ -56,7 +54,8 @@ pub fn eval_all(
 pub fn do_return(alloc: Global, body: &Body, e: ExprId, env: Env) -> Result<Next, NoMemory>
     ensures { IfOk result (λ n. alone_of body.now n ≡ rules.on_value (run (tree_at body.now.nodes e) (values_of env)) (λ u. just_part (ret u))) }
 {
-    let (found, _) = env.eval(alloc, &body.nodes, e)?;
+    let mut env = env;
+    let found = env.eval(alloc, &body.nodes, e)?;
     Ok(returned(found))
 }
 
@@ -64,7 +63,8 @@ pub fn do_return(alloc: Global, body: &Body, e: ExprId, env: Env) -> Result<Next
 pub fn do_throw(alloc: Global, body: &Body, e: ExprId, env: Env) -> Result<Next, NoMemory>
     ensures { IfOk result (λ n. alone_of body.now n ≡ rules.on_value (run (tree_at body.now.nodes e) (values_of env)) rules.thrown) }
 {
-    let (found, _) = env.eval(alloc, &body.nodes, e)?;
+    let mut env = env;
+    let found = env.eval(alloc, &body.nodes, e)?;
     Ok(thrown(found))
 }
 
@@ -79,7 +79,8 @@ pub fn do_let(
 ) -> Result<Next, NoMemory>
     ensures { IfOk result (λ n. alone_of body.now n ≡ rules.on_value (run (tree_at body.now.nodes e) (values_of env)) (λ u. just_part (doing (below_of body.now above i) (values_of env ++ u ∷ [])))) }
 {
-    let (found, env) = env.eval(alloc, &body.nodes, e)?;
+    let mut env = env;
+    let found = env.eval(alloc, &body.nodes, e)?;
     let at = lower(body, above, i);
     bound(alloc, found, env, at)
 }
@@ -96,7 +97,8 @@ pub fn do_if(
 ) -> Result<Next, NoMemory>
     ensures { IfOk result (λ n. alone_of body.now n ≡ rules.on_value (run (tree_at body.now.nodes e) (values_of env)) (rules.chosen (below_of body.now above i) (below_of body.now above j) (values_of env))) }
 {
-    let (found, env) = env.eval(alloc, &body.nodes, e)?;
+    let mut env = env;
+    let found = env.eval(alloc, &body.nodes, e)?;
     match found {
         Found::Value(value) => {
             let first = lower(body, above, i);
@@ -120,7 +122,8 @@ pub fn do_maybe(
 ) -> Result<Next, NoMemory>
     ensures { IfOk result (λ n. alone_of body.now n ≡ rules.on_value (run (tree_at body.now.nodes e) (values_of env)) (rules.chosen_maybe (below_of body.now above i) (below_of body.now above j) (values_of env))) }
 {
-    let (found, env) = env.eval(alloc, &body.nodes, e)?;
+    let mut env = env;
+    let found = env.eval(alloc, &body.nodes, e)?;
     match found {
         Found::Value(value) => {
             let first = lower(body, above, i);
@@ -144,7 +147,8 @@ pub fn do_either(
 ) -> Result<Next, NoMemory>
     ensures { IfOk result (λ n. alone_of body.now n ≡ rules.on_value (run (tree_at body.now.nodes e) (values_of env)) (rules.chosen_either (below_of body.now above i) (below_of body.now above j) (values_of env))) }
 {
-    let (found, env) = env.eval(alloc, &body.nodes, e)?;
+    let mut env = env;
+    let found = env.eval(alloc, &body.nodes, e)?;
     match found {
         Found::Value(value) => {
             let first = lower(body, above, i);
@@ -168,7 +172,8 @@ pub fn do_list(
 ) -> Result<Next, NoMemory>
     ensures { IfOk result (λ n. alone_of body.now n ≡ rules.on_value (run (tree_at body.now.nodes e) (values_of env)) (rules.chosen_list (below_of body.now above i) (below_of body.now above j) (values_of env))) }
 {
-    let (found, env) = env.eval(alloc, &body.nodes, e)?;
+    let mut env = env;
+    let found = env.eval(alloc, &body.nodes, e)?;
     match found {
         Found::Value(value) => {
             let first = lower(body, above, i);
@@ -191,7 +196,8 @@ pub fn do_pair(
 ) -> Result<Next, NoMemory>
     ensures { IfOk result (λ n. alone_of body.now n ≡ rules.on_value (run (tree_at body.now.nodes e) (values_of env)) (rules.chosen_pair (below_of body.now above i) (values_of env))) }
 {
-    let (found, env) = env.eval(alloc, &body.nodes, e)?;
+    let mut env = env;
+    let found = env.eval(alloc, &body.nodes, e)?;
     match found {
         Found::Value(value) => {
             let at = lower(body, above, i);
@@ -236,7 +242,8 @@ pub fn do_call(
 ) -> Result<Next, NoMemory>
     ensures { IfOk result (λ n. alone_of body.now n ≡ rules.on_values (run_all (trees_in (trees body.now.nodes) ids.now) (values_of env)) (rules.called (slice_get (funs_of body.now) f))) }
 {
-    match eval_all(alloc, &body.nodes, ids, env)? {
+    let mut env = env;
+    match eval_all(alloc, &body.nodes, ids, &mut env)? {
         FoundAll::Values(args) => entered(alloc, body, f, args),
         FoundAll::Throws(exn) => Ok(Next::To(Active::Throw(exn))),
         FoundAll::Stuck => Ok(Next::Stuck),
@@ -253,7 +260,8 @@ pub fn do_perform(
 ) -> Result<Next, NoMemory>
     ensures { IfOk result (λ n. alone_of body.now n ≡ rules.on_values (run_all (trees_in (trees body.now.nodes) ids.now) (values_of env)) (λ us. just_part (performs (calls (primitive_of primitive) us)))) }
 {
-    match eval_all(alloc, &body.nodes, ids, env)? {
+    let mut env = env;
+    match eval_all(alloc, &body.nodes, ids, &mut env)? {
         FoundAll::Values(args) => Ok(Next::To(Active::Asks(primitive, args))),
         FoundAll::Throws(exn) => Ok(Next::To(Active::Throw(exn))),
         FoundAll::Stuck => Ok(Next::Stuck),

@@ -1,6 +1,6 @@
-ghost use Rattle.std.specs.Prelude.{◌≡◌, [], ◌∷◌, ◌++◌, IfOk, OnOk, OnErr, ◌≤◌, ◌<◌, ◌^◌, length, slice_get};
+ghost use Rattle.std.specs.Prelude.{◌≡◌, [], ◌∷◌, ◌++◌, IfOk, IfSome, OnOk, OnErr, ◌≤◌, ◌<◌, ◌^◌, length, slice_get};
 ghost use Rattle.std.specs.Option.{option_copied};
-ghost use Rattle.rules_meaning.specs.Values.{values_of};
+ghost use Rattle.rules_meaning.specs.Values.{values_of, Gives, Truth};
 ghost use Rattle.rules_code.specs.Slots.{run, tree_at};
 ghost use Rattle.hs_eval.specs.Founds.{out_of};
 ghost use Rattle.slot_env.specs.Envs.{base_of};
@@ -8,11 +8,12 @@ ghost use Rattle.slot_env.specs.Envs.{base_of};
 use crate::copied::{copied, few, joined, shared};
 use crate::waiting::Waiting;
 use hs_base::{NoMemory, Value, Values};
-use hs_eval::{Found, eval_at};
+use hs_eval::{Found, eval_at, test_at};
 use hs_items::{Items, Shared};
 use rules_code::{ExprId, Node};
 use std::alloc::Global;
 use std::marker::Model;
+use std::mem;
 
 /// So many values an environment keeps to itself before it shares them, so that a copy costs a constant.
 const OWN: usize = 8;
@@ -148,24 +149,37 @@ impl Env {
         Waiting::of(alloc, base, self.own.as_slice())
     }
 
-    /// What an expression gives with these values, and the environment again.
+    /// What an expression gives with these values. Where memory runs out the environment may have lost values.
     pub fn eval(
-        self,
+        &mut self,
         alloc: Global,
         nodes: &Items<Node>,
         at: ExprId,
-    ) -> Result<(Found, Env), NoMemory>
-        ensures value { IfOk result (λ r. out_of r.0 ≡ run (tree_at nodes.now at) (values_of self)) }
-        ensures same { IfOk result (λ r. r.1 ≡ self) }
+    ) -> Result<Found, NoMemory>
+        ensures value { IfOk result (λ o. out_of o ≡ run (tree_at nodes.now at) (values_of self.old)) }
+        ensures same { OnOk result (self.new ≡ self.old) }
     {
-        let Env { base, mut own } = self;
-        let found = match &base {
+        let mut own = mem::replace(&mut self.own, Items::new(alloc));
+        let found = match &self.base {
             None => {
                 let none = Items::new(alloc);
                 eval_at(alloc, nodes, at, &none, &mut own)?
             }
             Some(values) => eval_at(alloc, nodes, at, values.get(), &mut own)?,
         };
-        Ok((found, Env { base, own }))
+        self.own = own;
+        Ok(found)
+    }
+
+    /// What an expression says with these values, where it compares two numbers that stand there or in slots. For those this is
+    /// quicker than `eval`, and it takes no memory; it answers nothing for any other expression.
+    pub fn test(&self, nodes: &Items<Node>, at: ExprId) -> Option<bool>
+        ensures { IfSome result (λ t. run (tree_at nodes.now at) (values_of self.now) ≡ Gives (Truth t)) }
+    {
+        let own = self.own.as_slice();
+        match &self.base {
+            None => test_at(nodes, at, &[], own),
+            Some(values) => test_at(nodes, at, values.get().as_slice(), own),
+        }
     }
 }

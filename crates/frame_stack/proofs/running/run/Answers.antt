@@ -26,23 +26,23 @@ pub returns-then-stopped-clause-moves : goal.returns-then-stopped-clause-moves
 returns-then-stopped-clause-moves g c =
     let b = c.args.body.now in
     let l = c.loop-done in
-    one_further b c.args.mask l.frames.below l.done (active_of b c.args.start) (active_of b l.active) (active_of b c.in_ok-active.active) (frames_of b l.frames.list) (frames_of b c.step_on.new.frames.list)
-    l.invariant.under l.invariant.moves (c.in_ok-active.ensures {u = tt}).rule
+    one_further b c.args.mask l.frames.below l.done (active_of b c.args.start) (active_of b l.active) (active_of b c.step_on.new.active) (frames_of b l.frames.list) (frames_of b c.step_on.new.frames.list)
+    l.invariant.under l.invariant.moves (c.in_ok-step_on.ensures {u = tt}).rule
 
 pub returns-then-stopped-clause-may : goal.returns-then-stopped-clause-may
 returns-then-stopped-clause-may g c =
     let b = c.args.body.now in
-    subst (λ m. ∥ MayGo b m (active_of b c.in_ok-active.active) (frames_of b c.step_on.new.frames.list) ∥₁) c.loop-done.invariant.under (c.in_ok-active.ensures {u = tt}).may
+    subst (λ m. ∥ MayGo b m (active_of b c.step_on.new.active) (frames_of b c.step_on.new.frames.list) ∥₁) c.loop-done.invariant.under (c.in_ok-step_on.ensures {u = tt}).may
 
 pub loop-done-preserved : goal.loop-done-preserved
 loop-done-preserved g c =
     let b = c.args.body.now in
     let l = c.loop-done in
-    let told = c.in_ok-active.ensures {u = tt} in
+    let told = c.in_ok-step_on.ensures {u = tt} in
     record {
-      moves = one_further b c.args.mask l.frames.below l.done (active_of b c.args.start) (active_of b l.active) (active_of b c.in_ok-active.active) (frames_of b l.frames.list) (frames_of b c.step_on.new.frames.list)
+      moves = one_further b c.args.mask l.frames.below l.done (active_of b c.args.start) (active_of b l.active) (active_of b c.step_on.new.active) (frames_of b l.frames.list) (frames_of b c.step_on.new.frames.list)
           l.invariant.under l.invariant.moves told.rule;
       under = told.below ∙ l.invariant.under;
-      may = subst (λ m. ∥ MayGo b m (active_of b c.in_ok-active.active) (frames_of b c.step_on.new.frames.list) ∥₁) l.invariant.under told.may;
+      may = subst (λ m. ∥ MayGo b m (active_of b c.step_on.new.active) (frames_of b c.step_on.new.frames.list) ∥₁) l.invariant.under told.may;
       goes = λ h. let e = (c.stopped.ensures b).1 h in let f = c.if-stopped.false in cc;
     }

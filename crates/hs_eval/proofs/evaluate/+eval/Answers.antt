@@ -1,4 +1,4 @@
-use Rattle.std.proofs.Common.{◌≡◌, ◌+◌, ◌≤◌, length, take, ap, ◌∙◌, sym, refl, arith}
+use Rattle.std.proofs.Common.{◌+◌, ◌≤◌, length, take, ap, ◌∙◌, sym, refl, arith}
 use Rattle.std.specs.Prelude.{slice_get}
 use Rattle.rules_code.specs.Slots.{run, trees, tree_in}
 use Rattle.hs_eval.specs.Founds.{out_of}

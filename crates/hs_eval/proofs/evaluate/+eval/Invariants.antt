@@ -1,5 +1,5 @@
-use Rattle.std.proofs.Common.{◌≡◌, ◌+◌, ◌*◌, drop, take, []}
-use Rattle.rules_meaning.specs.Values.{values_of, and_one, value_of}
+use Rattle.std.proofs.Common.{◌≡◌, ◌+◌, ◌*◌, drop, take}
+use Rattle.rules_meaning.specs.Values.{values_of}
 use Rattle.rules_code.specs.Slots.{run_all, run_left, trees, trees_in, links_in}
 use Rattle.hs_eval.specs.Founds.{out_of}
 use Rattle.hs_eval.specs.Evaluation.{slots, with_values}

@@ -1,8 +1,8 @@
-use Rattle.std.proofs.Common.{◌≡◌, ◌+◌, ◌-◌, ◌<◌, ◌≤◌, take, length, ap, ◌∙◌, sym, arith}
+use Rattle.std.proofs.Common.{◌-◌, take, length, ap, ◌∙◌, sym, arith}
 use Rattle.rules_meaning.specs.Values.{values_of}
 use Rattle.hs_eval.specs.Founds.{out_of}
 use Rattle.hs_eval.specs.Evaluation.{join_right}
-use Rattle.hs_eval.proofs.Steps.{one_joined, none_joined, end_joined}
+use Rattle.hs_eval.proofs.Steps.{one_joined, end_joined}
 use Rattle.hs_eval.proofs.lists.join_onto.Goals as goal
 
 pub links-preserved : goal.links-preserved

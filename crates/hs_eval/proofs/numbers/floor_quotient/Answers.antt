@@ -1,4 +1,4 @@
-use Rattle.std.proofs.Common.{◌≡◌, ◌<ℤ◌, ◌-ℤ◌, pos, ℤ, neg_ℤ, arith, w64, to_z, of_z, ap, ◌∙◌, sym}
+use Rattle.std.proofs.Common.{◌≡◌, ◌<ℤ◌, ◌-ℤ◌, pos, neg_ℤ, arith, to_z, of_z}
 use Rattle.std.specs.Int.{w128}
 use Rattle.std.proofs.lemmas.Int.{ints}
 use Rattle.hs_eval.proofs.Floors.{computed_quotient}

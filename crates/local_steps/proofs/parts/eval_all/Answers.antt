@@ -15,33 +15,33 @@ in_same ts id us vs o p e h same = e ∙ (h ∙ ap (λ z. run (tree_in ts id) (v
 pub each-preserved : goal.each-preserved
 each-preserved c =
     let ts = trees c.args.nodes.now in
-    let found = c.in_ok-found.ensures {u = tt} in
+    let found = c.in_ok-exn.ensures {u = tt} in
     let id = c.id_at-id.result in
     record {
       same = found.same ∙ c.each.invariant.same;
-      values = all_step ts c.args.ids.now c.each.i (c.each.i + 1) id (values_of c.args.env) c.each.values c.add.new.self c.in-Value.value _ refl
+      values = all_step ts c.args.ids.now c.each.i (c.each.i + 1) id (values_of c.args.env.now) c.each.values c.add.new.self c.in-Value.value _ refl
           (ap (λ z. slice_get z c.each.i) (sym c.as_slice.ensures) ∙ c.id_at-id.ensures) c.each.invariant.values
-          (in_same ts id c.each.env c.args.env _ _ (ap out_of (sym c.in-Value.is)) found.value c.each.invariant.same)
+          (in_same ts id c.each.env c.args.env.now _ _ (ap out_of (sym c.in-Value.is)) found.value c.each.invariant.same)
           (c.in_ok-add-in-Value.ensures {u = tt}).ok;
     }
 
-pub returns-in-Throws : goal.returns-in-Throws
-returns-in-Throws c =
+pub returns-in-Throws-clause-value : goal.returns-in-Throws-clause-value
+returns-in-Throws-clause-value c =
     let ts = trees c.args.nodes.now in
     let id = c.id_at-id.result in
-    all_throw ts c.args.ids.now c.each.i id (values_of c.args.env) c.each.values c.in-Throws.exn _
+    all_throw ts c.args.ids.now c.each.i id (values_of c.args.env.now) c.each.values c.in-Throws.exn _
     (ap (λ z. slice_get z c.each.i) (sym c.as_slice.ensures) ∙ c.id_at-id.ensures) c.each.invariant.values
-    (in_same ts id c.each.env c.args.env _ _ (ap out_of (sym c.in-Throws.is)) (c.in_ok-found.ensures {u = tt}).value c.each.invariant.same)
+    (in_same ts id c.each.env c.args.env.now _ _ (ap out_of (sym c.in-Throws.is)) (c.in_ok-exn.ensures {u = tt}).value c.each.invariant.same)
 
-pub returns-in-Stuck : goal.returns-in-Stuck
-returns-in-Stuck c =
+pub returns-in-Stuck-clause-value : goal.returns-in-Stuck-clause-value
+returns-in-Stuck-clause-value c =
     let ts = trees c.args.nodes.now in
     let id = c.id_at-id.result in
-    all_stuck ts c.args.ids.now c.each.i id (values_of c.args.env) c.each.values _
+    all_stuck ts c.args.ids.now c.each.i id (values_of c.args.env.now) c.each.values _
     (ap (λ z. slice_get z c.each.i) (sym c.as_slice.ensures) ∙ c.id_at-id.ensures) c.each.invariant.values
-    (in_same ts id c.each.env c.args.env _ _ (ap out_of (sym c.in-Stuck.is)) (c.in_ok-found.ensures {u = tt}).value c.each.invariant.same)
+    (in_same ts id c.each.env c.args.env.now _ _ (ap out_of (sym c.in-Stuck.is)) (c.in_ok-exn.ensures {u = tt}).value c.each.invariant.same)
 
-pub returns : goal.returns
-returns c =
+pub returns-clause-value : goal.returns-clause-value
+returns-clause-value c =
     let l : length c.args.ids.now ≤ c.each.i = omega arith in
-    all_end (trees c.args.nodes.now) c.args.ids.now c.each.i (values_of c.args.env) c.each.values _ l c.each.invariant.values
+    all_end (trees c.args.nodes.now) c.args.ids.now c.each.i (values_of c.args.env.now) c.each.values _ l c.each.invariant.values
