@@ -1,5 +1,5 @@
 -- A list of hands that was cut in two.
-use Rattle.std.proofs.Common.{◌≡◌, ◌+◌, ℕ, List, Option, Some, All, length, IfSome, MatchOption, subst}
+use Rattle.std.proofs.Common.{◌≡◌, ◌+◌, ℕ, Option, Some, All, length, IfSome, MatchOption, subst}
 use Rattle.conc_hands.specs.declared.hands.Hands.{Hands}
 use Rattle.conc_hands.specs.declared.list.HandList.{HandList}
 use Rattle.conc_hands.specs.Hands.{IsHandOf}

@@ -1,5 +1,5 @@
 -- Numbers of hands.
-use Rattle.std.proofs.Common.{◌≡◌, ℕ, ◌<◌, ◌≤◌, subst, arith}
+use Rattle.std.proofs.Common.{◌≡◌, ◌<◌, ◌≤◌, subst, arith}
 use Rattle.std.specs.Prelude.{Option, Some, MatchOption}
 use Rattle.conc_hands.specs.declared.hand.Hand.{Hand}
 use Rattle.conc_hands.specs.declared.hands.Hands.{Hands}

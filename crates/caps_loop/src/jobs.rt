@@ -4,9 +4,15 @@ ghost use Rattle.conc_hands.specs.Hands.{IsHandOf, number_of, hands_code, hands_
 
 use conc_hands::{Hand, Hands};
 use hs_rules::Ticketed;
+use std::hint;
 use std::sync::Wait;
 
-/// The first job of its own deque, or one of another's.
+/// So many times it looks at the deques of others.
+const LOOKS: u32 = 4;
+/// How many hints to the processor it waits before each look: some microseconds, in which the owner mostly takes the job itself.
+const PAUSE: u32 = 64;
+
+/// The first job of its own deque, or one that another leaves on its own for some microseconds.
 pub(crate) fn find_job<J: Ticketed, S: Ticketed, R: Wait>(
     rt: &R,
     hands: &Hands<J, S>,
@@ -19,12 +25,34 @@ pub(crate) fn find_job<J: Ticketed, S: Ticketed, R: Wait>(
 {
     match hands.pop(hand) {
         Some(job) => Some(job),
-        None => steal_job(rt, hands, hand, caps),
+        None => steal_later(rt, hands, hand, caps),
     }
 }
 
-// The first job of another's deque: in order of number, from the one after its own.
-fn steal_job<J: Ticketed, S: Ticketed, R: Wait>(
+// A job of another's deque, after a pause.
+fn steal_later<J: Ticketed, S: Ticketed, R: Wait>(
+    rt: &R,
+    hands: &Hands<J, S>,
+    hand: &mut Hand<J, S>,
+    caps: u32,
+) -> Option<J>
+    requires { IsHandOf hands.now hand.old × (caps ≡ hands_count hands.now) }
+    ensures hand { IsHandOf hands.now hand.new }
+    ensures job { IfSome result (λ job. J.belongs job ≡ hands_code hands.now) }
+{
+    for _ in 0..LOOKS {
+        for _ in 0..PAUSE {
+            hint::spin_loop();
+        }
+        if let Some(job) = steal_job(rt, hands, hand, caps) {
+            return Some(job);
+        }
+    }
+    None
+}
+
+/// The first job of another's deque: in order of number, from the one after its own.
+pub(crate) fn steal_job<J: Ticketed, S: Ticketed, R: Wait>(
     rt: &R,
     hands: &Hands<J, S>,
     hand: &mut Hand<J, S>,

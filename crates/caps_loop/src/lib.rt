@@ -12,6 +12,7 @@
 //! long a capability waits, nor that two slices ran at the same time.
 #![tactic(auto)]
 
+mod asking;
 mod capability;
 mod cutting;
 mod halves;

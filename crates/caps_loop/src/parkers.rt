@@ -1,30 +1,120 @@
-//! What wakes capabilities that wait for work.
+//! Where capabilities wait for work, and what wakes them.
 ghost use Rattle.std.specs.Prelude.{◌≡◌, vec_len, IfOk};
 
 use crossbeam_utils::CachePadded;
 use hs_base::NoMemory;
 use std::alloc::{AllocError, Global};
+use std::sync::Wait;
+use std::sync::atomic::{AtomicU64, Ordering};
 use std::thread::Parker;
+use std::time::Duration;
 
-/// A parker for each capability, by its number.
-pub(crate) type Parkers = Vec<CachePadded<Parker>>;
+// What the capability of a berth does: it works, it looks for jobs now and then, or it is parked.
+const WORKS: u64 = 0;
 
-/// The parkers of so many capabilities.
+const WATCHES: u64 = 1;
+
+const PARKED: u64 = 2;
+
+/// Where one capability waits for work.
+#[derive(Drop)]
+pub(crate) struct Berth {
+    parker: Parker,
+    does: AtomicU64,
+}
+
+impl Berth {
+    fn new() -> Berth {
+        Berth {
+            parker: Parker::new(),
+            does: AtomicU64::new(WORKS),
+        }
+    }
+
+    /// It begins to watch. A wake that comes from now on isn't lost.
+    pub(crate) fn watch(&self) {
+        self.does.store(WATCHES, Ordering::SeqCst);
+    }
+
+    /// It goes on with its work.
+    pub(crate) fn work(&self) {
+        self.does.store(WORKS, Ordering::SeqCst);
+    }
+
+    /// Whether somebody woke it since it began to watch.
+    pub(crate) fn is_woken(&self) -> bool {
+        self.does.load(Ordering::SeqCst) == WORKS
+    }
+
+    /// Waits until somebody wakes it, at most so many microseconds.
+    pub(crate) fn doze<R: Wait>(&self, rt: &R, micros: u64) {
+        self.parker.park_timeout(rt, Duration::from_micros(micros));
+    }
+
+    /// From now on each visit that finds something wakes it. Whether nobody woke it before.
+    pub(crate) fn announce(&self) -> bool {
+        self.changes(WATCHES, PARKED)
+    }
+
+    /// Waits until somebody wakes it.
+    pub(crate) fn park<R: Wait>(&self, rt: &R) {
+        self.parker.park(rt);
+    }
+
+    // Wakes it, where this is what it does. Whether it was.
+    fn wake(&self, from: u64) -> bool {
+        if self.does.load(Ordering::SeqCst) != from || !self.changes(from, WORKS) {
+            return false;
+        }
+        self.parker.unpark();
+        true
+    }
+
+    fn changes(&self, from: u64, to: u64) -> bool {
+        let does = &self.does;
+        does.compare_exchange(from, to, Ordering::SeqCst, Ordering::SeqCst)
+            .is_ok()
+    }
+}
+
+/// A berth for each capability, by its number.
+pub(crate) type Parkers = Vec<CachePadded<Berth>>;
+
+/// The berths of so many capabilities.
 pub(crate) fn parkers_for(alloc: Global, caps: u32) -> Result<Parkers, NoMemory>
     ensures { IfOk result (λ parkers. vec_len parkers ≡ caps) }
 {
     let mut parkers = Vec::new(alloc);
     for _ in 0..caps {
         parkers
-            .push(CachePadded::new(Parker::new()))
+            .push(CachePadded::new(Berth::new()))
             .map_err(AllocError::from)?;
     }
     Ok(parkers)
 }
 
-/// Wakes all capabilities. A wake that comes before the park isn't lost.
-pub(crate) fn wake_all(parkers: &Parkers) {
-    for parker in parkers {
-        parker.unpark();
+/// Wakes all that are parked.
+pub(crate) fn wake_parked(parkers: &Parkers) {
+    for berth in parkers {
+        berth.wake(PARKED);
     }
+}
+
+/// Wakes so many of those that watch.
+pub(crate) fn wake_watching(parkers: &Parkers, most: u32) {
+    let mut left = most;
+    for berth in parkers {
+        if left == 0 {
+            return;
+        }
+        if berth.wake(WATCHES) {
+            left -= 1;
+        }
+    }
+}
+
+/// Wakes all. In this order, since one that watches may park between the two.
+pub(crate) fn wake_all(parkers: &Parkers) {
+    wake_watching(parkers, u32::MAX);
+    wake_parked(parkers);
 }

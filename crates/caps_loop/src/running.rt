@@ -1,19 +1,19 @@
 //! One job of a capability, and what becomes of its slice.
-ghost use Rattle.std.specs.Prelude.{◌≡◌, ◌<◌, IfSome, vec_len};
+ghost use Rattle.std.specs.Prelude.{◌≡◌, IfSome};
 ghost use Rattle.rules_code.specs.Codes.{body_of};
 ghost use Rattle.hs_rules.specs.declared.kept.Plan.{Plan};
 ghost use Rattle.rules_code.specs.declared.code.Body.{Body};
 ghost use Rattle.conc_turn.specs.Seats.{IsLater};
 ghost use Rattle.conc_turn.specs.Turns.{IsSeatOf, turn_plan};
-ghost use Rattle.conc_hands.specs.Hands.{IsHandOf, hands_code, hands_count};
+ghost use Rattle.conc_hands.specs.Hands.{IsHandOf, hands_code};
 ghost use Rattle.caps_loop.specs.Nexts.{RunsOf};
 
 use crate::capability::Capability;
 use crate::cutting::run_slice;
 use crate::next::Next;
-use crate::parkers::{Parkers, wake_all};
+use crate::parkers::{Parkers, wake_all, wake_parked, wake_watching};
 use crate::runs::{Runs, Unsliced};
-use crate::turns::{give_up, try_visit, visit};
+use crate::turns::{give_up, try_commit, try_visit, visit};
 use crate::visit::Visit;
 use conc_hands::Hands;
 use conc_turn::Turn;
@@ -57,8 +57,37 @@ pub(crate) fn run_job<D: Runs<J, S>, J: Ticketed + Drop, S: Ticketed + Drop, G: 
     }
 }
 
-// Hands a slice in, and tries the turn. A slice that the inbox has no room for is committed under the turn.
+// Tries the turn, and commits the slice where it gets it. Else it hands the slice in.
 fn bring<D: Runs<J, S>, J: Ticketed + Drop, S: Ticketed + Drop, G: Gate, R: Wait>(
+    rt: &R,
+    alloc: Global,
+    turn: &Turn<D>,
+    hands: &Hands<J, S>,
+    parkers: &Parkers,
+    gate: &G,
+    me: Capability<J, S>,
+    slice: S,
+) -> (Capability<J, S>, Next<J>)
+    requires seat { IsSeatOf D.plan turn.now me.seat }
+    requires hand { IsHandOf hands.now me.hand }
+    requires code { hands_code hands.now ≡ (turn_plan D.plan turn.now).body }
+    requires slice { S.belongs slice ≡ hands_code hands.now }
+    ensures seat { IsLater me.seat result.0.seat }
+    ensures hand { IsHandOf hands.now result.0.hand }
+    ensures next { RunsOf J.belongs (hands_code hands.now) result.1 }
+{
+    let Capability { seat, mut hand } = me;
+    let (seat, tried) = try_commit(rt, alloc, turn, hands, seat, &mut hand, slice);
+    let me = Capability { seat, hand };
+    match tried {
+        Ok(visit) => (me, leave(parkers, gate, visit)),
+        Err(slice) => hand_over(rt, alloc, turn, hands, parkers, gate, me, slice),
+    }
+}
+
+// Hands a slice in, and tries the turn once more: whoever had it may not have seen the slice. A slice that the inbox has no room
+// for is committed under the turn.
+fn hand_over<D: Runs<J, S>, J: Ticketed + Drop, S: Ticketed + Drop, G: Gate, R: Wait>(
     rt: &R,
     alloc: Global,
     turn: &Turn<D>,
@@ -93,36 +122,13 @@ fn bring<D: Runs<J, S>, J: Ticketed + Drop, S: Ticketed + Drop, G: Gate, R: Wait
     }
 }
 
-/// Waits for the turn. Where it finds nothing to do it gives the turn and parks.
-pub(crate) fn ask<D: Runs<J, S>, J: Ticketed + Drop, S: Ticketed + Drop, G: Gate, R: Wait>(
-    rt: &R,
-    alloc: Global,
-    turn: &Turn<D>,
-    hands: &Hands<J, S>,
+/// What follows a visit, after the turn was given back. Whoever is parked is woken where anything came; those that watch look by
+/// themselves, and are woken only where more than one job is left for others.
+pub(crate) fn leave<J: Ticketed + Drop, G: Gate>(
     parkers: &Parkers,
     gate: &G,
-    me: Capability<J, S>,
-) -> (Capability<J, S>, Next<J>)
-    requires seat { IsSeatOf D.plan turn.now me.seat }
-    requires hand { IsHandOf hands.now me.hand }
-    requires code { hands_code hands.now ≡ (turn_plan D.plan turn.now).body }
-    requires parkers { vec_len parkers.now ≡ hands_count hands.now }
-    ensures seat { IsLater me.seat result.0.seat }
-    ensures hand { IsHandOf hands.now result.0.hand }
-    ensures next { RunsOf J.belongs (hands_code hands.now) result.1 }
-{
-    let Capability { seat, mut hand } = me;
-    let (seat, visit) = visit(rt, alloc, turn, hands, seat, &mut hand, None);
-    let idle = !visit.stirred && !visit.ended;
-    let next = leave(parkers, gate, visit);
-    if idle {
-        parkers[hand.number() as usize].park(rt);
-    }
-    (Capability { seat, hand }, next)
-}
-
-// What follows a visit, after the turn was given back.
-fn leave<J: Ticketed + Drop, G: Gate>(parkers: &Parkers, gate: &G, visit: Visit<J>) -> Next<J>
+    visit: Visit<J>,
+) -> Next<J>
     ensures { (c : Body) → IfSome visit.kept (λ job. J.belongs job ≡ c) → RunsOf J.belongs c result }
 {
     let Visit {
@@ -130,15 +136,20 @@ fn leave<J: Ticketed + Drop, G: Gate>(parkers: &Parkers, gate: &G, visit: Visit<
         kept,
         stirred,
         ended,
+        spare,
     } = visit;
     for ticket in &committed {
         gate.committed(*ticket);
     }
-    if stirred || ended {
-        wake_all(parkers);
-    }
     if ended {
+        wake_all(parkers);
         return Next::Stop;
+    }
+    if stirred {
+        wake_parked(parkers);
+    }
+    if spare > 1 {
+        wake_watching(parkers, spare);
     }
     match kept {
         Some(job) => Next::Run(job),

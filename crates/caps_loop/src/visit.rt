@@ -8,4 +8,6 @@ pub(crate) struct Visit<J> {
     /// A slice came back or a job came.
     pub(crate) stirred: bool,
     pub(crate) ended: bool,
+    /// How many jobs it left for others.
+    pub(crate) spare: u32,
 }

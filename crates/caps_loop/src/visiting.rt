@@ -13,7 +13,7 @@ use std::sync::Wait;
 /// A capability takes so many jobs at once at most.
 const MOST_JOBS: u32 = 64;
 
-/// Commits the slice that the inbox had no room for, if there is one, and all that are in the inbox; lets the value do what
+/// Commits this slice, if there is one, and all that are in the inbox; lets the value do what
 /// needs no slice; raises the flags of jobs that were overtaken; and takes jobs.
 #[tactic(auto, using(conc_turn::proofs::Prefixes::prefix_trans))]
 pub(crate) fn attend<D: Runs<J, S>, J: Ticketed + Drop, S: Ticketed + Drop, R: Wait>(
@@ -22,24 +22,33 @@ pub(crate) fn attend<D: Runs<J, S>, J: Ticketed + Drop, S: Ticketed + Drop, R: W
     hands: &Hands<J, S>,
     hand: &mut Hand<J, S>,
     desk: &mut D,
-    refused: Option<S>,
+    own: Option<S>,
 ) -> Visit<J>
     requires hand { IsHandOf hands.now hand.old }
     requires code { hands_code hands.now ≡ (D.plan desk.old).body }
-    requires slice { IfSome refused (λ slice. S.belongs slice ≡ hands_code hands.now) }
+    requires slice { IfSome own (λ slice. S.belongs slice ≡ hands_code hands.now) }
     ensures hand { IsHandOf hands.now hand.new }
     ensures plan { D.plan desk.new ≡ D.plan desk.old }
     ensures history { IsPrefix (D.history desk.old) (D.history desk.new) }
     ensures job { IfSome result.kept (λ job. J.belongs job ≡ hands_code hands.now) }
 {
     let mut committed = Vec::new(alloc);
-    let collected = commit_slices(rt, hands, hand, desk, refused, &mut committed);
-    let (came, kept) = refresh(rt, hands, hand, desk);
+    let collected = commit_slices(rt, hands, hand, desk, own, &mut committed);
+    let (pushed, kept) = refresh(rt, hands, hand, desk);
+    let came = pushed > 0 || kept.is_some();
+
+    // It goes on with one of them itself.
+    let spare = if kept.is_some() {
+        pushed
+    } else {
+        pushed.saturating_sub(1)
+    };
     Visit {
         committed,
         kept,
         stirred: collected || came,
         ended: desk.is_ended(),
+        spare,
     }
 }
 
@@ -50,17 +59,17 @@ fn commit_slices<D: Runs<J, S>, J: Ticketed, S: Ticketed + Drop, R: Wait>(
     hands: &Hands<J, S>,
     hand: &mut Hand<J, S>,
     desk: &mut D,
-    refused: Option<S>,
+    own: Option<S>,
     committed: &mut Vec<u64>,
 ) -> bool
     requires hand { IsHandOf hands.now hand.old }
     requires code { hands_code hands.now ≡ (D.plan desk.old).body }
-    requires slice { IfSome refused (λ slice. S.belongs slice ≡ hands_code hands.now) }
+    requires slice { IfSome own (λ slice. S.belongs slice ≡ hands_code hands.now) }
     ensures hand { IsHandOf hands.now hand.new }
     ensures plan { D.plan desk.new ≡ D.plan desk.old }
     ensures history { IsPrefix (D.history desk.old) (D.history desk.new) }
 {
-    match refused {
+    match own {
         Some(slice) => {
             commit_one(desk, slice, committed);
             commit_inbox(rt, hands, hand, desk, committed);
@@ -70,14 +79,14 @@ fn commit_slices<D: Runs<J, S>, J: Ticketed, S: Ticketed + Drop, R: Wait>(
     }
 }
 
-// Lets the value do what needs no slice, and takes jobs. Whether a job came, and one that came back.
+// Lets the value do what needs no slice, and takes jobs. How many it pushed, and one that came back.
 #[tactic(auto, using(conc_turn::proofs::Prefixes::prefix_trans))]
 fn refresh<D: Runs<J, S>, J: Ticketed + Drop, S: Ticketed, R: Wait>(
     rt: &R,
     hands: &Hands<J, S>,
     hand: &mut Hand<J, S>,
     desk: &mut D,
-) -> (bool, Option<J>)
+) -> (u32, Option<J>)
     requires hand { IsHandOf hands.now hand.old }
     requires code { hands_code hands.now ≡ (D.plan desk.old).body }
     ensures hand { IsHandOf hands.now hand.new }
@@ -158,13 +167,13 @@ fn raise_overtaken<D: Runs<J, S>, J: Ticketed, S: Ticketed, R: Wait>(
     }
 }
 
-// Pushes jobs on the own deque. Whether a job came, and one that came back, with which it stops.
+// Pushes jobs on the own deque. How many, and one that came back, with which it stops.
 #[tactic(auto, using(conc_turn::proofs::Prefixes::prefix_trans, conc_turn::proofs::Prefixes::prefix_self))]
 fn take_jobs<D: Runs<J, S>, J: Ticketed + Drop, S: Ticketed>(
     hands: &Hands<J, S>,
     hand: &mut Hand<J, S>,
     desk: &mut D,
-) -> (bool, Option<J>)
+) -> (u32, Option<J>)
     requires hand { IsHandOf hands.now hand.old }
     requires code { hands_code hands.now ≡ (D.plan desk.old).body }
     ensures hand { IsHandOf hands.now hand.new }
@@ -172,15 +181,15 @@ fn take_jobs<D: Runs<J, S>, J: Ticketed + Drop, S: Ticketed>(
     ensures history { IsPrefix (D.history desk.old) (D.history desk.new) }
     ensures job { IfSome result.1 (λ job. J.belongs job ≡ hands_code hands.now) }
 {
-    let mut came = false;
+    let mut pushed = 0;
     for _ in 0..MOST_JOBS {
         let Ok(Some(job)) = desk.next_job() else {
             break;
         };
-        came = true;
         if let Err(job) = hands.push(hand, job) {
-            return (came, Some(job));
+            return (pushed, Some(job));
         }
+        pushed += 1;
     }
-    (came, None)
+    (pushed, None)
 }

@@ -7,11 +7,12 @@ ghost use Rattle.conc_turn.specs.Turns.{IsSeatOf, turn_plan};
 ghost use Rattle.conc_hands.specs.Hands.{IsHandOf, hands_code, hands_count};
 ghost use Rattle.caps_loop.specs.Nexts.{RunsOf};
 
+use crate::asking::ask;
 use crate::capability::Capability;
 use crate::jobs::find_job;
 use crate::next::Next;
 use crate::parkers::Parkers;
-use crate::running::{ask, run_job};
+use crate::running::run_job;
 use crate::runs::Runs;
 use conc_hands::Hands;
 use conc_turn::Turn;

@@ -3,7 +3,8 @@ use denote.RattleType.{RattleType}
 use denote.Enum.Declared.{shape}
 use denote.Param.SendFields.{as_row_send, declared_send}
 use denote.Param.Send.{IsSend, EachSend, plain_send, plain_sync, recorded_send, recorded_sync, enum_send, view_send, struct_send, struct_sync}
-use Rattle.std.proofs.Crossing.{crosses}
+use Rattle.std.proofs.Crossing.{Box-send, crosses}
+use Rattle.std.proofs.MapsCrossing.{HashMap-send}
 use Rattle.std.proofs.option.Option.TheSendSync as option
 use Rattle.slab.proofs.Slab.TheSendSync as slab
 use Rattle.hs_items.proofs.items.Items.TheSendSync as items
@@ -60,7 +61,7 @@ a_want : IsSend (want.the_field).row
 a_want = enum_send (shape want.the_type) each_want
 
 some_cells : IsSend cells.the_row
-some_cells = search (view_send, recorded_send, struct_send, tt, plain_send, crosses, option.the_field_send, value_field, slab.the_send, a_want) depth 40
+some_cells = search (view_send, recorded_send, struct_send, tt, plain_send, crosses, option.the_field_send, value_field, slab.the_send, a_want, HashMap-send) depth 40
 
 -- ---- the world and the code
 
@@ -88,4 +89,4 @@ module _ (O E K : RattleType) (o : sink.Ghosts O.Denot) (e : sink.Ghosts E.Denot
   a_desk = declared_send (desk.the_type O E K o e k) (a_code, (a_course, (tickets.the_send, (search part, (search part, (search part, tt))))))
 
   pub a_lent_desk : (N : RattleType) (n : lent.Ghosts N.Denot) → IsSend N → IsSend (lent_desk.the_row O E K N o e k n)
-  a_lent_desk N n sent = declared_send (lent_desk.the_type O E K N o e k n) (a_desk, (search part, tt))
+  a_lent_desk N n sent = declared_send (lent_desk.the_type O E K N o e k n) (Box-send (desk.the_row O E K o e k) a_desk, (search part, tt))

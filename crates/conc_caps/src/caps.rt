@@ -9,7 +9,7 @@ use conc_world::Desk;
 use frame_stack::{Job, Slice};
 use hs_io::{Clock, Gate, Sink};
 use hs_rules::Kept;
-use std::alloc::Global;
+use std::alloc::{AllocFailed, Global};
 use std::marker::{Brand, PhantomData};
 use std::sync::Wait;
 use std::thread::Threads;
@@ -17,9 +17,9 @@ use std::thread::Threads;
 /// Runs the desk to an ending on so many capabilities, one of them on the thread of the caller. A desk that has an ending comes back
 /// as it is.
 ///
-/// It starts threads by `rt` and waits for all of them. Where memory for what the capabilities share is refused the ending is
-/// Memory; where it is refused for some of them, the others do the work. The gate is called by all capabilities, outside the
-/// turn: `before_slice` when a slice begins, and `committed` after the turn in which the desk took it.
+/// It starts threads by `rt` and waits for all of them. Where memory for a box of the desk or for what the capabilities share is
+/// refused the ending is Memory; where it is refused for some of them, the others do the work. The gate is called by all
+/// capabilities, outside the turn: `before_slice` when a slice begins, and `committed` after the turn in which the desk took it.
 pub fn run_caps<
     O: Sink + Send,
     E: Sink + Send,
@@ -62,10 +62,18 @@ fn run_lent<
     ensures errors { E.told result.course.err_lent.value ≡ N.errors }
     ensures last { K.last result.course.clocked.lent.value ≡ N.last }
 {
+    let desk = match Box::new(alloc, desk) {
+        Ok(desk) => desk,
+        Err(AllocFailed { value: desk }) => {
+            let mut desk = desk;
+            desk.no_memory();
+            return desk;
+        }
+    };
     let desk: LentDesk<O, E, K, N> = LentDesk {
         desk,
         named: PhantomData,
     };
     let desk = run_loop::<LentDesk<O, E, K, N>, Job, Slice, G, R>(alloc, rt, desk, caps, gate);
-    desk.desk
+    Box::into_inner(desk.desk)
 }

@@ -9,9 +9,10 @@ use std::marker::PhantomData;
 /// A desk to which this was lent.
 #[derive(Drop)]
 pub(crate) struct LentDesk<O: Sink, E: Sink, K: Clock, N: LentAs> {
-    pub(crate) desk: Desk<O, E, K>,
+    /// In a box, since each visit of a turn moves it into a slot and out again, and a desk is large.
+    pub(crate) desk: Box<Desk<O, E, K>>,
     pub(crate) named: PhantomData<N>,
-    ghost output: { O.told desk.course.out_lent.value ≡ N.output } by { Prim.hlevel props },
-    ghost errors: { E.told desk.course.err_lent.value ≡ N.errors } by { Prim.hlevel props },
-    ghost last: { K.last desk.course.clocked.lent.value ≡ N.last },
+    ghost output: { O.told desk.value.course.out_lent.value ≡ N.output } by { Prim.hlevel props },
+    ghost errors: { E.told desk.value.course.err_lent.value ≡ N.errors } by { Prim.hlevel props },
+    ghost last: { K.last desk.value.course.clocked.lent.value ≡ N.last },
 }

@@ -12,13 +12,13 @@ use hs_rules::{Code, Kept};
 use std::alloc::Global;
 
 impl<O: Sink, E: Sink, K: Clock, N: LentAs> Kept for LentDesk<O, E, K, N> {
-    ghost plan = { λ d. ⟦<Desk<O, E, K> as Kept>⟧.plan d.desk };
+    ghost plan = { λ d. ⟦<Desk<O, E, K> as Kept>⟧.plan d.desk.value };
 
-    ghost history = { λ d. ⟦<Desk<O, E, K> as Kept>⟧.history d.desk };
+    ghost history = { λ d. ⟦<Desk<O, E, K> as Kept>⟧.history d.desk.value };
 }
 
 impl<O: Sink, E: Sink, K: Clock, N: LentAs> Runs<Job, Slice> for LentDesk<O, E, K, N> {
-    ghost has_ended = { λ d. IsSome d.desk.course.end };
+    ghost has_ended = { λ d. IsSome d.desk.value.course.end };
 
     fn code(&self) -> Result<Code, NoMemory> {
         self.desk.code().share()

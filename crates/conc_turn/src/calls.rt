@@ -14,6 +14,7 @@ use std::alloc::{AllocFailed, Global};
 use std::marker::Brand;
 use std::snapshot::Snapshot;
 use std::sync::Wait;
+use std::sync::atomic::{AtomicU64, Ordering};
 
 impl<D: Kept> Turn<D> {
     /// The turn, and a seat that has all its shares. At `Err` there was no memory.
@@ -32,7 +33,10 @@ impl<D: Kept> Turn<D> {
         }
         match Table::new(alloc, &[0], slots, &first) {
             Ok((table, seat)) => Ok((
-                Turn { table },
+                Turn {
+                    table,
+                    waiting: AtomicU64::new(0),
+                },
                 Seat {
                     badge: seat.into_badge(),
                 },
@@ -74,6 +78,24 @@ impl<D: Kept> Turn<D> {
 
     /// Takes the turn. Sleeps while somebody else has it; each try that was lost is counted.
     pub fn take<R: Wait>(&self, rt: &R, seat: Seat) -> Held<'_, D>
+        requires { IsSeatOf D.plan self.now seat }
+        ensures held { IsHeldOf D.plan D.history self.now result }
+        ensures seen { IsPrefix (seen_by seat) (D.history (value_in result)) }
+        ensures shares { (held_shares result ≡ shares_of seat) × (lost_by seat ≤ held_lost result) }
+    {
+        match self.try_take(seat) {
+            Tried::Got(held) => held,
+            Tried::Busy { seat, word: _ } => {
+                self.waiting.fetch_add(1, Ordering::SeqCst);
+                let held = self.wait(rt, seat);
+                self.waiting.fetch_sub(1, Ordering::SeqCst);
+                held
+            }
+        }
+    }
+
+    // Sleeps while somebody else has the turn. It is counted among those that wait, so whoever gives the turn wakes one of them.
+    fn wait<R: Wait>(&self, rt: &R, seat: Seat) -> Held<'_, D>
         requires { IsSeatOf D.plan self.now seat }
         ensures held { IsHeldOf D.plan D.history self.now result }
         ensures seen { IsPrefix (seen_by seat) (D.history (value_in result)) }
@@ -150,7 +172,7 @@ impl<D: Kept> Turn<D> {
         ensures plan { D.plan result ≡ turn_plan D.plan self }
         ensures seen { IsPrefix (seen_by seat) (D.history result) }
     {
-        let Turn { table } = self;
+        let Turn { table, waiting: _ } = self;
         let mut closed = table.close_with(seat.badge.into_seat());
         let kept = closed.take(0).unwrap();
         closed.free();

@@ -12,6 +12,7 @@ use crate::rule::GiveBack;
 use crate::seat::Seat;
 use crate::turn::Held;
 use hs_rules::Kept;
+use std::sync::atomic::Ordering;
 
 impl<'a, D: Kept> Held<'a, D> {
     /// Lends the value.
@@ -22,7 +23,7 @@ impl<'a, D: Kept> Held<'a, D> {
         &mut self.kept
     }
 
-    /// Gives the turn back, with the value, and wakes one who waits for it. Takes no memory.
+    /// Gives the turn back, with the value, and wakes one who waits for it, if there is one. Takes no memory.
     pub fn give(self) -> Seat
         requires taken { IsTaken self }
         requires plan { held_plan self ≡ Some (D.plan (value_in self)) }
@@ -39,7 +40,9 @@ impl<'a, D: Kept> Held<'a, D> {
         let was = turn.table.shared.exchange(&mut seat, 0, Some(kept));
         let None = was else { unreachable!() };
         turn.table.shared.store::<GiveBack>(&mut seat, 0, 0);
-        turn.table.shared.wake_one(0);
+        if turn.waiting.load(Ordering::SeqCst) > 0 {
+            turn.table.shared.wake_one(0);
+        }
         Seat {
             badge: seat.into_badge(),
         }

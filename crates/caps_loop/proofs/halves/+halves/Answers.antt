@@ -1,4 +1,4 @@
-use Rattle.std.proofs.Common.{rules, ◌≡◌, ◌+◌, ◌<◌, ◌≤◌, All, length, vec_len, ℕ, ◌-◌, ◌*◌, ◌/◌, slice_index_or, arith}
+use Rattle.std.proofs.Common.{rules, ◌/◌, arith}
 use Rattle.caps_loop.proofs.Cuts.{cut_counts, cut_last}
 use Rattle.caps_loop.proofs.halves.+halves.Goals as goal
 

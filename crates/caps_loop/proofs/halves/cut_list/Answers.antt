@@ -1,4 +1,4 @@
-use Rattle.std.proofs.Common.{rules, ◌≡◌, ◌-◌, ◌<◌, ◌≤◌, All, length, ℕ, sym, subst, slice_index_or}
+use Rattle.std.proofs.Common.{◌-◌, All, length, sym, subst}
 use Rattle.std.proofs.lemmas.List.Elements.{All-take, All-drop}
 use Rattle.conc_hands.specs.Hands.{IsHandOf}
 use Rattle.conc_hands.specs.Lists.{hands_in}

@@ -1,4 +1,4 @@
-use Rattle.std.proofs.Common.{rules, ◌≡◌, ◌<◌, ◌≤◌, All, length, ℕ, slice_index_or}
+use Rattle.std.proofs.Common.{slice_index_or}
 use Rattle.std.proofs.lemmas.Option.{slice_get-get_or}
 use Rattle.conc_hands.specs.Lists.{hands_in}
 use Rattle.caps_loop.proofs.halves.parts_for.Goals as goal

@@ -1,4 +1,3 @@
-use Rattle.std.proofs.Common.{◌≡◌}
 use Rattle.conc_turn.specs.Seats.{IsLater}
 use Rattle.conc_hands.specs.Hands.{IsHandOf, hands_code}
 use Rattle.caps_loop.specs.Nexts.{RunsOf}
