@@ -1,0 +1,13 @@
+pub mod Counts
+pub mod Tally
+pub mod Expressions
+pub mod Actions
+pub mod Scripts
+pub mod Fits
+pub mod Weights
+pub mod FitExprs
+pub mod FitActions
+pub mod TokenPlaces
+pub mod Broken
+pub mod TypeFaults
+pub mod Order
