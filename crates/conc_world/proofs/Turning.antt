@@ -32,7 +32,7 @@ use Rattle.conc_world.specs.declared.answers.Why.{Why}
 use Rattle.conc_world.specs.declared.answers.Why.TheVariants as why
 use Rattle.conc_world.specs.declared.answers.Committed.{Committed}
 use Rattle.conc_world.specs.declared.answers.Committed.TheVariants.{Taken, Stale, Short, Ended, NoMemory}
-use Rattle.conc_world.specs.Jobs.{Added, AllOut, IsJob, NoneOut, SameJobs, TakenBack}
+use Rattle.conc_world.specs.Jobs.{left, Added, AllOut, IsJob, NoneOut, SameJobs, TakenBack}
 use Rattle.conc_world.specs.Committing.{Differs, IsCommitted, IsStale, TicketBack}
 
 -- ---- a thread that is to do an action has no job out where none is
@@ -79,7 +79,7 @@ pub none_made : (old_end : Option RunEnd) (r : Record) (given now : ℕ) (before
     → IfNone found ((old_end ≡ None → AllOut before r) × SameJobs before mid × (now ≡ given)) → old_end ≡ None → AllOut before r
 none_made old_end r given now before mid found e h = (subst (λ z. IfNone z ((old_end ≡ None → AllOut before r) × SameJobs before mid × (now ≡ given))) e h).0
 
--- ---- the slice of a job starts where its thread stands
+-- ---- the slice of a job starts where its thread stands, and is within the fuel
 
 pub job_starts : (s : Slice) (j : Job) (r : Record) → IsJob j r → s.tid ≡ j.tid → s.start ≡ j.start → s.mask ≡ j.mask → Starts s r.world
 job_starts s j r is tid start mask = record {
@@ -90,6 +90,11 @@ job_starts s j r is tid start mask = record {
   control = sym (start ∙ is.start);
   mask = sym (mask ∙ is.mask);
 }
+
+pub job_within : (s : Slice) (j : Job) (r : Record) → IsJob j r → s.steps ≤ j.budget → s.steps ≤ left r
+job_within s j r is steps =
+    let budget = is.budget in
+    omega (arith, budget, steps)
 
 not_stale : (w : Why) (s : Slice) (r : Record) → Starts s r.world → IsStale w s r → ⊥
 not_stale why.Finished s r at h = h (record { thread = at.thread; is = at.is; unfinished = at.unfinished; holds = tt })
@@ -128,16 +133,15 @@ accepted_more s ended old new some (inl h) =
 accepted_more s ended old new some (inr h) = inl (has_end ended _ h.1)
 
 -- a slice of a job, where nothing changed since the job was made
-module _ (s : Slice) (j : Job) (old new : Record) (before mid after : Tickets) (old_end new_end : Option RunEnd) (none : old_end ≡ None) (is : IsJob j old) (at : Starts s old.world)
-    (some : 0 < s.steps) (budget : s.steps ≤ j.budget) (ticket : s.ticket ≡ j.ticket) (since : ℕ) (idle : NoneOut before) (added : Added j.ticket j.tid since before mid) where
+module _ (s : Slice) (j : Job) (old new : Record) (before mid after : Tickets) (old_end new_end : Option RunEnd) (none : old_end ≡ None) (at : Starts s old.world)
+    (within : s.steps ≤ left old) (some : 0 < s.steps) (ticket : s.ticket ≡ j.ticket) (since : ℕ) (idle : NoneOut before) (added : Added j.ticket j.tid since before mid) where
   pub committed_on : (what : Committed) → IsCommitted what s old_end old new_end new → TicketBack what s.ticket mid after → Went new_end old new after
   committed_on Ended h back = absurd (no_end old_end h.0 none)
   committed_on (Stale w) h back = absurd (not_stale w s old at h.1)
   committed_on (Short n) h back =
-      let b = is.budget in
       let n_is = h.2 in
       let short = h.3 in
-      absurd (omega (arith, b, n_is, short, budget))
+      absurd (omega (arith, n_is, short, within))
   committed_on Taken h back = by (accepted_more s new_end old new some h.3)
     where
       by : IsSome new_end ⊎ (steps_of old.history.list < steps_of new.history.list) → Went new_end old new after

@@ -65,9 +65,31 @@ impl<O: Sink, E: Sink, K: Clock> Desk<O, E, K> {
     /// In this order: `Ended` where there is an ending, `Stale` where no thread of that number is unfinished, or it is blocked,
     /// or its control or masking state isn't the slice's start, `Short` with the fuel that is left where the steps exceed it.
     /// `Taken` in every other case, also where the limit of frames would be exceeded: then nothing is appended, and that is
-    /// the ending. Where memory runs out nothing is appended, and the ending is Memory.
+    /// the ending. Where memory runs out nothing is appended, and the ending is Memory. It compares the values that the thread
+    /// holds with those of the slice's start, and its time grows with them.
     pub fn commit(&mut self, slice: Slice) -> Committed
         requires code { slice.of.value ≡ self.old.course.clocked.record.of.value }
+        ensures committed { IsCommitted result slice self.old.course.end self.old.course.clocked.record self.new.course.end self.new.course.clocked.record }
+        ensures ticket { TicketBack result slice.ticket self.old.tickets self.new.tickets }
+        ensures lent { (self.new.course.out_lent ≡ self.old.course.out_lent) × (self.new.course.err_lent ≡ self.old.course.err_lent) × (self.new.course.clocked.lent ≡ self.old.course.clocked.lent) }
+        ensures kept { (self.new.course.out ≡ self.old.course.out) × (self.new.course.err ≡ self.old.course.err) × (self.new.course.clocked.clock ≡ self.old.course.clocked.clock) }
+        ensures given { self.new.given ≡ self.old.given }
+        ensures code { self.new.code ≡ self.old.code }
+    {
+        if let Some(refused) = self.refusal(&slice) {
+            self.take_back(refused, slice.ticket);
+            return refused;
+        }
+        self.commit_fresh(slice)
+    }
+
+    /// The same of a slice that is known to start where its thread stands and to be within the fuel, where there is no ending:
+    /// `Taken` or `NoMemory`. It needs no comparison, whose time grows with the values that the thread holds.
+    pub(crate) fn commit_fresh(&mut self, slice: Slice) -> Committed
+        requires none { self.old.course.end ≡ None }
+        requires code { slice.of.value ≡ self.old.course.clocked.record.of.value }
+        requires starts { Starts slice self.old.course.clocked.record.world }
+        requires fuel { slice.steps ≤ left self.old.course.clocked.record }
         ensures committed { IsCommitted result slice self.old.course.end self.old.course.clocked.record self.new.course.end self.new.course.clocked.record }
         ensures ticket { TicketBack result slice.ticket self.old.tickets self.new.tickets }
         ensures lent { (self.new.course.out_lent ≡ self.old.course.out_lent) × (self.new.course.err_lent ≡ self.old.course.err_lent) × (self.new.course.clocked.lent ≡ self.old.course.clocked.lent) }
@@ -83,16 +105,16 @@ impl<O: Sink, E: Sink, K: Clock> Desk<O, E, K> {
 
     /// The same, but that the ticket stays out.
     fn append(&mut self, slice: Slice) -> Committed
+        requires none { self.old.course.end ≡ None }
         requires code { slice.of.value ≡ self.old.course.clocked.record.of.value }
+        requires starts { Starts slice self.old.course.clocked.record.world }
+        requires fuel { slice.steps ≤ left self.old.course.clocked.record }
         ensures committed { IsCommitted result slice self.old.course.end self.old.course.clocked.record self.new.course.end self.new.course.clocked.record }
         ensures lent { (self.new.course.out_lent ≡ self.old.course.out_lent) × (self.new.course.err_lent ≡ self.old.course.err_lent) × (self.new.course.clocked.lent ≡ self.old.course.clocked.lent) }
         ensures kept { (self.new.course.out ≡ self.old.course.out) × (self.new.course.err ≡ self.old.course.err) × (self.new.course.clocked.clock ≡ self.old.course.clocked.clock) }
         ensures tickets { (self.new.tickets ≡ self.old.tickets) × (self.new.given ≡ self.old.given) }
         ensures code { self.new.code ≡ self.old.code }
     {
-        if let Some(refused) = self.refusal(&slice) {
-            return refused;
-        }
         match self.accept(slice) {
             Ok(()) => Committed::Taken,
             Err(NoMemory) => {

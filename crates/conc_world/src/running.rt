@@ -10,6 +10,7 @@ use hs_base::NoMemory;
 use hs_io::{Clock, NeverCut, Sink};
 
 /// Runs the desk to an ending with one capability, without waiting for another thread. Jobs that are out are taken back first.
+/// Each slice is committed right after its job was made, and starts where its thread stands: nothing is compared.
 pub fn alone<O: Sink, E: Sink, K: Clock>(desk: &mut Desk<O, E, K>)
     ensures ended { IsSome desk.new.course.end }
     ensures goes { GoesOn desk.old.course.end desk.old.course.clocked.record.history.list desk.new.course.end desk.new.course.clocked.record.history.list }
@@ -43,7 +44,7 @@ fn turn<O: Sink, E: Sink, K: Clock>(desk: &mut Desk<O, E, K>) -> Result<(), NoMe
     let alloc = desk.course.clocked.record.world.alloc;
     match slice(alloc, &desk.code, job, &mut NeverCut) {
         Ok(slice) => {
-            let _ = desk.commit(slice);
+            let _ = desk.commit_fresh(slice);
             Ok(())
         }
         Err(_) => Err(NoMemory),

@@ -1,13 +1,10 @@
-use Rattle.std.proofs.Common.{subst, sym}
-use Rattle.job_tickets.specs.declared.tickets.Tickets.{Tickets}
-use Rattle.conc_world.specs.Committing.{IsCommitted, TicketBack}
 use Rattle.conc_world.proofs.desk.Desk.commit.Goals as goal
 
-pub returns-clause-committed : goal.returns-clause-committed
-returns-clause-committed g c =
-    let old = c.args.self.now in
-    subst (λ k. IsCommitted c.append-answer.result c.args.slice old.course.end old.course.clocked.«record» k.end k.clocked.«record») (sym c.take_back.ensures.course) c.append-answer.ensures.committed
+pub commit_fresh-requires-clause-none : goal.commit_fresh-requires-clause-none
+commit_fresh-requires-clause-none g c = c.in_default.ensures.0
 
-pub returns-clause-ticket : goal.returns-clause-ticket
-returns-clause-ticket g c =
-    subst (λ (s : Tickets). TicketBack c.append-answer.result c.args.slice.ticket s c.take_back.new.self.tickets) c.append-answer.ensures.tickets.0 c.take_back.ensures.ticket
+pub commit_fresh-requires-clause-starts : goal.commit_fresh-requires-clause-starts
+commit_fresh-requires-clause-starts g c = c.in_default.ensures.1
+
+pub commit_fresh-requires-clause-fuel : goal.commit_fresh-requires-clause-fuel
+commit_fresh-requires-clause-fuel g c = c.in_default.ensures.2
