@@ -1,5 +1,5 @@
 //! A sorted table of names.
-ghost use Rattle.std.specs.Prelude.{◌≡◌, ◌++◌, ◌∷◌, [], ℕ, List, OnOk, Some, None, cond, bytes_eq};
+ghost use Rattle.std.specs.Prelude.{◌≡◌, ◌++◌, ◌∷◌, [], ℕ, List, OnOk, OnErr, Some, None, cond, bytes_eq};
 ghost use Rattle.std.specs.Option.{option_or};
 ghost use Rattle.std.specs.BTreeMap.{get_by_text};
 ghost use Rattle.hs_index.specs.Indexing.{Indexes, first_among};
@@ -22,7 +22,8 @@ fn put(
     name: &Txt,
     place: usize,
 ) -> Result<(), NoMemory>
-    ensures { OnOk result ((x : List ℕ) → get_by_text places.new x ≡ cond (bytes_eq name.now x) (Some place) (get_by_text places.old x)) }
+    ensures ok { OnOk result ((x : List ℕ) → get_by_text places.new x ≡ cond (bytes_eq name.now x) (Some place) (get_by_text places.old x)) }
+    ensures err { OnErr result (places.new.entries ≡ places.old.entries) }
 {
     let name = String::from_str(alloc, name.as_str())?;
     match places.insert(name, place) {
@@ -38,7 +39,8 @@ fn put_first(
     name: &Txt,
     place: usize,
 ) -> Result<(), NoMemory>
-    ensures { OnOk result ((x : List ℕ) → get_by_text places.new x ≡ option_or (get_by_text places.old x) (cond (bytes_eq name.now x) (Some place) None)) }
+    ensures ok { OnOk result ((x : List ℕ) → get_by_text places.new x ≡ option_or (get_by_text places.old x) (cond (bytes_eq name.now x) (Some place) None)) }
+    ensures err { OnErr result (places.new.entries ≡ places.old.entries) }
 {
     if places.contains_key(name.as_str()) {
         return Ok(());
@@ -57,9 +59,10 @@ impl Index {
         }
     }
 
-    /// One more name behind the others.
+    /// One more name behind the others. Where memory is refused, the index is of the names that it was of.
     pub fn add(&mut self, alloc: Global, name: &Txt) -> Result<(), NoMemory>
-        ensures { OnOk result ((names : List (List ℕ)) → Indexes self.old names → Indexes self.new (names ++ name.now ∷ [])) }
+        ensures added { OnOk result ((names : List (List ℕ)) → Indexes self.old names → Indexes self.new (names ++ name.now ∷ [])) }
+        ensures kept { OnErr result ((names : List (List ℕ)) → Indexes self.old names → Indexes self.new names) }
     {
         let count = self.count.checked_add(1).ok_or(NoMemory)?;
         put_first(alloc, &mut self.firsts, name, self.count)?;

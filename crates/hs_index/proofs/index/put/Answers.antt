@@ -6,8 +6,8 @@ use Rattle.hs_index.proofs.index.put.Goals as goal
 use Rattle.hs_index.proofs.index.put.Goals.{in-Ok, in-Err}
 
 -- the key has the name's bytes
-pub returns : goal.returns
-returns c =
+pub returns-clause-ok : goal.returns-clause-ok
+returns-clause-ok c =
     let same : string_bytes c.in_ok-name.name ≡ c.args.name.now = c.in_ok-name.ensures.ok ∙ c.as_str.ensures in
     elim c.match-insert.branch [
       | in-Ok w ↦
