@@ -1,0 +1,99 @@
+ghost use Rattle.std.specs.Prelude.{◌≡◌, IfOk};
+
+use crate::base::Base;
+use hs_base::NoMemory;
+use hs_items::Boxed;
+use std::alloc::Global;
+
+/// A type of the checker.
+#[derive(Debug, Drop)]
+pub enum TypeTerm {
+    Base(Base),
+    /// `(a, b)`
+    Pair(Boxed<TypeTerm>, Boxed<TypeTerm>),
+    /// `Maybe a`
+    Maybe(Boxed<TypeTerm>),
+    /// `Either a b`
+    Either(Boxed<TypeTerm>, Boxed<TypeTerm>),
+    /// `[a]`
+    List(Boxed<TypeTerm>),
+    /// `MVar a`
+    Cell(Boxed<TypeTerm>),
+    /// A type of the table, by its place.
+    Known(usize),
+}
+
+fn boxed(alloc: Global, t: TypeTerm) -> Result<Boxed<TypeTerm>, NoMemory>
+    ensures { IfOk result (λ b. b ≡ t) }
+{
+    Ok(Boxed::new(alloc, t)?)
+}
+
+impl TypeTerm {
+    /// An equal type. It takes time in its size, where one of the table has size 1.
+    pub fn copy(&self, alloc: Global) -> Result<TypeTerm, NoMemory>
+        ensures { IfOk result (λ t. t ≡ self.now) }
+    {
+        match self {
+            TypeTerm::Base(base) => Ok(TypeTerm::Base(*base)),
+            TypeTerm::Pair(a, b) => Ok(TypeTerm::Pair(
+                boxed(alloc, a.get().copy(alloc)?)?,
+                boxed(alloc, b.get().copy(alloc)?)?,
+            )),
+            TypeTerm::Maybe(a) => Ok(TypeTerm::Maybe(boxed(alloc, a.get().copy(alloc)?)?)),
+            TypeTerm::Either(a, b) => Ok(TypeTerm::Either(
+                boxed(alloc, a.get().copy(alloc)?)?,
+                boxed(alloc, b.get().copy(alloc)?)?,
+            )),
+            TypeTerm::List(a) => Ok(TypeTerm::List(boxed(alloc, a.get().copy(alloc)?)?)),
+            TypeTerm::Cell(a) => Ok(TypeTerm::Cell(boxed(alloc, a.get().copy(alloc)?)?)),
+            TypeTerm::Known(place) => Ok(TypeTerm::Known(*place)),
+        }
+    }
+}
+
+fn boxed_copy(alloc: Global, t: &TypeTerm) -> Result<Boxed<TypeTerm>, NoMemory>
+    ensures { IfOk result (λ b. b ≡ t.now) }
+{
+    let t = t.copy(alloc)?;
+    boxed(alloc, t)
+}
+
+/// `Maybe t`
+pub fn maybe_of(alloc: Global, t: &TypeTerm) -> Result<TypeTerm, NoMemory>
+    ensures { IfOk result (λ b. b ≡ TypeTerm.Maybe t.now) }
+{
+    Ok(TypeTerm::Maybe(boxed_copy(alloc, t)?))
+}
+
+/// `[t]`
+pub fn list_of(alloc: Global, t: &TypeTerm) -> Result<TypeTerm, NoMemory>
+    ensures { IfOk result (λ b. b ≡ TypeTerm.List t.now) }
+{
+    Ok(TypeTerm::List(boxed_copy(alloc, t)?))
+}
+
+/// `MVar t`
+pub fn cell_of(alloc: Global, t: &TypeTerm) -> Result<TypeTerm, NoMemory>
+    ensures { IfOk result (λ b. b ≡ TypeTerm.Cell t.now) }
+{
+    Ok(TypeTerm::Cell(boxed_copy(alloc, t)?))
+}
+
+/// `(s, t)`
+pub fn pair_of(alloc: Global, s: &TypeTerm, t: &TypeTerm) -> Result<TypeTerm, NoMemory>
+    ensures { IfOk result (λ b. b ≡ TypeTerm.Pair s.now t.now) }
+{
+    let s = boxed_copy(alloc, s)?;
+    let t = boxed_copy(alloc, t)?;
+    Ok(TypeTerm::Pair(s, t))
+}
+
+/// `Either s t`
+pub fn either_of(alloc: Global, s: &TypeTerm, t: &TypeTerm) -> Result<TypeTerm, NoMemory>
+    ensures { IfOk result (λ b. b ≡ TypeTerm.Either s.now t.now) }
+{
+    let s = boxed_copy(alloc, s)?;
+    let t = boxed_copy(alloc, t)?;
+    Ok(TypeTerm::Either(s, t))
+}
