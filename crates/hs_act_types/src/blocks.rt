@@ -1,7 +1,8 @@
 // The walk down a block.
 
 ghost use Rattle.std.specs.Prelude.{◌≡◌, [], ◌∷◌, IfOk};
-ghost use Rattle.rules_trees.specs.Trees.{exn, ty_of};
+ghost use Rattle.rules_trees.specs.Trees.{exn};
+ghost use Rattle.hs_type_table.specs.Meaning.{type_in};
 ghost use Rattle.rules_trees.specs.Programs.{act_of, bl_of, stmt_of, act_arms_of, scoped, masking};
 ghost use Rattle.rules_typing.specs.Typing.{a_cell, bound, inner_of, no_mask, of, row_arms, row_choose};
 ghost use Rattle.rules_typing.specs.TypingActions.{form_of_acts, row_modify};
@@ -13,11 +14,12 @@ ghost use Rattle.hs_typing.specs.Judged.{Judged, Stated, names};
 ghost use Rattle.hs_act_types.specs.Parts.{row_two, second_part, third_part};
 
 use crate::closing::{TwoParts, close_two, dropped, kept_if};
-use crate::opening::{asked_form, open, open_mask, open_part};
+use crate::opening::{asked_form, back_to, mark, open, open_exception, open_mask, open_part};
 use crate::simple::{applied, binary, empty_cell, throw, unary};
 use hs_base::tree::{Action, Block, BlockArms, Name, Stmt};
-use hs_base::{NoMemory, Pos, Ty};
+use hs_base::{NoMemory, Pos};
 use hs_expr_types::type_of;
+use hs_type_table::ty::TypeTerm;
 use hs_typing::Form;
 use hs_typing::act_rows::bare_type;
 use hs_typing::checker::Checker;
@@ -34,13 +36,15 @@ fn action(
     alloc: Global,
     funs: &Funs,
     a: &Action,
-) -> Result<Option<Ty>, NoMemory>
-    ensures { IfOk result (λ t. Judged checker.old checker.new (opt_ty t) (judge_act (ctx_of funs.now) (names checker.old) (act_of a.now))) }
+) -> Result<Option<TypeTerm>, NoMemory>
+    ensures { IfOk result (λ t. Judged funs.now.types.nodes checker.old checker.new (opt_ty funs.now.types.nodes t) (judge_act (ctx_of funs.now) (names funs.now.types.nodes checker.old) (act_of a.now))) }
 {
     match a {
-        Action::MyThreadId(_) => Ok(Some(bare_type(BareAction::MyThreadId).ty())),
-        Action::ClockMicros(_) => Ok(Some(bare_type(BareAction::ClockMicros).ty())),
-        Action::GetMaskingState(_) => Ok(Some(bare_type(BareAction::GetMaskingState).ty())),
+        Action::MyThreadId(_) => Ok(Some(TypeTerm::Base(bare_type(BareAction::MyThreadId)))),
+        Action::ClockMicros(_) => Ok(Some(TypeTerm::Base(bare_type(BareAction::ClockMicros)))),
+        Action::GetMaskingState(_) => Ok(Some(TypeTerm::Base(bare_type(
+            BareAction::GetMaskingState,
+        )))),
         Action::NewEmptyMVar(p, w) => empty_cell(checker, alloc, funs, *p, w),
         Action::ThrowIo(p, w, e) => throw(checker, alloc, funs, *p, w, e),
         Action::Call(x, es) => applied(checker, alloc, funs, x, es),
@@ -122,12 +126,12 @@ fn action(
         }
         Action::Bracket(p, b, x, d, h) => match block(checker, alloc, funs, b)? {
             None => Ok(None),
-            Some(t) => match open(checker, alloc, x, t)? {
+            Some(t) => match open(checker, alloc, &funs.types, x, t)? {
                 false => Ok(None),
                 true => {
                     let u = block(checker, alloc, funs, d)?;
                     let r = second(checker, alloc, funs, h, *p, TwoParts::Bracket, u)?;
-                    checker.unbind();
+                    checker.unbind(&funs.types);
                     Ok(r)
                 }
             },
@@ -149,11 +153,11 @@ fn in_block(
     b: &Block,
     p: Pos,
     o: BlockAction,
-) -> Result<Option<Ty>, NoMemory>
-    ensures { IfOk result (λ t. Judged checker.old checker.new (opt_ty t) (judge_act (ctx_of funs.now) (names checker.old) (scoped o p (bl_of b.now)))) }
+) -> Result<Option<TypeTerm>, NoMemory>
+    ensures { IfOk result (λ t. Judged funs.now.types.nodes checker.old checker.new (opt_ty funs.now.types.nodes t) (judge_act (ctx_of funs.now) (names funs.now.types.nodes checker.old) (scoped o p (bl_of b.now)))) }
 {
     let t = block(checker, alloc, funs, b)?;
-    let r = checker.close_scoped(alloc, p, o, t)?;
+    let r = checker.close_scoped(alloc, &funs.types, p, o, t)?;
     Ok(r)
 }
 
@@ -168,15 +172,15 @@ fn in_masking(
     p: Pos,
     o: MaskingAction,
     x: &Name,
-) -> Result<Option<Ty>, NoMemory>
-    ensures { IfOk result (λ t. Judged checker.old checker.new (opt_ty t) (judge_act (ctx_of funs.now) (names checker.old) (masking o p x.now (bl_of b.now)))) }
+) -> Result<Option<TypeTerm>, NoMemory>
+    ensures { IfOk result (λ t. Judged funs.now.types.nodes checker.old checker.new (opt_ty funs.now.types.nodes t) (judge_act (ctx_of funs.now) (names funs.now.types.nodes checker.old) (masking o p x.now (bl_of b.now)))) }
 {
-    match open_mask(checker, alloc, x)? {
+    match open_mask(checker, alloc, &funs.types, x)? {
         false => Ok(None),
         true => {
             let t = block(checker, alloc, funs, b)?;
-            checker.unbind();
-            let r = checker.close_masking(alloc, p, o, t)?;
+            checker.unbind(&funs.types);
+            let r = checker.close_masking(alloc, &funs.types, p, o, t)?;
             Ok(r)
         }
     }
@@ -190,8 +194,8 @@ fn restored(
     funs: &Funs,
     b: &Block,
     x: &Name,
-) -> Result<Option<Ty>, NoMemory>
-    ensures { IfOk result (λ t. Judged checker.old checker.new (opt_ty t) (unless_wrong (no_mask (ctx_of funs.now) (names checker.old) x.now) (judge_bl (ctx_of funs.now) (names checker.old) (bl_of b.now)))) }
+) -> Result<Option<TypeTerm>, NoMemory>
+    ensures { IfOk result (λ t. Judged funs.now.types.nodes checker.old checker.new (opt_ty funs.now.types.nodes t) (unless_wrong (no_mask (ctx_of funs.now) (names funs.now.types.nodes checker.old) x.now) (judge_bl (ctx_of funs.now) (names funs.now.types.nodes checker.old) (bl_of b.now)))) }
 {
     let is_mask = checker.check_mask(funs, x);
     let t = block(checker, alloc, funs, b)?;
@@ -208,12 +212,12 @@ fn second(
     b: &Block,
     p: Pos,
     o: TwoParts,
-    t: Option<Ty>,
-) -> Result<Option<Ty>, NoMemory>
-    ensures { IfOk result (λ r. Judged checker.old checker.new (opt_ty r) (second_part (opt_ty t) (judge_bl (ctx_of funs.now) (names checker.old) (bl_of b.now)) (λ u v. own p (row_two o u v)))) }
+    t: Option<TypeTerm>,
+) -> Result<Option<TypeTerm>, NoMemory>
+    ensures { IfOk result (λ r. Judged funs.now.types.nodes checker.old checker.new (opt_ty funs.now.types.nodes r) (second_part (opt_ty funs.now.types.nodes t) (judge_bl (ctx_of funs.now) (names funs.now.types.nodes checker.old) (bl_of b.now)) (λ u v. own p (row_two o u v)))) }
 {
     let u = block(checker, alloc, funs, b)?;
-    let r = close_two(checker, alloc, p, o, t, u)?;
+    let r = close_two(checker, alloc, &funs.types, p, o, t, u)?;
     Ok(r)
 }
 
@@ -226,13 +230,13 @@ fn third(
     funs: &Funs,
     b: &Block,
     p: Pos,
-    t: Option<Ty>,
-    u: Option<Ty>,
-) -> Result<Option<Ty>, NoMemory>
-    ensures { IfOk result (λ r. Judged checker.old checker.new (opt_ty r) (third_part (opt_ty t) (opt_ty u) (judge_bl (ctx_of funs.now) (names checker.old) (bl_of b.now)) (λ u v w. own p (row_choose u v w)))) }
+    t: Option<TypeTerm>,
+    u: Option<TypeTerm>,
+) -> Result<Option<TypeTerm>, NoMemory>
+    ensures { IfOk result (λ r. Judged funs.now.types.nodes checker.old checker.new (opt_ty funs.now.types.nodes r) (third_part (opt_ty funs.now.types.nodes t) (opt_ty funs.now.types.nodes u) (judge_bl (ctx_of funs.now) (names funs.now.types.nodes checker.old) (bl_of b.now)) (λ u v w. own p (row_choose u v w)))) }
 {
     let v = block(checker, alloc, funs, b)?;
-    let r = checker.close_choose(alloc, p, t, u, v)?;
+    let r = checker.close_choose(alloc, &funs.types, p, t, u, v)?;
     Ok(r)
 }
 
@@ -245,17 +249,17 @@ fn caught(
     funs: &Funs,
     b: &Block,
     p: Pos,
-    t: Option<Ty>,
+    t: Option<TypeTerm>,
     x: &Name,
-) -> Result<Option<Ty>, NoMemory>
-    ensures { IfOk result (λ r. Judged checker.old checker.new (opt_ty r) (second_part (opt_ty t) (unless_full (names checker.old) x.now (judge_bl (ctx_of funs.now) (bound x.now exn ∷ names checker.old) (bl_of b.now))) (λ u v. own p (row_arms u v)))) }
+) -> Result<Option<TypeTerm>, NoMemory>
+    ensures { IfOk result (λ r. Judged funs.now.types.nodes checker.old checker.new (opt_ty funs.now.types.nodes r) (second_part (opt_ty funs.now.types.nodes t) (unless_full (names funs.now.types.nodes checker.old) x.now (judge_bl (ctx_of funs.now) (bound x.now exn ∷ names funs.now.types.nodes checker.old) (bl_of b.now))) (λ u v. own p (row_arms u v)))) }
 {
-    match open(checker, alloc, x, Ty::Exn)? {
+    match open_exception(checker, alloc, &funs.types, x)? {
         false => Ok(dropped(t)),
         true => {
             let u = block(checker, alloc, funs, b)?;
-            checker.unbind();
-            let r = checker.close_arms(alloc, p, t, u)?;
+            checker.unbind(&funs.types);
+            let r = checker.close_arms(alloc, &funs.types, p, t, u)?;
             Ok(r)
         }
     }
@@ -270,19 +274,19 @@ fn in_cell(
     funs: &Funs,
     b: &Block,
     p: Pos,
-    t: Option<Ty>,
+    t: Option<TypeTerm>,
     x: &Name,
-) -> Result<Option<Ty>, NoMemory>
-    ensures { IfOk result (λ r. Judged checker.old checker.new (opt_ty r) (with1 (opt_ty t) (λ u. needing p (of a_cell u ∷ []) (part (unless_full (names checker.old) x.now (judge_bl (ctx_of funs.now) (bound x.now (inner_of u) ∷ names checker.old) (bl_of b.now))) (λ v. own p (row_modify u v)))))) }
+) -> Result<Option<TypeTerm>, NoMemory>
+    ensures { IfOk result (λ r. Judged funs.now.types.nodes checker.old checker.new (opt_ty funs.now.types.nodes r) (with1 (opt_ty funs.now.types.nodes t) (λ u. needing p (of a_cell u ∷ []) (part (unless_full (names funs.now.types.nodes checker.old) x.now (judge_bl (ctx_of funs.now) (bound x.now (inner_of u) ∷ names funs.now.types.nodes checker.old) (bl_of b.now))) (λ v. own p (row_modify u v)))))) }
 {
     match t {
         None => Ok(None),
         Some(t) => {
-            if !checker.fits(alloc, p, Form::Cell, &t)? {
+            if !checker.fits(alloc, &funs.types, p, Form::Cell, &t)? {
                 return Ok(None);
             }
             let u = under(checker, alloc, funs, b, x, Part::Inner, &t)?;
-            let r = checker.close_modify(alloc, p, &t, u)?;
+            let r = checker.close_modify(alloc, &funs.types, p, &t, u)?;
             Ok(r)
         }
     }
@@ -297,15 +301,15 @@ fn arms_at(
     funs: &Funs,
     arms: &BlockArms,
     p: Pos,
-    t: Option<Ty>,
-) -> Result<Option<Ty>, NoMemory>
-    ensures { IfOk result (λ r. Judged checker.old checker.new (opt_ty r) (with1 (opt_ty t) (λ u. needing p (of (form_of_acts (act_arms_of arms.now)) u ∷ []) (judge_act_arms (ctx_of funs.now) (names checker.old) p u (act_arms_of arms.now))))) }
+    t: Option<TypeTerm>,
+) -> Result<Option<TypeTerm>, NoMemory>
+    ensures { IfOk result (λ r. Judged funs.now.types.nodes checker.old checker.new (opt_ty funs.now.types.nodes r) (with1 (opt_ty funs.now.types.nodes t) (λ u. needing p (of (form_of_acts (act_arms_of arms.now)) u ∷ []) (judge_act_arms (ctx_of funs.now) (names funs.now.types.nodes checker.old) p u (act_arms_of arms.now))))) }
 {
     match t {
         None => Ok(None),
         Some(t) => {
             let form = asked_form(arms);
-            if !checker.fits(alloc, p, form, &t)? {
+            if !checker.fits(alloc, &funs.types, p, form, &t)? {
                 return Ok(None);
             }
             let r = in_arms(checker, alloc, funs, arms, p, &t)?;
@@ -323,27 +327,27 @@ fn in_arms(
     funs: &Funs,
     arms: &BlockArms,
     p: Pos,
-    t: &Ty,
-) -> Result<Option<Ty>, NoMemory>
-    ensures { IfOk result (λ r. Judged checker.old checker.new (opt_ty r) (judge_act_arms (ctx_of funs.now) (names checker.old) p (ty_of t.now) (act_arms_of arms.now))) }
+    t: &TypeTerm,
+) -> Result<Option<TypeTerm>, NoMemory>
+    ensures { IfOk result (λ r. Judged funs.now.types.nodes checker.old checker.new (opt_ty funs.now.types.nodes r) (judge_act_arms (ctx_of funs.now) (names funs.now.types.nodes checker.old) p (type_in funs.now.types.nodes t.now) (act_arms_of arms.now))) }
 {
     match arms {
         BlockArms::OfMaybe(a, x, b) => {
             let u = block(checker, alloc, funs, a)?;
             let v = under(checker, alloc, funs, b, x, Part::Inner, t)?;
-            let r = checker.close_arms(alloc, p, u, v)?;
+            let r = checker.close_arms(alloc, &funs.types, p, u, v)?;
             Ok(r)
         }
         BlockArms::OfEither(x, a, y, b) => {
             let u = under(checker, alloc, funs, a, x, Part::First, t)?;
             let v = under(checker, alloc, funs, b, y, Part::Second, t)?;
-            let r = checker.close_arms(alloc, p, u, v)?;
+            let r = checker.close_arms(alloc, &funs.types, p, u, v)?;
             Ok(r)
         }
         BlockArms::OfList(a, x, y, b) => {
             let u = block(checker, alloc, funs, a)?;
             let v = under_two(checker, alloc, funs, b, x, Part::Inner, y, Part::Whole, t)?;
-            let r = checker.close_arms(alloc, p, u, v)?;
+            let r = checker.close_arms(alloc, &funs.types, p, u, v)?;
             Ok(r)
         }
         BlockArms::OfPair(x, y, a) => {
@@ -362,15 +366,15 @@ fn under(
     b: &Block,
     x: &Name,
     which: Part,
-    t: &Ty,
-) -> Result<Option<Ty>, NoMemory>
-    ensures { IfOk result (λ r. Judged checker.old checker.new (opt_ty r) (unless_full (names checker.old) x.now (judge_bl (ctx_of funs.now) (bound x.now (part_of which (ty_of t.now)) ∷ names checker.old) (bl_of b.now)))) }
+    t: &TypeTerm,
+) -> Result<Option<TypeTerm>, NoMemory>
+    ensures { IfOk result (λ r. Judged funs.now.types.nodes checker.old checker.new (opt_ty funs.now.types.nodes r) (unless_full (names funs.now.types.nodes checker.old) x.now (judge_bl (ctx_of funs.now) (bound x.now (part_of which (type_in funs.now.types.nodes t.now)) ∷ names funs.now.types.nodes checker.old) (bl_of b.now)))) }
 {
-    match open_part(checker, alloc, x, which, t)? {
+    match open_part(checker, alloc, &funs.types, x, which, t)? {
         false => Ok(None),
         true => {
             let r = block(checker, alloc, funs, b)?;
-            checker.unbind();
+            checker.unbind(&funs.types);
             Ok(r)
         }
     }
@@ -387,15 +391,15 @@ fn under_two(
     first: Part,
     y: &Name,
     second: Part,
-    t: &Ty,
-) -> Result<Option<Ty>, NoMemory>
-    ensures { IfOk result (λ r. Judged checker.old checker.new (opt_ty r) (unless_full (names checker.old) x.now (unless_full (bound x.now (part_of first (ty_of t.now)) ∷ names checker.old) y.now (judge_bl (ctx_of funs.now) (bound y.now (part_of second (ty_of t.now)) ∷ bound x.now (part_of first (ty_of t.now)) ∷ names checker.old) (bl_of b.now))))) }
+    t: &TypeTerm,
+) -> Result<Option<TypeTerm>, NoMemory>
+    ensures { IfOk result (λ r. Judged funs.now.types.nodes checker.old checker.new (opt_ty funs.now.types.nodes r) (unless_full (names funs.now.types.nodes checker.old) x.now (unless_full (bound x.now (part_of first (type_in funs.now.types.nodes t.now)) ∷ names funs.now.types.nodes checker.old) y.now (judge_bl (ctx_of funs.now) (bound y.now (part_of second (type_in funs.now.types.nodes t.now)) ∷ bound x.now (part_of first (type_in funs.now.types.nodes t.now)) ∷ names funs.now.types.nodes checker.old) (bl_of b.now))))) }
 {
-    match open_part(checker, alloc, x, first, t)? {
+    match open_part(checker, alloc, &funs.types, x, first, t)? {
         false => Ok(None),
         true => {
             let r = under(checker, alloc, funs, b, y, second, t)?;
-            checker.unbind();
+            checker.unbind(&funs.types);
             Ok(r)
         }
     }
@@ -405,7 +409,7 @@ fn under_two(
 #[cycle(acts)]
 #[tactic(auto, using(crate::proofs::Acted::stated_rules))]
 fn stmt(checker: &mut Checker, alloc: Global, funs: &Funs, st: &Stmt) -> Result<bool, NoMemory>
-    ensures { IfOk result (λ b. Stated (ctx_of funs.now) checker.old checker.new b (stmt_of st.now)) }
+    ensures { IfOk result (λ b. Stated funs.now.types.nodes (ctx_of funs.now) checker.old checker.new b (stmt_of st.now)) }
 {
     match st {
         Stmt::Do(a) => {
@@ -413,15 +417,15 @@ fn stmt(checker: &mut Checker, alloc: Global, funs: &Funs, st: &Stmt) -> Result<
             Ok(t.is_some())
         }
         Stmt::Bind(x, a) => {
-            checker.check_room(x);
+            checker.check_room(&funs.types, x);
             let t = action(checker, alloc, funs, a)?;
-            let b = checker.begin(alloc, x, t)?;
+            let b = checker.begin(alloc, &funs.types, x, t)?;
             Ok(b)
         }
         Stmt::Let(x, e) => {
-            checker.check_room(x);
+            checker.check_room(&funs.types, x);
             let t = type_of(checker, alloc, funs, e)?;
-            let b = checker.begin(alloc, x, t)?;
+            let b = checker.begin(alloc, &funs.types, x, t)?;
             Ok(b)
         }
     }
@@ -435,17 +439,17 @@ pub fn block(
     alloc: Global,
     funs: &Funs,
     b: &Block,
-) -> Result<Option<Ty>, NoMemory>
-    ensures { IfOk result (λ t. Judged checker.old checker.new (opt_ty t) (judge_bl (ctx_of funs.now) (names checker.old) (bl_of b.now))) }
+) -> Result<Option<TypeTerm>, NoMemory>
+    ensures { IfOk result (λ t. Judged funs.now.types.nodes checker.old checker.new (opt_ty funs.now.types.nodes t) (judge_bl (ctx_of funs.now) (names funs.now.types.nodes checker.old) (bl_of b.now))) }
 {
-    let mark = checker.scope.len();
+    let mark = mark(checker, &funs.types);
     'stmts: for st in b.stmts.as_slice() {
         if !stmt(checker, alloc, funs, st)? {
-            checker.scope.back_to(mark);
+            back_to(checker, &funs.types, mark);
             return Ok(None);
         }
     }
     let t = action(checker, alloc, funs, b.last.get())?;
-    checker.scope.back_to(mark);
+    back_to(checker, &funs.types, mark);
     Ok(t)
 }

@@ -6,7 +6,9 @@ ghost use Rattle.hs_typing.specs.Views.{opt_ty};
 ghost use Rattle.hs_typing.specs.Judged.{Judged};
 ghost use Rattle.hs_act_types.specs.Parts.{row_two};
 
-use hs_base::{NoMemory, Pos, Ty};
+use hs_base::{NoMemory, Pos};
+use hs_type_table::table::TypeTable;
+use hs_type_table::ty::TypeTerm;
 use hs_typing::checker::Checker;
 use std::alloc::Global;
 
@@ -24,30 +26,31 @@ pub enum TwoParts {
 pub fn close_two(
     checker: &mut Checker,
     alloc: Global,
+    types: &TypeTable,
     p: Pos,
     o: TwoParts,
-    t: Option<Ty>,
-    u: Option<Ty>,
-) -> Result<Option<Ty>, NoMemory>
-    ensures { IfOk result (λ r. Judged checker.old checker.new (opt_ty r) (with2 (opt_ty t) (opt_ty u) (λ u v. own p (row_two o u v)))) }
+    t: Option<TypeTerm>,
+    u: Option<TypeTerm>,
+) -> Result<Option<TypeTerm>, NoMemory>
+    ensures { IfOk result (λ r. Judged types.now.nodes checker.old checker.new (opt_ty types.now.nodes r) (with2 (opt_ty types.now.nodes t) (opt_ty types.now.nodes u) (λ u v. own p (row_two o u v)))) }
 {
     match o {
-        TwoParts::Guard => Ok(checker.close_guard(p, t, u)),
-        TwoParts::Bracket => Ok(checker.close_bracket(p, t, u)),
-        TwoParts::Timeout => checker.close_timeout(alloc, p, t, u),
+        TwoParts::Guard => Ok(checker.close_guard(types, p, t, u)),
+        TwoParts::Bracket => Ok(checker.close_bracket(types, p, t, u)),
+        TwoParts::Timeout => checker.close_timeout(alloc, types, p, t, u),
     }
 }
 
 /// Lets a type go.
-pub fn dropped(_t: Option<Ty>) -> Option<Ty>
+pub fn dropped(_t: Option<TypeTerm>) -> Option<TypeTerm>
     ensures { result ≡ None }
 {
     None
 }
 
 /// The type, where the test holds.
-pub fn kept_if(b: bool, t: Option<Ty>) -> Option<Ty>
-    ensures { opt_ty result ≡ cond b (opt_ty t) None }
+pub fn kept_if(b: bool, t: Option<TypeTerm>) -> Option<TypeTerm>
+    ensures { result ≡ cond b t None }
 {
     if b { t } else { None }
 }

@@ -17,8 +17,9 @@ mod closing;
 mod opening;
 mod simple;
 
+use hs_base::NoMemory;
 use hs_base::tree::Block;
-use hs_base::{NoMemory, Ty};
+use hs_type_table::ty::TypeTerm;
 use hs_typing::checker::Checker;
 use hs_typing::funs::Funs;
 use std::alloc::Global;
@@ -29,8 +30,8 @@ pub fn type_of_block(
     alloc: Global,
     funs: &Funs,
     b: &Block,
-) -> Result<Option<Ty>, NoMemory>
-    ensures { IfOk result (λ t. Judged checker.old checker.new (opt_ty t) (judge_bl (ctx_of funs.now) (names checker.old) (bl_of b.now))) }
+) -> Result<Option<TypeTerm>, NoMemory>
+    ensures { IfOk result (λ t. Judged funs.now.types.nodes checker.old checker.new (opt_ty funs.now.types.nodes t) (judge_bl (ctx_of funs.now) (names funs.now.types.nodes checker.old) (bl_of b.now))) }
 {
     let t = blocks::block(checker, alloc, funs, b)?;
     Ok(t)

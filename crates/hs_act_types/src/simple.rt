@@ -9,9 +9,10 @@ ghost use Rattle.hs_typing.specs.Contexts.{ctx_of};
 ghost use Rattle.hs_typing.specs.Judged.{Judged, names};
 
 use hs_base::tree::{Expr, Name, Written};
-use hs_base::{NoMemory, Pos, Ty};
+use hs_base::{NoMemory, Pos};
 use hs_expr_types::{type_of, types_of};
 use hs_items::Items;
+use hs_type_table::ty::TypeTerm;
 use hs_typing::checker::Checker;
 use hs_typing::funs::Funs;
 use rules_trees::forms::{BinaryAction, UnaryAction};
@@ -26,11 +27,11 @@ pub fn unary(
     p: Pos,
     o: UnaryAction,
     e: &Expr,
-) -> Result<Option<Ty>, NoMemory>
-    ensures { IfOk result (λ t. Judged checker.old checker.new (opt_ty t) (judge_act (ctx_of funs.now) (names checker.old) (unary_act o p (ex_of e.now)))) }
+) -> Result<Option<TypeTerm>, NoMemory>
+    ensures { IfOk result (λ t. Judged funs.now.types.nodes checker.old checker.new (opt_ty funs.now.types.nodes t) (judge_act (ctx_of funs.now) (names funs.now.types.nodes checker.old) (unary_act o p (ex_of e.now)))) }
 {
     let t = type_of(checker, alloc, funs, e)?;
-    let r = checker.close_unary_act(alloc, p, o, t)?;
+    let r = checker.close_unary_act(alloc, &funs.types, p, o, t)?;
     Ok(r)
 }
 
@@ -44,12 +45,12 @@ pub fn binary(
     o: BinaryAction,
     a: &Expr,
     b: &Expr,
-) -> Result<Option<Ty>, NoMemory>
-    ensures { IfOk result (λ t. Judged checker.old checker.new (opt_ty t) (judge_act (ctx_of funs.now) (names checker.old) (binary_act o p (ex_of a.now) (ex_of b.now)))) }
+) -> Result<Option<TypeTerm>, NoMemory>
+    ensures { IfOk result (λ t. Judged funs.now.types.nodes checker.old checker.new (opt_ty funs.now.types.nodes t) (judge_act (ctx_of funs.now) (names funs.now.types.nodes checker.old) (binary_act o p (ex_of a.now) (ex_of b.now)))) }
 {
     let t = type_of(checker, alloc, funs, a)?;
     let u = type_of(checker, alloc, funs, b)?;
-    let r = checker.close_binary_act(alloc, p, o, t, u)?;
+    let r = checker.close_binary_act(alloc, &funs.types, p, o, t, u)?;
     Ok(r)
 }
 
@@ -62,12 +63,12 @@ pub fn throw(
     p: Pos,
     w: &Written,
     e: &Expr,
-) -> Result<Option<Ty>, NoMemory>
-    ensures { IfOk result (λ t. Judged checker.old checker.new (opt_ty t) (judge_act (ctx_of funs.now) (names checker.old) (throw_io p (wr_of w.now) (ex_of e.now)))) }
+) -> Result<Option<TypeTerm>, NoMemory>
+    ensures { IfOk result (λ t. Judged funs.now.types.nodes checker.old checker.new (opt_ty funs.now.types.nodes t) (judge_act (ctx_of funs.now) (names funs.now.types.nodes checker.old) (throw_io p (wr_of w.now) (ex_of e.now)))) }
 {
-    let t = checker.written(alloc, w)?;
+    let t = checker.written(alloc, &funs.types, w)?;
     let u = type_of(checker, alloc, funs, e)?;
-    let r = checker.close_throw(alloc, p, t, u)?;
+    let r = checker.close_throw(alloc, &funs.types, p, t, u)?;
     Ok(r)
 }
 
@@ -79,11 +80,11 @@ pub fn empty_cell(
     funs: &Funs,
     p: Pos,
     w: &Written,
-) -> Result<Option<Ty>, NoMemory>
-    ensures { IfOk result (λ t. Judged checker.old checker.new (opt_ty t) (judge_act (ctx_of funs.now) (names checker.old) (new_empty p (wr_of w.now)))) }
+) -> Result<Option<TypeTerm>, NoMemory>
+    ensures { IfOk result (λ t. Judged funs.now.types.nodes checker.old checker.new (opt_ty funs.now.types.nodes t) (judge_act (ctx_of funs.now) (names funs.now.types.nodes checker.old) (new_empty p (wr_of w.now)))) }
 {
-    let t = checker.written(alloc, w)?;
-    let r = checker.close_new_empty(alloc, p, t)?;
+    let t = checker.written(alloc, &funs.types, w)?;
+    let r = checker.close_new_empty(alloc, &funs.types, p, t)?;
     Ok(r)
 }
 
@@ -95,8 +96,8 @@ pub fn applied(
     funs: &Funs,
     x: &Name,
     es: &Items<Expr>,
-) -> Result<Option<Ty>, NoMemory>
-    ensures { IfOk result (λ t. Judged checker.old checker.new (opt_ty t) (judge_act (ctx_of funs.now) (names checker.old) (call x.now (exs_of es.now)))) }
+) -> Result<Option<TypeTerm>, NoMemory>
+    ensures { IfOk result (λ t. Judged funs.now.types.nodes checker.old checker.new (opt_ty funs.now.types.nodes t) (judge_act (ctx_of funs.now) (names funs.now.types.nodes checker.old) (call x.now (exs_of es.now)))) }
 {
     let ts = types_of(checker, alloc, funs, es)?;
     let t = checker.close_act_call(alloc, funs, x, es.len(), ts)?;

@@ -1,15 +1,19 @@
 //! What the walk does where it goes no deeper: words, written types, names that are bound, and types that are gathered.
 ghost use Rattle.std.specs.Prelude.{◌≡◌, [], ◌∷◌, ◌++◌, IfOk, Some};
-ghost use Rattle.rules_trees.specs.Trees.{ty_of, wr_of, constant_of};
+ghost use Rattle.rules_trees.specs.Trees.{wr_of, constant_of};
+ghost use Rattle.hs_type_table.specs.Meaning.{base_of, type_in};
 ghost use Rattle.rules_typing.specs.Typing.{of, row_empty, type_of_lit};
 ghost use Rattle.hs_judging.specs.Judging.{good, needing, own, part, typed, written};
-ghost use Rattle.hs_typing.specs.Views.{form_of, opt_ty, opt_tys, opts_of, part_of};
+ghost use Rattle.hs_typing.specs.Views.{form_of, opt_ty, part_of};
 ghost use Rattle.hs_typing.specs.Judged.{Judged, pushed};
 ghost use Rattle.hs_expr_types.specs.Entering.{Entered};
 
 use hs_base::tree::{Constant, Name, Written};
-use hs_base::{NoMemory, Pos, Ty};
+use hs_base::{NoMemory, Pos};
 use hs_items::Items;
+use hs_type_table::base::Base;
+use hs_type_table::table::TypeTable;
+use hs_type_table::ty::TypeTerm;
 use hs_typing::Form;
 use hs_typing::checker::Checker;
 use hs_typing::first::Broken;
@@ -18,17 +22,16 @@ use rules_trees::forms::EmptyForm;
 use std::alloc::Global;
 
 /// The type of an atom that is one word.
-#[tactic(auto, using(rules_trees::proofs::Equations::ty_rules))]
-pub fn constant_type(constant: Constant) -> Ty
-    ensures { ty_of result ≡ type_of_lit (constant_of constant) }
+pub fn constant_type(constant: Constant) -> Base
+    ensures { base_of result ≡ type_of_lit (constant_of constant) }
 {
     match constant {
-        Constant::True => Ty::Bool,
-        Constant::False => Ty::Bool,
-        Constant::ThreadKilled => Ty::Exn,
-        Constant::UserInterrupt => Ty::Exn,
-        Constant::DivideByZero => Ty::Exn,
-        Constant::Overflow => Ty::Exn,
+        Constant::True => Base::Bool,
+        Constant::False => Base::Bool,
+        Constant::ThreadKilled => Base::Exn,
+        Constant::UserInterrupt => Base::Exn,
+        Constant::DivideByZero => Base::Exn,
+        Constant::Overflow => Base::Exn,
     }
 }
 
@@ -37,14 +40,15 @@ pub fn constant_type(constant: Constant) -> Ty
 pub fn empty(
     checker: &mut Checker,
     alloc: Global,
+    types: &TypeTable,
     p: Pos,
     o: EmptyForm,
     w: &Written,
-) -> Result<Option<Ty>, NoMemory>
-    ensures { IfOk result (λ t. Judged checker.old checker.new (opt_ty t) (part (written (wr_of w.now)) (λ u. own p (row_empty o u)))) }
+) -> Result<Option<TypeTerm>, NoMemory>
+    ensures { IfOk result (λ t. Judged types.now.nodes checker.old checker.new (opt_ty types.now.nodes t) (part (written (wr_of w.now)) (λ u. own p (row_empty o u)))) }
 {
-    let t = checker.written(alloc, w)?;
-    let r = checker.close_empty(alloc, p, o, t)?;
+    let t = checker.written(alloc, types, w)?;
+    let r = checker.close_empty(alloc, types, p, o, t)?;
     Ok(r)
 }
 
@@ -52,16 +56,17 @@ pub fn empty(
 pub fn fitting(
     checker: &mut Checker,
     alloc: Global,
+    types: &TypeTable,
     p: Pos,
     form: Form,
-    t: Option<Ty>,
-) -> Result<Option<Ty>, NoMemory>
-    ensures { IfOk result (λ r. Judged checker.old checker.new (opt_ty r) (part (typed (opt_ty t)) (λ u. needing p (of (form_of form) u ∷ []) (good u)))) }
+    t: Option<TypeTerm>,
+) -> Result<Option<TypeTerm>, NoMemory>
+    ensures { IfOk result (λ r. Judged types.now.nodes checker.old checker.new (opt_ty types.now.nodes r) (part (typed (opt_ty types.now.nodes t)) (λ u. needing p (of (form_of form) u ∷ []) (good u)))) }
 {
     match t {
         None => Ok(None),
         Some(t) => {
-            if checker.fits(alloc, p, form, &t)? {
+            if checker.fits(alloc, types, p, form, &t)? {
                 Ok(Some(t))
             } else {
                 Ok(None)
@@ -74,24 +79,27 @@ pub fn fitting(
 pub fn enter(
     checker: &mut Checker,
     alloc: Global,
+    types: &TypeTable,
     x: &Name,
     which: Part,
-    t: &Ty,
+    t: &TypeTerm,
 ) -> Result<bool, NoMemory>
-    ensures { IfOk result (λ b. Entered checker.old checker.new b x.now (part_of which (ty_of t.now))) }
+    ensures { IfOk result (λ b. Entered types.now.nodes checker.old checker.new b x.now (part_of which (type_in types.now.nodes t.now))) }
 {
-    if checker.is_full() {
-        checker.first.note(Broken::Scope(x.pos));
+    if checker.is_full(types) {
+        checker.first.note(types, Broken::Scope(x.pos));
         return Ok(false);
     }
-    checker.bind_part(alloc, x, which, t)?;
+    checker.bind_part(alloc, types, x, which, t)?;
     Ok(true)
 }
 
 /// The types with one more, where all are known.
-#[tactic(auto, using(hs_typing::proofs::Noted::noted_rules))]
-pub fn added(ts: Option<Items<Ty>>, t: Option<Ty>) -> Result<Option<Items<Ty>>, NoMemory>
-    ensures { IfOk result (λ us. opt_tys us ≡ pushed (opt_tys ts) (opt_ty t)) }
+pub fn added(
+    ts: Option<Items<TypeTerm>>,
+    t: Option<TypeTerm>,
+) -> Result<Option<Items<TypeTerm>>, NoMemory>
+    ensures { IfOk result (λ us. us ≡ pushed ts t) }
 {
     match ts {
         None => Ok(None),
@@ -107,7 +115,7 @@ pub fn added(ts: Option<Items<Ty>>, t: Option<Ty>) -> Result<Option<Items<Ty>>, 
 }
 
 /// The type of the first operand, before those that follow.
-pub fn alone(alloc: Global, t: Option<Ty>) -> Result<Items<Option<Ty>>, NoMemory>
+pub fn alone(alloc: Global, t: Option<TypeTerm>) -> Result<Items<Option<TypeTerm>>, NoMemory>
     ensures { IfOk result (λ ts. ts ≡ t ∷ []) }
 {
     let mut ts = Items::new(alloc);

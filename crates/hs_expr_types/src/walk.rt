@@ -1,9 +1,10 @@
 //! The walk itself: one cycle of calls over the parts of an expression. A function has the tree that it goes down as its
 //! first tree, and what is known of the parts before it after that.
 ghost use Rattle.std.specs.Prelude.{◌≡◌, ◌∷◌, [], IfOk};
-ghost use Rattle.rules_trees.specs.Trees.{ty_of, wr_of, ex_of, exs_of, arms_of, links_of, sum_links_of, list_links_of};
+ghost use Rattle.rules_trees.specs.Trees.{wr_of, ex_of, exs_of, arms_of, links_of, sum_links_of, list_links_of};
 ghost use Rattle.rules_typing.specs.Typing.{of, bound, form_of_arms, row_unary, row_binary, row_choose, row_side};
 ghost use Rattle.hs_judging.specs.Judging.{after, needing, not_full, own, part, parts2, parts3, typed, written, unless_full, folded, judge, judges, judge_links, judge_arms, operand_faults, operand_types};
+ghost use Rattle.hs_type_table.specs.Meaning.{type_in};
 ghost use Rattle.hs_typing.specs.Views.{opt_ty, opt_tys, opts_of, part_of};
 ghost use Rattle.hs_typing.specs.Contexts.{ctx_of};
 ghost use Rattle.hs_typing.specs.Judged.{Judged, JudgedAll, Gathered, names};
@@ -11,8 +12,10 @@ ghost use Rattle.hs_typing.specs.Judged.{Judged, JudgedAll, Gathered, names};
 use crate::forms::{asked_form, compare_form, sum_form};
 use crate::leaves::{added, alone, constant_type, empty, enter, fitting};
 use hs_base::tree::{Expr, ExprArms, Link, ListLink, Name, SumLink, Written};
-use hs_base::{NoMemory, Pos, Ty};
+use hs_base::{NoMemory, Pos};
 use hs_items::Items;
+use hs_type_table::base::Base;
+use hs_type_table::ty::TypeTerm;
 use hs_typing::checker::Checker;
 use hs_typing::funs::Funs;
 use hs_typing::parts::Part;
@@ -27,16 +30,16 @@ pub fn type_of(
     alloc: Global,
     funs: &Funs,
     e: &Expr,
-) -> Result<Option<Ty>, NoMemory>
-    ensures { IfOk result (λ t. Judged checker.old checker.new (opt_ty t) (judge (ctx_of funs.now) (names checker.old) (ex_of e.now))) }
+) -> Result<Option<TypeTerm>, NoMemory>
+    ensures { IfOk result (λ t. Judged funs.now.types.nodes checker.old checker.new (opt_ty funs.now.types.nodes t) (judge (ctx_of funs.now) (names funs.now.types.nodes checker.old) (ex_of e.now))) }
 {
     match e {
-        Expr::Int(_, _) => Ok(Some(Ty::Int)),
-        Expr::Text(_, _) => Ok(Some(Ty::Text)),
-        Expr::Constant(_, c) => Ok(Some(constant_type(*c))),
-        Expr::Unit(_) => Ok(Some(Ty::Unit)),
-        Expr::Nothing(p, w) => empty(checker, alloc, *p, EmptyForm::Nothing, w),
-        Expr::EmptyList(p, w) => empty(checker, alloc, *p, EmptyForm::EmptyList, w),
+        Expr::Int(_, _) => Ok(Some(TypeTerm::Base(Base::Int))),
+        Expr::Text(_, _) => Ok(Some(TypeTerm::Base(Base::Text))),
+        Expr::Constant(_, c) => Ok(Some(TypeTerm::Base(constant_type(*c)))),
+        Expr::Unit(_) => Ok(Some(TypeTerm::Base(Base::Unit))),
+        Expr::Nothing(p, w) => empty(checker, alloc, &funs.types, *p, EmptyForm::Nothing, w),
+        Expr::EmptyList(p, w) => empty(checker, alloc, &funs.types, *p, EmptyForm::EmptyList, w),
         Expr::Negate(p, a) => unary(checker, alloc, funs, a.get(), *p, UnaryForm::Negate),
         Expr::Just(p, a) => unary(checker, alloc, funs, a.get(), *p, UnaryForm::Just),
         Expr::ErrorCall(p, a) => unary(checker, alloc, funs, a.get(), *p, UnaryForm::ErrorCall),
@@ -89,7 +92,7 @@ pub fn type_of(
             third(checker, alloc, funs, b.get(), *p, t, u)
         }
         Expr::Let(_, x, a, b) => {
-            checker.check_room(x);
+            checker.check_room(&funs.types, x);
             let t = type_of(checker, alloc, funs, a.get())?;
             given(checker, alloc, funs, b.get(), x, t)
         }
@@ -104,7 +107,7 @@ pub fn type_of(
         }
         Expr::List(p, es) => {
             let ts = types_of(checker, alloc, funs, es)?;
-            let t = checker.close_items(alloc, *p, ts)?;
+            let t = checker.close_items(alloc, &funs.types, *p, ts)?;
             Ok(t)
         }
     }
@@ -120,11 +123,11 @@ fn unary(
     a: &Expr,
     p: Pos,
     o: UnaryForm,
-) -> Result<Option<Ty>, NoMemory>
-    ensures { IfOk result (λ t. Judged checker.old checker.new (opt_ty t) (part (judge (ctx_of funs.now) (names checker.old) (ex_of a.now)) (λ u. own p (row_unary o u)))) }
+) -> Result<Option<TypeTerm>, NoMemory>
+    ensures { IfOk result (λ t. Judged funs.now.types.nodes checker.old checker.new (opt_ty funs.now.types.nodes t) (part (judge (ctx_of funs.now) (names funs.now.types.nodes checker.old) (ex_of a.now)) (λ u. own p (row_unary o u)))) }
 {
     let t = type_of(checker, alloc, funs, a)?;
-    let r = checker.close_unary(alloc, p, o, t)?;
+    let r = checker.close_unary(alloc, &funs.types, p, o, t)?;
     Ok(r)
 }
 
@@ -140,13 +143,13 @@ fn side(
     o: SideForm,
     s: &Written,
     t: &Written,
-) -> Result<Option<Ty>, NoMemory>
-    ensures { IfOk result (λ r. Judged checker.old checker.new (opt_ty r) (parts3 (written (wr_of s.now)) (written (wr_of t.now)) (judge (ctx_of funs.now) (names checker.old) (ex_of a.now)) (λ u v w. own p (row_side o u v w)))) }
+) -> Result<Option<TypeTerm>, NoMemory>
+    ensures { IfOk result (λ r. Judged funs.now.types.nodes checker.old checker.new (opt_ty funs.now.types.nodes r) (parts3 (written (wr_of s.now)) (written (wr_of t.now)) (judge (ctx_of funs.now) (names funs.now.types.nodes checker.old) (ex_of a.now)) (λ u v w. own p (row_side o u v w)))) }
 {
-    let u = checker.written(alloc, s)?;
-    let v = checker.written(alloc, t)?;
+    let u = checker.written(alloc, &funs.types, s)?;
+    let v = checker.written(alloc, &funs.types, t)?;
     let w = type_of(checker, alloc, funs, a)?;
-    let r = checker.close_side(alloc, p, o, u, v, w)?;
+    let r = checker.close_side(alloc, &funs.types, p, o, u, v, w)?;
     Ok(r)
 }
 
@@ -160,12 +163,12 @@ fn second(
     b: &Expr,
     p: Pos,
     o: BinaryForm,
-    t: Option<Ty>,
-) -> Result<Option<Ty>, NoMemory>
-    ensures { IfOk result (λ r. Judged checker.old checker.new (opt_ty r) (parts2 (typed (opt_ty t)) (judge (ctx_of funs.now) (names checker.old) (ex_of b.now)) (λ u v. own p (row_binary o u v)))) }
+    t: Option<TypeTerm>,
+) -> Result<Option<TypeTerm>, NoMemory>
+    ensures { IfOk result (λ r. Judged funs.now.types.nodes checker.old checker.new (opt_ty funs.now.types.nodes r) (parts2 (typed (opt_ty funs.now.types.nodes t)) (judge (ctx_of funs.now) (names funs.now.types.nodes checker.old) (ex_of b.now)) (λ u v. own p (row_binary o u v)))) }
 {
     let u = type_of(checker, alloc, funs, b)?;
-    let r = checker.close_binary(alloc, p, o, t, u)?;
+    let r = checker.close_binary(alloc, &funs.types, p, o, t, u)?;
     Ok(r)
 }
 
@@ -178,13 +181,13 @@ fn third(
     funs: &Funs,
     b: &Expr,
     p: Pos,
-    t: Option<Ty>,
-    u: Option<Ty>,
-) -> Result<Option<Ty>, NoMemory>
-    ensures { IfOk result (λ r. Judged checker.old checker.new (opt_ty r) (parts3 (typed (opt_ty t)) (typed (opt_ty u)) (judge (ctx_of funs.now) (names checker.old) (ex_of b.now)) (λ u v w. own p (row_choose u v w)))) }
+    t: Option<TypeTerm>,
+    u: Option<TypeTerm>,
+) -> Result<Option<TypeTerm>, NoMemory>
+    ensures { IfOk result (λ r. Judged funs.now.types.nodes checker.old checker.new (opt_ty funs.now.types.nodes r) (parts3 (typed (opt_ty funs.now.types.nodes t)) (typed (opt_ty funs.now.types.nodes u)) (judge (ctx_of funs.now) (names funs.now.types.nodes checker.old) (ex_of b.now)) (λ u v w. own p (row_choose u v w)))) }
 {
     let v = type_of(checker, alloc, funs, b)?;
-    let r = checker.close_choose(alloc, p, t, u, v)?;
+    let r = checker.close_choose(alloc, &funs.types, p, t, u, v)?;
     Ok(r)
 }
 
@@ -197,9 +200,9 @@ fn links(
     funs: &Funs,
     ks: &Items<Link>,
     o: BinaryForm,
-    t: Option<Ty>,
-) -> Result<Option<Ty>, NoMemory>
-    ensures { IfOk result (λ r. Judged checker.old checker.new (opt_ty r) (judge_links (ctx_of funs.now) (names checker.old) (typed (opt_ty t)) (links_of o ks.now))) }
+    t: Option<TypeTerm>,
+) -> Result<Option<TypeTerm>, NoMemory>
+    ensures { IfOk result (λ r. Judged funs.now.types.nodes checker.old checker.new (opt_ty funs.now.types.nodes r) (judge_links (ctx_of funs.now) (names funs.now.types.nodes checker.old) (typed (opt_ty funs.now.types.nodes t)) (links_of o ks.now))) }
 {
     let mut t = t;
     'links: for k in ks.as_slice() {
@@ -216,9 +219,9 @@ fn sum_links(
     alloc: Global,
     funs: &Funs,
     ks: &Items<SumLink>,
-    t: Option<Ty>,
-) -> Result<Option<Ty>, NoMemory>
-    ensures { IfOk result (λ r. Judged checker.old checker.new (opt_ty r) (judge_links (ctx_of funs.now) (names checker.old) (typed (opt_ty t)) (sum_links_of ks.now))) }
+    t: Option<TypeTerm>,
+) -> Result<Option<TypeTerm>, NoMemory>
+    ensures { IfOk result (λ r. Judged funs.now.types.nodes checker.old checker.new (opt_ty funs.now.types.nodes r) (judge_links (ctx_of funs.now) (names funs.now.types.nodes checker.old) (typed (opt_ty funs.now.types.nodes t)) (sum_links_of ks.now))) }
 {
     let mut t = t;
     'links: for k in ks.as_slice() {
@@ -235,12 +238,12 @@ fn conses(
     alloc: Global,
     funs: &Funs,
     ks: &Items<ListLink>,
-    t: Option<Ty>,
-) -> Result<Option<Ty>, NoMemory>
-    ensures { IfOk result (λ r. Judged checker.old checker.new (opt_ty r) (after (operand_faults (ctx_of funs.now) (names checker.old) (list_links_of ks.now)) (folded (opt_ty t ∷ operand_types (ctx_of funs.now) (names checker.old) (list_links_of ks.now)) (list_links_of ks.now)))) }
+    t: Option<TypeTerm>,
+) -> Result<Option<TypeTerm>, NoMemory>
+    ensures { IfOk result (λ r. Judged funs.now.types.nodes checker.old checker.new (opt_ty funs.now.types.nodes r) (after (operand_faults (ctx_of funs.now) (names funs.now.types.nodes checker.old) (list_links_of ks.now)) (folded (opt_ty funs.now.types.nodes t ∷ operand_types (ctx_of funs.now) (names funs.now.types.nodes checker.old) (list_links_of ks.now)) (list_links_of ks.now)))) }
 {
     let ts = operands(checker, alloc, funs, ks, t)?;
-    let r = checker.close_conses(alloc, &ts, ks)?;
+    let r = checker.close_conses(alloc, &funs.types, &ts, ks)?;
     Ok(r)
 }
 
@@ -252,9 +255,9 @@ fn operands(
     alloc: Global,
     funs: &Funs,
     ks: &Items<ListLink>,
-    t: Option<Ty>,
-) -> Result<Items<Option<Ty>>, NoMemory>
-    ensures { IfOk result (λ ts. Gathered (ctx_of funs.now) checker.old checker.new (opt_ty t) (opts_of ts) (list_links_of ks.now)) }
+    t: Option<TypeTerm>,
+) -> Result<Items<Option<TypeTerm>>, NoMemory>
+    ensures { IfOk result (λ ts. Gathered funs.now.types.nodes (ctx_of funs.now) checker.old checker.new (opt_ty funs.now.types.nodes t) (opts_of funs.now.types.nodes ts) (list_links_of ks.now)) }
 {
     let mut ts = alone(alloc, t)?;
     'links: for k in ks.as_slice() {
@@ -272,8 +275,8 @@ pub fn types_of(
     alloc: Global,
     funs: &Funs,
     es: &Items<Expr>,
-) -> Result<Option<Items<Ty>>, NoMemory>
-    ensures { IfOk result (λ ts. JudgedAll checker.old checker.new (opt_tys ts) (judges (ctx_of funs.now) (names checker.old) (exs_of es.now))) }
+) -> Result<Option<Items<TypeTerm>>, NoMemory>
+    ensures { IfOk result (λ ts. JudgedAll funs.now.types.nodes checker.old checker.new (opt_tys funs.now.types.nodes ts) (judges (ctx_of funs.now) (names funs.now.types.nodes checker.old) (exs_of es.now))) }
 {
     let mut ts = Some(Items::new(alloc));
     'parts: for e in es.as_slice() {
@@ -292,15 +295,15 @@ fn given(
     funs: &Funs,
     b: &Expr,
     x: &Name,
-    t: Option<Ty>,
-) -> Result<Option<Ty>, NoMemory>
-    ensures { IfOk result (λ r. Judged checker.old checker.new (opt_ty r) (part (not_full (names checker.old) (typed (opt_ty t))) (λ u. judge (ctx_of funs.now) (bound x.now u ∷ names checker.old) (ex_of b.now)))) }
+    t: Option<TypeTerm>,
+) -> Result<Option<TypeTerm>, NoMemory>
+    ensures { IfOk result (λ r. Judged funs.now.types.nodes checker.old checker.new (opt_ty funs.now.types.nodes r) (part (not_full (names funs.now.types.nodes checker.old) (typed (opt_ty funs.now.types.nodes t))) (λ u. judge (ctx_of funs.now) (bound x.now u ∷ names funs.now.types.nodes checker.old) (ex_of b.now)))) }
 {
-    match checker.begin(alloc, x, t)? {
+    match checker.begin(alloc, &funs.types, x, t)? {
         false => Ok(None),
         true => {
             let body = type_of(checker, alloc, funs, b)?;
-            checker.unbind();
+            checker.unbind(&funs.types);
             Ok(body)
         }
     }
@@ -315,11 +318,11 @@ fn case(
     funs: &Funs,
     arms: &ExprArms,
     p: Pos,
-    t: Option<Ty>,
-) -> Result<Option<Ty>, NoMemory>
-    ensures { IfOk result (λ r. Judged checker.old checker.new (opt_ty r) (part (typed (opt_ty t)) (λ u. needing p (of (form_of_arms (arms_of arms.now)) u ∷ []) (judge_arms (ctx_of funs.now) (names checker.old) p u (arms_of arms.now))))) }
+    t: Option<TypeTerm>,
+) -> Result<Option<TypeTerm>, NoMemory>
+    ensures { IfOk result (λ r. Judged funs.now.types.nodes checker.old checker.new (opt_ty funs.now.types.nodes r) (part (typed (opt_ty funs.now.types.nodes t)) (λ u. needing p (of (form_of_arms (arms_of arms.now)) u ∷ []) (judge_arms (ctx_of funs.now) (names funs.now.types.nodes checker.old) p u (arms_of arms.now))))) }
 {
-    match fitting(checker, alloc, p, asked_form(arms), t)? {
+    match fitting(checker, alloc, &funs.types, p, asked_form(arms), t)? {
         None => Ok(None),
         Some(u) => {
             let r = alternatives(checker, alloc, funs, arms, p, &u)?;
@@ -337,27 +340,27 @@ fn alternatives(
     funs: &Funs,
     arms: &ExprArms,
     p: Pos,
-    t: &Ty,
-) -> Result<Option<Ty>, NoMemory>
-    ensures { IfOk result (λ r. Judged checker.old checker.new (opt_ty r) (judge_arms (ctx_of funs.now) (names checker.old) p (ty_of t.now) (arms_of arms.now))) }
+    t: &TypeTerm,
+) -> Result<Option<TypeTerm>, NoMemory>
+    ensures { IfOk result (λ r. Judged funs.now.types.nodes checker.old checker.new (opt_ty funs.now.types.nodes r) (judge_arms (ctx_of funs.now) (names funs.now.types.nodes checker.old) p (type_in funs.now.types.nodes t.now) (arms_of arms.now))) }
 {
     match arms {
         ExprArms::OfMaybe(a, x, b) => {
             let u = type_of(checker, alloc, funs, a)?;
             let v = under(checker, alloc, funs, b, x, Part::Inner, t)?;
-            let r = checker.close_arms(alloc, p, u, v)?;
+            let r = checker.close_arms(alloc, &funs.types, p, u, v)?;
             Ok(r)
         }
         ExprArms::OfEither(x, a, y, b) => {
             let u = under(checker, alloc, funs, a, x, Part::First, t)?;
             let v = under(checker, alloc, funs, b, y, Part::Second, t)?;
-            let r = checker.close_arms(alloc, p, u, v)?;
+            let r = checker.close_arms(alloc, &funs.types, p, u, v)?;
             Ok(r)
         }
         ExprArms::OfList(a, x, y, b) => {
             let u = type_of(checker, alloc, funs, a)?;
             let v = under_two(checker, alloc, funs, b, x, Part::Inner, y, Part::Whole, t)?;
-            let r = checker.close_arms(alloc, p, u, v)?;
+            let r = checker.close_arms(alloc, &funs.types, p, u, v)?;
             Ok(r)
         }
         ExprArms::OfPair(x, y, a) => {
@@ -377,15 +380,15 @@ fn under(
     e: &Expr,
     x: &Name,
     which: Part,
-    t: &Ty,
-) -> Result<Option<Ty>, NoMemory>
-    ensures { IfOk result (λ r. Judged checker.old checker.new (opt_ty r) (unless_full (names checker.old) x.now (judge (ctx_of funs.now) (bound x.now (part_of which (ty_of t.now)) ∷ names checker.old) (ex_of e.now)))) }
+    t: &TypeTerm,
+) -> Result<Option<TypeTerm>, NoMemory>
+    ensures { IfOk result (λ r. Judged funs.now.types.nodes checker.old checker.new (opt_ty funs.now.types.nodes r) (unless_full (names funs.now.types.nodes checker.old) x.now (judge (ctx_of funs.now) (bound x.now (part_of which (type_in funs.now.types.nodes t.now)) ∷ names funs.now.types.nodes checker.old) (ex_of e.now)))) }
 {
-    match enter(checker, alloc, x, which, t)? {
+    match enter(checker, alloc, &funs.types, x, which, t)? {
         false => Ok(None),
         true => {
             let u = type_of(checker, alloc, funs, e)?;
-            checker.unbind();
+            checker.unbind(&funs.types);
             Ok(u)
         }
     }
@@ -403,15 +406,15 @@ fn under_two(
     of_x: Part,
     y: &Name,
     of_y: Part,
-    t: &Ty,
-) -> Result<Option<Ty>, NoMemory>
-    ensures { IfOk result (λ r. Judged checker.old checker.new (opt_ty r) (unless_full (names checker.old) x.now (unless_full (bound x.now (part_of of_x (ty_of t.now)) ∷ names checker.old) y.now (judge (ctx_of funs.now) (bound y.now (part_of of_y (ty_of t.now)) ∷ bound x.now (part_of of_x (ty_of t.now)) ∷ names checker.old) (ex_of e.now))))) }
+    t: &TypeTerm,
+) -> Result<Option<TypeTerm>, NoMemory>
+    ensures { IfOk result (λ r. Judged funs.now.types.nodes checker.old checker.new (opt_ty funs.now.types.nodes r) (unless_full (names funs.now.types.nodes checker.old) x.now (unless_full (bound x.now (part_of of_x (type_in funs.now.types.nodes t.now)) ∷ names funs.now.types.nodes checker.old) y.now (judge (ctx_of funs.now) (bound y.now (part_of of_y (type_in funs.now.types.nodes t.now)) ∷ bound x.now (part_of of_x (type_in funs.now.types.nodes t.now)) ∷ names funs.now.types.nodes checker.old) (ex_of e.now))))) }
 {
-    match enter(checker, alloc, x, of_x, t)? {
+    match enter(checker, alloc, &funs.types, x, of_x, t)? {
         false => Ok(None),
         true => {
             let u = under(checker, alloc, funs, e, y, of_y, t)?;
-            checker.unbind();
+            checker.unbind(&funs.types);
             Ok(u)
         }
     }

@@ -10,8 +10,8 @@ use Rattle.rules_typing.specs.TypingScripts.{Measured, measured_with, fn_extent,
 use Rattle.hs_judging.specs.JudgingScripts.{def_faults, def_found, large_faults, faults_from, is_far, is_large}
 use Rattle.hs_judging.specs.Least.{least}
 use Rattle.hs_judging.proofs.Capped.{Same}
-use Rattle.hs_typing.specs.Measuring.{ext_of, exts_of}
-use Rattle.hs_typing.specs.declared.meter.Extent.{Extent}
+use Rattle.hs_extents.specs.Measuring.{ext_of, exts_of}
+use Rattle.hs_extents.specs.declared.meter.Extent.{Extent}
 use Rattle.hs_typing.proofs.Noted.{least-append}
 use Rattle.hs_types.specs.Steps.{of_call}
 use Rattle.hs_types.proofs.Merged.{merged, none_noted}

@@ -1,8 +1,8 @@
 -- What an answer of the checker says of a script.
-use Rattle.std.specs.Prelude.{⊤}
+use Rattle.std.specs.Prelude.{Option, Some, None, ⊤}
 use Rattle.hs_base.specs.declared.tree.script.Script.{Script}
 use Rattle.rules_trees.specs.Trees.{ty_of}
-use Rattle.rules_typing.specs.Typing.{twice, unknown, kind, forward, arity, mismatch, scope, wide, large}
+use Rattle.rules_typing.specs.Typing.{Fault, twice, unknown, kind, forward, arity, mismatch, scope, wide, large}
 use Rattle.rules_typing.specs.TypingScripts.{LacksMain, IsFirstBroken}
 use Rattle.hs_typing.specs.Views.{wanted_of}
 use Rattle.hs_typing.specs.declared.fault.TypeFault.{TypeFault}
@@ -22,3 +22,17 @@ Refused (t.Wide p) s = IsFirstBroken s (wide p)
 Refused (t.Large p) s = IsFirstBroken s (large p)
 Refused t.NoMain s = LacksMain s
 Refused t.NoMemory s = ⊤
+
+-- the broken rule that an answer names
+abbrev pub told : TypeFault → Option Fault
+told (t.Twice p) = Some (twice p)
+told (t.Unknown p) = Some (unknown p)
+told (t.Kind p) = Some (kind p)
+told (t.Forward p) = Some (forward p)
+told (t.Arity p m n) = Some (arity p m n)
+told (t.Mismatch p m u) = Some (mismatch p (wanted_of m) (ty_of u))
+told (t.Scope p) = Some (scope p)
+told (t.Wide p) = Some (wide p)
+told (t.Large p) = Some (large p)
+told t.NoMain = None
+told t.NoMemory = None

@@ -11,16 +11,19 @@ ghost use Rattle.hs_typing.specs.Contexts.{ctx_of};
 ghost use Rattle.hs_typing.specs.Judged.{Judged, names, kept};
 
 use hs_act_types::type_of_block;
+use hs_base::NoMemory;
 use hs_base::tree::{Body, Def, Name, Param, Written};
-use hs_base::{NoMemory, Ty};
 use hs_expr_types::type_of;
 use hs_items::Items;
+use hs_type_table::table::TypeTable;
+use hs_type_table::ty::TypeTerm;
+use hs_type_table::widths::is_wide_written;
+use hs_type_table::written::from_written;
 use hs_typing::checker::Checker;
 use hs_typing::first::{Broken, First};
 use hs_typing::funs::Funs;
 use hs_typing::heads::written_of;
 use hs_typing::table::Table;
-use hs_typing::widths::is_wide;
 use std::alloc::Global;
 
 /// What a definition breaks first, `Large` aside, and whether its head is sound.
@@ -32,11 +35,11 @@ pub struct Judgement {
 
 /// Notes where a written type is too wide.
 #[tactic(auto, using(hs_typing::proofs::ScriptSteps::script_rules))]
-fn check_width(checker: &mut Checker, w: &Written) -> bool
-    ensures { (names checker.new ≡ names checker.old) × (kept checker.new ≡ least (kept checker.old) (wide_faults (wr_of w.now))) × (result ≡ none_of (wide_faults (wr_of w.now))) }
+fn check_width(checker: &mut Checker, types: &TypeTable, w: &Written) -> bool
+    ensures { (names types.now.nodes checker.new ≡ names types.now.nodes checker.old) × (kept types.now.nodes checker.new ≡ least (kept types.now.nodes checker.old) (wide_faults (wr_of w.now))) × (result ≡ none_of (wide_faults (wr_of w.now))) }
 {
-    if is_wide(&w.ty) {
-        checker.first.note(Broken::Wide(w.pos));
+    if is_wide_written(&w.ty) {
+        checker.first.note(types, Broken::Wide(w.pos));
         false
     } else {
         true
@@ -46,38 +49,62 @@ fn check_width(checker: &mut Checker, w: &Written) -> bool
 /// Notes where an earlier definition has the name.
 #[tactic(auto, using(hs_typing::proofs::ScriptSteps::script_rules))]
 fn check_once(checker: &mut Checker, funs: &Funs, x: &Name)
-    ensures { (names checker.new ≡ names checker.old) × (kept checker.new ≡ least (kept checker.old) (twice_faults (ctx_of funs.now) x.now)) }
+    ensures { (names funs.now.types.nodes checker.new ≡ names funs.now.types.nodes checker.old) × (kept funs.now.types.nodes checker.new ≡ least (kept funs.now.types.nodes checker.old) (twice_faults (ctx_of funs.now) x.now)) }
 {
     match funs.find(&x.text) {
         None => {}
         Some(f) => {
             if f.place < funs.here {
-                checker.first.note(Broken::Twice(x.pos));
+                checker.first.note(&funs.types, Broken::Twice(x.pos));
             }
         }
     }
 }
 
+/// Binds a name to a written type.
+fn bind_written(
+    checker: &mut Checker,
+    alloc: Global,
+    types: &TypeTable,
+    x: &Name,
+    w: &Written,
+) -> Result<(), NoMemory>
+    ensures { OnOk result ((names types.now.nodes checker.new ≡ bound x.now (wr_of w.now).ty ∷ names types.now.nodes checker.old) × (kept types.now.nodes checker.new ≡ kept types.now.nodes checker.old)) }
+{
+    let t = from_written(alloc, &w.ty)?;
+    checker.bind(alloc, types, x, t)
+}
+
 /// Binds a parameter, and says whether it is sound.
 #[tactic(auto, using(hs_typing::proofs::ScriptSteps::script_rules))]
-fn param(checker: &mut Checker, alloc: Global, p: &Param) -> Result<bool, NoMemory>
-    ensures { IfOk result (λ b. (names checker.new ≡ bound p.now.name (wr_of p.now.ty).ty ∷ names checker.old) × (kept checker.new ≡ least (kept checker.old) (wide_faults (wr_of p.now.ty) ++ room_faults (names checker.old) p.now.name)) × (b ≡ none_of (wide_faults (wr_of p.now.ty) ++ room_faults (names checker.old) p.now.name))) }
+fn param(
+    checker: &mut Checker,
+    alloc: Global,
+    types: &TypeTable,
+    p: &Param,
+) -> Result<bool, NoMemory>
+    ensures { IfOk result (λ b. (names types.now.nodes checker.new ≡ bound p.now.name (wr_of p.now.ty).ty ∷ names types.now.nodes checker.old) × (kept types.now.nodes checker.new ≡ least (kept types.now.nodes checker.old) (wide_faults (wr_of p.now.ty) ++ room_faults (names types.now.nodes checker.old) p.now.name)) × (b ≡ none_of (wide_faults (wr_of p.now.ty) ++ room_faults (names types.now.nodes checker.old) p.now.name))) }
 {
-    let narrow = check_width(checker, &p.ty);
-    let full = checker.is_full();
-    checker.check_room(&p.name);
-    checker.bind(alloc, &p.name, p.ty.ty.copy(alloc)?)?;
+    let narrow = check_width(checker, types, &p.ty);
+    let full = checker.is_full(types);
+    checker.check_room(types, &p.name);
+    bind_written(checker, alloc, types, &p.name, &p.ty)?;
     Ok(narrow && !full)
 }
 
 /// Binds the parameters, and says whether each is sound.
 #[tactic(auto, using(hs_typing::proofs::ScriptSteps::script_rules))]
-fn params(checker: &mut Checker, alloc: Global, ps: &Items<Param>) -> Result<bool, NoMemory>
-    ensures { IfOk result (λ b. (names checker.new ≡ params_in (names checker.old) (map par_of ps.now)) × (kept checker.new ≡ least (kept checker.old) (param_faults (names checker.old) (map par_of ps.now))) × (b ≡ none_of (param_faults (names checker.old) (map par_of ps.now)))) }
+fn params(
+    checker: &mut Checker,
+    alloc: Global,
+    types: &TypeTable,
+    ps: &Items<Param>,
+) -> Result<bool, NoMemory>
+    ensures { IfOk result (λ b. (names types.now.nodes checker.new ≡ params_in (names types.now.nodes checker.old) (map par_of ps.now)) × (kept types.now.nodes checker.new ≡ least (kept types.now.nodes checker.old) (param_faults (names types.now.nodes checker.old) (map par_of ps.now))) × (b ≡ none_of (param_faults (names types.now.nodes checker.old) (map par_of ps.now)))) }
 {
     let mut sound = true;
     'each: for p in ps.as_slice() {
-        let one = param(checker, alloc, p)?;
+        let one = param(checker, alloc, types, p)?;
         sound = sound && one;
     }
     Ok(sound)
@@ -86,12 +113,12 @@ fn params(checker: &mut Checker, alloc: Global, ps: &Items<Param>) -> Result<boo
 /// The name and the head of a definition; it says whether the head is sound.
 #[tactic(auto, using(hs_typing::proofs::ScriptSteps::script_rules))]
 fn head(checker: &mut Checker, alloc: Global, funs: &Funs, d: &Def) -> Result<bool, NoMemory>
-    requires { names checker.old ≡ [] }
-    ensures { IfOk result (λ b. (names checker.new ≡ params_in [] (fn_of d.now).params) × (kept checker.new ≡ least (kept checker.old) (twice_faults (ctx_of funs.now) d.now.name ++ head_faults (fn_of d.now))) × (b ≡ none_of (head_faults (fn_of d.now)))) }
+    requires { names funs.now.types.nodes checker.old ≡ [] }
+    ensures { IfOk result (λ b. (names funs.now.types.nodes checker.new ≡ params_in [] (fn_of d.now).params) × (kept funs.now.types.nodes checker.new ≡ least (kept funs.now.types.nodes checker.old) (twice_faults (ctx_of funs.now) d.now.name ++ head_faults (fn_of d.now))) × (b ≡ none_of (head_faults (fn_of d.now)))) }
 {
     check_once(checker, funs, &d.name);
-    let a = params(checker, alloc, &d.params)?;
-    let b = check_width(checker, written_of(&d.body));
+    let a = params(checker, alloc, &funs.types, &d.params)?;
+    let b = check_width(checker, &funs.types, written_of(&d.body));
     Ok(a && b)
 }
 
@@ -101,8 +128,8 @@ fn type_of_body(
     alloc: Global,
     funs: &Funs,
     b: &Body,
-) -> Result<Option<Ty>, NoMemory>
-    ensures { IfOk result (λ t. Judged checker.old checker.new (opt_ty t) (judge_body (ctx_of funs.now) (names checker.old) (bd_of b.now))) }
+) -> Result<Option<TypeTerm>, NoMemory>
+    ensures { IfOk result (λ t. Judged funs.now.types.nodes checker.old checker.new (opt_ty funs.now.types.nodes t) (judge_body (ctx_of funs.now) (names funs.now.types.nodes checker.old) (bd_of b.now))) }
 {
     match b {
         Body::Pure(_, e) => {
@@ -120,16 +147,18 @@ fn type_of_body(
 fn check_result(
     checker: &mut Checker,
     alloc: Global,
+    types: &TypeTable,
     x: &Name,
     w: &Written,
-    t: Option<Ty>,
+    t: Option<TypeTerm>,
 ) -> Result<(), NoMemory>
-    ensures { OnOk result (kept checker.new ≡ least (kept checker.old) (with1 (opt_ty t) (ends x.now (wr_of w.now))).faults) }
+    ensures { OnOk result (kept types.now.nodes checker.new ≡ least (kept types.now.nodes checker.old) (with1 (opt_ty types.now.nodes t) (ends x.now (wr_of w.now))).faults) }
 {
     match t {
         None => Ok(()),
         Some(t) => {
-            checker.is(alloc, x.pos, &w.ty, &t)?;
+            let want = from_written(alloc, &w.ty)?;
+            checker.is(alloc, types, x.pos, &want, &t)?;
             Ok(())
         }
     }
@@ -138,16 +167,16 @@ fn check_result(
 /// The body of a definition whose head is sound.
 #[tactic(auto, using(hs_typing::proofs::ScriptSteps::script_rules))]
 fn tail(checker: &mut Checker, alloc: Global, funs: &Funs, d: &Def) -> Result<(), NoMemory>
-    requires { names checker.old ≡ params_in [] (fn_of d.now).params }
-    ensures { OnOk result (kept checker.new ≡ least (kept checker.old) (part (judge_body (ctx_of funs.now) (params_in [] (fn_of d.now).params) (fn_of d.now).body) (ends d.now.name (result_of (fn_of d.now).body))).faults) }
+    requires { names funs.now.types.nodes checker.old ≡ params_in [] (fn_of d.now).params }
+    ensures { OnOk result (kept funs.now.types.nodes checker.new ≡ least (kept funs.now.types.nodes checker.old) (part (judge_body (ctx_of funs.now) (params_in [] (fn_of d.now).params) (fn_of d.now).body) (ends d.now.name (result_of (fn_of d.now).body))).faults) }
 {
     let t = type_of_body(checker, alloc, funs, &d.body)?;
-    check_result(checker, alloc, &d.name, written_of(&d.body), t)?;
+    check_result(checker, alloc, &funs.types, &d.name, written_of(&d.body), t)?;
     Ok(())
 }
 
 fn fault_in(checker: Checker) -> Option<Broken>
-    ensures { kept_of result ≡ kept checker }
+    ensures { result ≡ checker.first.fault }
 {
     let Checker { scope: _, first } = checker;
     let First { fault } = first;
@@ -157,7 +186,7 @@ fn fault_in(checker: Checker) -> Option<Broken>
 /// What a definition breaks first, `Large` aside.
 #[tactic(auto, using(hs_typing::proofs::ScriptSteps::script_rules))]
 pub fn judge(alloc: Global, funs: &Funs, d: &Def) -> Result<Judgement, NoMemory>
-    ensures { IfOk result (λ j. (kept_of j.fault ≡ least None (def_faults (ctx_of funs.now) (fn_of d.now))) × (j.head ≡ none_of (head_faults (fn_of d.now)))) }
+    ensures { IfOk result (λ j. (kept_of funs.now.types.nodes j.fault ≡ least None (def_faults (ctx_of funs.now) (fn_of d.now))) × (j.head ≡ none_of (head_faults (fn_of d.now)))) }
 {
     let mut checker = Checker {
         scope: Table::new(alloc),

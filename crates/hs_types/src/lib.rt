@@ -12,7 +12,7 @@ mod progress;
 ghost use Rattle.std.specs.Prelude.{◌≡◌, MatchResult};
 ghost use Rattle.hs_types.specs.Faults.{Refused};
 
-use crate::answer::{Answer, judge_script, refusal};
+use crate::answer::{Answer, judge_script};
 use hs_base::tree::Script;
 pub use hs_typing::{Form, TypeFault, Want};
 use rules_typing::Checked;
@@ -24,7 +24,7 @@ pub fn check(alloc: Global, script: Script) -> Result<Checked, TypeFault>
 {
     match judge_script(alloc, &script) {
         Err(_) => Err(TypeFault::NoMemory),
-        Ok(Answer::Broken(f)) => Err(refusal(f)),
+        Ok(Answer::Broken(f)) => Err(f),
         Ok(Answer::NoMain) => Err(TypeFault::NoMain),
         Ok(Answer::Sound) => Ok(Checked { script }),
     }

@@ -8,17 +8,18 @@ ghost use Rattle.hs_judging.specs.JudgingScripts.{def_faults, faults_from, is_fa
 ghost use Rattle.hs_judging.specs.Least.{least};
 ghost use Rattle.hs_typing.specs.Views.{broken_of, kept_of, scope_of, sigs_of};
 ghost use Rattle.hs_typing.specs.Contexts.{ctx_of};
-ghost use Rattle.hs_typing.specs.Measuring.{Extends, ext_of, exts_of};
+ghost use Rattle.hs_extents.specs.Measuring.{Extends, ext_of, exts_of};
 ghost use Rattle.hs_types.specs.Steps.{Advanced, measured_of, of_call};
 
 use crate::definition::{Judgement, judge};
 use hs_base::tree::{Body, Def, Param};
 use hs_base::{NoMemory, Pos};
+use hs_extents::meter::{Extent, Meter, nothing};
 use hs_items::Items;
 use hs_sizes::{add, body_nodes};
+use hs_type_table::table::TypeTable;
 use hs_typing::first::{Broken, First};
 use hs_typing::funs::Funs;
-use hs_typing::meter::{Extent, Meter, nothing};
 use hs_typing::table::Table;
 use std::alloc::Global;
 
@@ -32,7 +33,7 @@ pub struct Progress {
 
 /// Binds the parameters.
 fn bind_params(meter: &mut Meter, alloc: Global, ps: &Items<Param>) -> Result<(), NoMemory>
-    ensures { OnOk result ((scope_of meter.new.scope.items ≡ param_names (scope_of meter.old.scope.items) (map par_of ps.now)) × (meter.new.extents ≡ meter.old.extents)) }
+    ensures { OnOk result ((scope_of [] meter.new.scope.items ≡ param_names (scope_of [] meter.old.scope.items) (map par_of ps.now)) × (meter.new.extents ≡ meter.old.extents)) }
 {
     'each: for p in ps.as_slice() {
         meter.bind(alloc, &p.name)?;
@@ -47,7 +48,7 @@ fn extent_of_body(
     funs: &Funs,
     b: &Body,
 ) -> Result<Extent, NoMemory>
-    ensures { IfOk result (λ x. Extends meter.old meter.new x (worst_body (sigs_of funs.now.sigs) (exts_of meter.old.extents) (scope_of meter.old.scope.items) (bd_of b.now))) }
+    ensures { IfOk result (λ x. Extends meter.old meter.new x (worst_body (sigs_of funs.now.types.nodes funs.now.sigs) (exts_of meter.old.extents) (scope_of [] meter.old.scope.items) (bd_of b.now))) }
 {
     match b {
         Body::Pure(_, e) => {
@@ -63,8 +64,8 @@ fn extent_of_body(
 
 /// How far the greatest expression of a definition unfolds.
 fn unfolded(meter: &mut Meter, alloc: Global, funs: &Funs, d: &Def) -> Result<Extent, NoMemory>
-    requires { scope_of meter.old.scope.items ≡ [] }
-    ensures { IfOk result (λ x. Extends meter.old meter.new x (worst_body (sigs_of funs.now.sigs) (exts_of meter.old.extents) (param_names [] (fn_of d.now).params) (fn_of d.now).body)) }
+    requires { scope_of [] meter.old.scope.items ≡ [] }
+    ensures { IfOk result (λ x. Extends meter.old meter.new x (worst_body (sigs_of funs.now.types.nodes funs.now.sigs) (exts_of meter.old.extents) (param_names [] (fn_of d.now).params) (fn_of d.now).body)) }
 {
     bind_params(meter, alloc, &d.params)?;
     let x = extent_of_body(meter, alloc, funs, &d.body)?;
@@ -91,9 +92,9 @@ fn extent_of_call(
     d: &Def,
     head: bool,
 ) -> Result<Extent, NoMemory>
-    requires scope { scope_of meter.old.scope.items ≡ [] }
+    requires scope { scope_of [] meter.old.scope.items ≡ [] }
     requires head { head ≡ none_of (head_faults (fn_of d.now)) }
-    ensures { IfOk result (λ x. Extends meter.old meter.new x (fn_extent (sigs_of funs.now.sigs) (exts_of meter.old.extents) (fn_of d.now))) }
+    ensures { IfOk result (λ x. Extends meter.old meter.new x (fn_extent (sigs_of funs.now.types.nodes funs.now.sigs) (exts_of meter.old.extents) (fn_of d.now))) }
 {
     match &d.body {
         Body::Action(_, _) => Ok(nothing()),
@@ -116,7 +117,7 @@ fn is_far(x: Extent) -> bool
 impl Progress {
     /// Before the first definition.
     pub fn new(alloc: Global) -> Progress
-        ensures { (kept_of result.first.fault ≡ None) × (scope_of result.meter.scope.items ≡ []) × (measured_of result ≡ unmeasured) }
+        ensures { (result.first.fault ≡ None) × (scope_of [] result.meter.scope.items ≡ []) × (measured_of result ≡ unmeasured) }
     {
         Progress {
             first: First::new(),
@@ -138,23 +139,23 @@ impl Progress {
     }
 
     /// Notes where the definition at `p` is too large: its greatest expression, or all sizes up to and with it.
-    fn check_size(&mut self, p: Pos, x: Extent)
-        ensures { (self.new.meter ≡ self.old.meter) × (self.new.total ≡ self.old.total) × (kept_of self.new.first.fault ≡ least (kept_of self.old.first.fault) (cond (is_far (ext_of x) || ltb 1000000 self.old.total) (large p ∷ []) [])) }
+    fn check_size(&mut self, types: &TypeTable, p: Pos, x: Extent)
+        ensures { (self.new.meter ≡ self.old.meter) × (self.new.total ≡ self.old.total) × (kept_of types.now.nodes self.new.first.fault ≡ least (kept_of types.now.nodes self.old.first.fault) (cond (is_far (ext_of x) || ltb 1000000 self.old.total) (large p ∷ []) [])) }
     {
         if is_far(x) || self.total > 1_000_000 {
-            self.first.note(Broken::Large(p));
+            self.first.note(types, Broken::Large(p));
         }
     }
 
     /// Measures a definition in which no other rule is broken.
     fn add_sound(&mut self, alloc: Global, funs: &Funs, d: &Def) -> Result<(), NoMemory>
-        requires scope { scope_of self.old.meter.scope.items ≡ [] }
+        requires scope { scope_of [] self.old.meter.scope.items ≡ [] }
         requires sound { least None (def_faults (ctx_of funs.now) (fn_of d.now)) ≡ None }
-        ensures { OnOk result (Advanced self.old self.new (ctx_of funs.now) (fn_of d.now)) }
+        ensures { OnOk result (Advanced funs.now.types.nodes self.old self.new (ctx_of funs.now) (fn_of d.now)) }
     {
         let x = unfolded(&mut self.meter, alloc, funs, d)?;
         self.count(called(&d.body, x), &d.body)?;
-        self.check_size(d.name.pos, x);
+        self.check_size(&funs.types, d.name.pos, x);
         Ok(())
     }
 
@@ -167,12 +168,12 @@ impl Progress {
         f: Broken,
         head: bool,
     ) -> Result<(), NoMemory>
-        requires scope { scope_of self.old.meter.scope.items ≡ [] }
-        requires first { least None (def_faults (ctx_of funs.now) (fn_of d.now)) ≡ Some (broken_of f) }
+        requires scope { scope_of [] self.old.meter.scope.items ≡ [] }
+        requires first { least None (def_faults (ctx_of funs.now) (fn_of d.now)) ≡ Some (broken_of funs.now.types.nodes f) }
         requires head { head ≡ none_of (head_faults (fn_of d.now)) }
-        ensures { OnOk result (Advanced self.old self.new (ctx_of funs.now) (fn_of d.now)) }
+        ensures { OnOk result (Advanced funs.now.types.nodes self.old self.new (ctx_of funs.now) (fn_of d.now)) }
     {
-        self.first.note(f);
+        self.first.note(&funs.types, f);
         let x = extent_of_call(&mut self.meter, alloc, funs, d, head)?;
         self.count(x, &d.body)?;
         Ok(())
@@ -180,8 +181,8 @@ impl Progress {
 
     /// Judges and measures a definition.
     fn definition(&mut self, alloc: Global, funs: &Funs, d: &Def) -> Result<(), NoMemory>
-        requires { scope_of self.old.meter.scope.items ≡ [] }
-        ensures { OnOk result (Advanced self.old self.new (ctx_of funs.now) (fn_of d.now)) }
+        requires { scope_of [] self.old.meter.scope.items ≡ [] }
+        ensures { OnOk result (Advanced funs.now.types.nodes self.old self.new (ctx_of funs.now) (fn_of d.now)) }
     {
         let Judgement { fault, head } = judge(alloc, funs, d)?;
         match fault {
@@ -203,8 +204,8 @@ impl Progress {
         funs: &mut Funs,
         ds: &Items<Def>,
     ) -> Result<(), NoMemory>
-        requires { scope_of self.old.meter.scope.items ≡ [] }
-        ensures { OnOk result ((kept_of self.new.first.fault ≡ least (kept_of self.old.first.fault) (faults_from (sigs_of funs.old.sigs) (measured_of self.old) 0 (map fn_of ds.now))) × (funs.new.sigs ≡ funs.old.sigs)) }
+        requires { scope_of [] self.old.meter.scope.items ≡ [] }
+        ensures { OnOk result ((kept_of funs.old.types.nodes self.new.first.fault ≡ least (kept_of funs.old.types.nodes self.old.first.fault) (faults_from (sigs_of funs.old.types.nodes funs.old.sigs) (measured_of self.old) 0 (map fn_of ds.now))) × (funs.new.types ≡ funs.old.types) × (funs.new.sigs ≡ funs.old.sigs)) }
     {
         'each: for (i, d) in ds.as_slice().iter().enumerate() {
             funs.here = i;

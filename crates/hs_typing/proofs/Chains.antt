@@ -1,14 +1,14 @@
 -- Chains of operators: their links from the left, and those of `:` and `++` in two passes.
-use Rattle.std.proofs.Common.{◌≡◌, ℕ, ◌+◌, suc, List, [], ◌∷◌, ◌++◌, length, drop, get_or, ◌<◌, Option, Some, None, refl, ap, ◌∙◌, sym, append_assoc, arith}
-use Rattle.std.proofs.lemmas.List.{append-nil}
+use Rattle.std.proofs.Common.{◌≡◌, ℕ, ◌+◌, suc, List, [], ◌∷◌, ◌++◌, length, drop, get_or, ◌<◌, Option, refl, ap, ◌∙◌, sym, append_assoc, arith}
 use Rattle.std.proofs.Math.Seq.{drop-cons}
 use Rattle.hs_base.specs.declared.pos.Pos.{Pos}
 use Rattle.hs_base.specs.declared.tree.expr.Link.{Link}
 use Rattle.hs_base.specs.declared.tree.expr.ListLink.{ListLink}
 use Rattle.hs_base.specs.declared.tree.expr.SumLink.{SumLink}
-use Rattle.hs_base.specs.declared.tree.ty.Ty.{Ty}
+use Rattle.hs_type_table.specs.declared.table.Node.{Node}
+use Rattle.hs_type_table.specs.declared.ty.TypeTerm.{TypeTerm}
 use Rattle.rules_trees.specs.declared.forms.BinaryForm.{BinaryForm}
-use Rattle.rules_trees.specs.Trees.{T, Ex, Links, end, link, ex_of, links_of, sum_links_of, list_links_of, sum_form, cons_form}
+use Rattle.rules_trees.specs.Trees.{T, Ex, Links, link, ex_of, links_of, sum_links_of, list_links_of, sum_form, cons_form}
 use Rattle.rules_typing.specs.Typing.{Fault, Ctx, Bound, row_binary}
 use Rattle.hs_judging.specs.Judging.{Found, after, with2, own, parts2, typed, folded, judge, judge_links, operand_faults, operand_types}
 use Rattle.hs_judging.proofs.Chains.{links_after}
@@ -48,40 +48,40 @@ sum_links-drop ks i k lt is = ap sum_links_of (drop-cons ks i k lt ∙ (ap (λ z
 pub list_links-drop : (ks : List ListLink) (i : ℕ) (k : ListLink) → i < length ks → k ≡ get_or ks i k → list_links_of (drop i ks) ≡ link (cons_form k.op) k.pos (ex_of k.operand) (list_links_of (drop (i + 1) ks))
 list_links-drop ks i k lt is = ap list_links_of (drop-cons ks i k lt ∙ (ap (λ z. z ∷ drop (suc i) ks) (sym is) ∙ ap (λ j. k ∷ drop j ks) (let z : suc i ≡ i + 1 = omega arith in z)))
 
-opts_of-length : (ts : List (Option Ty)) → length (opts_of ts) ≡ length ts
-opts_of-length [] = refl
-opts_of-length (t ∷ ts) = ap suc (opts_of-length ts)
+opts_of-length : (ms : List Node) (ts : List (Option TypeTerm)) → length (opts_of ms ts) ≡ length ts
+opts_of-length ms [] = refl
+opts_of-length ms (t ∷ ts) = ap suc (opts_of-length ms ts)
 
 operands-length : (c : Ctx) (s : List Bound) (ks : List ListLink) → length (operand_types c s (list_links_of ks)) ≡ length ks
 operands-length c s [] = refl
 operands-length c s (k ∷ ks) = ap suc (operands-length c s ks)
 
-pub gathered-length : (c : Ctx) (s : List Bound) (x : Option T) (ts : List (Option Ty)) (ks : List ListLink) → opts_of ts ≡ x ∷ operand_types c s (list_links_of ks) → length ts ≡ 1 + length ks
-gathered-length c s x ts ks h = let a = opts_of-length ts in let b = operands-length c s ks in let e : length (opts_of ts) ≡ suc (length (operand_types c s (list_links_of ks))) = ap length h in omega (arith, a, b, e)
+pub gathered-length : (ms : List Node) (c : Ctx) (s : List Bound) (x : Option T) (ts : List (Option TypeTerm)) (ks : List ListLink) → opts_of ms ts ≡ x ∷ operand_types c s (list_links_of ks) → length ts ≡ 1 + length ks
+gathered-length ms c s x ts ks h = let a = opts_of-length ms ts in let b = operands-length c s ks in let e : length (opts_of ms ts) ≡ suc (length (operand_types c s (list_links_of ks))) = ap length h in omega (arith, a, b, e)
 
-pub opts_of-push : (ts : List (Option Ty)) (t : Option Ty) → opts_of (ts ++ t ∷ []) ≡ opts_of ts ++ opt_ty t ∷ []
-opts_of-push [] t = refl
-opts_of-push (x ∷ ts) t = ap (λ z. opt_ty x ∷ z) (opts_of-push ts t)
+pub opts_of-push : (ms : List Node) (ts : List (Option TypeTerm)) (t : Option TypeTerm) → opts_of ms (ts ++ t ∷ []) ≡ opts_of ms ts ++ opt_ty ms t ∷ []
+opts_of-push ms [] t = refl
+opts_of-push ms (x ∷ ts) t = ap (λ z. opt_ty ms x ∷ z) (opts_of-push ms ts t)
 
 -- one more operand
-pub operands_step : (c : Ctx) (s : List Bound) (o m n : Option Fault) (p : Pos) (f : BinaryForm) (e : Ex) (ks whole : Links) (x : Option T) (ts us : List (Option Ty)) (t : Option Ty)
-    → opts_of ts ++ operand_types c s (link f p e ks) ≡ x ∷ operand_types c s whole
+pub operands_step : (ms : List Node) (c : Ctx) (s : List Bound) (o m n : Option Fault) (p : Pos) (f : BinaryForm) (e : Ex) (ks whole : Links) (x : Option T) (ts us : List (Option TypeTerm)) (t : Option TypeTerm)
+    → opts_of ms ts ++ operand_types c s (link f p e ks) ≡ x ∷ operand_types c s whole
     → least m (operand_faults c s (link f p e ks)) ≡ least o (operand_faults c s whole)
-    → opt_ty t ≡ (judge c s e).type → n ≡ least m (judge c s e).faults → us ≡ ts ++ t ∷ []
-    → (opts_of us ++ operand_types c s ks ≡ x ∷ operand_types c s whole) × (least n (operand_faults c s ks) ≡ least o (operand_faults c s whole))
-operands_step c s o m n p f e ks whole x ts us t ht hf et en eu =
+    → opt_ty ms t ≡ (judge c s e).type → n ≡ least m (judge c s e).faults → us ≡ ts ++ t ∷ []
+    → (opts_of ms us ++ operand_types c s ks ≡ x ∷ operand_types c s whole) × (least n (operand_faults c s ks) ≡ least o (operand_faults c s whole))
+operands_step ms c s o m n p f e ks whole x ts us t ht hf et en eu =
     let r = operand_types c s ks in (
-      ap (λ z. opts_of z ++ r) eu ∙ (ap (λ z. z ++ r) (opts_of-push ts t) ∙ (append_assoc (opts_of ts) (opt_ty t ∷ []) r ∙ (ap (λ z. opts_of ts ++ z ∷ r) et ∙ ht))),
+      ap (λ z. opts_of ms z ++ r) eu ∙ (ap (λ z. z ++ r) (opts_of-push ms ts t) ∙ (append_assoc (opts_of ms ts) (opt_ty ms t ∷ []) r ∙ (ap (λ z. opts_of ms ts ++ z ∷ r) et ∙ ht))),
       ap (λ z. least z (operand_faults c s ks)) en ∙ (sym (least-append m (judge c s e).faults (operand_faults c s ks)) ∙ hf),
     )
 
-pub opts_of-drop : (ts : List (Option Ty)) (i : ℕ) (t : Option Ty) → i < length ts → t ≡ get_or ts i t → opts_of (drop i ts) ≡ opt_ty t ∷ opts_of (drop (i + 1) ts)
-opts_of-drop ts i t lt is = ap opts_of (drop-cons ts i t lt ∙ (ap (λ z. z ∷ drop (suc i) ts) (sym is) ∙ ap (λ j. t ∷ drop j ts) (let z : suc i ≡ i + 1 = omega arith in z)))
+pub opts_of-drop : (ms : List Node) (ts : List (Option TypeTerm)) (i : ℕ) (t : Option TypeTerm) → i < length ts → t ≡ get_or ts i t → opts_of ms (drop i ts) ≡ opt_ty ms t ∷ opts_of ms (drop (i + 1) ts)
+opts_of-drop ms ts i t lt is = ap (opts_of ms) (drop-cons ts i t lt ∙ (ap (λ z. z ∷ drop (suc i) ts) (sym is) ∙ ap (λ j. t ∷ drop j ts) (let z : suc i ≡ i + 1 = omega arith in z)))
 
 -- one more node, from the right
-pub folded_step : (ts : List (Option Ty)) (ks : List ListLink) (i j : ℕ) (t : Option Ty) (k : ListLink) → j ≡ i + 1 → i < length ts → t ≡ get_or ts i t → i < length ks → k ≡ get_or ks i k
-    → folded (opts_of (drop i ts)) (list_links_of (drop i ks)) ≡ after (folded (opts_of (drop j ts)) (list_links_of (drop j ks))).faults (with2 (opt_ty t) (folded (opts_of (drop j ts)) (list_links_of (drop j ks))).type (λ u v. own k.pos (row_binary (cons_form k.op) u v)))
-folded_step ts ks i j t k e lt is lk ik =
-    let a : folded (opts_of (drop i ts)) (list_links_of (drop i ks)) ≡ folded (opt_ty t ∷ opts_of (drop (i + 1) ts)) (link (cons_form k.op) k.pos (ex_of k.operand) (list_links_of (drop (i + 1) ks))) =
-    ap (λ z. folded z (list_links_of (drop i ks))) (opts_of-drop ts i t lt is) ∙ ap (folded (opt_ty t ∷ opts_of (drop (i + 1) ts))) (list_links-drop ks i k lk ik) in
-    a ∙ ap (λ n. after (folded (opts_of (drop n ts)) (list_links_of (drop n ks))).faults (with2 (opt_ty t) (folded (opts_of (drop n ts)) (list_links_of (drop n ks))).type (λ u v. own k.pos (row_binary (cons_form k.op) u v)))) (sym e)
+pub folded_step : (ms : List Node) (ts : List (Option TypeTerm)) (ks : List ListLink) (i j : ℕ) (t : Option TypeTerm) (k : ListLink) → j ≡ i + 1 → i < length ts → t ≡ get_or ts i t → i < length ks → k ≡ get_or ks i k
+    → folded (opts_of ms (drop i ts)) (list_links_of (drop i ks)) ≡ after (folded (opts_of ms (drop j ts)) (list_links_of (drop j ks))).faults (with2 (opt_ty ms t) (folded (opts_of ms (drop j ts)) (list_links_of (drop j ks))).type (λ u v. own k.pos (row_binary (cons_form k.op) u v)))
+folded_step ms ts ks i j t k e lt is lk ik =
+    let a : folded (opts_of ms (drop i ts)) (list_links_of (drop i ks)) ≡ folded (opt_ty ms t ∷ opts_of ms (drop (i + 1) ts)) (link (cons_form k.op) k.pos (ex_of k.operand) (list_links_of (drop (i + 1) ks))) =
+    ap (λ z. folded z (list_links_of (drop i ks))) (opts_of-drop ms ts i t lt is) ∙ ap (folded (opt_ty ms t ∷ opts_of ms (drop (i + 1) ts))) (list_links-drop ks i k lk ik) in
+    a ∙ ap (λ n. after (folded (opts_of ms (drop n ts)) (list_links_of (drop n ks))).faults (with2 (opt_ty ms t) (folded (opts_of ms (drop n ts)) (list_links_of (drop n ks))).type (λ u v. own k.pos (row_binary (cons_form k.op) u v)))) (sym e)

@@ -1,6 +1,9 @@
 pub mod Tables
 pub mod Noted
 pub mod Chains
-pub mod Meters
 pub mod ScriptSteps
+pub mod HeadSteps
 pub mod Indexes
+pub mod Forms
+pub mod Arguments
+pub mod Earlier

@@ -1,30 +1,38 @@
 -- Faults that are noted one after another, and types that are gathered.
-use Rattle.std.proofs.Common.{◌≡◌, ℕ, ◌+◌, suc, List, Bool, true, false, cond, [], ◌∷◌, ◌++◌, length, drop, get_or, ◌<◌, Option, Some, None, refl, ap, ◌∙◌, sym, append_assoc, arith}
+use Rattle.std.proofs.Common.{◌≡◌, ℕ, ◌+◌, suc, List, true, false, cond, [], ◌∷◌, ◌++◌, length, drop, get_or, ◌<◌, Option, Some, None, refl, ap, ◌∙◌, sym, append_assoc, arith}
 use Rattle.std.proofs.lemmas.List.{append-nil}
 use Rattle.std.proofs.Math.Seq.{drop-cons}
-use Rattle.rules_trees.specs.Trees.{T, Exs, none, more, exs_of, ex_of, ty_of}
+use Rattle.rules_trees.specs.Trees.{T, exs_of, ex_of}
 use Rattle.rules_typing.specs.Typing.{Fault, count, Need, refusal, Ctx, Bound}
-use Rattle.hs_judging.specs.Judging.{joined, Found, Founds, judge, judges, parts_all, bad, needing, met}
+use Rattle.hs_judging.specs.Judging.{joined, Found, Founds, judge, judges, bad, needing, met}
 use Rattle.hs_judging.specs.Least.{least, lesser}
-use Rattle.hs_base.specs.declared.tree.ty.Ty.{Ty}
 use Rattle.hs_base.specs.declared.tree.expr.Expr.{Expr}
 use Rattle.rules_trees.proofs.Equations.{ex_rules, ty_rules, arms_rules}
-use Rattle.hs_typing.specs.Views.{tys_of, opt_tys}
-use Rattle.hs_typing.specs.Judged.{pushed, unmet, all_met, names, kept, Judged, JudgedAll}
-use Rattle.hs_typing.specs.declared.checker.Checker.{Checker}
+use Rattle.hs_type_table.specs.declared.table.Node.{Node}
+use Rattle.hs_type_table.specs.declared.ty.TypeTerm.{TypeTerm}
+use Rattle.hs_type_table.specs.Meaning.{type_in}
+use Rattle.hs_type_table.proofs.Equations.{type_rules}
+use Rattle.hs_typing.specs.Views.{tys_of, opt_ty, opt_tys, place_types}
+use Rattle.hs_typing.specs.Judged.{pushed, unmet, all_met}
 use Rattle.hs_base.specs.declared.pos.Pos.{Pos}
 
 pub least-append : (o : Option Fault) (fs gs : List Fault) → least o (fs ++ gs) ≡ least (least o fs) gs
 least-append o [] gs = refl
 least-append o (f ∷ fs) gs = least-append (Some (lesser o f)) fs gs
 
-pub tys_of-push : (ts : List Ty) (t : Ty) → tys_of (ts ++ t ∷ []) ≡ tys_of ts ++ ty_of t ∷ []
-tys_of-push [] t = refl
-tys_of-push (x ∷ ts) t = ap (λ z. ty_of x ∷ z) (tys_of-push ts t)
+pub tys_of-push : (ms : List Node) (ts : List TypeTerm) (t : TypeTerm) → tys_of ms (ts ++ t ∷ []) ≡ tys_of ms ts ++ type_in ms t ∷ []
+tys_of-push ms [] t = refl
+tys_of-push ms (x ∷ ts) t = ap (λ z. type_in ms x ∷ z) (tys_of-push ms ts t)
 
-pub tys_of-length : (ts : List Ty) → length (tys_of ts) ≡ length ts
-tys_of-length [] = refl
-tys_of-length (x ∷ ts) = ap (λ n. suc n) (tys_of-length ts)
+-- one more type that was gathered
+pub opt_tys-pushed : (ms : List Node) (o : Option (List TypeTerm)) (t : Option TypeTerm) → opt_tys ms (pushed o t) ≡ pushed (opt_tys ms o) (opt_ty ms t)
+opt_tys-pushed ms None t = refl
+opt_tys-pushed ms (Some ts) None = refl
+opt_tys-pushed ms (Some ts) (Some t) = ap Some (tys_of-push ms ts t)
+
+pub place_types-length : (ms : List Node) (is : List ℕ) → length (place_types ms is) ≡ length is
+place_types-length ms [] = refl
+place_types-length ms (x ∷ is) = ap (λ n. suc n) (place_types-length ms is)
 
 pub count-exs : (es : List Expr) → count (exs_of es) ≡ length es
 count-exs [] = refl
@@ -66,11 +74,11 @@ needing-unmet p (n ∷ ns) x h = elim (met n) as (λ b. cond b (all_met ns) fals
   | false ↦ λ k. refl
 ] h
 
-pub ruleset need_rules = (needing-met, unmet-met, needing-unmet, tys_of-length)
+pub ruleset need_rules = (needing-met, unmet-met, needing-unmet, place_types-length)
 
 pub ruleset step_rules = (least-append, count-exs, joined-pushed, joined-none)
 
-pub ruleset noted_rules = (least-append, ex_rules, arms_rules, ty_rules, tys_of-push, count-exs, joined-pushed, joined-none)
+pub ruleset noted_rules = (least-append, ex_rules, arms_rules, type_rules, opt_tys-pushed, count-exs, joined-pushed, joined-none)
 
 -- one more part of a list
 pub judged_step : (c : Ctx) (s : List Bound) (o m n : Option Fault) (es : List Expr) (e : Expr) (i : ℕ) (ts us : Option (List T)) (t : Option T) (whole : Founds)
@@ -87,12 +95,3 @@ judged_step c s o m n es e i ts us t whole lt is types faults et en eu =
       ap (λ z. all_joined z r.types) (eu ∙ ap (pushed ts) et) ∙ (joined-pushed ts (judge c s (ex_of e)).type r.types ∙ kt),
       ap (λ z. least z r.faults) en ∙ (sym (least-append m (judge c s (ex_of e)).faults r.faults) ∙ kf),
     )
-
--- all parts of a node, and then what it adds
-pub step_all : (c : Ctx) (o m n : Checker) (ts : Option (List T)) (t : Option T) (es : Exs) (k : List Bound → Option (List T) → Found)
-    → JudgedAll o m ts (judges c (names o) es) → Judged m n t (k (names m) ts) → Judged o n t (parts_all (judges c (names o) es) (k (names o)))
-step_all c o m n ts t es k a b = let x = judges c (names o) es in record {
-  scope = b.scope ∙ a.scope;
-  type = b.type ∙ (ap (λ z. (k z ts).type) a.scope ∙ ap (λ z. (k (names o) z).type) a.types);
-  faults = b.faults ∙ (ap (λ z. least z (k (names m) ts).faults) a.faults ∙ (ap (λ z. least (least (kept o) x.faults) (k z ts).faults) a.scope ∙ (ap (λ z. least (least (kept o) x.faults) (k (names o) z).faults) a.types ∙ sym (least-append (kept o) x.faults (k (names o) x.types).faults))));
-}

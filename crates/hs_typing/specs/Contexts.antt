@@ -4,4 +4,4 @@ use Rattle.hs_typing.specs.Views.{sigs_of}
 use Rattle.hs_typing.specs.declared.funs.Funs.{Funs}
 
 abbrev pub ctx_of : Funs → Ctx
-ctx_of f = record { sigs = sigs_of f.sigs; here = f.here }
+ctx_of f = record { sigs = sigs_of f.types.nodes f.sigs; here = f.here }

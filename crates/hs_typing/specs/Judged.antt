@@ -1,5 +1,5 @@
 -- What a step of the checker does.
-use Rattle.std.specs.Prelude.{◌≡◌, ℕ, List, [], ◌∷◌, ◌++◌, ◌-◌, ◌≤◌, length, drop, Bool, true, false, cond, Option, Some, None}
+use Rattle.std.specs.Prelude.{◌≡◌, List, [], ◌∷◌, ◌++◌, ◌-◌, ◌≤◌, length, drop, Bool, true, false, cond, Option, Some, None}
 use Rattle.hs_base.specs.declared.pos.Pos.{Pos}
 use Rattle.hs_base.specs.declared.tree.expr.Name.{Name}
 use Rattle.rules_trees.specs.Trees.{T, Links}
@@ -8,33 +8,36 @@ use Rattle.rules_trees.specs.Programs.{Bl}
 use Rattle.hs_judging.specs.Judging.{Found, Founds, met, operand_faults, operand_types}
 use Rattle.hs_judging.specs.JudgingActions.{judge_bl}
 use Rattle.hs_judging.specs.Least.{least}
+use Rattle.hs_type_table.specs.declared.table.Node.{Node}
 use Rattle.hs_typing.specs.Views.{scope_of, kept_of}
 use Rattle.hs_typing.specs.declared.checker.Checker.{Checker}
 
-abbrev pub names : Checker → List Bound
-names c = scope_of c.scope.items
+-- what the names of the scope are, by the table of types
+abbrev pub names : List Node → Checker → List Bound
+names ms c = scope_of ms c.scope.items
 
-abbrev pub kept : Checker → Option Fault
-kept c = kept_of c.first.fault
+-- what is kept of the broken rules
+abbrev pub kept : List Node → Checker → Option Fault
+kept ms c = kept_of ms c.first.fault
 
 -- the scope stays, these faults are noted, and this is the type
-pub record Judged (old new : Checker) (t : Option T) (x : Found) : Type 0 where
-  pub scope : names new ≡ names old
+pub record Judged (ms : List Node) (old new : Checker) (t : Option T) (x : Found) : Type 0 where
+  pub scope : names ms new ≡ names ms old
   pub type : t ≡ x.type
-  pub faults : kept new ≡ least (kept old) x.faults
+  pub faults : kept ms new ≡ least (kept ms old) x.faults
 
-pub record JudgedAll (old new : Checker) (ts : Option (List T)) (x : Founds) : Type 0 where
-  pub scope : names new ≡ names old
+pub record JudgedAll (ms : List Node) (old new : Checker) (ts : Option (List T)) (x : Founds) : Type 0 where
+  pub scope : names ms new ≡ names ms old
   pub types : ts ≡ x.types
-  pub faults : kept new ≡ least (kept old) x.faults
+  pub faults : kept ms new ≡ least (kept ms old) x.faults
 
 abbrev pub unmet1 : Pos → Need → List Fault
 unmet1 p n = cond (met n) [] (refusal p n ∷ [])
 
-pub record Needed (old new : Checker) (b : Bool) (p : Pos) (n : Need) : Type 0 where
-  pub scope : names new ≡ names old
+pub record Needed (ms : List Node) (old new : Checker) (b : Bool) (p : Pos) (n : Need) : Type 0 where
+  pub scope : names ms new ≡ names ms old
   pub is : b ≡ met n
-  pub faults : kept new ≡ least (kept old) (unmet1 p n)
+  pub faults : kept ms new ≡ least (kept ms old) (unmet1 p n)
 
 -- the faults of needs that follow one another: at most the first
 abbrev pub unmet : Pos → List Need → List Fault
@@ -45,44 +48,44 @@ abbrev pub all_met : List Need → Bool
 all_met [] = true
 all_met (n ∷ ns) = cond (met n) (all_met ns) false
 
-pub record AllNeeded (old new : Checker) (b : Bool) (p : Pos) (ns : List Need) : Type 0 where
-  pub scope : names new ≡ names old
+pub record AllNeeded (ms : List Node) (old new : Checker) (b : Bool) (p : Pos) (ns : List Need) : Type 0 where
+  pub scope : names ms new ≡ names ms old
   pub holds : b ≡ all_met ns
-  pub faults : kept new ≡ least (kept old) (unmet p ns)
+  pub faults : kept ms new ≡ least (kept ms old) (unmet p ns)
 
 -- a name was bound where it has a type
-abbrev pub BegunBy : Option T → Checker → Checker → Bool → Name → Type 0
-BegunBy None old new b x = (b ≡ false) × (names new ≡ names old) × (kept new ≡ kept old)
-BegunBy (Some t) old new b x = (b ≡ true) × (names new ≡ bound x t ∷ names old) × (kept new ≡ kept old)
+abbrev pub BegunBy : List Node → Option T → Checker → Checker → Bool → Name → Type 0
+BegunBy ms None old new b x = (b ≡ false) × (names ms new ≡ names ms old) × (kept ms new ≡ kept ms old)
+BegunBy ms (Some t) old new b x = (b ≡ true) × (names ms new ≡ bound x t ∷ names ms old) × (kept ms new ≡ kept ms old)
 
-abbrev pub Begun : Checker → Checker → Bool → Name → Option T → Type 0
-Begun old new b x t = BegunBy t old new b x
+abbrev pub Begun : List Node → Checker → Checker → Bool → Name → Option T → Type 0
+Begun ms old new b x t = BegunBy ms t old new b x
 
-abbrev pub pushed : Option (List T) → Option T → Option (List T)
+abbrev pub pushed : {A : Type 0} → Option (List A) → Option A → Option (List A)
 pushed None t = None
 pushed (Some ts) None = None
 pushed (Some ts) (Some t) = Some (ts ++ t ∷ [])
 
 -- the rule that a name after `restore` breaks was noted
-abbrev pub UnmaskedBy : Option Fault → Checker → Checker → Bool → Type 0
-UnmaskedBy None old new b = (b ≡ true) × (names new ≡ names old) × (kept new ≡ kept old)
-UnmaskedBy (Some f) old new b = (b ≡ false) × (names new ≡ names old) × (kept new ≡ least (kept old) (f ∷ []))
+abbrev pub UnmaskedBy : List Node → Option Fault → Checker → Checker → Bool → Type 0
+UnmaskedBy ms None old new b = (b ≡ true) × (names ms new ≡ names ms old) × (kept ms new ≡ kept ms old)
+UnmaskedBy ms (Some f) old new b = (b ≡ false) × (names ms new ≡ names ms old) × (kept ms new ≡ least (kept ms old) (f ∷ []))
 
-abbrev pub Unmasked : Checker → Checker → Bool → Option Fault → Type 0
-Unmasked old new b o = UnmaskedBy o old new b
+abbrev pub Unmasked : List Node → Checker → Checker → Bool → Option Fault → Type 0
+Unmasked ms old new b o = UnmaskedBy ms o old new b
 
 -- after a statement the rest of the block is judged, or nothing more is
 abbrev pub Goes : Bool → Found → Found → Option Fault → Option Fault → Type 0
 Goes true whole rest old new = (whole.type ≡ rest.type) × (least old whole.faults ≡ least new rest.faults)
 Goes false whole rest old new = (whole.type ≡ None) × (least old whole.faults ≡ new)
 
-pub record Stated (c : Ctx) (old new : Checker) (b : Bool) (st : Bl → Bl) : Type 0 where
-  pub long : length (names old) ≤ length (names new)
-  pub back : drop (length (names new) - length (names old)) (names new) ≡ names old
-  pub goes : (rest : Bl) → Goes b (judge_bl c (names old) (st rest)) (judge_bl c (names new) rest) (kept old) (kept new)
+pub record Stated (ms : List Node) (c : Ctx) (old new : Checker) (b : Bool) (st : Bl → Bl) : Type 0 where
+  pub long : length (names ms old) ≤ length (names ms new)
+  pub back : drop (length (names ms new) - length (names ms old)) (names ms new) ≡ names ms old
+  pub goes : (rest : Bl) → Goes b (judge_bl c (names ms old) (st rest)) (judge_bl c (names ms new) rest) (kept ms old) (kept ms new)
 
 -- the types of the operands were gathered
-pub record Gathered (c : Ctx) (old new : Checker) (first : Option T) (ts : List (Option T)) (ks : Links) : Type 0 where
-  pub scope : names new ≡ names old
-  pub types : ts ≡ first ∷ operand_types c (names old) ks
-  pub faults : kept new ≡ least (kept old) (operand_faults c (names old) ks)
+pub record Gathered (ms : List Node) (c : Ctx) (old new : Checker) (first : Option T) (ts : List (Option T)) (ks : Links) : Type 0 where
+  pub scope : names ms new ≡ names ms old
+  pub types : ts ≡ first ∷ operand_types c (names ms old) ks
+  pub faults : kept ms new ≡ least (kept ms old) (operand_faults c (names ms old) ks)

@@ -1,4 +1,4 @@
 pub mod Views
 pub mod Judged
 pub mod Contexts
-pub mod Measuring
+pub mod Heads

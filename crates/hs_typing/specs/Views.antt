@@ -1,19 +1,26 @@
 -- Scopes, functions and faults as the rules see them.
-use Rattle.std.specs.Prelude.{ℕ, List, [], ◌∷◌, map, Option, Some, None}
-use Rattle.hs_base.specs.declared.tree.ty.Ty.{Ty}
-use Rattle.rules_trees.specs.Trees.{T, unit, int, bool, text, thread, exn, ty_of}
+use Rattle.std.specs.Prelude.{ℕ, List, [], ◌∷◌, map, Bool, true, false, cond, Option, Some, None}
+use Rattle.std.specs.Option.{option_or}
+use Rattle.std.specs.Str.{bytes_eq}
+use Rattle.hs_type_table.specs.declared.base.Base.TheVariants as o
+use Rattle.hs_type_table.specs.declared.kind.Kind.{Kind}
+use Rattle.hs_type_table.specs.declared.kind.Kind.TheVariants as k
+use Rattle.hs_type_table.specs.declared.table.Node.{Node}
+use Rattle.hs_type_table.specs.declared.ty.TypeTerm.{TypeTerm}
+use Rattle.hs_type_table.specs.Meaning.{known, type_in}
+use Rattle.rules_trees.specs.Trees.{T, ty_of}
 use Rattle.rules_typing.specs.Typing as rule
 use Rattle.rules_typing.specs.Typing.{Sort, value, masking_name, Bound, Sig, Fault, Wanted, exactly}
 use Rattle.hs_typing.specs.declared.fault.Form.{Form}
 use Rattle.hs_typing.specs.declared.fault.Form.TheVariants as f
 use Rattle.hs_typing.specs.declared.fault.Want.{Want}
 use Rattle.hs_typing.specs.declared.fault.Want.TheVariants as w
+use Rattle.hs_typing.specs.declared.first.Asked.{Asked}
+use Rattle.hs_typing.specs.declared.first.Asked.TheVariants as a
 use Rattle.hs_typing.specs.declared.first.Broken.{Broken}
 use Rattle.hs_typing.specs.declared.first.Broken.TheVariants as b
 use Rattle.hs_typing.specs.declared.parts.Part.{Part}
 use Rattle.hs_typing.specs.declared.parts.Part.TheVariants as p
-use Rattle.hs_typing.specs.declared.entry.Base.{Base}
-use Rattle.hs_typing.specs.declared.entry.Base.TheVariants as t
 use Rattle.hs_typing.specs.declared.entry.Sorted.{Sorted}
 use Rattle.hs_typing.specs.declared.entry.Sorted.TheVariants as s
 use Rattle.hs_typing.specs.declared.entry.Entry.{Entry}
@@ -29,13 +36,25 @@ form_of f.Equal = rule.equal
 form_of f.Order = rule.order
 form_of f.Show = rule.shown
 
-abbrev pub base_of : Base → T
-base_of t.Unit = unit
-base_of t.Int = int
-base_of t.Bool = bool
-base_of t.Text = text
-base_of t.Thread = thread
-base_of t.Exn = exn
+-- whether the types of an outermost form are of a form
+abbrev pub kind_has : rule.Form → Kind → Bool
+kind_has rule.a_maybe k.Maybe = true
+kind_has rule.an_either k.Either = true
+kind_has rule.a_list k.List = true
+kind_has rule.a_pair k.Pair = true
+kind_has rule.a_cell k.Cell = true
+kind_has rule.equal (k.Base o.Int) = true
+kind_has rule.equal (k.Base o.Bool) = true
+kind_has rule.equal (k.Base o.Text) = true
+kind_has rule.equal (k.Base o.Thread) = true
+kind_has rule.equal (k.Base o.Exn) = true
+kind_has rule.order (k.Base o.Int) = true
+kind_has rule.order (k.Base o.Text) = true
+kind_has rule.shown (k.Base o.Int) = true
+kind_has rule.shown (k.Base o.Bool) = true
+kind_has rule.shown (k.Base o.Thread) = true
+kind_has rule.shown (k.Base o.Exn) = true
+kind_has _ _ = false
 
 abbrev pub part_of : Part → T → T
 part_of p.Whole t = t
@@ -47,58 +66,86 @@ abbrev pub wanted_of : Want → Wanted
 wanted_of (w.Exactly t) = exactly (ty_of t)
 wanted_of (w.Form form) = rule.of_form (form_of form)
 
-abbrev pub broken_of : Broken → Fault
-broken_of (b.Twice p) = rule.twice p
-broken_of (b.Unknown p) = rule.unknown p
-broken_of (b.Kind p) = rule.kind p
-broken_of (b.Forward p) = rule.forward p
-broken_of (b.Arity p m n) = rule.arity p m n
-broken_of (b.Mismatch p m t) = rule.mismatch p (wanted_of m) (ty_of t)
-broken_of (b.Scope p) = rule.scope p
-broken_of (b.Wide p) = rule.wide p
-broken_of (b.Large p) = rule.large p
+abbrev pub asked_of : List Node → Asked → Wanted
+asked_of ms (a.Exactly t) = exactly (type_in ms t)
+asked_of ms (a.Form form) = rule.of_form (form_of form)
 
-abbrev pub kept_of : Option Broken → Option Fault
-kept_of None = None
-kept_of (Some f) = Some (broken_of f)
+abbrev pub broken_of : List Node → Broken → Fault
+broken_of ms (b.Twice p) = rule.twice p
+broken_of ms (b.Unknown p) = rule.unknown p
+broken_of ms (b.Kind p) = rule.kind p
+broken_of ms (b.Forward p) = rule.forward p
+broken_of ms (b.Arity p m n) = rule.arity p m n
+broken_of ms (b.Mismatch p m t) = rule.mismatch p (asked_of ms m) (type_in ms t)
+broken_of ms (b.Scope p) = rule.scope p
+broken_of ms (b.Wide p) = rule.wide p
+broken_of ms (b.Large p) = rule.large p
 
-abbrev pub sort_of : Sorted → Sort
-sort_of (s.Value t) = value (ty_of t)
-sort_of s.Masking = masking_name
+abbrev pub kept_of : List Node → Option Broken → Option Fault
+kept_of ms None = None
+kept_of ms (Some f) = Some (broken_of ms f)
 
-abbrev pub bound_of : Entry → Bound
-bound_of e = record { spelling = e.text; sort = sort_of e.sort }
+-- what a name is, by the table of types
+abbrev pub sort_of : List Node → Sorted → Sort
+sort_of ms (s.Value t) = value (type_in ms t)
+sort_of ms s.Masking = masking_name
 
-abbrev pub onto : List Entry → List Bound → List Bound
-onto [] s = s
-onto (e ∷ es) s = onto es (bound_of e ∷ s)
+abbrev pub bound_of : List Node → Entry → Bound
+bound_of ms e = record { spelling = e.text; sort = sort_of ms e.sort }
+
+abbrev pub onto : List Node → List Entry → List Bound → List Bound
+onto ms [] s = s
+onto ms (e ∷ es) s = onto ms es (bound_of ms e ∷ s)
 
 -- the last one first
-abbrev pub scope_of : List Entry → List Bound
-scope_of es = onto es []
+abbrev pub scope_of : List Node → List Entry → List Bound
+scope_of ms es = onto ms es []
 
-abbrev pub tys_of : List Ty → List T
-tys_of [] = []
-tys_of (t ∷ ts) = ty_of t ∷ tys_of ts
+-- what the last of the names that are equal to this one is
+abbrev pub last_named : List Entry → List ℕ → Option Sorted
+last_named [] x = None
+last_named (e ∷ es) x = option_or (last_named es x) (cond (bytes_eq e.text x) (Some e.sort) None)
 
-abbrev pub sig_of : Fun → Sig
-sig_of f = record { spelling = f.text; acts = f.acts; params = tys_of f.params; result = ty_of f.result; place = f.place }
+abbrev pub tys_of : List Node → List TypeTerm → List T
+tys_of ms [] = []
+tys_of ms (t ∷ ts) = type_in ms t ∷ tys_of ms ts
 
-abbrev pub sigs_of : List Fun → List Sig
-sigs_of [] = []
-sigs_of (f ∷ fs) = sig_of f ∷ sigs_of fs
+-- the types at places of the table
+abbrev pub place_types : List Node → List ℕ → List T
+place_types ms [] = []
+place_types ms (i ∷ is) = known ms i ∷ place_types ms is
+
+abbrev pub sig_of : List Node → Fun → Sig
+sig_of ms f = record { spelling = f.text; acts = f.acts; params = place_types ms f.params; result = known ms f.result; place = f.place }
+
+abbrev pub sigs_of : List Node → List Fun → List Sig
+sigs_of ms [] = []
+sigs_of ms (f ∷ fs) = sig_of ms f ∷ sigs_of ms fs
+
+-- the first definition of a name
+abbrev pub first_named : List Fun → List ℕ → Option Fun
+first_named [] x = None
+first_named (f ∷ fs) x = cond (bytes_eq f.text x) (Some f) (first_named fs x)
+
+abbrev pub opt_sig : List Node → Option Fun → Option Sig
+opt_sig ms None = None
+opt_sig ms (Some f) = Some (sig_of ms f)
+
+abbrev pub opt_sort : List Node → Option Sorted → Option Sort
+opt_sort ms None = None
+opt_sort ms (Some s) = Some (sort_of ms s)
 
 abbrev pub texts_of : List Fun → List (List ℕ)
 texts_of fs = map (λ f. f.text) fs
 
-abbrev pub opt_ty : Option Ty → Option T
-opt_ty None = None
-opt_ty (Some t) = Some (ty_of t)
+abbrev pub opt_ty : List Node → Option TypeTerm → Option T
+opt_ty ms None = None
+opt_ty ms (Some t) = Some (type_in ms t)
 
-abbrev pub opt_tys : Option (List Ty) → Option (List T)
-opt_tys None = None
-opt_tys (Some ts) = Some (tys_of ts)
+abbrev pub opt_tys : List Node → Option (List TypeTerm) → Option (List T)
+opt_tys ms None = None
+opt_tys ms (Some ts) = Some (tys_of ms ts)
 
-abbrev pub opts_of : List (Option Ty) → List (Option T)
-opts_of [] = []
-opts_of (t ∷ ts) = opt_ty t ∷ opts_of ts
+abbrev pub opts_of : List Node → List (Option TypeTerm) → List (Option T)
+opts_of ms [] = []
+opts_of ms (t ∷ ts) = opt_ty ms t ∷ opts_of ms ts

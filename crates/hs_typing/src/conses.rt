@@ -7,8 +7,10 @@ ghost use Rattle.hs_typing.specs.Judged.{Judged};
 
 use crate::checker::Checker;
 use hs_base::tree::{ConsOp, ListLink};
-use hs_base::{NoMemory, Pos, Ty};
+use hs_base::{NoMemory, Pos};
 use hs_items::Items;
+use hs_type_table::table::TypeTable;
+use hs_type_table::ty::TypeTerm;
 use rules_trees::forms::BinaryForm;
 use std::alloc::Global;
 
@@ -22,7 +24,7 @@ fn joined(op: ConsOp) -> BinaryForm
     }
 }
 
-fn copied(alloc: Global, t: &Option<Ty>) -> Result<Option<Ty>, NoMemory>
+fn copied(alloc: Global, t: &Option<TypeTerm>) -> Result<Option<TypeTerm>, NoMemory>
     ensures { IfOk result (λ r. r ≡ t.now) }
 {
     match t {
@@ -35,18 +37,19 @@ impl Checker {
     fn close_link(
         &mut self,
         alloc: Global,
+        types: &TypeTable,
         p: Pos,
         o: BinaryForm,
-        a: &Option<Ty>,
-        b: Option<Ty>,
-    ) -> Result<Option<Ty>, NoMemory>
-        ensures { IfOk result (λ t. Judged self.old self.new (opt_ty t) (with2 (opt_ty a.now) (opt_ty b) (λ u v. own p (row_binary o u v)))) }
+        a: &Option<TypeTerm>,
+        b: Option<TypeTerm>,
+    ) -> Result<Option<TypeTerm>, NoMemory>
+        ensures { IfOk result (λ t. Judged types.now.nodes self.old self.new (opt_ty types.now.nodes t) (with2 (opt_ty types.now.nodes a.now) (opt_ty types.now.nodes b) (λ u v. own p (row_binary o u v)))) }
     {
         match a {
             None => Ok(None),
             Some(a) => match b {
                 None => Ok(None),
-                Some(b) => self.row_binary(alloc, p, o, a, &b),
+                Some(b) => self.row_binary(alloc, types, p, o, a, &b),
             },
         }
     }
@@ -55,18 +58,19 @@ impl Checker {
     pub fn close_conses(
         &mut self,
         alloc: Global,
-        ts: &Items<Option<Ty>>,
+        types: &TypeTable,
+        ts: &Items<Option<TypeTerm>>,
         ks: &Items<ListLink>,
-    ) -> Result<Option<Ty>, NoMemory>
+    ) -> Result<Option<TypeTerm>, NoMemory>
         requires { length ts.now ≡ 1 + length ks.now }
-        ensures { IfOk result (λ t. Judged self.old self.new (opt_ty t) (folded (opts_of ts.now) (list_links_of ks.now))) }
+        ensures { IfOk result (λ t. Judged types.now.nodes self.old self.new (opt_ty types.now.nodes t) (folded (opts_of types.now.nodes ts.now) (list_links_of ks.now))) }
     {
         let ts = ts.as_slice();
         let ks = ks.as_slice();
         let mut t = copied(alloc, &ts[ks.len()])?;
         'links: for i in (0..ks.len()).rev() {
             let k = &ks[i];
-            t = self.close_link(alloc, k.pos, joined(k.op), &ts[i], t)?;
+            t = self.close_link(alloc, types, k.pos, joined(k.op), &ts[i], t)?;
         }
         Ok(t)
     }

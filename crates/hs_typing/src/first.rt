@@ -1,12 +1,21 @@
-ghost use Rattle.std.specs.Prelude.{◌≡◌, [], ◌∷◌, ltb};
+ghost use Rattle.std.specs.Prelude.{◌≡◌, [], ◌∷◌, None};
 ghost use Rattle.rules_typing.specs.TypingFaults.{place, rank};
 ghost use Rattle.hs_judging.specs.Least.{before, least};
 ghost use Rattle.hs_typing.specs.Views.{broken_of, kept_of};
 
-use crate::fault::Want;
-use hs_base::{Pos, Ty};
+use crate::fault::Form;
+use hs_base::Pos;
+use hs_type_table::table::TypeTable;
+use hs_type_table::ty::TypeTerm;
 
-/// A broken rule.
+/// What was asked of a part: one type, or a type of a form.
+#[derive(Debug, Drop)]
+pub enum Asked {
+    Exactly(TypeTerm),
+    Form(Form),
+}
+
+/// A broken rule. Its types are the checker's: the one that is answered is written out at the end, once.
 #[derive(Debug, Drop)]
 pub enum Broken {
     Twice(Pos),
@@ -14,7 +23,7 @@ pub enum Broken {
     Kind(Pos),
     Forward(Pos),
     Arity(Pos, u32, u32),
-    Mismatch(Pos, Want, Ty),
+    Mismatch(Pos, Asked, TypeTerm),
     Scope(Pos),
     Wide(Pos),
     Large(Pos),
@@ -27,7 +36,7 @@ pub struct First {
 }
 
 fn place_of(f: &Broken) -> Pos
-    ensures { result ≡ place (broken_of f.now) }
+    ensures { result ≡ place (broken_of [] f.now) }
 {
     match f {
         Broken::Twice(p) => *p,
@@ -43,7 +52,7 @@ fn place_of(f: &Broken) -> Pos
 }
 
 fn rank_of(f: &Broken) -> u8
-    ensures { result ≡ rank (broken_of f.now) }
+    ensures { result ≡ rank (broken_of [] f.now) }
 {
     match f {
         Broken::Twice(_) => 0,
@@ -59,7 +68,7 @@ fn rank_of(f: &Broken) -> u8
 }
 
 fn comes_before(f: &Broken, g: &Broken) -> bool
-    ensures { result ≡ before (broken_of f.now) (broken_of g.now) }
+    ensures { result ≡ before (broken_of [] f.now) (broken_of [] g.now) }
 {
     let p = place_of(f);
     let q = place_of(g);
@@ -70,13 +79,15 @@ fn comes_before(f: &Broken, g: &Broken) -> bool
 
 impl First {
     pub fn new() -> First
-        ensures { kept_of result.fault ≡ None }
+        ensures { result.fault ≡ None }
     {
         First { fault: None }
     }
 
-    pub fn note(&mut self, f: Broken)
-        ensures { kept_of self.new.fault ≡ least (kept_of self.old.fault) (broken_of f ∷ []) }
+    /// Keeps a broken rule that comes before the one that is kept. (The table is for the contract, which reads the two by it.)
+    #[tactic(auto, using(crate::proofs::Earlier::before_by))]
+    pub fn note(&mut self, _types: &TypeTable, f: Broken)
+        ensures { kept_of _types.now.nodes self.new.fault ≡ least (kept_of _types.now.nodes self.old.fault) (broken_of _types.now.nodes f ∷ []) }
     {
         let earlier = match &self.fault {
             None => true,

@@ -1,17 +1,20 @@
 ghost use Rattle.std.specs.Prelude.{◌≡◌, Some, None, MatchOption, IfOk};
 ghost use Rattle.hs_index.specs.Indexing.{Indexes};
-ghost use Rattle.rules_typing.specs.Typing.{find};
-ghost use Rattle.hs_typing.specs.Views.{sig_of, sigs_of, texts_of};
+ghost use Rattle.hs_typing.specs.Views.{first_named, texts_of};
 
 use crate::entry::Fun;
+use crate::heads::Heads;
 use hs_base::{NoMemory, Txt};
 use hs_index::Index;
 use hs_items::Items;
+use hs_type_table::table::TypeTable;
 use std::alloc::Global;
 
 /// The heads of a script's definitions, and the place of the one that is judged.
 #[derive(Drop)]
 pub struct Funs {
+    /// Their types, which those of the heads are places of.
+    pub types: TypeTable,
     pub sigs: Items<Fun>,
     pub here: usize,
     /// Where the first definition of each name stands in `sigs`.
@@ -33,11 +36,13 @@ fn index_of(alloc: Global, sigs: &Items<Fun>) -> Result<Index, NoMemory>
 
 impl Funs {
     /// Before the first definition.
-    pub fn new(alloc: Global, sigs: Items<Fun>) -> Result<Funs, NoMemory>
-        ensures { IfOk result (λ funs. (funs.sigs ≡ sigs) × (funs.here ≡ 0)) }
+    pub fn new(alloc: Global, heads: Heads) -> Result<Funs, NoMemory>
+        ensures { IfOk result (λ funs. (funs.types ≡ heads.types) × (funs.sigs ≡ heads.sigs) × (funs.here ≡ 0)) }
     {
+        let Heads { types, sigs } = heads;
         let index = index_of(alloc, &sigs)?;
         Ok(Funs {
+            types,
             sigs,
             here: 0,
             index,
@@ -46,7 +51,7 @@ impl Funs {
 
     /// The first definition of a name.
     pub fn find(&self, x: &Txt) -> Option<&Fun>
-        ensures { MatchOption result (find (sigs_of self.now.sigs) x.now ≡ None) (λ f. find (sigs_of self.now.sigs) x.now ≡ Some (sig_of f.now)) }
+        ensures { MatchOption result (first_named self.now.sigs x.now ≡ None) (λ f. first_named self.now.sigs x.now ≡ Some f.now) }
     {
         match self.index.first(x) {
             None => None,

@@ -1,16 +1,22 @@
-ghost use Rattle.std.specs.Prelude.{◌≡◌, IfOk, Some, map, codes};
+ghost use Rattle.std.specs.Prelude.{◌≡◌, IfOk, Some, map, codes, length};
 ghost use Rattle.rules_trees.specs.Trees.{wr_of};
 ghost use Rattle.rules_trees.specs.Programs.{par_of, bd_of, fn_of};
 ghost use Rattle.rules_typing.specs.Typing.{find};
 ghost use Rattle.rules_typing.specs.TypingScripts.{sigs_from, sig_of_fn, param_types, result_of, is_none, is_unit, main_by};
-ghost use Rattle.rules_trees.specs.Trees.{ty_of};
-ghost use Rattle.hs_typing.specs.Views.{sig_of, sigs_of, tys_of};
+ghost use Rattle.hs_type_table.specs.Meaning.{Grows, known};
+ghost use Rattle.hs_typing.specs.Heads.{AllBelow, HeadBelow};
+ghost use Rattle.hs_typing.specs.Views.{place_types, sig_of, sigs_of};
 
 use crate::entry::Fun;
 use crate::funs::Funs;
 use hs_base::tree::{Body, Def, Param, Written};
-use hs_base::{NoMemory, Txt, Ty};
+use hs_base::{NoMemory, Txt};
 use hs_items::Items;
+use hs_type_table::base::Base;
+use hs_type_table::interner::Interner;
+use hs_type_table::kind::{Kind, kind_in};
+use hs_type_table::table::TypeTable;
+use hs_type_table::ty::TypeTerm;
 use std::alloc::Global;
 
 /// The declared type of a body.
@@ -23,22 +29,34 @@ pub fn written_of(b: &Body) -> &Written
     }
 }
 
-#[tactic(auto, using(crate::proofs::ScriptSteps::script_rules))]
-fn types_of(alloc: Global, ps: &Items<Param>) -> Result<Items<Ty>, NoMemory>
-    ensures { IfOk result (λ ts. tys_of ts ≡ param_types (map par_of ps.now)) }
-{
-    let mut ts = Items::new(alloc);
-    'params: for p in ps.as_slice() {
-        ts.add(p.ty.ty.copy(alloc)?)?;
-    }
-    Ok(ts)
+/// The heads of a script's definitions, in order, and the table of their types.
+#[derive(Drop)]
+pub struct Heads {
+    pub types: TypeTable,
+    pub sigs: Items<Fun>,
 }
 
-fn fun_of(alloc: Global, k: usize, d: &Def) -> Result<Fun, NoMemory>
-    ensures { IfOk result (λ f. sig_of f ≡ sig_of_fn k (fn_of d.now)) }
+/// The places of the parameters' types.
+fn places_of(
+    alloc: Global,
+    interner: &mut Interner,
+    ps: &Items<Param>,
+) -> Result<Items<usize>, NoMemory>
+    ensures { IfOk result (λ places. Grows interner.old.types.nodes interner.new.types.nodes × AllBelow places (length interner.new.types.nodes) × (place_types interner.new.types.nodes places ≡ param_types (map par_of ps.now))) }
 {
-    let params = types_of(alloc, &d.params)?;
-    let result = written_of(&d.body).ty.copy(alloc)?;
+    let mut places = Items::new(alloc);
+    'params: for p in ps.as_slice() {
+        let place = interner.intern(&p.ty.ty)?;
+        places.add(place)?;
+    }
+    Ok(places)
+}
+
+fn fun_of(alloc: Global, interner: &mut Interner, k: usize, d: &Def) -> Result<Fun, NoMemory>
+    ensures { IfOk result (λ f. Grows interner.old.types.nodes interner.new.types.nodes × HeadBelow f (length interner.new.types.nodes) × (sig_of interner.new.types.nodes f ≡ sig_of_fn k (fn_of d.now))) }
+{
+    let params = places_of(alloc, interner, &d.params)?;
+    let result = interner.intern(&written_of(&d.body).ty)?;
     let acts = match &d.body {
         Body::Pure(_, _) => false,
         Body::Action(_, _) => true,
@@ -53,38 +71,31 @@ fn fun_of(alloc: Global, k: usize, d: &Def) -> Result<Fun, NoMemory>
 }
 
 /// The heads of the definitions, in order.
-#[tactic(auto, using(crate::proofs::ScriptSteps::script_rules))]
-pub fn funs_of(alloc: Global, ds: &Items<Def>) -> Result<Items<Fun>, NoMemory>
-    ensures { IfOk result (λ fs. sigs_of fs ≡ sigs_from 0 (map fn_of ds.now)) }
+pub fn heads_of(alloc: Global, ds: &Items<Def>) -> Result<Heads, NoMemory>
+    ensures { IfOk result (λ h. sigs_of h.types.nodes h.sigs ≡ sigs_from 0 (map fn_of ds.now)) }
 {
-    let mut fs = Items::new(alloc);
+    let mut interner = Interner::new(alloc);
+    let mut sigs = Items::new(alloc);
     'defs: for (i, d) in ds.as_slice().iter().enumerate() {
-        fs.add(fun_of(alloc, i, d)?)?;
+        sigs.add(fun_of(alloc, &mut interner, i, d)?)?;
     }
-    Ok(fs)
+    Ok(Heads {
+        types: interner.into_types(),
+        sigs,
+    })
 }
 
-#[tactic(auto, using(rules_trees::proofs::Equations::ty_rules))]
-fn is_unit(t: &Ty) -> bool
-    ensures { result ≡ is_unit (ty_of t.now) }
+fn is_unit(types: &TypeTable, place: usize) -> bool
+    ensures { result ≡ is_unit (known types.now.nodes place) }
 {
-    match t {
-        Ty::Unit => true,
-        Ty::Int => false,
-        Ty::Bool => false,
-        Ty::Text => false,
-        Ty::Thread => false,
-        Ty::Exn => false,
-        Ty::Pair(_, _) => false,
-        Ty::Maybe(_) => false,
-        Ty::Either(_, _) => false,
-        Ty::List(_) => false,
-        Ty::Cell(_) => false,
-    }
+    matches!(
+        kind_in(types, &TypeTerm::Known(place)),
+        Kind::Base(Base::Unit)
+    )
 }
 
-fn has_no_params(f: &Fun) -> bool
-    ensures { result ≡ is_none (tys_of f.now.params) }
+fn has_no_params(_types: &TypeTable, f: &Fun) -> bool
+    ensures { result ≡ is_none (place_types _types.now.nodes f.now.params) }
 {
     match f.params.as_slice().split_first() {
         None => true,
@@ -92,20 +103,20 @@ fn has_no_params(f: &Fun) -> bool
     }
 }
 
-#[tactic(auto, using(crate::proofs::Noted::noted_rules))]
-fn is_main(f: &Fun) -> bool
-    ensures { result ≡ main_by (Some (sig_of f.now)) }
+fn is_main(types: &TypeTable, f: &Fun) -> bool
+    ensures { result ≡ main_by (Some (sig_of types.now.nodes f.now)) }
 {
-    f.acts && has_no_params(f) && is_unit(&f.result)
+    f.acts && has_no_params(types, f) && is_unit(types, f.result)
 }
 
 /// Whether there is a `main :: IO ()` without parameters.
+#[tactic(auto, using(crate::proofs::Indexes::find_sigs))]
 pub fn has_main(alloc: Global, funs: &Funs) -> Result<bool, NoMemory>
-    ensures { IfOk result (λ b. b ≡ main_by (find (sigs_of funs.now.sigs) (codes "main"))) }
+    ensures { IfOk result (λ b. b ≡ main_by (find (sigs_of funs.now.types.nodes funs.now.sigs) (codes "main"))) }
 {
     let main = Txt::of(alloc, "main")?;
     match funs.find(&main) {
         None => Ok(false),
-        Some(f) => Ok(is_main(f)),
+        Some(f) => Ok(is_main(&funs.types, f)),
     }
 }

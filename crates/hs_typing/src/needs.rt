@@ -1,54 +1,70 @@
 ghost use Rattle.std.specs.Prelude.{◌≡◌, [], ◌∷◌, IfOk, map, true};
-ghost use Rattle.rules_trees.specs.Trees.{ty_of};
+ghost use Rattle.hs_type_table.specs.Meaning.{base_of, type_in};
 ghost use Rattle.rules_typing.specs.Typing.{is, of, gives, is_each};
 ghost use Rattle.hs_judging.specs.Judging.{own, made};
-ghost use Rattle.hs_typing.specs.Views.{base_of, form_of, opt_ty, tys_of};
+ghost use Rattle.hs_typing.specs.Views.{form_of, opt_ty, place_types, tys_of};
 ghost use Rattle.hs_typing.specs.Judged.{Judged, Needed, AllNeeded};
 
 use crate::checker::Checker;
-use crate::entry::Base;
-use crate::fault::{Form, Want};
-use crate::first::Broken;
+use crate::fault::Form;
+use crate::first::{Asked, Broken};
 use crate::parts::is_form;
-use crate::widths::{is_wide, same_types};
-use hs_base::{NoMemory, Pos, Ty};
+use hs_base::{NoMemory, Pos};
+use hs_type_table::base::Base;
+use hs_type_table::sameness::same_types;
+use hs_type_table::table::TypeTable;
+use hs_type_table::ty::TypeTerm;
+use hs_type_table::widths::is_wide;
 use std::alloc::Global;
 
-#[tactic(auto, using(rules_trees::proofs::Equations::ty_rules))]
+#[tactic(auto, using(hs_type_table::proofs::Equations::type_rules))]
 impl Checker {
     /// The types are the same, or a mismatch is noted.
-    pub fn is(&mut self, alloc: Global, p: Pos, want: &Ty, got: &Ty) -> Result<bool, NoMemory>
-        ensures { IfOk result (λ b. Needed self.old self.new b p (is (ty_of want.now) (ty_of got.now))) }
+    pub fn is(
+        &mut self,
+        alloc: Global,
+        types: &TypeTable,
+        p: Pos,
+        want: &TypeTerm,
+        got: &TypeTerm,
+    ) -> Result<bool, NoMemory>
+        ensures { IfOk result (λ b. Needed types.now.nodes self.old self.new b p (is (type_in types.now.nodes want.now) (type_in types.now.nodes got.now))) }
     {
-        let same = same_types(want, got);
+        let same = same_types(types, want, got);
         if !same {
-            self.first.note(Broken::Mismatch(
-                p,
-                Want::Exactly(want.copy(alloc)?),
-                got.copy(alloc)?,
-            ));
+            let want = Asked::Exactly(want.copy(alloc)?);
+            let got = got.copy(alloc)?;
+            self.first.note(types, Broken::Mismatch(p, want, got));
         }
         Ok(same)
     }
 
     /// The type is of the form, or a mismatch is noted.
-    pub fn fits(&mut self, alloc: Global, p: Pos, form: Form, got: &Ty) -> Result<bool, NoMemory>
-        ensures { IfOk result (λ b. Needed self.old self.new b p (of (form_of form) (ty_of got.now))) }
+    pub fn fits(
+        &mut self,
+        alloc: Global,
+        types: &TypeTable,
+        p: Pos,
+        form: Form,
+        got: &TypeTerm,
+    ) -> Result<bool, NoMemory>
+        ensures { IfOk result (λ b. Needed types.now.nodes self.old self.new b p (of (form_of form) (type_in types.now.nodes got.now))) }
     {
-        let fits = is_form(form, got);
+        let fits = is_form(types, form, got);
         if !fits {
+            let got = got.copy(alloc)?;
             self.first
-                .note(Broken::Mismatch(p, Want::Form(form), got.copy(alloc)?));
+                .note(types, Broken::Mismatch(p, Asked::Form(form), got));
         }
         Ok(fits)
     }
 
     /// A type that a form makes.
-    pub fn unless_wide(&mut self, p: Pos, t: Ty) -> Option<Ty>
-        ensures { Judged self.old self.new (opt_ty result) (made p true (ty_of t)) }
+    pub fn unless_wide(&mut self, types: &TypeTable, p: Pos, t: TypeTerm) -> Option<TypeTerm>
+        ensures { Judged types.now.nodes self.old self.new (opt_ty types.now.nodes result) (made p true (type_in types.now.nodes t)) }
     {
-        if is_wide(&t) {
-            self.first.note(Broken::Wide(p));
+        if is_wide(types, &t) {
+            self.first.note(types, Broken::Wide(p));
             None
         } else {
             Some(t)
@@ -56,11 +72,18 @@ impl Checker {
     }
 
     /// The type is this one without parts, or a mismatch is noted.
-    pub fn is_base(&mut self, alloc: Global, p: Pos, want: Base, got: &Ty) -> Result<bool, NoMemory>
-        ensures { IfOk result (λ b. Needed self.old self.new b p (is (base_of want) (ty_of got.now))) }
+    pub fn is_base(
+        &mut self,
+        alloc: Global,
+        types: &TypeTable,
+        p: Pos,
+        want: Base,
+        got: &TypeTerm,
+    ) -> Result<bool, NoMemory>
+        ensures { IfOk result (λ b. Needed types.now.nodes self.old self.new b p (is (base_of want) (type_in types.now.nodes got.now))) }
     {
-        let want = want.ty();
-        let same = self.is(alloc, p, &want, got)?;
+        let want = TypeTerm::Base(want);
+        let same = self.is(alloc, types, p, &want, got)?;
         Ok(same)
     }
 
@@ -68,15 +91,16 @@ impl Checker {
     pub fn one(
         &mut self,
         alloc: Global,
+        types: &TypeTable,
         p: Pos,
         want: Base,
-        got: &Ty,
+        got: &TypeTerm,
         t: Base,
-    ) -> Result<Option<Ty>, NoMemory>
-        ensures { IfOk result (λ r. Judged self.old self.new (opt_ty r) (own p (gives (is (base_of want) (ty_of got.now) ∷ []) (base_of t)))) }
+    ) -> Result<Option<TypeTerm>, NoMemory>
+        ensures { IfOk result (λ r. Judged types.now.nodes self.old self.new (opt_ty types.now.nodes r) (own p (gives (is (base_of want) (type_in types.now.nodes got.now) ∷ []) (base_of t)))) }
     {
-        if self.is_base(alloc, p, want, got)? {
-            Ok(Some(t.ty()))
+        if self.is_base(alloc, types, p, want, got)? {
+            Ok(Some(TypeTerm::Base(t)))
         } else {
             Ok(None)
         }
@@ -86,19 +110,20 @@ impl Checker {
     pub fn both(
         &mut self,
         alloc: Global,
+        types: &TypeTable,
         p: Pos,
         want: Base,
-        a: &Ty,
-        b: &Ty,
+        a: &TypeTerm,
+        b: &TypeTerm,
         t: Base,
-    ) -> Result<Option<Ty>, NoMemory>
-        ensures { IfOk result (λ r. Judged self.old self.new (opt_ty r) (own p (gives (is (base_of want) (ty_of a.now) ∷ is (base_of want) (ty_of b.now) ∷ []) (base_of t)))) }
+    ) -> Result<Option<TypeTerm>, NoMemory>
+        ensures { IfOk result (λ r. Judged types.now.nodes self.old self.new (opt_ty types.now.nodes r) (own p (gives (is (base_of want) (type_in types.now.nodes a.now) ∷ is (base_of want) (type_in types.now.nodes b.now) ∷ []) (base_of t)))) }
     {
-        if !self.is_base(alloc, p, want, a)? {
+        if !self.is_base(alloc, types, p, want, a)? {
             return Ok(None);
         }
-        if self.is_base(alloc, p, want, b)? {
-            Ok(Some(t.ty()))
+        if self.is_base(alloc, types, p, want, b)? {
+            Ok(Some(TypeTerm::Base(t)))
         } else {
             Ok(None)
         }
@@ -108,51 +133,60 @@ impl Checker {
     pub fn alike(
         &mut self,
         alloc: Global,
+        types: &TypeTable,
         p: Pos,
         form: Form,
-        a: &Ty,
-        b: &Ty,
+        a: &TypeTerm,
+        b: &TypeTerm,
         t: Base,
-    ) -> Result<Option<Ty>, NoMemory>
-        ensures { IfOk result (λ r. Judged self.old self.new (opt_ty r) (own p (gives (of (form_of form) (ty_of a.now) ∷ is (ty_of a.now) (ty_of b.now) ∷ []) (base_of t)))) }
+    ) -> Result<Option<TypeTerm>, NoMemory>
+        ensures { IfOk result (λ r. Judged types.now.nodes self.old self.new (opt_ty types.now.nodes r) (own p (gives (of (form_of form) (type_in types.now.nodes a.now) ∷ is (type_in types.now.nodes a.now) (type_in types.now.nodes b.now) ∷ []) (base_of t)))) }
     {
-        if !self.fits(alloc, p, form, a)? {
+        if !self.fits(alloc, types, p, form, a)? {
             return Ok(None);
         }
-        if self.is(alloc, p, a, b)? {
-            Ok(Some(t.ty()))
+        if self.is(alloc, types, p, a, b)? {
+            Ok(Some(TypeTerm::Base(t)))
         } else {
             Ok(None)
         }
     }
 
     /// Each is of the type, or a mismatch is noted for the first that isn't.
-    pub fn all_are(&mut self, alloc: Global, p: Pos, t: &Ty, us: &[Ty]) -> Result<bool, NoMemory>
-        ensures { IfOk result (λ b. AllNeeded self.old self.new b p (map (is (ty_of t.now)) (tys_of us.now))) }
+    pub fn all_are(
+        &mut self,
+        alloc: Global,
+        types: &TypeTable,
+        p: Pos,
+        t: &TypeTerm,
+        us: &[TypeTerm],
+    ) -> Result<bool, NoMemory>
+        ensures { IfOk result (λ b. AllNeeded types.now.nodes self.old self.new b p (map (is (type_in types.now.nodes t.now)) (tys_of types.now.nodes us.now))) }
     {
         'each: for u in us {
-            if !self.is(alloc, p, t, u)? {
+            if !self.is(alloc, types, p, t, u)? {
                 return Ok(false);
             }
         }
         Ok(true)
     }
 
-    /// Each is of the type that the parameter has.
+    /// Each is of the type at the parameter's place.
     pub fn each_is(
         &mut self,
         alloc: Global,
+        types: &TypeTable,
         p: Pos,
-        params: &[Ty],
-        us: &[Ty],
+        params: &[usize],
+        us: &[TypeTerm],
     ) -> Result<bool, NoMemory>
-        ensures { IfOk result (λ b. AllNeeded self.old self.new b p (is_each (tys_of params.now) (tys_of us.now))) }
+        ensures { IfOk result (λ b. AllNeeded types.now.nodes self.old self.new b p (is_each (place_types types.now.nodes params.now) (tys_of types.now.nodes us.now))) }
     {
-        'each: for (i, t) in params.iter().enumerate() {
+        'each: for (i, place) in params.iter().enumerate() {
             match us.get(i) {
                 None => return Ok(true),
                 Some(u) => {
-                    if !self.is(alloc, p, t, u)? {
+                    if !self.is(alloc, types, p, &TypeTerm::Known(*place), u)? {
                         return Ok(false);
                     }
                 }

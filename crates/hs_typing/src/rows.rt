@@ -1,72 +1,95 @@
 ghost use Rattle.std.specs.Prelude.{◌≡◌, IfOk};
-ghost use Rattle.rules_trees.specs.Trees.{ty_of, wr_of};
+ghost use Rattle.rules_trees.specs.Trees.{wr_of};
+ghost use Rattle.hs_type_table.specs.Meaning.{type_in};
 ghost use Rattle.rules_typing.specs.Typing.{row_unary, row_binary, row_empty, row_side, row_choose, row_arms, row_items};
 ghost use Rattle.hs_judging.specs.Judging.{own, with1, with2, with3, with_all, written};
 ghost use Rattle.hs_typing.specs.Views.{opt_ty, opt_tys};
 ghost use Rattle.hs_typing.specs.Judged.{Judged};
 
 use crate::checker::Checker;
-use crate::entry::Base;
 use crate::fault::Form;
 use crate::first::Broken;
-use crate::parts::{either_of, first_part, list_of, maybe_of, pair_of, second_part};
-use crate::widths::is_wide;
 use hs_base::tree::Written;
-use hs_base::{NoMemory, Pos, Ty};
+use hs_base::{NoMemory, Pos};
 use hs_items::Items;
+use hs_type_table::base::Base;
+use hs_type_table::parts::{first_part, second_part};
+use hs_type_table::table::TypeTable;
+use hs_type_table::ty::{TypeTerm, either_of, list_of, maybe_of, pair_of};
+use hs_type_table::widths::is_wide_written;
+use hs_type_table::written::from_written;
 use rules_trees::forms::{BinaryForm, EmptyForm, SideForm, UnaryForm};
 use std::alloc::Global;
 
-#[tactic(auto, using(rules_trees::proofs::Equations::ty_rules))]
+#[tactic(auto, using(hs_type_table::proofs::Equations::type_rules))]
 impl Checker {
     fn row_unary(
         &mut self,
         alloc: Global,
+        types: &TypeTable,
         p: Pos,
         o: UnaryForm,
-        a: &Ty,
-    ) -> Result<Option<Ty>, NoMemory>
-        ensures { IfOk result (λ t. Judged self.old self.new (opt_ty t) (own p (row_unary o (ty_of a.now)))) }
+        a: &TypeTerm,
+    ) -> Result<Option<TypeTerm>, NoMemory>
+        ensures { IfOk result (λ t. Judged types.now.nodes self.old self.new (opt_ty types.now.nodes t) (own p (row_unary o (type_in types.now.nodes a.now)))) }
     {
         match o {
             UnaryForm::Just => {
                 let t = maybe_of(alloc, a)?;
-                Ok(self.unless_wide(p, t))
+                Ok(self.unless_wide(types, p, t))
             }
-            UnaryForm::ErrorCall => self.one(alloc, p, Base::Text, a, Base::Exn),
-            UnaryForm::Not => self.one(alloc, p, Base::Bool, a, Base::Bool),
-            UnaryForm::Fst => self.row_first(alloc, p, a),
-            UnaryForm::Snd => self.row_second(alloc, p, a),
-            UnaryForm::Show => self.row_show(alloc, p, a),
-            UnaryForm::Negate => self.one(alloc, p, Base::Int, a, Base::Int),
+            UnaryForm::ErrorCall => self.one(alloc, types, p, Base::Text, a, Base::Exn),
+            UnaryForm::Not => self.one(alloc, types, p, Base::Bool, a, Base::Bool),
+            UnaryForm::Fst => self.row_first(alloc, types, p, a),
+            UnaryForm::Snd => self.row_second(alloc, types, p, a),
+            UnaryForm::Show => self.row_show(alloc, types, p, a),
+            UnaryForm::Negate => self.one(alloc, types, p, Base::Int, a, Base::Int),
         }
     }
 
-    fn row_first(&mut self, alloc: Global, p: Pos, a: &Ty) -> Result<Option<Ty>, NoMemory>
-        ensures { IfOk result (λ t. Judged self.old self.new (opt_ty t) (own p (row_unary UnaryForm.Fst (ty_of a.now)))) }
+    fn row_first(
+        &mut self,
+        alloc: Global,
+        types: &TypeTable,
+        p: Pos,
+        a: &TypeTerm,
+    ) -> Result<Option<TypeTerm>, NoMemory>
+        ensures { IfOk result (λ t. Judged types.now.nodes self.old self.new (opt_ty types.now.nodes t) (own p (row_unary UnaryForm.Fst (type_in types.now.nodes a.now)))) }
     {
-        if self.fits(alloc, p, Form::Pair, a)? {
-            Ok(Some(first_part(alloc, a)?))
+        if self.fits(alloc, types, p, Form::Pair, a)? {
+            Ok(Some(first_part(alloc, types, a)?))
         } else {
             Ok(None)
         }
     }
 
-    fn row_second(&mut self, alloc: Global, p: Pos, a: &Ty) -> Result<Option<Ty>, NoMemory>
-        ensures { IfOk result (λ t. Judged self.old self.new (opt_ty t) (own p (row_unary UnaryForm.Snd (ty_of a.now)))) }
+    fn row_second(
+        &mut self,
+        alloc: Global,
+        types: &TypeTable,
+        p: Pos,
+        a: &TypeTerm,
+    ) -> Result<Option<TypeTerm>, NoMemory>
+        ensures { IfOk result (λ t. Judged types.now.nodes self.old self.new (opt_ty types.now.nodes t) (own p (row_unary UnaryForm.Snd (type_in types.now.nodes a.now)))) }
     {
-        if self.fits(alloc, p, Form::Pair, a)? {
-            Ok(Some(second_part(alloc, a)?))
+        if self.fits(alloc, types, p, Form::Pair, a)? {
+            Ok(Some(second_part(alloc, types, a)?))
         } else {
             Ok(None)
         }
     }
 
-    fn row_show(&mut self, alloc: Global, p: Pos, a: &Ty) -> Result<Option<Ty>, NoMemory>
-        ensures { IfOk result (λ t. Judged self.old self.new (opt_ty t) (own p (row_unary UnaryForm.Show (ty_of a.now)))) }
+    fn row_show(
+        &mut self,
+        alloc: Global,
+        types: &TypeTable,
+        p: Pos,
+        a: &TypeTerm,
+    ) -> Result<Option<TypeTerm>, NoMemory>
+        ensures { IfOk result (λ t. Judged types.now.nodes self.old self.new (opt_ty types.now.nodes t) (own p (row_unary UnaryForm.Show (type_in types.now.nodes a.now)))) }
     {
-        if self.fits(alloc, p, Form::Show, a)? {
-            Ok(Some(Ty::Text))
+        if self.fits(alloc, types, p, Form::Show, a)? {
+            Ok(Some(TypeTerm::Base(Base::Text)))
         } else {
             Ok(None)
         }
@@ -75,41 +98,49 @@ impl Checker {
     pub fn row_binary(
         &mut self,
         alloc: Global,
+        types: &TypeTable,
         p: Pos,
         o: BinaryForm,
-        a: &Ty,
-        b: &Ty,
-    ) -> Result<Option<Ty>, NoMemory>
-        ensures { IfOk result (λ t. Judged self.old self.new (opt_ty t) (own p (row_binary o (ty_of a.now) (ty_of b.now)))) }
+        a: &TypeTerm,
+        b: &TypeTerm,
+    ) -> Result<Option<TypeTerm>, NoMemory>
+        ensures { IfOk result (λ t. Judged types.now.nodes self.old self.new (opt_ty types.now.nodes t) (own p (row_binary o (type_in types.now.nodes a.now) (type_in types.now.nodes b.now)))) }
     {
         match o {
             BinaryForm::Pair => {
                 let t = pair_of(alloc, a, b)?;
-                Ok(self.unless_wide(p, t))
+                Ok(self.unless_wide(types, p, t))
             }
-            BinaryForm::Div => self.both(alloc, p, Base::Int, a, b, Base::Int),
-            BinaryForm::Mod => self.both(alloc, p, Base::Int, a, b, Base::Int),
-            BinaryForm::Equal => self.alike(alloc, p, Form::Equal, a, b, Base::Bool),
-            BinaryForm::Unequal => self.alike(alloc, p, Form::Equal, a, b, Base::Bool),
-            BinaryForm::Less => self.alike(alloc, p, Form::Order, a, b, Base::Bool),
-            BinaryForm::AtMost => self.alike(alloc, p, Form::Order, a, b, Base::Bool),
-            BinaryForm::Greater => self.alike(alloc, p, Form::Order, a, b, Base::Bool),
-            BinaryForm::AtLeast => self.alike(alloc, p, Form::Order, a, b, Base::Bool),
-            BinaryForm::Or => self.both(alloc, p, Base::Bool, a, b, Base::Bool),
-            BinaryForm::And => self.both(alloc, p, Base::Bool, a, b, Base::Bool),
-            BinaryForm::Plus => self.both(alloc, p, Base::Int, a, b, Base::Int),
-            BinaryForm::Minus => self.both(alloc, p, Base::Int, a, b, Base::Int),
-            BinaryForm::Times => self.both(alloc, p, Base::Int, a, b, Base::Int),
-            BinaryForm::Cons => self.row_cons(alloc, p, a, b),
-            BinaryForm::Append => self.both(alloc, p, Base::Text, a, b, Base::Text),
+            BinaryForm::Div => self.both(alloc, types, p, Base::Int, a, b, Base::Int),
+            BinaryForm::Mod => self.both(alloc, types, p, Base::Int, a, b, Base::Int),
+            BinaryForm::Equal => self.alike(alloc, types, p, Form::Equal, a, b, Base::Bool),
+            BinaryForm::Unequal => self.alike(alloc, types, p, Form::Equal, a, b, Base::Bool),
+            BinaryForm::Less => self.alike(alloc, types, p, Form::Order, a, b, Base::Bool),
+            BinaryForm::AtMost => self.alike(alloc, types, p, Form::Order, a, b, Base::Bool),
+            BinaryForm::Greater => self.alike(alloc, types, p, Form::Order, a, b, Base::Bool),
+            BinaryForm::AtLeast => self.alike(alloc, types, p, Form::Order, a, b, Base::Bool),
+            BinaryForm::Or => self.both(alloc, types, p, Base::Bool, a, b, Base::Bool),
+            BinaryForm::And => self.both(alloc, types, p, Base::Bool, a, b, Base::Bool),
+            BinaryForm::Plus => self.both(alloc, types, p, Base::Int, a, b, Base::Int),
+            BinaryForm::Minus => self.both(alloc, types, p, Base::Int, a, b, Base::Int),
+            BinaryForm::Times => self.both(alloc, types, p, Base::Int, a, b, Base::Int),
+            BinaryForm::Cons => self.row_cons(alloc, types, p, a, b),
+            BinaryForm::Append => self.both(alloc, types, p, Base::Text, a, b, Base::Text),
         }
     }
 
-    fn row_cons(&mut self, alloc: Global, p: Pos, a: &Ty, b: &Ty) -> Result<Option<Ty>, NoMemory>
-        ensures { IfOk result (λ t. Judged self.old self.new (opt_ty t) (own p (row_binary BinaryForm.Cons (ty_of a.now) (ty_of b.now)))) }
+    fn row_cons(
+        &mut self,
+        alloc: Global,
+        types: &TypeTable,
+        p: Pos,
+        a: &TypeTerm,
+        b: &TypeTerm,
+    ) -> Result<Option<TypeTerm>, NoMemory>
+        ensures { IfOk result (λ t. Judged types.now.nodes self.old self.new (opt_ty types.now.nodes t) (own p (row_binary BinaryForm.Cons (type_in types.now.nodes a.now) (type_in types.now.nodes b.now)))) }
     {
         let t = list_of(alloc, a)?;
-        if self.is(alloc, p, &t, b)? {
+        if self.is(alloc, types, p, &t, b)? {
             Ok(Some(t))
         } else {
             Ok(None)
@@ -119,27 +150,35 @@ impl Checker {
     fn row_choose(
         &mut self,
         alloc: Global,
+        types: &TypeTable,
         p: Pos,
-        c: &Ty,
-        a: &Ty,
-        b: &Ty,
-    ) -> Result<Option<Ty>, NoMemory>
-        ensures { IfOk result (λ t. Judged self.old self.new (opt_ty t) (own p (row_choose (ty_of c.now) (ty_of a.now) (ty_of b.now)))) }
+        c: &TypeTerm,
+        a: &TypeTerm,
+        b: &TypeTerm,
+    ) -> Result<Option<TypeTerm>, NoMemory>
+        ensures { IfOk result (λ t. Judged types.now.nodes self.old self.new (opt_ty types.now.nodes t) (own p (row_choose (type_in types.now.nodes c.now) (type_in types.now.nodes a.now) (type_in types.now.nodes b.now)))) }
     {
-        if !self.is_base(alloc, p, Base::Bool, c)? {
+        if !self.is_base(alloc, types, p, Base::Bool, c)? {
             return Ok(None);
         }
-        if self.is(alloc, p, a, b)? {
+        if self.is(alloc, types, p, a, b)? {
             Ok(Some(a.copy(alloc)?))
         } else {
             Ok(None)
         }
     }
 
-    fn row_arms(&mut self, alloc: Global, p: Pos, a: &Ty, b: &Ty) -> Result<Option<Ty>, NoMemory>
-        ensures { IfOk result (λ t. Judged self.old self.new (opt_ty t) (own p (row_arms (ty_of a.now) (ty_of b.now)))) }
+    fn row_arms(
+        &mut self,
+        alloc: Global,
+        types: &TypeTable,
+        p: Pos,
+        a: &TypeTerm,
+        b: &TypeTerm,
+    ) -> Result<Option<TypeTerm>, NoMemory>
+        ensures { IfOk result (λ t. Judged types.now.nodes self.old self.new (opt_ty types.now.nodes t) (own p (row_arms (type_in types.now.nodes a.now) (type_in types.now.nodes b.now)))) }
     {
-        if self.is(alloc, p, a, b)? {
+        if self.is(alloc, types, p, a, b)? {
             Ok(Some(a.copy(alloc)?))
         } else {
             Ok(None)
@@ -149,20 +188,21 @@ impl Checker {
     fn row_empty(
         &mut self,
         alloc: Global,
+        types: &TypeTable,
         p: Pos,
         o: EmptyForm,
-        t: &Ty,
-    ) -> Result<Option<Ty>, NoMemory>
-        ensures { IfOk result (λ r. Judged self.old self.new (opt_ty r) (own p (row_empty o (ty_of t.now)))) }
+        t: &TypeTerm,
+    ) -> Result<Option<TypeTerm>, NoMemory>
+        ensures { IfOk result (λ r. Judged types.now.nodes self.old self.new (opt_ty types.now.nodes r) (own p (row_empty o (type_in types.now.nodes t.now)))) }
     {
         match o {
             EmptyForm::Nothing => {
                 let made = maybe_of(alloc, t)?;
-                Ok(self.unless_wide(p, made))
+                Ok(self.unless_wide(types, p, made))
             }
             EmptyForm::EmptyList => {
                 let made = list_of(alloc, t)?;
-                Ok(self.unless_wide(p, made))
+                Ok(self.unless_wide(types, p, made))
             }
         }
     }
@@ -170,66 +210,74 @@ impl Checker {
     fn row_side(
         &mut self,
         alloc: Global,
+        types: &TypeTable,
         p: Pos,
         o: SideForm,
-        s: &Ty,
-        t: &Ty,
-        a: &Ty,
-    ) -> Result<Option<Ty>, NoMemory>
-        ensures { IfOk result (λ r. Judged self.old self.new (opt_ty r) (own p (row_side o (ty_of s.now) (ty_of t.now) (ty_of a.now)))) }
+        s: &TypeTerm,
+        t: &TypeTerm,
+        a: &TypeTerm,
+    ) -> Result<Option<TypeTerm>, NoMemory>
+        ensures { IfOk result (λ r. Judged types.now.nodes self.old self.new (opt_ty types.now.nodes r) (own p (row_side o (type_in types.now.nodes s.now) (type_in types.now.nodes t.now) (type_in types.now.nodes a.now)))) }
     {
         let part = match o {
             SideForm::Left => s,
             SideForm::Right => t,
         };
-        if !self.is(alloc, p, part, a)? {
+        if !self.is(alloc, types, p, part, a)? {
             return Ok(None);
         }
         let made = either_of(alloc, s, t)?;
-        Ok(self.unless_wide(p, made))
+        Ok(self.unless_wide(types, p, made))
     }
 
     /// A written type, where it isn't too wide.
-    pub fn written(&mut self, alloc: Global, w: &Written) -> Result<Option<Ty>, NoMemory>
-        ensures { IfOk result (λ t. Judged self.old self.new (opt_ty t) (written (wr_of w.now))) }
+    pub fn written(
+        &mut self,
+        alloc: Global,
+        types: &TypeTable,
+        w: &Written,
+    ) -> Result<Option<TypeTerm>, NoMemory>
+        ensures { IfOk result (λ t. Judged types.now.nodes self.old self.new (opt_ty types.now.nodes t) (written (wr_of w.now))) }
     {
-        if is_wide(&w.ty) {
-            self.first.note(Broken::Wide(w.pos));
+        if is_wide_written(&w.ty) {
+            self.first.note(types, Broken::Wide(w.pos));
             return Ok(None);
         }
-        Ok(Some(w.ty.copy(alloc)?))
+        Ok(Some(from_written(alloc, &w.ty)?))
     }
 
     pub fn close_unary(
         &mut self,
         alloc: Global,
+        types: &TypeTable,
         p: Pos,
         o: UnaryForm,
-        a: Option<Ty>,
-    ) -> Result<Option<Ty>, NoMemory>
-        ensures { IfOk result (λ t. Judged self.old self.new (opt_ty t) (with1 (opt_ty a) (λ u. own p (row_unary o u)))) }
+        a: Option<TypeTerm>,
+    ) -> Result<Option<TypeTerm>, NoMemory>
+        ensures { IfOk result (λ t. Judged types.now.nodes self.old self.new (opt_ty types.now.nodes t) (with1 (opt_ty types.now.nodes a) (λ u. own p (row_unary o u)))) }
     {
         match a {
             None => Ok(None),
-            Some(a) => self.row_unary(alloc, p, o, &a),
+            Some(a) => self.row_unary(alloc, types, p, o, &a),
         }
     }
 
     pub fn close_binary(
         &mut self,
         alloc: Global,
+        types: &TypeTable,
         p: Pos,
         o: BinaryForm,
-        a: Option<Ty>,
-        b: Option<Ty>,
-    ) -> Result<Option<Ty>, NoMemory>
-        ensures { IfOk result (λ t. Judged self.old self.new (opt_ty t) (with2 (opt_ty a) (opt_ty b) (λ u v. own p (row_binary o u v)))) }
+        a: Option<TypeTerm>,
+        b: Option<TypeTerm>,
+    ) -> Result<Option<TypeTerm>, NoMemory>
+        ensures { IfOk result (λ t. Judged types.now.nodes self.old self.new (opt_ty types.now.nodes t) (with2 (opt_ty types.now.nodes a) (opt_ty types.now.nodes b) (λ u v. own p (row_binary o u v)))) }
     {
         match a {
             None => Ok(None),
             Some(a) => match b {
                 None => Ok(None),
-                Some(b) => self.row_binary(alloc, p, o, &a, &b),
+                Some(b) => self.row_binary(alloc, types, p, o, &a, &b),
             },
         }
     }
@@ -237,12 +285,13 @@ impl Checker {
     pub fn close_choose(
         &mut self,
         alloc: Global,
+        types: &TypeTable,
         p: Pos,
-        c: Option<Ty>,
-        a: Option<Ty>,
-        b: Option<Ty>,
-    ) -> Result<Option<Ty>, NoMemory>
-        ensures { IfOk result (λ t. Judged self.old self.new (opt_ty t) (with3 (opt_ty c) (opt_ty a) (opt_ty b) (λ u v w. own p (row_choose u v w)))) }
+        c: Option<TypeTerm>,
+        a: Option<TypeTerm>,
+        b: Option<TypeTerm>,
+    ) -> Result<Option<TypeTerm>, NoMemory>
+        ensures { IfOk result (λ t. Judged types.now.nodes self.old self.new (opt_ty types.now.nodes t) (with3 (opt_ty types.now.nodes c) (opt_ty types.now.nodes a) (opt_ty types.now.nodes b) (λ u v w. own p (row_choose u v w)))) }
     {
         match c {
             None => Ok(None),
@@ -250,7 +299,7 @@ impl Checker {
                 None => Ok(None),
                 Some(a) => match b {
                     None => Ok(None),
-                    Some(b) => self.row_choose(alloc, p, &c, &a, &b),
+                    Some(b) => self.row_choose(alloc, types, p, &c, &a, &b),
                 },
             },
         }
@@ -259,17 +308,18 @@ impl Checker {
     pub fn close_arms(
         &mut self,
         alloc: Global,
+        types: &TypeTable,
         p: Pos,
-        a: Option<Ty>,
-        b: Option<Ty>,
-    ) -> Result<Option<Ty>, NoMemory>
-        ensures { IfOk result (λ t. Judged self.old self.new (opt_ty t) (with2 (opt_ty a) (opt_ty b) (λ u v. own p (row_arms u v)))) }
+        a: Option<TypeTerm>,
+        b: Option<TypeTerm>,
+    ) -> Result<Option<TypeTerm>, NoMemory>
+        ensures { IfOk result (λ t. Judged types.now.nodes self.old self.new (opt_ty types.now.nodes t) (with2 (opt_ty types.now.nodes a) (opt_ty types.now.nodes b) (λ u v. own p (row_arms u v)))) }
     {
         match a {
             None => Ok(None),
             Some(a) => match b {
                 None => Ok(None),
-                Some(b) => self.row_arms(alloc, p, &a, &b),
+                Some(b) => self.row_arms(alloc, types, p, &a, &b),
             },
         }
     }
@@ -277,28 +327,30 @@ impl Checker {
     pub fn close_empty(
         &mut self,
         alloc: Global,
+        types: &TypeTable,
         p: Pos,
         o: EmptyForm,
-        t: Option<Ty>,
-    ) -> Result<Option<Ty>, NoMemory>
-        ensures { IfOk result (λ r. Judged self.old self.new (opt_ty r) (with1 (opt_ty t) (λ u. own p (row_empty o u)))) }
+        t: Option<TypeTerm>,
+    ) -> Result<Option<TypeTerm>, NoMemory>
+        ensures { IfOk result (λ r. Judged types.now.nodes self.old self.new (opt_ty types.now.nodes r) (with1 (opt_ty types.now.nodes t) (λ u. own p (row_empty o u)))) }
     {
         match t {
             None => Ok(None),
-            Some(t) => self.row_empty(alloc, p, o, &t),
+            Some(t) => self.row_empty(alloc, types, p, o, &t),
         }
     }
 
     pub fn close_side(
         &mut self,
         alloc: Global,
+        types: &TypeTable,
         p: Pos,
         o: SideForm,
-        s: Option<Ty>,
-        t: Option<Ty>,
-        a: Option<Ty>,
-    ) -> Result<Option<Ty>, NoMemory>
-        ensures { IfOk result (λ r. Judged self.old self.new (opt_ty r) (with3 (opt_ty s) (opt_ty t) (opt_ty a) (λ u v w. own p (row_side o u v w)))) }
+        s: Option<TypeTerm>,
+        t: Option<TypeTerm>,
+        a: Option<TypeTerm>,
+    ) -> Result<Option<TypeTerm>, NoMemory>
+        ensures { IfOk result (λ r. Judged types.now.nodes self.old self.new (opt_ty types.now.nodes r) (with3 (opt_ty types.now.nodes s) (opt_ty types.now.nodes t) (opt_ty types.now.nodes a) (λ u v w. own p (row_side o u v w)))) }
     {
         match s {
             None => Ok(None),
@@ -306,33 +358,34 @@ impl Checker {
                 None => Ok(None),
                 Some(t) => match a {
                     None => Ok(None),
-                    Some(a) => self.row_side(alloc, p, o, &s, &t, &a),
+                    Some(a) => self.row_side(alloc, types, p, o, &s, &t, &a),
                 },
             },
         }
     }
 
-    #[tactic(auto, using(rules_trees::proofs::Equations::ty_rules, crate::proofs::Noted::need_rules))]
+    #[tactic(auto, using(hs_type_table::proofs::Equations::type_rules, crate::proofs::Noted::need_rules))]
     pub fn close_items(
         &mut self,
         alloc: Global,
+        types: &TypeTable,
         p: Pos,
-        ts: Option<Items<Ty>>,
-    ) -> Result<Option<Ty>, NoMemory>
-        ensures { IfOk result (λ t. Judged self.old self.new (opt_ty t) (with_all (opt_tys ts) (λ us. own p (row_items us)))) }
+        ts: Option<Items<TypeTerm>>,
+    ) -> Result<Option<TypeTerm>, NoMemory>
+        ensures { IfOk result (λ t. Judged types.now.nodes self.old self.new (opt_ty types.now.nodes t) (with_all (opt_tys types.now.nodes ts) (λ us. own p (row_items us)))) }
     {
         match ts {
             None => Ok(None),
             Some(us) => {
                 match us.as_slice().split_first() {
                     None => {
-                        let t = list_of(alloc, &Ty::Unit)?;
-                        Ok(self.unless_wide(p, t))
+                        let t = list_of(alloc, &TypeTerm::Base(Base::Unit))?;
+                        Ok(self.unless_wide(types, p, t))
                     }
                     Some((first, rest)) => {
-                        if self.all_are(alloc, p, first, rest)? {
+                        if self.all_are(alloc, types, p, first, rest)? {
                             let t = list_of(alloc, first)?;
-                            Ok(self.unless_wide(p, t))
+                            Ok(self.unless_wide(types, p, t))
                         } else {
                             Ok(None)
                         }

@@ -1,5 +1,5 @@
 ghost use Rattle.std.specs.Prelude.{◌≡◌, ◌∷◌, IfOk, OnOk, drop};
-ghost use Rattle.rules_trees.specs.Trees.{ty_of};
+ghost use Rattle.hs_type_table.specs.Meaning.{type_in};
 ghost use Rattle.rules_typing.specs.Typing.{bound, masked};
 ghost use Rattle.hs_judging.specs.Judging.{full, scope_faults, unless};
 ghost use Rattle.hs_judging.specs.Least.{least};
@@ -10,19 +10,31 @@ use crate::checker::Checker;
 use crate::entry::{Entry, Sorted};
 use crate::first::Broken;
 use crate::parts::{Part, that_part};
+use hs_base::NoMemory;
 use hs_base::tree::Name;
-use hs_base::{NoMemory, Ty};
+use hs_type_table::table::TypeTable;
+use hs_type_table::ty::TypeTerm;
 use std::alloc::Global;
 
+// A contract reads the scope by the table of types: so each method is given it, and those too whose code doesn't look at it.
+#[tactic(auto, using(crate::proofs::Tables::table_rules))]
 impl Checker {
-    pub fn is_full(&self) -> bool
-        ensures { result ≡ full (names self.now) }
+    /// Whether the scope takes no more names.
+    pub fn is_full(&self, _types: &TypeTable) -> bool
+        ensures { result ≡ full (names _types.now.nodes self.now) }
     {
         self.scope.len() > 63
     }
 
-    pub fn bind(&mut self, alloc: Global, x: &Name, t: Ty) -> Result<(), NoMemory>
-        ensures { OnOk result ((names self.new ≡ bound x.now (ty_of t) ∷ names self.old) × (kept self.new ≡ kept self.old)) }
+    /// Binds a name to a type.
+    pub fn bind(
+        &mut self,
+        alloc: Global,
+        _types: &TypeTable,
+        x: &Name,
+        t: TypeTerm,
+    ) -> Result<(), NoMemory>
+        ensures { OnOk result ((names _types.now.nodes self.new ≡ bound x.now (type_in _types.now.nodes t) ∷ names _types.now.nodes self.old) × (kept _types.now.nodes self.new ≡ kept _types.now.nodes self.old)) }
     {
         self.scope.push(Entry {
             text: x.text.copy(alloc)?,
@@ -34,18 +46,20 @@ impl Checker {
     pub fn bind_part(
         &mut self,
         alloc: Global,
+        types: &TypeTable,
         x: &Name,
         which: Part,
-        t: &Ty,
+        t: &TypeTerm,
     ) -> Result<(), NoMemory>
-        ensures { OnOk result ((names self.new ≡ bound x.now (part_of which (ty_of t.now)) ∷ names self.old) × (kept self.new ≡ kept self.old)) }
+        ensures { OnOk result ((names types.now.nodes self.new ≡ bound x.now (part_of which (type_in types.now.nodes t.now)) ∷ names types.now.nodes self.old) × (kept types.now.nodes self.new ≡ kept types.now.nodes self.old)) }
     {
-        let t = that_part(alloc, which, t)?;
-        self.bind(alloc, x, t)
+        let t = that_part(alloc, types, which, t)?;
+        self.bind(alloc, types, x, t)
     }
 
-    pub fn bind_mask(&mut self, alloc: Global, x: &Name) -> Result<(), NoMemory>
-        ensures { OnOk result ((names self.new ≡ masked x.now ∷ names self.old) × (kept self.new ≡ kept self.old)) }
+    /// Binds a masking name.
+    pub fn bind_mask(&mut self, alloc: Global, _types: &TypeTable, x: &Name) -> Result<(), NoMemory>
+        ensures { OnOk result ((names _types.now.nodes self.new ≡ masked x.now ∷ names _types.now.nodes self.old) × (kept _types.now.nodes self.new ≡ kept _types.now.nodes self.old)) }
     {
         self.scope.push(Entry {
             text: x.text.copy(alloc)?,
@@ -54,32 +68,39 @@ impl Checker {
     }
 
     /// Notes where the scope takes no more names.
-    pub fn check_room(&mut self, x: &Name)
-        ensures { (names self.new ≡ names self.old) × (kept self.new ≡ least (kept self.old) (scope_faults (names self.old) x.now)) }
+    pub fn check_room(&mut self, types: &TypeTable, x: &Name)
+        ensures { (names types.now.nodes self.new ≡ names types.now.nodes self.old) × (kept types.now.nodes self.new ≡ least (kept types.now.nodes self.old) (scope_faults (names types.now.nodes self.old) x.now)) }
     {
-        if self.is_full() {
-            self.first.note(Broken::Scope(x.pos));
+        if self.is_full(types) {
+            self.first.note(types, Broken::Scope(x.pos));
         }
     }
 
     /// Binds the name where it has a type and the scope takes one more.
-    pub fn begin(&mut self, alloc: Global, x: &Name, t: Option<Ty>) -> Result<bool, NoMemory>
-        ensures { IfOk result (λ b. Begun self.old self.new b x.now (unless (full (names self.old)) (opt_ty t))) }
+    pub fn begin(
+        &mut self,
+        alloc: Global,
+        types: &TypeTable,
+        x: &Name,
+        t: Option<TypeTerm>,
+    ) -> Result<bool, NoMemory>
+        ensures { IfOk result (λ b. Begun types.now.nodes self.old self.new b x.now (unless (full (names types.now.nodes self.old)) (opt_ty types.now.nodes t))) }
     {
-        if self.is_full() {
+        if self.is_full(types) {
             return Ok(false);
         }
         match t {
             None => Ok(false),
             Some(t) => {
-                self.bind(alloc, x, t)?;
+                self.bind(alloc, types, x, t)?;
                 Ok(true)
             }
         }
     }
 
-    pub fn unbind(&mut self)
-        ensures { (names self.new ≡ drop 1 (names self.old)) × (kept self.new ≡ kept self.old) }
+    /// Takes the last name off.
+    pub fn unbind(&mut self, _types: &TypeTable)
+        ensures { (names _types.now.nodes self.new ≡ drop 1 (names _types.now.nodes self.old)) × (kept _types.now.nodes self.new ≡ kept _types.now.nodes self.old) }
     {
         self.scope.pop();
     }

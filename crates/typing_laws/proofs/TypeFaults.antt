@@ -1,5 +1,5 @@
 -- What the checker answers stands for one broken rule: the answer is fixed by the rule.
-use Rattle.std.proofs.Common.{◌≡◌, ◌≢◌, List, refl, sym, ap, ◌∙◌, subst, ◌⊎◌, inl, inr, true, false}
+use Rattle.std.proofs.Common.{◌≡◌, ◌≢◌, List, Some, refl, sym, ap, ◌∙◌, subst, ◌⊎◌, inl, inr, true, false}
 use Rattle.hs_base.specs.declared.tree.script.Script.{Script}
 use Rattle.hs_base.specs.declared.tree.ty.Ty.{Ty}
 use Rattle.hs_base.specs.declared.tree.ty.Ty.TheVariants as t
@@ -19,13 +19,11 @@ use Rattle.hs_typing.specs.declared.fault.Want.{Want}
 use Rattle.hs_typing.specs.declared.fault.Want.TheVariants as w
 use Rattle.hs_typing.specs.declared.fault.TypeFault.{TypeFault}
 use Rattle.hs_typing.specs.declared.fault.TypeFault.TheVariants as x
-use Rattle.hs_typing.specs.declared.first.Broken.{Broken}
-use Rattle.hs_typing.specs.declared.first.Broken.TheVariants as b
-use Rattle.hs_typing.specs.Views.{form_of, wanted_of, broken_of}
+use Rattle.hs_typing.specs.Views.{form_of, wanted_of}
 use Rattle.hs_types.specs.declared.answer.Answer.{Answer}
 use Rattle.hs_types.specs.declared.answer.Answer.TheVariants as a
 use Rattle.hs_types.specs.Answers.{IsAnswer}
-use Rattle.hs_types.specs.Faults.{Refused}
+use Rattle.hs_types.specs.Faults.{Refused, told}
 use Rattle.typing_laws.specs.Positions.{AreInOrder}
 use Rattle.typing_laws.proofs.Broken.{one_first}
 
@@ -92,31 +90,6 @@ want_comes : (c : Want) → want_back (wanted_of c) ≡ c
 want_comes (w.Exactly c) = ap w.Exactly (ty_comes c)
 want_comes (w.Form c) = ap w.Form (form_comes c)
 
-abbrev broken_back : Fault → Broken
-broken_back (twice p) = b.Twice p
-broken_back (unknown p) = b.Unknown p
-broken_back (kind p) = b.Kind p
-broken_back (forward p) = b.Forward p
-broken_back (arity p m n) = b.Arity p m n
-broken_back (mismatch p m c) = b.Mismatch p (want_back m) (ty_back c)
-broken_back (scope p) = b.Scope p
-broken_back (wide p) = b.Wide p
-broken_back (large p) = b.Large p
-
-broken_comes : (c : Broken) → broken_back (broken_of c) ≡ c
-broken_comes (b.Twice p) = refl
-broken_comes (b.Unknown p) = refl
-broken_comes (b.Kind p) = refl
-broken_comes (b.Forward p) = refl
-broken_comes (b.Arity p m n) = refl
-broken_comes (b.Mismatch p m c) = ap (λ z. b.Mismatch p z (ty_back (ty_of c))) (want_comes m) ∙ ap (λ z. b.Mismatch p m z) (ty_comes c)
-broken_comes (b.Scope p) = refl
-broken_comes (b.Wide p) = refl
-broken_comes (b.Large p) = refl
-
-same_broken : (c d : Broken) → broken_of c ≡ broken_of d → c ≡ d
-same_broken c d e = sym (broken_comes c) ∙ (ap broken_back e ∙ broken_comes d)
-
 abbrev refusal_back : Fault → TypeFault
 refusal_back (twice p) = x.Twice p
 refusal_back (unknown p) = x.Unknown p
@@ -132,16 +105,35 @@ refusal_back (large p) = x.Large p
 true_false : true ≡ false → ⊥
 true_false e = cc
 
+some_is : (y z : Fault) → Some y ≡ Some z → y ≡ z
+some_is y z e = cc
+
+-- the answer that names a broken rule is fixed by it
+told_comes : (c : TypeFault) (y : Fault) → told c ≡ Some y → c ≡ refusal_back y
+told_comes (x.Twice p) y e = ap refusal_back (some_is (twice p) y e)
+told_comes (x.Unknown p) y e = ap refusal_back (some_is (unknown p) y e)
+told_comes (x.Kind p) y e = ap refusal_back (some_is (kind p) y e)
+told_comes (x.Forward p) y e = ap refusal_back (some_is (forward p) y e)
+told_comes (x.Arity p m n) y e = ap refusal_back (some_is (arity p m n) y e)
+told_comes (x.Mismatch p m c) y e =
+    sym (ap (λ z. x.Mismatch p z (ty_back (ty_of c))) (want_comes m) ∙ ap (λ z. x.Mismatch p m z) (ty_comes c)) ∙ ap refusal_back (some_is (mismatch p (wanted_of m) (ty_of c)) y e)
+told_comes (x.Scope p) y e = ap refusal_back (some_is (scope p) y e)
+told_comes (x.Wide p) y e = ap refusal_back (some_is (wide p) y e)
+told_comes (x.Large p) y e = ap refusal_back (some_is (large p) y e)
+told_comes x.NoMain y e = cc
+told_comes x.NoMemory y e = cc
+
 pub same_answer : (ts : List Token) (s : Script) (c d : Answer) → AreInOrder ts → Spells s ts → IsAnswer c s → IsAnswer d s → c ≡ d
 same_answer ts s a.Sound a.Sound o h i k = refl
 same_answer ts s a.Sound a.NoMain o h i k = absurd (true_false (sym i.1 ∙ k.1))
-same_answer ts s a.Sound (a.Broken y) o h i k = absurd (i.0 (broken_of y) k.0)
+same_answer ts s a.Sound (a.Broken y) o h i k = absurd (i.0 k.0 k.2.0)
 same_answer ts s a.NoMain a.Sound o h i k = absurd (true_false (sym k.1 ∙ i.1))
 same_answer ts s a.NoMain a.NoMain o h i k = refl
-same_answer ts s a.NoMain (a.Broken y) o h i k = absurd (i.0 (broken_of y) k.0)
-same_answer ts s (a.Broken y) a.Sound o h i k = absurd (k.0 (broken_of y) i.0)
-same_answer ts s (a.Broken y) a.NoMain o h i k = absurd (k.0 (broken_of y) i.0)
-same_answer ts s (a.Broken y) (a.Broken z) o h i k = ap a.Broken (same_broken y z (one_first ts s (broken_of y) (broken_of z) o h i k))
+same_answer ts s a.NoMain (a.Broken y) o h i k = absurd (i.0 k.0 k.2.0)
+same_answer ts s (a.Broken y) a.Sound o h i k = absurd (k.0 i.0 i.2.0)
+same_answer ts s (a.Broken y) a.NoMain o h i k = absurd (k.0 i.0 i.2.0)
+same_answer ts s (a.Broken y) (a.Broken z) o h i k =
+    ap a.Broken (told_comes y i.0 i.1 ∙ (ap refusal_back (one_first ts s i.0 k.0 o h i.2 k.2) ∙ sym (told_comes z k.0 k.1)))
 
 -- ---- refusals: for want of a `main`, for a broken rule, or for want of memory
 abbrev Reason : TypeFault → Script → Type 0

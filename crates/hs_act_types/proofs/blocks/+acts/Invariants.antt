@@ -8,9 +8,9 @@ use Rattle.hs_act_types.proofs.blocks.+acts.Given as goal
 
 abbrev pub invariant-block-stmts : goal.invariant-block-stmts
 invariant-block-stmts l = record {
-  mark : l.mark ≡ length (names l.fn.checker);
-  long : length (names l.fn.checker) ≤ length (names l.checker);
-  back : drop (length (names l.checker) - length (names l.fn.checker)) (names l.checker) ≡ names l.fn.checker;
-  type : (judge_bl (ctx_of l.funs) (names l.fn.checker) (rest_of l.b.stmts l.b.last)).type ≡ (judge_bl (ctx_of l.funs) (names l.checker) (rest_of (drop l.st-index l.b.stmts) l.b.last)).type;
-  faults : least (kept l.fn.checker) (judge_bl (ctx_of l.funs) (names l.fn.checker) (rest_of l.b.stmts l.b.last)).faults ≡ least (kept l.checker) (judge_bl (ctx_of l.funs) (names l.checker) (rest_of (drop l.st-index l.b.stmts) l.b.last)).faults;
+  mark : l.mark ≡ length (names l.funs.types.nodes l.fn.checker);
+  long : length (names l.funs.types.nodes l.fn.checker) ≤ length (names l.funs.types.nodes l.checker);
+  back : drop (length (names l.funs.types.nodes l.checker) - length (names l.funs.types.nodes l.fn.checker)) (names l.funs.types.nodes l.checker) ≡ names l.funs.types.nodes l.fn.checker;
+  type : (judge_bl (ctx_of l.funs) (names l.funs.types.nodes l.fn.checker) (rest_of l.b.stmts l.b.last)).type ≡ (judge_bl (ctx_of l.funs) (names l.funs.types.nodes l.checker) (rest_of (drop l.st-index l.b.stmts) l.b.last)).type;
+  faults : least (kept l.funs.types.nodes l.fn.checker) (judge_bl (ctx_of l.funs) (names l.funs.types.nodes l.fn.checker) (rest_of l.b.stmts l.b.last)).faults ≡ least (kept l.funs.types.nodes l.checker) (judge_bl (ctx_of l.funs) (names l.funs.types.nodes l.checker) (rest_of (drop l.st-index l.b.stmts) l.b.last)).faults;
 }

@@ -7,7 +7,7 @@ use Rattle.hs_types.proofs.definition.params.Given as goal
 
 abbrev pub invariant-each : goal.invariant-each
 invariant-each l = record {
-  scope : params_in (names l.checker) (map par_of (drop l.p-index l.ps)) ≡ params_in (names l.fn.checker) (map par_of l.ps);
-  faults : least (kept l.checker) (param_faults (names l.checker) (map par_of (drop l.p-index l.ps))) ≡ least (kept l.fn.checker) (param_faults (names l.fn.checker) (map par_of l.ps));
-  sound : (l.sound && none_of (param_faults (names l.checker) (map par_of (drop l.p-index l.ps)))) ≡ none_of (param_faults (names l.fn.checker) (map par_of l.ps));
+  scope : params_in (names l.types.nodes l.checker) (map par_of (drop l.p-index l.ps)) ≡ params_in (names l.types.nodes l.fn.checker) (map par_of l.ps);
+  faults : least (kept l.types.nodes l.checker) (param_faults (names l.types.nodes l.checker) (map par_of (drop l.p-index l.ps))) ≡ least (kept l.types.nodes l.fn.checker) (param_faults (names l.types.nodes l.fn.checker) (map par_of l.ps));
+  sound : (l.sound && none_of (param_faults (names l.types.nodes l.checker) (map par_of (drop l.p-index l.ps)))) ≡ none_of (param_faults (names l.types.nodes l.fn.checker) (map par_of l.ps));
 }

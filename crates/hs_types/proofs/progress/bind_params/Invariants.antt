@@ -1,4 +1,4 @@
-use Rattle.std.proofs.Common.{◌≡◌, drop, map}
+use Rattle.std.proofs.Common.{◌≡◌, [], drop, map}
 use Rattle.rules_trees.specs.Programs.{par_of}
 use Rattle.rules_typing.specs.TypingSizes.{param_names}
 use Rattle.hs_typing.specs.Views.{scope_of}
@@ -6,6 +6,6 @@ use Rattle.hs_types.proofs.progress.bind_params.Given as goal
 
 abbrev pub invariant-each : goal.invariant-each
 invariant-each l = record {
-  scope : param_names (scope_of l.meter.scope.items) (map par_of (drop l.p-index l.ps)) ≡ param_names (scope_of l.fn.meter.scope.items) (map par_of l.ps);
+  scope : param_names (scope_of [] l.meter.scope.items) (map par_of (drop l.p-index l.ps)) ≡ param_names (scope_of [] l.fn.meter.scope.items) (map par_of l.ps);
   before : l.meter.extents ≡ l.fn.meter.extents;
 }

@@ -6,13 +6,14 @@ use Rattle.hs_judging.specs.JudgingScripts.{is_far}
 use Rattle.hs_judging.specs.Least.{least}
 use Rattle.hs_typing.specs.Views.{kept_of, scope_of}
 use Rattle.hs_typing.specs.Contexts.{ctx_of}
-use Rattle.hs_typing.specs.Measuring.{ext_of, exts_of}
+use Rattle.hs_extents.specs.Measuring.{ext_of, exts_of}
 use Rattle.hs_types.specs.Steps.{measured_of}
 use Rattle.hs_types.proofs.Stepping.{advance, counted, measured_one, sound_extent, sound_noted}
 use Rattle.hs_types.proofs.progress.Progress.add_sound.Goals as goal
 
 pub returns : goal.returns
 returns c =
+    let ms = c.args.funs.now.types.nodes in
     let f = ctx_of c.args.funs.now in
     let d = fn_of c.args.d.now in
     let old = c.args.self.now in
@@ -22,10 +23,10 @@ returns c =
     let t = c.count.new.self.total in
     let sized = counted x (worst_body f.sigs (exts_of old.meter.extents) (param_names [] d.params) d.body) c.in_ok-x.ensures.size c.in_ok-x.ensures.height in
     record {
-      scope = ap (λ z. scope_of z.scope.items) c.check_size.ensures.0 ∙ (ap (λ z. scope_of z.items) c.in_ok-count.ensures.1 ∙ (c.in_ok-x.ensures.scope ∙ c.requires.scope));
-      rest = advance f (kept_of old.first.fault) (kept_of new.first.fault) (measured_of old) (measured_of new) d
-          (sound_noted f (kept_of old.first.fault) (kept_of new.first.fault) (measured_of old) d (ext_of x) t c.requires.sound sized c.in_ok-count.ensures.3
-          (c.check_size.ensures.2 ∙ ap (λ z. least (kept_of z.fault) (cond (is_far (ext_of x) || ltb 1000000 t) (large d.name.pos ∷ []) [])) c.in_ok-count.ensures.0))
+      scope = ap (λ z. scope_of [] z.scope.items) c.check_size.ensures.0 ∙ (ap (λ z. scope_of [] z.items) c.in_ok-count.ensures.1 ∙ (c.in_ok-x.ensures.scope ∙ c.requires.scope));
+      rest = advance f (kept_of ms old.first.fault) (kept_of ms new.first.fault) (measured_of old) (measured_of new) d
+          (sound_noted f (kept_of ms old.first.fault) (kept_of ms new.first.fault) (measured_of old) d (ext_of x) t c.requires.sound sized c.in_ok-count.ensures.3
+          (c.check_size.ensures.2 ∙ ap (λ z. least (kept_of ms z.fault) (cond (is_far (ext_of x) || ltb 1000000 t) (large d.name.pos ∷ []) [])) c.in_ok-count.ensures.0))
           (measured_one f.sigs old.meter.extents new.meter.extents old.total new.total d y
           (ap (λ z. z.extents) c.check_size.ensures.0 ∙ (c.in_ok-count.ensures.2 ∙ ap (λ z. z ++ y ∷ []) c.in_ok-x.ensures.before))
           (sound_extent f (exts_of old.meter.extents) d (ext_of x) (ext_of y) c.requires.sound c.called.ensures sized)

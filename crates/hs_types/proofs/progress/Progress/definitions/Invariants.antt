@@ -8,7 +8,8 @@ use Rattle.hs_types.proofs.progress.Progress.definitions.Given as goal
 
 abbrev pub invariant-each : goal.invariant-each
 invariant-each l = record {
-  scope : scope_of l.self.meter.scope.items ≡ [];
+  scope : scope_of [] l.self.meter.scope.items ≡ [];
+  types : l.funs.types ≡ l.fn.funs.types;
   sigs : l.funs.sigs ≡ l.fn.funs.sigs;
-  faults : least (kept_of l.self.first.fault) (faults_from (sigs_of l.fn.funs.sigs) (measured_of l.self) l.i (map fn_of (drop l.i l.ds))) ≡ least (kept_of l.fn.self.first.fault) (faults_from (sigs_of l.fn.funs.sigs) (measured_of l.fn.self) 0 (map fn_of l.ds));
+  faults : least (kept_of l.fn.funs.types.nodes l.self.first.fault) (faults_from (sigs_of l.fn.funs.types.nodes l.fn.funs.sigs) (measured_of l.self) l.i (map fn_of (drop l.i l.ds))) ≡ least (kept_of l.fn.funs.types.nodes l.fn.self.first.fault) (faults_from (sigs_of l.fn.funs.types.nodes l.fn.funs.sigs) (measured_of l.fn.self) 0 (map fn_of l.ds));
 }

@@ -9,7 +9,7 @@ use Rattle.hs_typing.proofs.checker.Checker.close_conses.Given as goal
 abbrev pub invariant-links : goal.invariant-links
 invariant-links l = record {
   within : l.i ≤ length l.ks;
-  scope : names l.self ≡ names l.fn.self;
-  type : opt_ty l.t ≡ (folded (opts_of (drop l.i l.ts)) (list_links_of (drop l.i l.ks))).type;
-  faults : kept l.self ≡ least (kept l.fn.self) (folded (opts_of (drop l.i l.ts)) (list_links_of (drop l.i l.ks))).faults;
+  scope : names l.types.nodes l.self ≡ names l.types.nodes l.fn.self;
+  type : opt_ty l.types.nodes l.t ≡ (folded (opts_of l.types.nodes (drop l.i l.ts)) (list_links_of (drop l.i l.ks))).type;
+  faults : kept l.types.nodes l.self ≡ least (kept l.types.nodes l.fn.self) (folded (opts_of l.types.nodes (drop l.i l.ts)) (list_links_of (drop l.i l.ks))).faults;
 }
