@@ -6,13 +6,13 @@ use crate::base::Base;
 use crate::table::{Node, TypeTable};
 use hs_base::{NoMemory, Ty};
 use std::alloc::Global;
-use std::collections::HashMap;
+use std::collections::BTreeMap;
 
 /// A table in the making, and where each of its nodes stands.
 #[derive(Drop)]
 pub struct Interner {
     pub types: TypeTable,
-    places: HashMap<Node, usize>,
+    places: BTreeMap<Node, usize>,
 }
 
 impl Interner {
@@ -22,7 +22,7 @@ impl Interner {
     {
         Interner {
             types: TypeTable::new(alloc),
-            places: HashMap::new(alloc),
+            places: BTreeMap::new(alloc),
         }
     }
 

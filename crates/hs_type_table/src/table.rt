@@ -7,7 +7,7 @@ use hs_items::Items;
 use std::alloc::Global;
 
 /// The form of a type over its parts' places in a table.
-#[derive(Clone, Copy, Debug, PartialEq, Eq, Hash)]
+#[derive(Clone, Copy, Debug, PartialEq, Eq, PartialOrd, Ord)]
 pub enum Node {
     Base(Base),
     Pair(usize, usize),
