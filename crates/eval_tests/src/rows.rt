@@ -16,8 +16,8 @@ fn compared(alloc: Global, form: BinaryForm, a: &Value, b: &Value) -> Result<Opt
     nodes.add(Node::Slot(0))?;
     nodes.add(Node::Slot(1))?;
     nodes.add(Node::Binary(form, ExprId(0), ExprId(1)))?;
-    match eval_node(alloc, &nodes, ExprId(2), &env)? {
-        Found::Value(Value::Bool(answer)) => Ok(Some(answer)),
+    match &eval_node(alloc, &nodes, ExprId(2), &env)? {
+        Found::Value(Value::Bool(answer)) => Ok(Some(*answer)),
         _ => Ok(None),
     }
 }

@@ -12,13 +12,23 @@ use std::collections::HashMap;
 use std::marker::Model;
 
 /// Sleeping threads, by due and of one due by thread.
-#[derive(Drop)]
 pub struct Sleepers {
     /// The sleepers in order of adding. A place that is left stays so until `room` is made.
     tournament: Tournament,
     /// So many places, the last, were never taken.
     free: usize,
     places: Table,
+}
+
+// Written out, so that it is proved once, here, and not in each function above that lets one go.
+impl Drop for Sleepers {
+    fn drop(self) {
+        let Sleepers {
+            tournament: _,
+            free: _,
+            places: _,
+        } = self;
+    }
 }
 
 impl Model for Sleepers {

@@ -84,8 +84,8 @@ fn of_two(primitive: Primitive, first: Value, second: Value) -> Option<Operation
 fn text(value: Value) -> Option<Txt>
     ensures { MatchOption result (of_text (value_of value) → ⊥) (λ t. value_of value ≡ val.Text t) }
 {
-    match value {
-        Value::Text(text) => Some(text),
+    match &value {
+        Value::Text(_) => value.into_text(),
         _ => None,
     }
 }
@@ -95,8 +95,8 @@ fn text(value: Value) -> Option<Txt>
 fn int(value: Value) -> Option<i64>
     ensures { MatchOption result (of_int (value_of value) → ⊥) (λ n. value_of value ≡ val.Int n) }
 {
-    match value {
-        Value::Int(number) => Some(number),
+    match &value {
+        Value::Int(number) => Some(*number),
         _ => None,
     }
 }
@@ -106,8 +106,8 @@ fn int(value: Value) -> Option<i64>
 fn cell(value: Value) -> Option<u32>
     ensures { MatchOption result (of_cell (λ m. Unit {0}) (value_of value) → ⊥) (λ m. value_of value ≡ val.Cell m) }
 {
-    match value {
-        Value::Cell(cell) => Some(cell),
+    match &value {
+        Value::Cell(cell) => Some(*cell),
         _ => None,
     }
 }
@@ -117,8 +117,8 @@ fn cell(value: Value) -> Option<u32>
 fn thread(value: Value) -> Option<u32>
     ensures { MatchOption result (of_thread (λ m. Unit {0}) (value_of value) → ⊥) (λ m. value_of value ≡ val.Thread m) }
 {
-    match value {
-        Value::Thread(thread) => Some(thread),
+    match &value {
+        Value::Thread(thread) => Some(*thread),
         _ => None,
     }
 }
@@ -128,8 +128,8 @@ fn thread(value: Value) -> Option<u32>
 fn exn(value: Value) -> Option<Exn>
     ensures { MatchOption result (of_exn (value_of value) → ⊥) (λ e. value_of value ≡ val.Exception e) }
 {
-    match value {
-        Value::Exn(exn) => Some(exn),
+    match &value {
+        Value::Exn(_) => value.into_exn(),
         _ => None,
     }
 }
@@ -139,8 +139,8 @@ fn exn(value: Value) -> Option<Exn>
 fn instance(value: Value) -> Option<u32>
     ensures { MatchOption result (of_instance (value_of value) → ⊥) (λ i. value_of value ≡ val.Inst i) }
 {
-    match value {
-        Value::Inst(number) => Some(number),
+    match &value {
+        Value::Inst(number) => Some(*number),
         _ => None,
     }
 }

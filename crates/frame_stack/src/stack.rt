@@ -17,10 +17,19 @@ use std::marker::Model;
 use std::mem;
 
 /// A thread's control and its frames. It stands for a term of the thread.
-#[derive(Drop)]
 pub struct Stack {
     control: Control,
     frames: Frames,
+}
+
+// Written out, so that it is proved once, here, and not in each function above that lets one go.
+impl Drop for Stack {
+    fn drop(self) {
+        let Stack {
+            control: _,
+            frames: _,
+        } = self;
+    }
 }
 
 impl Model for Stack {

@@ -1,3 +1,4 @@
 pub mod Masks
 pub mod ExceptionTexts
 pub mod Lists
+pub mod Held

@@ -6,7 +6,7 @@ use crate::text::Txt;
 use std::alloc::Global;
 
 /// An exception of a script (`Control.Exception`, `System.Timeout`).
-#[derive(Debug, Drop)]
+#[derive(Debug)]
 pub enum Exn {
     /// `ErrorCall x`
     ErrorCall(Txt),
@@ -20,6 +20,22 @@ pub enum Exn {
     TextLimit,
     /// What a thread gets that waits at a cell where nothing else can go on. No script can write it.
     BlockedIndefinitely,
+}
+
+// Written out, so that it is proved once, here, and not in each function above that lets one go.
+impl Drop for Exn {
+    fn drop(self) {
+        match self {
+            Exn::ErrorCall(_) => {}
+            Exn::ThreadKilled => {}
+            Exn::UserInterrupt => {}
+            Exn::DivideByZero => {}
+            Exn::Overflow => {}
+            Exn::Timeout(_) => {}
+            Exn::TextLimit => {}
+            Exn::BlockedIndefinitely => {}
+        }
+    }
 }
 
 impl Exn {

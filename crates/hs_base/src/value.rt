@@ -1,4 +1,5 @@
 ghost use Rattle.std.specs.Prelude.{◌≡◌, ◌↔◌, IfOk, IsTrue};
+ghost use Rattle.hs_base.specs.Held.{text_in, exn_in, list_in};
 ghost use Rattle.hs_base.specs.Lists.{before, chain_of, SplitAs};
 ghost use Rattle.hs_base.specs.declared.value.ValueList.{Nil};
 
@@ -13,7 +14,6 @@ use std::alloc::Global;
 pub type Values = Items<Value>;
 
 /// A value of a running script.
-#[derive(Drop)]
 #[cycle(value)]
 pub enum Value {
     Unit,
@@ -35,6 +35,30 @@ pub enum Value {
     Restore(Mask),
     /// The number of one use of `bracket`.
     Inst(u32),
+}
+
+// Written out, so that it is proved once, here, and not in each function above that lets one go.
+impl Drop for Value {
+    #[cycle(list_drop)]
+    fn drop(self) {
+        match self {
+            Value::Unit => {}
+            Value::Int(_) => {}
+            Value::Bool(_) => {}
+            Value::Text(_) => {}
+            Value::Pair(_, _) => {}
+            Value::Nothing => {}
+            Value::Just(_) => {}
+            Value::Left(_) => {}
+            Value::Right(_) => {}
+            Value::List(_) => {}
+            Value::Cell(_) => {}
+            Value::Thread(_) => {}
+            Value::Exn(_) => {}
+            Value::Restore(_) => {}
+            Value::Inst(_) => {}
+        }
+    }
 }
 
 /// A list of a script, as cells that copies share: `:`, a copy and taking the first value off take constant time. Its
@@ -77,6 +101,36 @@ impl Drop for ValueList {
 }
 
 impl Value {
+    /// The text that it is.
+    pub fn into_text(self) -> Option<Txt>
+        ensures { result ≡ text_in self }
+    {
+        match self {
+            Value::Text(text) => Some(text),
+            _ => None,
+        }
+    }
+
+    /// The exception that it is.
+    pub fn into_exn(self) -> Option<Exn>
+        ensures { result ≡ exn_in self }
+    {
+        match self {
+            Value::Exn(exn) => Some(exn),
+            _ => None,
+        }
+    }
+
+    /// The list that it is.
+    pub fn into_list(self) -> Option<ValueList>
+        ensures { result ≡ list_in self }
+    {
+        match self {
+            Value::List(values) => Some(values),
+            _ => None,
+        }
+    }
+
     /// An equal value, which shares its parts: it takes constant time and no memory but a count.
     pub fn copy(&self, alloc: Global) -> Result<Value, NoMemory>
         ensures { IfOk result (λ v. v ≡ self.now) }

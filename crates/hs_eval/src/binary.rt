@@ -131,12 +131,12 @@ fn pair_of(alloc: Global, a: Value, b: Value) -> Result<Found, NoMemory>
 fn put_before(alloc: Global, a: Value, b: Value) -> Result<Found, NoMemory>
     ensures { IfOk result (λ o. out_of o ≡ put_before (value_of a) (value_of b)) }
 {
-    match b {
-        Value::List(items) => {
+    match b.into_list() {
+        Some(items) => {
             let list = ValueList::cons(alloc, a, items)?;
             Ok(Found::Value(Value::List(list)))
         }
-        _ => Ok(Found::Stuck),
+        None => Ok(Found::Stuck),
     }
 }
 

@@ -270,7 +270,7 @@ fn maybe(
 ) -> Result<Found, NoMemory>
     ensures { IfOk result (λ o. (out_of o ≡ on_maybe (run (part_of nodes.now above i) (slots outer.now inner.old)) (λ w. run (part_of nodes.now above j) (slots outer.now inner.old ++ w ∷ [])) (value_of value)) × (inner.new ≡ inner.old)) }
 {
-    match value {
+    match &value {
         Value::Nothing => part(alloc, nodes, above, i, outer, inner),
         Value::Just(a) => with_one(alloc, nodes, above, j, a.get().copy(alloc)?, outer, inner),
         _ => Ok(Found::Stuck),
@@ -292,7 +292,7 @@ fn either(
 ) -> Result<Found, NoMemory>
     ensures { IfOk result (λ o. (out_of o ≡ on_either (λ w. run (part_of nodes.now above i) (slots outer.now inner.old ++ w ∷ [])) (λ w. run (part_of nodes.now above j) (slots outer.now inner.old ++ w ∷ [])) (value_of value)) × (inner.new ≡ inner.old)) }
 {
-    match value {
+    match &value {
         Value::Left(a) => with_one(alloc, nodes, above, i, a.get().copy(alloc)?, outer, inner),
         Value::Right(a) => with_one(alloc, nodes, above, j, a.get().copy(alloc)?, outer, inner),
         _ => Ok(Found::Stuck),
@@ -334,7 +334,7 @@ fn pair(
 ) -> Result<Found, NoMemory>
     ensures { IfOk result (λ o. (out_of o ≡ on_pair (λ w u. run (part_of nodes.now above i) ((slots outer.now inner.old ++ w ∷ []) ++ u ∷ [])) (value_of value)) × (inner.new ≡ inner.old)) }
 {
-    match value {
+    match &value {
         Value::Pair(a, b) => with_two(
             alloc,
             nodes,

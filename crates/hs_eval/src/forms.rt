@@ -24,9 +24,9 @@ pub fn shared(alloc: Global, value: Value) -> Result<Shared<Value>, NoMemory>
 fn error_call(value: Value) -> Found
     ensures { out_of result ≡ unary_of UnaryForm.ErrorCall (value_of value) }
 {
-    match value {
-        Value::Text(text) => Found::Value(Value::Exn(Exn::ErrorCall(text))),
-        _ => Found::Stuck,
+    match value.into_text() {
+        Some(text) => Found::Value(Value::Exn(Exn::ErrorCall(text))),
+        None => Found::Stuck,
     }
 }
 
@@ -35,8 +35,8 @@ fn error_call(value: Value) -> Found
 fn not(value: Value) -> Found
     ensures { out_of result ≡ unary_of UnaryForm.Not (value_of value) }
 {
-    match value {
-        Value::Bool(truth) => Found::Value(Value::Bool(!truth)),
+    match &value {
+        Value::Bool(truth) => Found::Value(Value::Bool(!*truth)),
         _ => Found::Stuck,
     }
 }
@@ -68,8 +68,8 @@ fn second(alloc: Global, value: &Value) -> Result<Found, NoMemory>
 fn negative(value: Value) -> Found
     ensures { out_of result ≡ unary_of UnaryForm.Negate (value_of value) }
 {
-    match value {
-        Value::Int(n) => Found::Value(Value::Int(negated(n))),
+    match &value {
+        Value::Int(n) => Found::Value(Value::Int(negated(*n))),
         _ => Found::Stuck,
     }
 }

@@ -6,7 +6,7 @@ use hs_items::Boxed;
 use std::alloc::Global;
 
 /// A type of the checker.
-#[derive(Debug, Drop)]
+#[derive(Debug)]
 pub enum TypeTerm {
     Base(Base),
     /// `(a, b)`
@@ -21,6 +21,22 @@ pub enum TypeTerm {
     Cell(Boxed<TypeTerm>),
     /// A type of the table, by its place.
     Known(usize),
+}
+
+// Written out, so that it is proved once, here, and not in each function above that lets one go.
+impl Drop for TypeTerm {
+    #[cycle(term_drop)]
+    fn drop(self) {
+        match self {
+            TypeTerm::Base(_) => {}
+            TypeTerm::Pair(_, _) => {}
+            TypeTerm::Maybe(_) => {}
+            TypeTerm::Either(_, _) => {}
+            TypeTerm::List(_) => {}
+            TypeTerm::Cell(_) => {}
+            TypeTerm::Known(_) => {}
+        }
+    }
 }
 
 fn boxed(alloc: Global, t: TypeTerm) -> Result<Boxed<TypeTerm>, NoMemory>

@@ -5,8 +5,8 @@ use std::test::Fail;
 
 /// The number in an integer value.
 fn int_of(value: Value) -> i64 {
-    match value {
-        Value::Int(n) => n,
+    match &value {
+        Value::Int(n) => *n,
         _ => -2,
     }
 }
@@ -77,7 +77,7 @@ fn a_full_cell_gives(rt: HostRuntime) -> Result<(), Fail> {
     cells.room(1)?;
     assert_eq!(rt; cells.fresh(Some(Value::Int(7))), 0);
     assert_eq!(rt; cells.len(), 1);
-    assert!(rt; matches!(cells.try_take(0), Some((Value::Int(7), None))));
+    assert!(rt; matches!(&cells.try_take(0), Some((Value::Int(7), None))));
     Ok(())
 }
 

@@ -12,8 +12,8 @@ fn exceptions_in_flight(rt: HostRuntime) -> Result<(), Fail> {
     flight.throw_at(1, 2, Exn::Overflow);
     assert!(rt; flight.most() >= 2);
     assert!(rt; matches!(flight.first_for(2), Some((0, Exn::ThreadKilled))));
-    assert!(rt; matches!(flight.withdraw(0), Some(Exn::ThreadKilled)));
-    assert!(rt; matches!(flight.deliver(2), Some((1, Exn::Overflow))));
+    assert!(rt; matches!(&flight.withdraw(0), Some(Exn::ThreadKilled)));
+    assert!(rt; matches!(&flight.deliver(2), Some((1, Exn::Overflow))));
     assert!(rt; flight.deliver(2).is_none());
     Ok(())
 }

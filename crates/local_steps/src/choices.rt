@@ -33,9 +33,9 @@ pub fn returned(found: Found) -> Next
 fn thrown_value(value: Value) -> Next
     ensures { (b : Body) → alone_of b result ≡ rules.thrown (value_of value) }
 {
-    match value {
-        Value::Exn(exn) => Next::To(Active::Throw(exn)),
-        _ => Next::Stuck,
+    match value.into_exn() {
+        Some(exn) => Next::To(Active::Throw(exn)),
+        None => Next::Stuck,
     }
 }
 
@@ -104,8 +104,8 @@ fn arm(test: bool, env: Env, i: ActId, j: ActId) -> Next
 pub fn choose(value: Value, env: Env, i: ActId, j: ActId) -> Next
     ensures { (b : Body) → alone_of b result ≡ rules.chosen (act_of b i) (act_of b j) (values_of env) (value_of value) }
 {
-    match value {
-        Value::Bool(test) => arm(test, env, i, j),
+    match &value {
+        Value::Bool(test) => arm(*test, env, i, j),
         _ => Next::Stuck,
     }
 }
@@ -121,7 +121,7 @@ pub fn choose_maybe(
 ) -> Result<Next, NoMemory>
     ensures { IfOk result (λ n. (b : Body) → alone_of b n ≡ rules.chosen_maybe (act_of b i) (act_of b j) (values_of env) (value_of value)) }
 {
-    match value {
+    match &value {
         Value::Nothing => Ok(Next::To(Active::Doing(i, env))),
         Value::Just(a) => with_one(alloc, env, a.get().copy(alloc)?, j),
         _ => Ok(Next::Stuck),
@@ -139,7 +139,7 @@ pub fn choose_either(
 ) -> Result<Next, NoMemory>
     ensures { IfOk result (λ n. (b : Body) → alone_of b n ≡ rules.chosen_either (act_of b i) (act_of b j) (values_of env) (value_of value)) }
 {
-    match value {
+    match &value {
         Value::Left(a) => with_one(alloc, env, a.get().copy(alloc)?, i),
         Value::Right(a) => with_one(alloc, env, a.get().copy(alloc)?, j),
         _ => Ok(Next::Stuck),
@@ -157,7 +157,7 @@ pub fn choose_list(
 ) -> Result<Next, NoMemory>
     ensures { IfOk result (λ n. (b : Body) → alone_of b n ≡ rules.chosen_list (act_of b i) (act_of b j) (values_of env) (value_of value)) }
 {
-    match value {
+    match &value {
         Value::List(items) => match items.split()? {
             Split::Empty => Ok(Next::To(Active::Doing(i, env))),
             Split::Of(first, rest) => {
@@ -174,7 +174,7 @@ pub fn choose_list(
 pub fn choose_pair(alloc: Global, value: Value, env: Env, i: ActId) -> Result<Next, NoMemory>
     ensures { IfOk result (λ n. (b : Body) → alone_of b n ≡ rules.chosen_pair (act_of b i) (values_of env) (value_of value)) }
 {
-    match value {
+    match &value {
         Value::Pair(a, b) => with_two(alloc, env, a.get().copy(alloc)?, b.get().copy(alloc)?, i),
         _ => Ok(Next::Stuck),
     }

@@ -54,11 +54,21 @@ struct Stored {
 }
 
 /// Cells by number, with their lines.
-#[derive(Drop)]
 pub struct Cells {
     alloc: Global,
     stored: Vec<Stored>,
     lines: Lines,
+}
+
+// Written out, so that it is proved once, here, and not in each function above that lets one go.
+impl Drop for Cells {
+    fn drop(self) {
+        let Cells {
+            alloc: _,
+            stored: _,
+            lines: _,
+        } = self;
+    }
 }
 
 /// How many numbers there are for cells.

@@ -71,11 +71,21 @@ struct Ends {
 
 /// Lines by number. Each place is a node of one pool, so a place that is left serves any line. A thread stands in one line
 /// only, so that it alone is the key to the node before its own.
-#[derive(Drop)]
 pub struct Lines {
     ends: Vec<Ends>,
     nodes: Slab<Node>,
     befores: Befores,
+}
+
+// Written out, so that it is proved once, here, and not in each function above that lets one go.
+impl Drop for Lines {
+    fn drop(self) {
+        let Lines {
+            ends: _,
+            nodes: _,
+            befores: _,
+        } = self;
+    }
 }
 
 impl Model for Lines {

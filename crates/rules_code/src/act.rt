@@ -32,7 +32,7 @@ pub enum Primitive {
 
 /// A core action, with the numbers of its parts. Those of actions are lower than its own. Slots stand in place of names,
 /// as in `Node`: where a form binds names, they take the next slots in that part.
-#[derive(Debug, Drop)]
+#[derive(Debug)]
 pub enum Act {
     /// `return e`
     Return(ExprId),
@@ -70,4 +70,30 @@ pub enum Act {
     UninterruptibleMask(ActId),
     /// `restore r A`, with the slot of r
     Restore(usize, ActId),
+}
+
+// Written out, so that it is proved once, here, and not in each function above that lets one go.
+impl Drop for Act {
+    fn drop(self) {
+        match self {
+            Act::Return(_) => {}
+            Act::Throw(_) => {}
+            Act::Let(_, _) => {}
+            Act::Bind(_, _) => {}
+            Act::Then(_, _) => {}
+            Act::If(_, _, _) => {}
+            Act::CaseMaybe(_, _, _) => {}
+            Act::CaseEither(_, _, _) => {}
+            Act::CaseList(_, _, _) => {}
+            Act::CasePair(_, _) => {}
+            Act::Call(_, _) => {}
+            Act::Perform(_, _) => {}
+            Act::Fork(_) => {}
+            Act::ForkUnmask(_) => {}
+            Act::Catch(_, _) => {}
+            Act::Mask(_) => {}
+            Act::UninterruptibleMask(_) => {}
+            Act::Restore(_, _) => {}
+        }
+    }
 }

@@ -18,7 +18,6 @@ pub struct Fun {
 }
 
 /// What a code is: the expanded definitions of an accepted script, with slots in place of names.
-#[derive(Drop)]
 pub struct Body {
     pub nodes: Items<Node>,
     pub acts: Items<Act>,
@@ -30,10 +29,29 @@ pub struct Body {
     pub ghost stands: { ∥ StandsFor nodes acts funs main of.value ∥₁ },
 }
 
+// Written out, so that it is proved once, here, and not in each function above that lets one go.
+impl Drop for Body {
+    fn drop(self) {
+        let Body {
+            nodes: _,
+            acts: _,
+            funs: _,
+            main: _,
+            of: _,
+        } = self;
+    }
+}
+
 /// A handle on it, which can be sent to and shared between threads.
-#[derive(Drop)]
 pub struct Code {
     pub body: Arc<Body, Global>,
+}
+
+// Written out, so that it is proved once, here, and not in each function above that lets one go.
+impl Drop for Code {
+    fn drop(self) {
+        let Code { body: _ } = self;
+    }
 }
 
 impl Code {

@@ -17,7 +17,7 @@ pub struct NodeLink {
 
 /// An expression, with the numbers of its parts, which are lower than its own, and slots in place of names. Where a form
 /// binds names, they take the next slots in that part.
-#[derive(Debug, Drop)]
+#[derive(Debug)]
 pub enum Node {
     /// a number
     Int(i64),
@@ -59,4 +59,32 @@ pub enum Node {
     CasePair(ExprId, ExprId),
     /// A call of a pure function, by the node of its body. The arguments are the first slots there.
     Call(ExprId, Items<ExprId>),
+}
+
+// Written out, so that it is proved once, here, and not in each function above that lets one go.
+impl Drop for Node {
+    fn drop(self) {
+        match self {
+            Node::Int(_) => {}
+            Node::Text(_) => {}
+            Node::Bool(_) => {}
+            Node::Exn(_) => {}
+            Node::Unit => {}
+            Node::Empty(_) => {}
+            Node::Slot(_) => {}
+            Node::Unary(_, _) => {}
+            Node::Side(_, _) => {}
+            Node::Binary(_, _, _) => {}
+            Node::Chain(_, _) => {}
+            Node::Conses(_, _) => {}
+            Node::List(_) => {}
+            Node::If(_, _, _) => {}
+            Node::Let(_, _) => {}
+            Node::CaseMaybe(_, _, _) => {}
+            Node::CaseEither(_, _, _) => {}
+            Node::CaseList(_, _, _) => {}
+            Node::CasePair(_, _) => {}
+            Node::Call(_, _) => {}
+        }
+    }
 }

@@ -19,12 +19,18 @@ use std::mem;
 const OWN: usize = 8;
 
 /// The values of an action's slots, the first bound first.
-#[derive(Drop)]
 pub struct Env {
     /// The first values, which copies share.
     base: Option<Shared<Values>>,
     /// The values behind those.
     own: Values,
+}
+
+// Written out, so that it is proved once, here, and not in each function above that lets one go.
+impl Drop for Env {
+    fn drop(self) {
+        let Env { base: _, own: _ } = self;
+    }
 }
 
 impl Model for Env {

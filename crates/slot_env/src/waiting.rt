@@ -9,12 +9,18 @@ use std::alloc::Global;
 use std::marker::Model;
 
 /// The values of slots with room for one more, so that what waits for a value takes no memory when the value comes.
-#[derive(Drop)]
 pub struct Waiting {
     /// The first values, which copies share.
     base: Option<Shared<Values>>,
     /// The values behind those.
     own: Vec<Value>,
+}
+
+// Written out, so that it is proved once, here, and not in each function above that lets one go.
+impl Drop for Waiting {
+    fn drop(self) {
+        let Waiting { base: _, own: _ } = self;
+    }
 }
 
 impl Model for Waiting {

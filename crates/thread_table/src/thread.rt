@@ -1,7 +1,6 @@
 use frame_stack::Stack;
 
 /// A thread.
-#[derive(Drop)]
 pub struct Thread {
     pub stack: Stack,
     pub blocked: bool,
@@ -10,4 +9,17 @@ pub struct Thread {
     pub queued: bool,
     /// Whether it is in the list of those who may be stranded.
     pub listed: bool,
+}
+
+// Written out, so that it is proved once, here, and not in each function above that lets one go.
+impl Drop for Thread {
+    fn drop(self) {
+        let Thread {
+            stack: _,
+            blocked: _,
+            finished: _,
+            queued: _,
+            listed: _,
+        } = self;
+    }
 }

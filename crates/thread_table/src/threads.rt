@@ -24,7 +24,6 @@ use std::collections::VecDeque;
 const MOST_FRAMES: u64 = 1 << 62;
 
 /// The threads of a run, by number, and the exceptions in flight to them.
-#[derive(Drop)]
 pub struct Threads {
     pub list: Vec<Thread>,
     pub flight: Flight,
@@ -43,6 +42,21 @@ pub struct Threads {
     pub ghost kept: { Kept list.items stuck.items },
     pub ghost framed: { frames ≡ frames_over list.items },
     pub ghost gone: { going ≡ going_over list.items },
+}
+
+// Written out, so that it is proved once, here, and not in each function above that lets one go.
+impl Drop for Threads {
+    fn drop(self) {
+        let Threads {
+            list: _,
+            flight: _,
+            work: _,
+            ready: _,
+            stuck: _,
+            frames: _,
+            going: _,
+        } = self;
+    }
 }
 
 impl Threads {

@@ -48,7 +48,10 @@ pub fn a_code(alloc: Global) -> Result<Code, NoMemory> {
 
 /// What that code is.
 pub fn a_body(alloc: Global) -> Result<Body, NoMemory> {
-    let Code { body } = a_code(alloc)?;
+    let body = {
+        let code = a_code(alloc)?;
+        Arc::try_clone(&code.body)?
+    };
     match Arc::into_inner(body) {
         Some(body) => Ok(body),
         None => Err(NoMemory),

@@ -11,7 +11,6 @@ use std::alloc::Global;
 use thread_table::Threads;
 
 /// What stands for a state.
-#[derive(Drop)]
 pub struct World {
     pub alloc: Global,
     pub threads: Threads,
@@ -25,6 +24,22 @@ pub struct World {
     pub timeouts: u32,
     /// The bytes printed so far, on both streams.
     pub printed: u64,
+}
+
+// Written out, so that it is proved once, here, and not in each function above that lets one go.
+impl Drop for World {
+    fn drop(self) {
+        let World {
+            alloc: _,
+            threads: _,
+            cells: _,
+            sleepers: _,
+            clock: _,
+            instances: _,
+            timeouts: _,
+            printed: _,
+        } = self;
+    }
 }
 
 /// So many threads have numbers.

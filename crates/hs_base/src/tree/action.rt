@@ -5,15 +5,21 @@ use hs_items::{Boxed, Items};
 
 /// `{ s; s; .. a }`: statements, and the action whose result is the block's.
 #[cycle(action)]
-#[derive(Drop)]
 pub struct Block {
     pub stmts: Items<Stmt>,
     pub last: Boxed<Action>,
 }
 
+// Written out, so that it is proved once, here, and not in each function above that lets one go.
+impl Drop for Block {
+    #[cycle(action_drop)]
+    fn drop(self) {
+        let Block { stmts: _, last: _ } = self;
+    }
+}
+
 /// A statement of a block.
 #[cycle(action)]
-#[derive(Drop)]
 pub enum Stmt {
     /// `x <- a`
     Bind(Name, Action),
@@ -23,9 +29,20 @@ pub enum Stmt {
     Do(Action),
 }
 
+// Written out, so that it is proved once, here, and not in each function above that lets one go.
+impl Drop for Stmt {
+    #[cycle(action_drop)]
+    fn drop(self) {
+        match self {
+            Stmt::Bind(_, _) => {}
+            Stmt::Let(_, _) => {}
+            Stmt::Do(_) => {}
+        }
+    }
+}
+
 /// An action. Where a variant begins with a position, that is the node's: its first word. A call has that of its name.
 #[cycle(action)]
-#[derive(Drop)]
 pub enum Action {
     /// `return a`
     Return(Pos, Expr),
@@ -97,9 +114,51 @@ pub enum Action {
     Timeout(Pos, Expr, Block),
 }
 
+// Written out, so that it is proved once, here, and not in each function above that lets one go.
+impl Drop for Action {
+    #[cycle(action_drop)]
+    fn drop(self) {
+        match self {
+            Action::Return(_, _) => {}
+            Action::ThrowIo(_, _, _) => {}
+            Action::If(_, _, _, _) => {}
+            Action::Case(_, _, _) => {}
+            Action::Call(_, _) => {}
+            Action::PutStr(_, _) => {}
+            Action::PutStrLn(_, _) => {}
+            Action::HPutStrLn(_, _) => {}
+            Action::NewMVar(_, _) => {}
+            Action::NewEmptyMVar(_, _) => {}
+            Action::TakeMVar(_, _) => {}
+            Action::PutMVar(_, _, _) => {}
+            Action::ReadMVar(_, _) => {}
+            Action::TryTakeMVar(_, _) => {}
+            Action::TryPutMVar(_, _, _) => {}
+            Action::ModifyMVar(_, _, _, _) => {}
+            Action::ForkIo(_, _) => {}
+            Action::ForkIoWithUnmask(_, _, _) => {}
+            Action::MyThreadId(_) => {}
+            Action::ThrowTo(_, _, _) => {}
+            Action::KillThread(_, _) => {}
+            Action::ThreadDelay(_, _) => {}
+            Action::ClockMicros(_) => {}
+            Action::GetMaskingState(_) => {}
+            Action::Catch(_, _, _, _) => {}
+            Action::Mask(_, _, _) => {}
+            Action::MaskOnly(_, _) => {}
+            Action::UninterruptibleMask(_, _, _) => {}
+            Action::UninterruptibleMaskOnly(_, _) => {}
+            Action::Restore(_, _, _) => {}
+            Action::OnException(_, _, _) => {}
+            Action::Finally(_, _, _) => {}
+            Action::Bracket(_, _, _, _, _) => {}
+            Action::Timeout(_, _, _) => {}
+        }
+    }
+}
+
 /// The two arms of a `case` among actions, or its one.
 #[cycle(action)]
-#[derive(Drop)]
 pub enum BlockArms {
     /// `Nothing -> A; Just x -> B`
     OfMaybe(Block, Name, Block),
@@ -109,4 +168,17 @@ pub enum BlockArms {
     OfList(Block, Name, Name, Block),
     /// `(x, y) -> A`
     OfPair(Name, Name, Block),
+}
+
+// Written out, so that it is proved once, here, and not in each function above that lets one go.
+impl Drop for BlockArms {
+    #[cycle(action_drop)]
+    fn drop(self) {
+        match self {
+            BlockArms::OfMaybe(_, _, _) => {}
+            BlockArms::OfEither(_, _, _, _) => {}
+            BlockArms::OfList(_, _, _, _) => {}
+            BlockArms::OfPair(_, _, _) => {}
+        }
+    }
 }

@@ -59,7 +59,6 @@ pub enum Constant {
 /// An expression. Where a variant begins with a position, that is the node's: its first word or token. A chain has the
 /// positions of its operators, and a call that of its name.
 #[cycle(expr)]
-#[derive(Drop)]
 pub enum Expr {
     /// `if c then a else b`
     If(Pos, Boxed<Expr>, Boxed<Expr>, Boxed<Expr>),
@@ -121,35 +120,101 @@ pub enum Expr {
     List(Pos, Items<Expr>),
 }
 
+// Written out, so that it is proved once, here, and not in each function above that lets one go.
+impl Drop for Expr {
+    #[cycle(expr_drop)]
+    fn drop(self) {
+        match self {
+            Expr::If(_, _, _, _) => {}
+            Expr::Case(_, _, _) => {}
+            Expr::Let(_, _, _, _) => {}
+            Expr::Or(_, _) => {}
+            Expr::And(_, _) => {}
+            Expr::Compare(_, _, _, _) => {}
+            Expr::Cons(_, _) => {}
+            Expr::Negate(_, _) => {}
+            Expr::Sum(_, _) => {}
+            Expr::Product(_, _) => {}
+            Expr::Call(_, _) => {}
+            Expr::Just(_, _) => {}
+            Expr::Nothing(_, _) => {}
+            Expr::Left(_, _, _, _) => {}
+            Expr::Right(_, _, _, _) => {}
+            Expr::EmptyList(_, _) => {}
+            Expr::ErrorCall(_, _) => {}
+            Expr::Not(_, _) => {}
+            Expr::Fst(_, _) => {}
+            Expr::Snd(_, _) => {}
+            Expr::Show(_, _) => {}
+            Expr::Div(_, _, _) => {}
+            Expr::Mod(_, _, _) => {}
+            Expr::Int(_, _) => {}
+            Expr::Text(_, _) => {}
+            Expr::Constant(_, _) => {}
+            Expr::Unit(_) => {}
+            Expr::Pair(_, _, _) => {}
+            Expr::List(_, _) => {}
+        }
+    }
+}
+
 /// An operator of one kind and what stands behind it.
 #[cycle(expr)]
-#[derive(Drop)]
 pub struct Link {
     pub pos: Pos,
     pub operand: Expr,
 }
 
+// Written out, so that it is proved once, here, and not in each function above that lets one go.
+impl Drop for Link {
+    #[cycle(expr_drop)]
+    fn drop(self) {
+        let Link { pos: _, operand: _ } = self;
+    }
+}
+
 /// `+` or `-`, and what stands behind it.
 #[cycle(expr)]
-#[derive(Drop)]
 pub struct SumLink {
     pub op: SumOp,
     pub pos: Pos,
     pub operand: Expr,
 }
 
+// Written out, so that it is proved once, here, and not in each function above that lets one go.
+impl Drop for SumLink {
+    #[cycle(expr_drop)]
+    fn drop(self) {
+        let SumLink {
+            op: _,
+            pos: _,
+            operand: _,
+        } = self;
+    }
+}
+
 /// `:` or `++`, and what stands behind it.
 #[cycle(expr)]
-#[derive(Drop)]
 pub struct ListLink {
     pub op: ConsOp,
     pub pos: Pos,
     pub operand: Expr,
 }
 
+// Written out, so that it is proved once, here, and not in each function above that lets one go.
+impl Drop for ListLink {
+    #[cycle(expr_drop)]
+    fn drop(self) {
+        let ListLink {
+            op: _,
+            pos: _,
+            operand: _,
+        } = self;
+    }
+}
+
 /// The two arms of a `case` among expressions, or its one.
 #[cycle(expr)]
-#[derive(Drop)]
 pub enum ExprArms {
     /// `Nothing -> a; Just x -> b`
     OfMaybe(Expr, Name, Expr),
@@ -159,4 +224,17 @@ pub enum ExprArms {
     OfList(Expr, Name, Name, Expr),
     /// `(x, y) -> a`
     OfPair(Name, Name, Expr),
+}
+
+// Written out, so that it is proved once, here, and not in each function above that lets one go.
+impl Drop for ExprArms {
+    #[cycle(expr_drop)]
+    fn drop(self) {
+        match self {
+            ExprArms::OfMaybe(_, _, _) => {}
+            ExprArms::OfEither(_, _, _, _) => {}
+            ExprArms::OfList(_, _, _, _) => {}
+            ExprArms::OfPair(_, _, _) => {}
+        }
+    }
 }

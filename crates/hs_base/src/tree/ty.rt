@@ -6,7 +6,7 @@ use hs_items::Boxed;
 use std::alloc::Global;
 
 /// A type.
-#[derive(Debug, Drop)]
+#[derive(Debug)]
 pub enum Ty {
     /// `()`
     Unit,
@@ -30,6 +30,26 @@ pub enum Ty {
     List(Boxed<Ty>),
     /// `MVar a`
     Cell(Boxed<Ty>),
+}
+
+// Written out, so that it is proved once, here, and not in each function above that lets one go.
+impl Drop for Ty {
+    #[cycle(type_drop)]
+    fn drop(self) {
+        match self {
+            Ty::Unit => {}
+            Ty::Int => {}
+            Ty::Bool => {}
+            Ty::Text => {}
+            Ty::Thread => {}
+            Ty::Exn => {}
+            Ty::Pair(_, _) => {}
+            Ty::Maybe(_) => {}
+            Ty::Either(_, _) => {}
+            Ty::List(_) => {}
+            Ty::Cell(_) => {}
+        }
+    }
 }
 
 /// A type as it is written in a script, at its first token.
