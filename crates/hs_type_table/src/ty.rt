@@ -39,43 +39,42 @@ impl Drop for TypeTerm {
     }
 }
 
-fn boxed(alloc: Global, t: TypeTerm) -> Result<Boxed<TypeTerm>, NoMemory>
-    ensures { IfOk result (λ b. b ≡ t) }
-{
-    Ok(Boxed::new(alloc, t)?)
-}
-
 impl TypeTerm {
     /// An equal type. It takes time in its size, where one of the table has size 1.
+    #[cycle(copies)]
     pub fn copy(&self, alloc: Global) -> Result<TypeTerm, NoMemory>
         ensures { IfOk result (λ t. t ≡ self.now) }
     {
         match self {
             TypeTerm::Base(base) => Ok(TypeTerm::Base(*base)),
-            TypeTerm::Pair(a, b) => Ok(TypeTerm::Pair(
-                boxed(alloc, a.get().copy(alloc)?)?,
-                boxed(alloc, b.get().copy(alloc)?)?,
-            )),
-            TypeTerm::Maybe(a) => Ok(TypeTerm::Maybe(boxed(alloc, a.get().copy(alloc)?)?)),
-            TypeTerm::Either(a, b) => Ok(TypeTerm::Either(
-                boxed(alloc, a.get().copy(alloc)?)?,
-                boxed(alloc, b.get().copy(alloc)?)?,
-            )),
-            TypeTerm::List(a) => Ok(TypeTerm::List(boxed(alloc, a.get().copy(alloc)?)?)),
-            TypeTerm::Cell(a) => Ok(TypeTerm::Cell(boxed(alloc, a.get().copy(alloc)?)?)),
+            TypeTerm::Pair(a, b) => {
+                let a = boxed_copy(alloc, a.get())?;
+                let b = boxed_copy(alloc, b.get())?;
+                Ok(TypeTerm::Pair(a, b))
+            }
+            TypeTerm::Maybe(a) => maybe_of(alloc, a.get()),
+            TypeTerm::Either(a, b) => {
+                let a = boxed_copy(alloc, a.get())?;
+                let b = boxed_copy(alloc, b.get())?;
+                Ok(TypeTerm::Either(a, b))
+            }
+            TypeTerm::List(a) => list_of(alloc, a.get()),
+            TypeTerm::Cell(a) => cell_of(alloc, a.get()),
             TypeTerm::Known(place) => Ok(TypeTerm::Known(*place)),
         }
     }
 }
 
+#[cycle(copies)]
 fn boxed_copy(alloc: Global, t: &TypeTerm) -> Result<Boxed<TypeTerm>, NoMemory>
     ensures { IfOk result (λ b. b ≡ t.now) }
 {
     let t = t.copy(alloc)?;
-    boxed(alloc, t)
+    Ok(Boxed::new(alloc, t)?)
 }
 
 /// `Maybe t`
+#[cycle(copies)]
 pub fn maybe_of(alloc: Global, t: &TypeTerm) -> Result<TypeTerm, NoMemory>
     ensures { IfOk result (λ b. b ≡ TypeTerm.Maybe t.now) }
 {
@@ -83,6 +82,7 @@ pub fn maybe_of(alloc: Global, t: &TypeTerm) -> Result<TypeTerm, NoMemory>
 }
 
 /// `[t]`
+#[cycle(copies)]
 pub fn list_of(alloc: Global, t: &TypeTerm) -> Result<TypeTerm, NoMemory>
     ensures { IfOk result (λ b. b ≡ TypeTerm.List t.now) }
 {
@@ -90,6 +90,7 @@ pub fn list_of(alloc: Global, t: &TypeTerm) -> Result<TypeTerm, NoMemory>
 }
 
 /// `MVar t`
+#[cycle(copies)]
 pub fn cell_of(alloc: Global, t: &TypeTerm) -> Result<TypeTerm, NoMemory>
     ensures { IfOk result (λ b. b ≡ TypeTerm.Cell t.now) }
 {
