@@ -24,24 +24,21 @@ fn ex_nodes(e: &Expr) -> u32
         Expr::Unit(_) => 1,
         Expr::Nothing(_, _) => 1,
         Expr::EmptyList(_, _) => 1,
-        Expr::Negate(_, a) => add(1, ex_nodes(a.get())),
-        Expr::Just(_, a) => add(1, ex_nodes(a.get())),
-        Expr::ErrorCall(_, a) => add(1, ex_nodes(a.get())),
-        Expr::Not(_, a) => add(1, ex_nodes(a.get())),
-        Expr::Fst(_, a) => add(1, ex_nodes(a.get())),
-        Expr::Snd(_, a) => add(1, ex_nodes(a.get())),
-        Expr::Show(_, a) => add(1, ex_nodes(a.get())),
-        Expr::Left(_, _, _, a) => add(1, ex_nodes(a.get())),
-        Expr::Right(_, _, _, a) => add(1, ex_nodes(a.get())),
-        Expr::Compare(a, _, _, b) => add(1, add(ex_nodes(a.get()), ex_nodes(b.get()))),
-        Expr::Div(_, a, b) => add(1, add(ex_nodes(a.get()), ex_nodes(b.get()))),
-        Expr::Mod(_, a, b) => add(1, add(ex_nodes(a.get()), ex_nodes(b.get()))),
-        Expr::Pair(_, a, b) => add(1, add(ex_nodes(a.get()), ex_nodes(b.get()))),
-        Expr::Let(_, _, a, b) => add(1, add(ex_nodes(a.get()), ex_nodes(b.get()))),
-        Expr::If(_, c, a, b) => add(
-            1,
-            add(ex_nodes(c.get()), add(ex_nodes(a.get()), ex_nodes(b.get()))),
-        ),
+        Expr::Negate(_, a) => over(a.get()),
+        Expr::Just(_, a) => over(a.get()),
+        Expr::ErrorCall(_, a) => over(a.get()),
+        Expr::Not(_, a) => over(a.get()),
+        Expr::Fst(_, a) => over(a.get()),
+        Expr::Snd(_, a) => over(a.get()),
+        Expr::Show(_, a) => over(a.get()),
+        Expr::Left(_, _, _, a) => over(a.get()),
+        Expr::Right(_, _, _, a) => over(a.get()),
+        Expr::Compare(a, _, _, b) => over_two(b.get(), ex_nodes(a.get())),
+        Expr::Div(_, a, b) => over_two(b.get(), ex_nodes(a.get())),
+        Expr::Mod(_, a, b) => over_two(b.get(), ex_nodes(a.get())),
+        Expr::Pair(_, a, b) => over_two(b.get(), ex_nodes(a.get())),
+        Expr::Let(_, _, a, b) => over_two(b.get(), ex_nodes(a.get())),
+        Expr::If(_, c, a, b) => over_two(b.get(), add(ex_nodes(c.get()), ex_nodes(a.get()))),
         Expr::Or(a, ks) => add(ex_nodes(a.get()), link_nodes(BinaryForm::Or, ks)),
         Expr::And(a, ks) => add(ex_nodes(a.get()), link_nodes(BinaryForm::And, ks)),
         Expr::Product(a, ks) => add(ex_nodes(a.get()), link_nodes(BinaryForm::Times, ks)),
@@ -51,6 +48,22 @@ fn ex_nodes(e: &Expr) -> u32
         Expr::List(_, es) => add(1, exs_nodes(es)),
         Expr::Case(_, a, arms) => add(1, add(ex_nodes(a.get()), arm_nodes(arms.get()))),
     }
+}
+
+/// A node over an expression.
+#[cycle(nodes)]
+fn over(a: &Expr) -> u32
+    ensures { result ≡ min (1 + ex_size (ex_of a.now)) 1000001 }
+{
+    add(1, ex_nodes(a))
+}
+
+/// A node over two parts, of which the first has `n` nodes.
+#[cycle(nodes)]
+fn over_two(b: &Expr, n: u32) -> u32
+    ensures { result ≡ min (1 + n + ex_size (ex_of b.now)) 1000001 }
+{
+    add(1, add(n, ex_nodes(b)))
 }
 
 #[cycle(nodes)]
@@ -121,31 +134,31 @@ fn act_nodes(a: &Action) -> u32
         Action::ClockMicros(_) => 1,
         Action::GetMaskingState(_) => 1,
         Action::NewEmptyMVar(_, _) => 1,
-        Action::Return(_, e) => add(1, ex_nodes(e)),
-        Action::ThrowIo(_, _, e) => add(1, ex_nodes(e)),
-        Action::PutStr(_, e) => add(1, ex_nodes(e)),
-        Action::PutStrLn(_, e) => add(1, ex_nodes(e)),
-        Action::HPutStrLn(_, e) => add(1, ex_nodes(e)),
-        Action::NewMVar(_, e) => add(1, ex_nodes(e)),
-        Action::TakeMVar(_, e) => add(1, ex_nodes(e)),
-        Action::ReadMVar(_, e) => add(1, ex_nodes(e)),
-        Action::TryTakeMVar(_, e) => add(1, ex_nodes(e)),
+        Action::Return(_, e) => over(e),
+        Action::ThrowIo(_, _, e) => over(e),
+        Action::PutStr(_, e) => over(e),
+        Action::PutStrLn(_, e) => over(e),
+        Action::HPutStrLn(_, e) => over(e),
+        Action::NewMVar(_, e) => over(e),
+        Action::TakeMVar(_, e) => over(e),
+        Action::ReadMVar(_, e) => over(e),
+        Action::TryTakeMVar(_, e) => over(e),
         Action::KillThread(_, e) => add(2, ex_nodes(e)),
-        Action::ThreadDelay(_, e) => add(1, ex_nodes(e)),
-        Action::PutMVar(_, e, f) => add(1, add(ex_nodes(e), ex_nodes(f))),
-        Action::TryPutMVar(_, e, f) => add(1, add(ex_nodes(e), ex_nodes(f))),
-        Action::ThrowTo(_, e, f) => add(1, add(ex_nodes(e), ex_nodes(f))),
+        Action::ThreadDelay(_, e) => over(e),
+        Action::PutMVar(_, e, f) => over_two(f, ex_nodes(e)),
+        Action::TryPutMVar(_, e, f) => over_two(f, ex_nodes(e)),
+        Action::ThrowTo(_, e, f) => over_two(f, ex_nodes(e)),
         Action::Call(_, es) => add(1, exs_nodes(es)),
         Action::If(_, e, b, d) => add(1, add(ex_nodes(e), add(bl_nodes(b), bl_nodes(d)))),
         Action::Case(_, e, arms) => add(1, add(ex_nodes(e), act_arm_nodes(arms.get()))),
         Action::ModifyMVar(_, e, _, b) => add(17, add(ex_nodes(e), bl_nodes(b))),
-        Action::ForkIo(_, b) => add(1, bl_nodes(b)),
-        Action::MaskOnly(_, b) => add(1, bl_nodes(b)),
-        Action::UninterruptibleMaskOnly(_, b) => add(1, bl_nodes(b)),
-        Action::ForkIoWithUnmask(_, _, b) => add(1, bl_nodes(b)),
-        Action::Mask(_, _, b) => add(1, bl_nodes(b)),
-        Action::UninterruptibleMask(_, _, b) => add(1, bl_nodes(b)),
-        Action::Restore(_, _, b) => add(1, bl_nodes(b)),
+        Action::ForkIo(_, b) => over_block(b),
+        Action::MaskOnly(_, b) => over_block(b),
+        Action::UninterruptibleMaskOnly(_, b) => over_block(b),
+        Action::ForkIoWithUnmask(_, _, b) => over_block(b),
+        Action::Mask(_, _, b) => over_block(b),
+        Action::UninterruptibleMask(_, _, b) => over_block(b),
+        Action::Restore(_, _, b) => over_block(b),
         Action::Catch(_, b, _, d) => add(1, add(bl_nodes(b), bl_nodes(d))),
         Action::OnException(_, b, d) => add(4, add(bl_nodes(b), bl_nodes(d))),
         Action::Finally(_, b, d) => {
@@ -161,6 +174,14 @@ fn act_nodes(a: &Action) -> u32
             add(67, add(ex_nodes(e), add(n, n)))
         }
     }
+}
+
+/// A node over a block.
+#[cycle(actions)]
+fn over_block(b: &Block) -> u32
+    ensures { result ≡ min (1 + bl_nodes (bl_of b.now)) 1000001 }
+{
+    add(1, bl_nodes(b))
 }
 
 #[cycle(actions)]
