@@ -1,10 +1,10 @@
 ghost use Rattle.std.specs.Prelude.{◌≡◌, ◌≤◌, ◌+◌, ◌-◌, ◌∷◌, [], IfOk, OnOk, min, max, length, drop};
 ghost use Rattle.rules_trees.specs.Trees.{ex_of, exs_of, arms_of, links_of, sum_links_of, list_links_of};
 ghost use Rattle.rules_typing.specs.Typing.{masked};
-ghost use Rattle.rules_typing.specs.TypingSizes.{extent, extents, link_extents, arm_extents, body_extent};
+ghost use Rattle.rules_typing.specs.TypingSizes.{extent, extents, link_extents, arm_extents, body_extent, over, beside};
 ghost use Rattle.rules_typing.specs.Typing.{look};
 ghost use Rattle.hs_typing.specs.Views.{scope_of, sigs_of};
-ghost use Rattle.hs_extents.specs.Measuring.{Extends, exts_of};
+ghost use Rattle.hs_extents.specs.Measuring.{Extends, ext_of, exts_of};
 
 use hs_base::NoMemory;
 use hs_base::tree::{Expr, ExprArms, Link, ListLink, Name, SumLink};
@@ -154,40 +154,35 @@ impl Meter {
             Expr::Unit(_) => Ok(over(nothing())),
             Expr::Nothing(_, _) => Ok(over(nothing())),
             Expr::EmptyList(_, _) => Ok(over(nothing())),
-            Expr::Negate(_, a) => Ok(over(self.extent(alloc, funs, a.get())?)),
-            Expr::Just(_, a) => Ok(over(self.extent(alloc, funs, a.get())?)),
-            Expr::ErrorCall(_, a) => Ok(over(self.extent(alloc, funs, a.get())?)),
-            Expr::Not(_, a) => Ok(over(self.extent(alloc, funs, a.get())?)),
-            Expr::Fst(_, a) => Ok(over(self.extent(alloc, funs, a.get())?)),
-            Expr::Snd(_, a) => Ok(over(self.extent(alloc, funs, a.get())?)),
-            Expr::Show(_, a) => Ok(over(self.extent(alloc, funs, a.get())?)),
-            Expr::Left(_, _, _, a) => Ok(over(self.extent(alloc, funs, a.get())?)),
-            Expr::Right(_, _, _, a) => Ok(over(self.extent(alloc, funs, a.get())?)),
+            Expr::Negate(_, a) => self.around(alloc, funs, a.get()),
+            Expr::Just(_, a) => self.around(alloc, funs, a.get()),
+            Expr::ErrorCall(_, a) => self.around(alloc, funs, a.get()),
+            Expr::Not(_, a) => self.around(alloc, funs, a.get()),
+            Expr::Fst(_, a) => self.around(alloc, funs, a.get()),
+            Expr::Snd(_, a) => self.around(alloc, funs, a.get()),
+            Expr::Show(_, a) => self.around(alloc, funs, a.get()),
+            Expr::Left(_, _, _, a) => self.around(alloc, funs, a.get()),
+            Expr::Right(_, _, _, a) => self.around(alloc, funs, a.get()),
             Expr::Compare(a, _, _, b) => {
                 let x = self.extent(alloc, funs, a.get())?;
-                let y = self.extent(alloc, funs, b.get())?;
-                Ok(over(beside(x, y)))
+                self.around_two(alloc, funs, b.get(), x)
             }
             Expr::Div(_, a, b) => {
                 let x = self.extent(alloc, funs, a.get())?;
-                let y = self.extent(alloc, funs, b.get())?;
-                Ok(over(beside(x, y)))
+                self.around_two(alloc, funs, b.get(), x)
             }
             Expr::Mod(_, a, b) => {
                 let x = self.extent(alloc, funs, a.get())?;
-                let y = self.extent(alloc, funs, b.get())?;
-                Ok(over(beside(x, y)))
+                self.around_two(alloc, funs, b.get(), x)
             }
             Expr::Pair(_, a, b) => {
                 let x = self.extent(alloc, funs, a.get())?;
-                let y = self.extent(alloc, funs, b.get())?;
-                Ok(over(beside(x, y)))
+                self.around_two(alloc, funs, b.get(), x)
             }
             Expr::If(_, c, a, b) => {
                 let x = self.extent(alloc, funs, c.get())?;
                 let y = self.extent(alloc, funs, a.get())?;
-                let z = self.extent(alloc, funs, b.get())?;
-                Ok(over(beside(beside(x, y), z)))
+                self.around_two(alloc, funs, b.get(), beside(x, y))
             }
             Expr::Let(_, v, a, b) => {
                 let x = self.extent(alloc, funs, a.get())?;
@@ -231,6 +226,30 @@ impl Meter {
                 Ok(over(beside(x, y)))
             }
         }
+    }
+
+    /// A node over one part.
+    #[cycle(extents)]
+    fn around(&mut self, alloc: Global, funs: &Funs, a: &Expr) -> Result<Extent, NoMemory>
+        ensures { IfOk result (λ x. Extends self.old self.new x (over (extent (sigs_of funs.now.types.nodes funs.now.sigs) (exts_of self.old.extents) (scope_of [] self.old.scope.items) (ex_of a.now)))) }
+    {
+        let x = self.extent(alloc, funs, a)?;
+        Ok(over(x))
+    }
+
+    /// A node over two parts, after its first.
+    #[cycle(extents)]
+    fn around_two(
+        &mut self,
+        alloc: Global,
+        funs: &Funs,
+        b: &Expr,
+        x: Extent,
+    ) -> Result<Extent, NoMemory>
+        ensures { IfOk result (λ y. Extends self.old self.new y (over (beside (ext_of x) (extent (sigs_of funs.now.types.nodes funs.now.sigs) (exts_of self.old.extents) (scope_of [] self.old.scope.items) (ex_of b.now))))) }
+    {
+        let y = self.extent(alloc, funs, b)?;
+        Ok(over(beside(x, y)))
     }
 
     #[cycle(extents)]

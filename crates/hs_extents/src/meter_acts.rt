@@ -1,8 +1,8 @@
 ghost use Rattle.std.specs.Prelude.{◌≡◌, [], ◌∷◌, IfOk};
-ghost use Rattle.rules_trees.specs.Trees.{exs_of};
+ghost use Rattle.rules_trees.specs.Trees.{ex_of, exs_of};
 ghost use Rattle.rules_trees.specs.Programs.{act_of, bl_of, act_arms_of, stmt_of};
 ghost use Rattle.rules_typing.specs.Typing.{masked};
-ghost use Rattle.rules_typing.specs.TypingSizes.{worst_act, worst_bl, worst_arms, worst_exs};
+ghost use Rattle.rules_typing.specs.TypingSizes.{extent, worse, worst_act, worst_bl, worst_arms, worst_exs};
 ghost use Rattle.hs_typing.specs.Views.{scope_of, sigs_of};
 ghost use Rattle.hs_extents.specs.Measuring.{Extends, Worsens, exts_of};
 
@@ -26,6 +26,15 @@ impl Meter {
         Ok(x)
     }
 
+    /// The greater of two expressions, each for itself.
+    fn both(&mut self, alloc: Global, funs: &Funs, e: &Expr, f: &Expr) -> Result<Extent, NoMemory>
+        ensures { IfOk result (λ x. Extends self.old self.new x (worse (extent (sigs_of funs.now.types.nodes funs.now.sigs) (exts_of self.old.extents) (scope_of [] self.old.scope.items) (ex_of e.now)) (extent (sigs_of funs.now.types.nodes funs.now.sigs) (exts_of self.old.extents) (scope_of [] self.old.scope.items) (ex_of f.now)))) }
+    {
+        let x = self.extent(alloc, funs, e)?;
+        let y = self.extent(alloc, funs, f)?;
+        Ok(worse(x, y))
+    }
+
     /// The greatest expression of an action.
     #[cycle(worst)]
     #[tactic(auto, using(rules_trees::proofs::EquationsOfActions::act_rules))]
@@ -37,33 +46,21 @@ impl Meter {
             Action::ClockMicros(_) => Ok(nothing()),
             Action::GetMaskingState(_) => Ok(nothing()),
             Action::NewEmptyMVar(_, _) => Ok(nothing()),
-            Action::Return(_, e) => Ok(self.extent(alloc, funs, e)?),
-            Action::ThrowIo(_, _, e) => Ok(self.extent(alloc, funs, e)?),
-            Action::PutStr(_, e) => Ok(self.extent(alloc, funs, e)?),
-            Action::PutStrLn(_, e) => Ok(self.extent(alloc, funs, e)?),
-            Action::HPutStrLn(_, e) => Ok(self.extent(alloc, funs, e)?),
-            Action::NewMVar(_, e) => Ok(self.extent(alloc, funs, e)?),
-            Action::TakeMVar(_, e) => Ok(self.extent(alloc, funs, e)?),
-            Action::ReadMVar(_, e) => Ok(self.extent(alloc, funs, e)?),
-            Action::TryTakeMVar(_, e) => Ok(self.extent(alloc, funs, e)?),
-            Action::KillThread(_, e) => Ok(self.extent(alloc, funs, e)?),
-            Action::ThreadDelay(_, e) => Ok(self.extent(alloc, funs, e)?),
-            Action::PutMVar(_, e, f) => {
-                let x = self.extent(alloc, funs, e)?;
-                let y = self.extent(alloc, funs, f)?;
-                Ok(worse(x, y))
-            }
-            Action::TryPutMVar(_, e, f) => {
-                let x = self.extent(alloc, funs, e)?;
-                let y = self.extent(alloc, funs, f)?;
-                Ok(worse(x, y))
-            }
-            Action::ThrowTo(_, e, f) => {
-                let x = self.extent(alloc, funs, e)?;
-                let y = self.extent(alloc, funs, f)?;
-                Ok(worse(x, y))
-            }
-            Action::Call(_, es) => Ok(self.each(alloc, funs, es)?),
+            Action::Return(_, e) => self.extent(alloc, funs, e),
+            Action::ThrowIo(_, _, e) => self.extent(alloc, funs, e),
+            Action::PutStr(_, e) => self.extent(alloc, funs, e),
+            Action::PutStrLn(_, e) => self.extent(alloc, funs, e),
+            Action::HPutStrLn(_, e) => self.extent(alloc, funs, e),
+            Action::NewMVar(_, e) => self.extent(alloc, funs, e),
+            Action::TakeMVar(_, e) => self.extent(alloc, funs, e),
+            Action::ReadMVar(_, e) => self.extent(alloc, funs, e),
+            Action::TryTakeMVar(_, e) => self.extent(alloc, funs, e),
+            Action::KillThread(_, e) => self.extent(alloc, funs, e),
+            Action::ThreadDelay(_, e) => self.extent(alloc, funs, e),
+            Action::PutMVar(_, e, f) => self.both(alloc, funs, e, f),
+            Action::TryPutMVar(_, e, f) => self.both(alloc, funs, e, f),
+            Action::ThrowTo(_, e, f) => self.both(alloc, funs, e, f),
+            Action::Call(_, es) => self.each(alloc, funs, es),
             Action::If(_, e, b, d) => {
                 let x = self.extent(alloc, funs, e)?;
                 let y = self.block(alloc, funs, b)?;
@@ -80,13 +77,13 @@ impl Meter {
                 let y = self.under_block(alloc, funs, v, b)?;
                 Ok(worse(x, y))
             }
-            Action::ForkIo(_, b) => Ok(self.block(alloc, funs, b)?),
-            Action::MaskOnly(_, b) => Ok(self.block(alloc, funs, b)?),
-            Action::UninterruptibleMaskOnly(_, b) => Ok(self.block(alloc, funs, b)?),
-            Action::ForkIoWithUnmask(_, v, b) => Ok(self.under_block(alloc, funs, v, b)?),
-            Action::Mask(_, v, b) => Ok(self.under_block(alloc, funs, v, b)?),
-            Action::UninterruptibleMask(_, v, b) => Ok(self.under_block(alloc, funs, v, b)?),
-            Action::Restore(_, _, b) => Ok(self.block(alloc, funs, b)?),
+            Action::ForkIo(_, b) => self.block(alloc, funs, b),
+            Action::MaskOnly(_, b) => self.block(alloc, funs, b),
+            Action::UninterruptibleMaskOnly(_, b) => self.block(alloc, funs, b),
+            Action::ForkIoWithUnmask(_, v, b) => self.under_block(alloc, funs, v, b),
+            Action::Mask(_, v, b) => self.under_block(alloc, funs, v, b),
+            Action::UninterruptibleMask(_, v, b) => self.under_block(alloc, funs, v, b),
+            Action::Restore(_, _, b) => self.block(alloc, funs, b),
             Action::Catch(_, b, v, d) => {
                 let x = self.block(alloc, funs, b)?;
                 let y = self.under_block(alloc, funs, v, d)?;
