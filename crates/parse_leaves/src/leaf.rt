@@ -215,11 +215,9 @@ impl<'a> Cursor<'a> {
         ensures shorter { OnOk result (length self.new < length self.old) }
     {
         if self.at_symbol(symbol::PLUS) {
-            let pos = self.symbol(symbol::PLUS)?;
-            return Ok((SumOp::Plus, pos));
+            return self.operator(symbol::PLUS, SumOp::Plus);
         }
-        let pos = self.symbol(symbol::MINUS)?;
-        Ok((SumOp::Minus, pos))
+        self.operator(symbol::MINUS, SumOp::Minus)
     }
 
     /// An operator and its position.
@@ -228,11 +226,9 @@ impl<'a> Cursor<'a> {
         ensures shorter { OnOk result (length self.new < length self.old) }
     {
         if self.at_symbol(symbol::COLON) {
-            let pos = self.symbol(symbol::COLON)?;
-            return Ok((ConsOp::Cons, pos));
+            return self.operator(symbol::COLON, ConsOp::Cons);
         }
-        let pos = self.symbol(symbol::PLUS_PLUS)?;
-        Ok((ConsOp::Append, pos))
+        self.operator(symbol::PLUS_PLUS, ConsOp::Append)
     }
 
     /// An operator and its position.
@@ -241,27 +237,30 @@ impl<'a> Cursor<'a> {
         ensures shorter { OnOk result (length self.new < length self.old) }
     {
         if self.at_symbol(symbol::EQUAL_EQUAL) {
-            let pos = self.symbol(symbol::EQUAL_EQUAL)?;
-            return Ok((CompareOp::Equal, pos));
+            return self.operator(symbol::EQUAL_EQUAL, CompareOp::Equal);
         }
         if self.at_symbol(symbol::SLASH_EQUAL) {
-            let pos = self.symbol(symbol::SLASH_EQUAL)?;
-            return Ok((CompareOp::Unequal, pos));
+            return self.operator(symbol::SLASH_EQUAL, CompareOp::Unequal);
         }
         if self.at_symbol(symbol::LESS) {
-            let pos = self.symbol(symbol::LESS)?;
-            return Ok((CompareOp::Less, pos));
+            return self.operator(symbol::LESS, CompareOp::Less);
         }
         if self.at_symbol(symbol::LESS_EQUAL) {
-            let pos = self.symbol(symbol::LESS_EQUAL)?;
-            return Ok((CompareOp::AtMost, pos));
+            return self.operator(symbol::LESS_EQUAL, CompareOp::AtMost);
         }
         if self.at_symbol(symbol::GREATER) {
-            let pos = self.symbol(symbol::GREATER)?;
-            return Ok((CompareOp::Greater, pos));
+            return self.operator(symbol::GREATER, CompareOp::Greater);
         }
-        let pos = self.symbol(symbol::GREATER_EQUAL)?;
-        Ok((CompareOp::AtLeast, pos))
+        self.operator(symbol::GREATER_EQUAL, CompareOp::AtLeast)
+    }
+
+    /// This symbol, as this operator.
+    fn operator<T: Copy>(&mut self, symbol: u8, operator: T) -> Result<(T, Pos), Halt>
+        ensures reads { Reads (parser.take (Kind.symbol symbol) (λ t. parser.done (operator, t.pos)) self.old) result self.new }
+        ensures shorter { OnOk result (length self.new < length self.old) }
+    {
+        let pos = self.symbol(symbol)?;
+        Ok((operator, pos))
     }
 
     /// A `;`, if there is one.

@@ -1,33 +1,29 @@
 use Rattle.std.proofs.Common.{rules}
 use Rattle.hs_grammar.specs.Parser.{firsts, may_be_empty, read_then}
 use Rattle.rules_grammar.specs.Grammar.{compare_operator}
-use Rattle.parse_leaves.proofs.Steps.{steps}
+use Rattle.parse_leaves.proofs.Steps.{choose_yes, choose_no}
 use Rattle.parse_leaves.proofs.cursor.Cursor.compare_operator.Goals as goal
 
 pub returns-then-at_symbol-clause-reads : goal.returns-then-at_symbol-clause-reads
 unfolding firsts may_be_empty read_then compare_operator
-returns-then-at_symbol-clause-reads c = search (rules, steps)
+returns-then-at_symbol-clause-reads c = search (rules, choose_yes, choose_no)
 
 pub returns-then-at_symbol-2-clause-reads : goal.returns-then-at_symbol-2-clause-reads
 unfolding firsts may_be_empty read_then compare_operator
-returns-then-at_symbol-2-clause-reads c = search (rules, steps)
+returns-then-at_symbol-2-clause-reads c = search (rules, choose_yes, choose_no)
 
 pub returns-then-at_symbol-3-clause-reads : goal.returns-then-at_symbol-3-clause-reads
 unfolding firsts may_be_empty read_then compare_operator
-returns-then-at_symbol-3-clause-reads c = search (rules, steps)
+returns-then-at_symbol-3-clause-reads c = search (rules, choose_yes, choose_no)
 
 pub returns-then-at_symbol-4-clause-reads : goal.returns-then-at_symbol-4-clause-reads
 unfolding firsts may_be_empty read_then compare_operator
-returns-then-at_symbol-4-clause-reads c = search (rules, steps)
+returns-then-at_symbol-4-clause-reads c = search (rules, choose_yes, choose_no)
 
 pub returns-then-at_symbol-5-clause-reads : goal.returns-then-at_symbol-5-clause-reads
 unfolding firsts may_be_empty read_then compare_operator
-returns-then-at_symbol-5-clause-reads c = search (rules, steps)
-
-pub returns-in_err-pos-6-clause-reads : goal.returns-in_err-pos-6-clause-reads
-unfolding firsts may_be_empty read_then compare_operator
-returns-in_err-pos-6-clause-reads c = search (rules, steps)
+returns-then-at_symbol-5-clause-reads c = search (rules, choose_yes, choose_no)
 
 pub returns-clause-reads : goal.returns-clause-reads
 unfolding firsts may_be_empty read_then compare_operator
-returns-clause-reads c = search (rules, steps)
+returns-clause-reads c = search (rules, choose_yes, choose_no)
