@@ -1,7 +1,7 @@
 //! One call of the top call, and what it left.
 
 use crate::flaw::Flaw;
-use crate::row::{ClockPlan, Row};
+use crate::row::{ClockPlan, Plan};
 use conc_top::{Done, Ending, RunEnd, run};
 use hs_io::{
     Clock, MemSink, MemSource, OpenGate, PlainSource, Source, StandingClock, VirtualClock,
@@ -12,7 +12,7 @@ use std::sync::Wait;
 use std::thread::Threads;
 
 /// What a call left.
-#[derive(Debug, Drop)]
+#[derive(Drop)]
 pub struct Came {
     pub out: Vec<u8>,
     pub err: Vec<u8>,
@@ -24,20 +24,20 @@ pub struct Came {
     pub limit_at: Option<Entry>,
 }
 
-/// Calls the top call as the row says, with these words, on this input.
+/// Calls the top call as a row says, with these words, on this input.
 pub fn call<R: Threads + Wait + Sync>(
     alloc: Global,
     rt: &R,
-    row: &Row,
+    plan: &Plan,
     words: &[String],
     input: &[u8],
 ) -> Result<Came, Flaw> {
-    match &row.source {
-        None => call_with(alloc, rt, row, words, &mut PlainSource::of(alloc, input)?),
-        Some(plan) => {
-            let piece = plan.piece.max(1);
-            let mut source = MemSource::of(alloc, input, piece, &plan.fails)?;
-            call_with(alloc, rt, row, words, &mut source)
+    match &plan.source {
+        None => call_with(alloc, rt, plan, words, &mut PlainSource::of(alloc, input)?),
+        Some(pieces) => {
+            let piece = pieces.piece.max(1);
+            let mut source = MemSource::of(alloc, input, piece, &pieces.fails)?;
+            call_with(alloc, rt, plan, words, &mut source)
         }
     }
 }
@@ -45,26 +45,26 @@ pub fn call<R: Threads + Wait + Sync>(
 fn call_with<S: Source, R: Threads + Wait + Sync>(
     alloc: Global,
     rt: &R,
-    row: &Row,
+    plan: &Plan,
     words: &[String],
     source: &mut S,
 ) -> Result<Came, Flaw> {
-    match row.clock {
-        ClockPlan::Virtual => call_at(alloc, rt, row, words, source, VirtualClock::new()),
-        ClockPlan::Standing => call_at(alloc, rt, row, words, source, StandingClock::new()),
+    match plan.clock {
+        ClockPlan::Virtual => call_at(alloc, rt, plan, words, source, VirtualClock::new()),
+        ClockPlan::Standing => call_at(alloc, rt, plan, words, source, StandingClock::new()),
     }
 }
 
 fn call_at<S: Source, K: Clock + Drop + Send, R: Threads + Wait + Sync>(
     alloc: Global,
     rt: &R,
-    row: &Row,
+    plan: &Plan,
     words: &[String],
     source: &mut S,
     clock: K,
 ) -> Result<Came, Flaw> {
-    let out = MemSink::of(alloc, row.out.room, &row.out.fails)?;
-    let err = MemSink::of(alloc, row.err.room, &row.err.fails)?;
+    let out = MemSink::of(alloc, plan.out.room, &plan.out.fails)?;
+    let err = MemSink::of(alloc, plan.err.room, &plan.err.fails)?;
     let Done {
         status,
         ending,

@@ -14,7 +14,7 @@ pub fn problem_of<R: Threads + Wait + Sync>(
     rt: &R,
     row: &Row,
 ) -> Result<Option<String>, Flaw> {
-    for _ in 0..row.times {
+    for _ in 0..row.plan.times {
         if let Some(problem) = problem_once(alloc, rt, row)? {
             return Ok(Some(problem));
         }
@@ -27,10 +27,10 @@ fn problem_once<R: Threads + Wait + Sync>(
     rt: &R,
     row: &Row,
 ) -> Result<Option<String>, Flaw> {
-    match &row.cases {
+    match &row.plan.cases {
         Cases::One => {
-            let input = row.input.spell(0)?;
-            problem_at(alloc, rt, row, &row.words, &input, &Case::Whole)
+            let input = row.plan.input.spell(0)?;
+            problem_at(alloc, rt, row, &row.plan.words, &input, &Case::Whole)
         }
         Cases::Bytes(ranges) => problem_of_bytes(alloc, rt, row, ranges),
         Cases::Parts => problem_of_parts(alloc, rt, row),
@@ -46,9 +46,9 @@ fn problem_of_bytes<R: Threads + Wait + Sync>(
 ) -> Result<Option<String>, Flaw> {
     for (first, last) in ranges {
         for byte in *first..=*last {
-            let input = row.input.spell(byte)?;
+            let input = row.plan.input.spell(byte)?;
             let case = Case::Byte(byte);
-            if let Some(problem) = problem_at(alloc, rt, row, &row.words, &input, &case)? {
+            if let Some(problem) = problem_at(alloc, rt, row, &row.plan.words, &input, &case)? {
                 return Ok(Some(format!(in alloc; "at byte {byte:02X}: {problem}")?));
             }
         }
@@ -61,11 +61,11 @@ fn problem_of_parts<R: Threads + Wait + Sync>(
     rt: &R,
     row: &Row,
 ) -> Result<Option<String>, Flaw> {
-    let whole = row.input.spell(0)?;
+    let whole = row.plan.input.spell(0)?;
     for end in 1..whole.len() {
         let (part, rest) = whole.split_at(end);
         let case = Case::Part(part, rest);
-        if let Some(problem) = problem_at(alloc, rt, row, &row.words, part, &case)? {
+        if let Some(problem) = problem_at(alloc, rt, row, &row.plan.words, part, &case)? {
             return Ok(Some(format!(in alloc; "at {end} bytes: {problem}")?));
         }
     }
@@ -78,9 +78,9 @@ fn problem_of_capabilities<R: Threads + Wait + Sync>(
     row: &Row,
     counts: &[u8],
 ) -> Result<Option<String>, Flaw> {
-    let input = row.input.spell(0)?;
+    let input = row.plan.input.spell(0)?;
     for count in counts {
-        let words = with_capabilities(alloc, &row.words, *count)?;
+        let words = with_capabilities(alloc, &row.plan.words, *count)?;
         if let Some(problem) = problem_at(alloc, rt, row, &words, &input, &Case::Whole)? {
             return Ok(Some(format!(in alloc; "on {count} capabilities: {problem}")?));
         }
@@ -107,6 +107,6 @@ fn problem_at<R: Threads + Wait + Sync>(
     input: &[u8],
     case: &Case<'_>,
 ) -> Result<Option<String>, Flaw> {
-    let came = call(alloc, rt, row, words, input)?;
+    let came = call(alloc, rt, &row.plan, words, input)?;
     difference(alloc, &row.wanted, case, &came)
 }

@@ -6,34 +6,35 @@ use crate::plans::{
     byte_ranges, entries_of, entry_of, number_of, numbers_of, refusal_of, sink_of, source_of,
     words_of,
 };
-use crate::row::{Cases, ClockPlan};
+use crate::row::{Cases, ClockPlan, Plan, Told};
 use crate::text::Text;
+use std::alloc::Global;
 
 /// Adds what a line says to a row.
 pub fn read_line(draft: &mut Draft, line: &str) -> Result<(), Flaw> {
     if let Some(text) = line.strip_prefix("|") {
-        if !draft.input.is_empty() {
-            draft.input.add(b"\n")?;
+        if !draft.plan.input.is_empty() {
+            draft.plan.input.add(b"\n")?;
         }
-        draft.input.add(after_blank(text).as_bytes())?;
+        draft.plan.input.add(after_blank(text).as_bytes())?;
         return Ok(());
     }
     if let Some(text) = line.strip_prefix("+") {
-        draft.input.add(after_blank(text).as_bytes())?;
+        draft.plan.input.add(after_blank(text).as_bytes())?;
         return Ok(());
     }
     if let Some(rest) = line.strip_prefix("out ") {
         if is_quoted(rest) {
-            return add_quoted(&mut draft.out, rest);
+            return add_quoted(&mut draft.told.out, rest);
         }
     }
     if let Some(rest) = line.strip_prefix("err ") {
         if is_quoted(rest) {
-            return add_quoted(&mut draft.err, rest);
+            return add_quoted(&mut draft.told.err, rest);
         }
     }
     if is_quoted(line) {
-        return add_quoted(&mut draft.input, line);
+        return add_quoted(&mut draft.plan.input, line);
     }
     match line.split_once(':') {
         Some((key, value)) => read_key(draft, key, after_blank(value)),
@@ -72,20 +73,22 @@ fn read_mark(draft: &mut Draft, line: &str) -> Result<(), Flaw> {
     match line {
         "later" => draft.later = true,
         "accepted" => draft.accepted = true,
-        "each part" => set_cases(draft, Cases::Parts)?,
+        "each part" => draft.plan.set_cases(Cases::Parts)?,
         _ => return Err(Flaw::Says("this is no line of a row")),
     }
     Ok(())
 }
 
-// A row has cases of one kind.
-fn set_cases(draft: &mut Draft, cases: Cases) -> Result<(), Flaw> {
-    match draft.cases {
-        Cases::One => {
-            draft.cases = cases;
-            Ok(())
+impl Plan {
+    // A row has cases of one kind.
+    fn set_cases(&mut self, cases: Cases) -> Result<(), Flaw> {
+        match self.cases {
+            Cases::One => {
+                self.cases = cases;
+                Ok(())
+            }
+            _ => Err(Flaw::Says("a row has one line that begins with `each`")),
         }
-        _ => Err(Flaw::Says("a row has one line that begins with `each`")),
     }
 }
 
@@ -93,31 +96,41 @@ fn set_cases(draft: &mut Draft, cases: Cases) -> Result<(), Flaw> {
 fn read_key(draft: &mut Draft, key: &str, value: &str) -> Result<(), Flaw> {
     let alloc = draft.alloc;
     match key {
-        "words" => draft.words = Some(words_of(alloc, value)?),
-        "source" => draft.source = Some(source_of(alloc, value)?),
-        "out sink" => draft.out_sink = sink_of(alloc, value)?,
-        "err sink" => draft.err_sink = sink_of(alloc, value)?,
-        "clock" => draft.clock = clock_of(value)?,
-        "each byte" => set_cases(draft, Cases::Bytes(byte_ranges(alloc, value)?))?,
-        "each capabilities" => set_cases(draft, Cases::Capabilities(numbers_of(alloc, value)?))?,
-        "times" => draft.times = times_of(value)?,
-        _ => return read_wanted(draft, key, value),
+        "status" => draft.status = Some(number_of(value)?),
+        "only status" => draft.only_status = Some(number_of(value)?),
+        "refused" | "or refused" => draft.refusals.push(refusal_of(alloc, value)?)?,
+        "out" | "err" | "entries" | "steps" | "limit at" => {
+            read_told(alloc, &mut draft.told, key, value)?;
+        }
+        _ => read_plan(alloc, &mut draft.plan, key, value)?,
     }
     Ok(())
 }
 
-// A line of what the row gives.
-fn read_wanted(draft: &mut Draft, key: &str, value: &str) -> Result<(), Flaw> {
-    let alloc = draft.alloc;
+// A line of how the top call is called.
+fn read_plan(alloc: Global, plan: &mut Plan, key: &str, value: &str) -> Result<(), Flaw> {
     match key {
-        "out" => add_line(&mut draft.out, value)?,
-        "err" => add_line(&mut draft.err, value)?,
-        "status" => draft.status = Some(number_of(value)?),
-        "only status" => draft.only_status = Some(number_of(value)?),
-        "entries" => draft.entries = Some(entries_of(alloc, value)?),
-        "steps" => draft.steps = Some(number_of(value)?),
-        "limit at" => draft.limit_at = Some(entry_of(alloc, value)?),
-        "refused" | "or refused" => draft.refusals.push(refusal_of(alloc, value)?)?,
+        "words" => plan.words = words_of(alloc, value)?,
+        "source" => plan.source = Some(source_of(alloc, value)?),
+        "out sink" => plan.out = sink_of(alloc, value)?,
+        "err sink" => plan.err = sink_of(alloc, value)?,
+        "clock" => plan.clock = clock_of(value)?,
+        "each byte" => plan.set_cases(Cases::Bytes(byte_ranges(alloc, value)?))?,
+        "each capabilities" => plan.set_cases(Cases::Capabilities(numbers_of(alloc, value)?))?,
+        "times" => plan.times = times_of(value)?,
+        _ => return Err(Flaw::Says("there is no such key")),
+    }
+    Ok(())
+}
+
+// A line of what the row tells and keeps.
+fn read_told(alloc: Global, told: &mut Told, key: &str, value: &str) -> Result<(), Flaw> {
+    match key {
+        "out" => add_line(&mut told.out, value)?,
+        "err" => add_line(&mut told.err, value)?,
+        "entries" => told.entries = Some(entries_of(alloc, value)?),
+        "steps" => told.steps = Some(number_of(value)?),
+        "limit at" => told.limit_at = Some(entry_of(alloc, value)?),
         _ => return Err(Flaw::Says("there is no such key")),
     }
     Ok(())

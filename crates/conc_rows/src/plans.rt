@@ -17,6 +17,11 @@ where
     }
 }
 
+const NO_ENTRY: Flaw = Flaw::Says("an entry is `L T K`, `O T`, `R T`, `W T`, `F T`, `T AT` or `S`");
+
+// No calls that fail, no puts that fail.
+const NONE: &[&str] = &[];
+
 fn parts_of(alloc: Global, text: &str) -> Result<Vec<&str>, Flaw> {
     Ok(text.split_whitespace().collect(alloc)?)
 }
@@ -49,23 +54,15 @@ fn quoted_word(alloc: Global, value: &str) -> Result<String, Flaw> {
 /// `piece 8 fails 2 5`
 pub fn source_of(alloc: Global, value: &str) -> Result<SourcePlan, Flaw> {
     let parts = parts_of(alloc, value)?;
-    match parts.as_slice() {
-        ["piece", piece] => Ok(SourcePlan {
-            piece: piece_of(piece)?,
-            fails: Vec::new(alloc),
-        }),
-        ["piece", piece, "fails", calls @ ..] => {
-            let mut fails = Vec::new(alloc);
-            for call in calls {
-                fails.push(number_of(call)?)?;
-            }
-            Ok(SourcePlan {
-                piece: piece_of(piece)?,
-                fails,
-            })
-        }
-        _ => Err(Flaw::Says("a source is `piece N` or `piece N fails CALL ..`")),
-    }
+    let (piece, calls) = match parts.as_slice() {
+        ["piece", piece] => (*piece, NONE),
+        ["piece", piece, "fails", calls @ ..] => (*piece, calls),
+        _ => return Err(Flaw::Says("a source is `piece N` or `piece N fails CALL ..`")),
+    };
+    Ok(SourcePlan {
+        piece: piece_of(piece)?,
+        fails: failing_calls(alloc, calls)?,
+    })
 }
 
 fn piece_of(text: &str) -> Result<usize, Flaw> {
@@ -75,28 +72,40 @@ fn piece_of(text: &str) -> Result<usize, Flaw> {
     }
 }
 
+fn failing_calls(alloc: Global, calls: &[&str]) -> Result<Vec<u32>, Flaw> {
+    let mut fails = Vec::new(alloc);
+    for call in calls {
+        fails.push(number_of(call)?)?;
+    }
+    Ok(fails)
+}
+
 /// `room 100 fails 2:1 3:0`
 pub fn sink_of(alloc: Global, value: &str) -> Result<SinkPlan, Flaw> {
     let parts = parts_of(alloc, value)?;
-    match parts.as_slice() {
-        ["room", room] => Ok(SinkPlan {
-            room: number_of(room)?,
-            fails: Vec::new(alloc),
-        }),
-        ["room", room, "fails", puts @ ..] => {
-            let mut fails = Vec::new(alloc);
-            for put in puts {
-                let Some((call, told)) = put.split_once(':') else {
-                    return Err(Flaw::Says("a failing put is `CALL:BYTES`"));
-                };
-                fails.push((number_of(call)?, number_of(told)?))?;
-            }
-            Ok(SinkPlan {
-                room: number_of(room)?,
-                fails,
-            })
-        }
-        _ => Err(Flaw::Says("a sink is `room N` or `room N fails CALL:BYTES ..`")),
+    let (room, puts) = match parts.as_slice() {
+        ["room", room] => (*room, NONE),
+        ["room", room, "fails", puts @ ..] => (*room, puts),
+        _ => return Err(Flaw::Says("a sink is `room N` or `room N fails CALL:BYTES ..`")),
+    };
+    Ok(SinkPlan {
+        room: number_of(room)?,
+        fails: failing_puts(alloc, puts)?,
+    })
+}
+
+fn failing_puts(alloc: Global, puts: &[&str]) -> Result<Vec<(u32, u32)>, Flaw> {
+    let mut fails = Vec::new(alloc);
+    for put in puts {
+        fails.push(failing_put(put)?)?;
+    }
+    Ok(fails)
+}
+
+fn failing_put(put: &str) -> Result<(u32, u32), Flaw> {
+    match put.split_once(':') {
+        Some((call, told)) => Ok((number_of(call)?, number_of(told)?)),
+        None => Err(Flaw::Says("a failing put is `CALL:BYTES`")),
     }
 }
 
@@ -114,18 +123,40 @@ pub fn entries_of(alloc: Global, value: &str) -> Result<Vec<Entry>, Flaw> {
 
 pub fn entry_of(alloc: Global, text: &str) -> Result<Entry, Flaw> {
     let parts = parts_of(alloc, text)?;
-    match parts.as_slice() {
+    entry_in(parts.as_slice())
+}
+
+fn entry_in(parts: &[&str]) -> Result<Entry, Flaw> {
+    match parts {
+        ["S"] => Ok(Entry::Stranded),
+        [kind, number] => entry_of_number(kind, number),
         ["L", t, k] => Ok(Entry::Local {
             t: number_of(t)?,
             k: number_of(k)?,
         }),
-        ["O", t] => Ok(Entry::Op { t: number_of(t)? }),
-        ["R", t] => Ok(Entry::Receive { t: number_of(t)? }),
-        ["W", t] => Ok(Entry::Wake { t: number_of(t)? }),
-        ["F", t] => Ok(Entry::Finish { t: number_of(t)? }),
-        ["T", at] => Ok(Entry::Tick { at: number_of(at)? }),
-        ["S"] => Ok(Entry::Stranded),
-        _ => Err(Flaw::Says("an entry is `L T K`, `O T`, `R T`, `W T`, `F T`, `T AT` or `S`")),
+        _ => Err(NO_ENTRY),
+    }
+}
+
+// An entry that names a thread or a time alone.
+fn entry_of_number(kind: &str, number: &str) -> Result<Entry, Flaw> {
+    match kind {
+        "O" => Ok(Entry::Op {
+            t: number_of(number)?,
+        }),
+        "R" => Ok(Entry::Receive {
+            t: number_of(number)?,
+        }),
+        "W" => Ok(Entry::Wake {
+            t: number_of(number)?,
+        }),
+        "F" => Ok(Entry::Finish {
+            t: number_of(number)?,
+        }),
+        "T" => Ok(Entry::Tick {
+            at: number_of(number)?,
+        }),
+        _ => Err(NO_ENTRY),
     }
 }
 
@@ -147,14 +178,20 @@ pub fn refusal_of(alloc: Global, value: &str) -> Result<Refusal, Flaw> {
 pub fn byte_ranges(alloc: Global, value: &str) -> Result<Vec<(u8, u8)>, Flaw> {
     let mut ranges = Vec::new(alloc);
     for text in value.split_whitespace() {
-        let range = match text.as_bytes() {
-            [a, b] => (byte_of(*a, *b)?, byte_of(*a, *b)?),
-            [a, b, b'-', c, d] => (byte_of(*a, *b)?, byte_of(*c, *d)?),
-            _ => return Err(Flaw::Says("bytes are `HH` or `HH-HH`, with blanks between")),
-        };
-        ranges.push(range)?;
+        ranges.push(byte_range(text)?)?;
     }
     Ok(ranges)
+}
+
+fn byte_range(text: &str) -> Result<(u8, u8), Flaw> {
+    match text.as_bytes() {
+        [a, b] => {
+            let byte = byte_of(*a, *b)?;
+            Ok((byte, byte))
+        }
+        [a, b, b'-', c, d] => Ok((byte_of(*a, *b)?, byte_of(*c, *d)?)),
+        _ => Err(Flaw::Says("bytes are `HH` or `HH-HH`, with blanks between")),
+    }
 }
 
 /// Numbers with blanks between, at least one.

@@ -2,10 +2,10 @@
 
 use crate::text::Text;
 use hs_rules::Entry;
-use std::alloc::Global;
+use std::alloc::{AllocError, Global};
 
 /// Which calls a row makes.
-#[derive(Debug, Drop)]
+#[derive(Drop)]
 pub enum Cases {
     One,
     /// Once for each byte of these ranges, first and last.
@@ -17,14 +17,14 @@ pub enum Cases {
 }
 
 /// A source that gives so many bytes a call and fails at these calls.
-#[derive(Debug, Drop)]
+#[derive(Drop)]
 pub struct SourcePlan {
     pub piece: usize,
     pub fails: Vec<u32>,
 }
 
 /// A sink with so much room, of which these puts fail after so many bytes.
-#[derive(Debug, Drop)]
+#[derive(Drop)]
 pub struct SinkPlan {
     pub room: usize,
     pub fails: Vec<(u32, u32)>,
@@ -37,7 +37,7 @@ pub enum ClockPlan {
 }
 
 /// Where a script is refused.
-#[derive(Debug, Drop)]
+#[derive(Drop)]
 pub enum Place {
     /// As it is told, or nothing where none is told.
     Told(String),
@@ -47,27 +47,28 @@ pub enum Place {
     Cut,
 }
 
-#[derive(Debug, Drop)]
+#[derive(Drop)]
 pub struct Refusal {
     pub kind: String,
     pub place: Place,
 }
 
-/// What a call is to tell and to keep. What is not named is not looked at.
-#[derive(Debug, Drop)]
+/// What a call is to tell and to keep, beside its status. Entries, steps and an ending's entry that are not named are not
+/// looked at.
+#[derive(Drop)]
 pub struct Told {
     pub out: Text,
     pub err: Text,
-    pub status: u8,
     pub entries: Option<Vec<Entry>>,
     pub steps: Option<u64>,
     pub limit_at: Option<Entry>,
 }
 
 /// What a row gives.
-#[derive(Debug, Drop)]
+#[derive(Drop)]
 pub enum Wanted {
-    Told(Told),
+    /// This status, and all of this.
+    Told(u8, Told),
     /// One of these refusals, and nothing runs.
     Refused(Vec<Refusal>),
     /// The script is accepted: it runs, or is refused by name until it can.
@@ -76,11 +77,9 @@ pub enum Wanted {
     Status(u8),
 }
 
-#[derive(Debug, Drop)]
-pub struct Row {
-    pub name: String,
-    /// Whether what it shows can't run yet.
-    pub later: bool,
+/// How the top call is called.
+#[derive(Drop)]
+pub struct Plan {
     pub words: Vec<String>,
     pub input: Text,
     pub cases: Cases,
@@ -90,7 +89,55 @@ pub struct Row {
     pub out: SinkPlan,
     pub err: SinkPlan,
     pub clock: ClockPlan,
+}
+
+#[derive(Drop)]
+pub struct Row {
+    pub name: String,
+    /// Whether what it shows can't run yet.
+    pub later: bool,
+    pub plan: Plan,
     pub wanted: Wanted,
+}
+
+impl Told {
+    /// Nothing, of which nothing is named.
+    pub fn new(alloc: Global) -> Told {
+        Told {
+            out: Text::new(alloc),
+            err: Text::new(alloc),
+            entries: None,
+            steps: None,
+            limit_at: None,
+        }
+    }
+
+    /// Whether nothing was said of it.
+    pub fn is_silent(&self) -> bool {
+        self.out.is_empty()
+            && self.err.is_empty()
+            && self.entries.is_none()
+            && self.steps.is_none()
+            && self.limit_at.is_none()
+    }
+}
+
+impl Plan {
+    /// `run` on no input, as most rows have it.
+    pub fn new(alloc: Global) -> Result<Plan, AllocError> {
+        let mut words = Vec::new(alloc);
+        words.push(String::from_str(alloc, "run")?)?;
+        Ok(Plan {
+            words,
+            input: Text::new(alloc),
+            cases: Cases::One,
+            times: 1,
+            source: None,
+            out: SinkPlan::ample(alloc),
+            err: SinkPlan::ample(alloc),
+            clock: ClockPlan::Virtual,
+        })
+    }
 }
 
 impl SinkPlan {

@@ -16,14 +16,14 @@ pub enum Letter {
 }
 
 /// Letters that stand so many times.
-#[derive(Debug, Drop)]
+#[derive(Drop)]
 struct Piece {
     times: usize,
     letters: Vec<Letter>,
 }
 
 /// Pieces, one after the other.
-#[derive(Debug, Drop)]
+#[derive(Drop)]
 pub struct Text {
     alloc: Global,
     pieces: Vec<Piece>,

@@ -33,7 +33,7 @@ pub fn difference(
         return says(alloc, "nothing ran, but there is a history");
     }
     match wanted {
-        Wanted::Told(told) => told_difference(alloc, told, case, came),
+        Wanted::Told(status, told) => told_difference(alloc, *status, told, case, came),
         Wanted::Refused(refusals) => refusal_difference(alloc, refusals, case, came),
         Wanted::Accepted if came.accepted => Ok(None),
         Wanted::Accepted => {
@@ -58,6 +58,7 @@ fn status_difference(alloc: Global, status: u8, came: &Came) -> Result<Option<St
 
 fn told_difference(
     alloc: Global,
+    status: u8,
     told: &Told,
     case: &Case<'_>,
     came: &Came,
@@ -68,7 +69,7 @@ fn told_difference(
     if let Some(text) = text_difference(alloc, "err", &told.err, case, &came.err)? {
         return Ok(Some(text));
     }
-    if let Some(text) = status_difference(alloc, told.status, came)? {
+    if let Some(text) = status_difference(alloc, status, came)? {
         return Ok(Some(text));
     }
     kept_difference(alloc, told, came)
@@ -249,13 +250,7 @@ fn shown(alloc: Global, bytes: &[u8]) -> Result<String, AllocError> {
     let mut text = String::new(alloc);
     text.push('"')?;
     for byte in bytes.iter().take(SHOWN) {
-        match *byte {
-            b'\n' => text.push_str("\\n")?,
-            b'"' => text.push_str("\\\"")?,
-            b'\\' => text.push_str("\\\\")?,
-            b' '..=b'~' => text.push(char::from(*byte))?,
-            byte => text.push_str(format!(in alloc; "\\x{byte:02X}")?.as_str())?,
-        }
+        push_shown(alloc, &mut text, *byte)?;
     }
     text.push('"')?;
     if bytes.len() > SHOWN {
@@ -263,4 +258,14 @@ fn shown(alloc: Global, bytes: &[u8]) -> Result<String, AllocError> {
         text.push_str(format!(in alloc; " and on to {length} bytes")?.as_str())?;
     }
     Ok(text)
+}
+
+fn push_shown(alloc: Global, text: &mut String, byte: u8) -> Result<(), AllocError> {
+    match byte {
+        b'\n' => text.push_str("\\n"),
+        b'"' => text.push_str("\\\""),
+        b'\\' => text.push_str("\\\\"),
+        b' '..=b'~' => text.push(char::from(byte)),
+        byte => text.push_str(format!(in alloc; "\\x{byte:02X}")?.as_str()),
+    }
 }
