@@ -1,3 +1,4 @@
 pub mod Scopes
 pub mod Found
 pub mod Emitted
+pub mod Steps

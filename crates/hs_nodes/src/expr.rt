@@ -12,7 +12,7 @@ use crate::places::Places;
 use hs_base::{
     CompareOp, ConsOp, Constant, Exn, Expr, ExprArms, Link, ListLink, NoMemory, SumLink, SumOp, Txt,
 };
-use hs_items::Items;
+use hs_items::{Boxed, Items};
 use rules_code::{ExprId, Node, NodeLink};
 use rules_trees::forms::{BinaryForm, EmptyForm, SideForm, UnaryForm};
 use std::alloc::Global;
@@ -78,73 +78,61 @@ impl Emitter {
     {
         match e {
             Expr::If(_, c, a, b) => {
-                let h = self.expr(alloc, places, c.get())?;
-                let i = self.expr(alloc, places, a.get())?;
-                let j = self.expr(alloc, places, b.get())?;
-                self.add(Node::If(h, i, j))
+                let h = self.part(alloc, places, c)?;
+                let i = self.part(alloc, places, a)?;
+                self.third(alloc, places, h, i, b)
             }
             Expr::Case(_, c, arms) => {
-                let h = self.expr(alloc, places, c.get())?;
+                let h = self.part(alloc, places, c)?;
                 self.arms(alloc, places, h, arms.get())
             }
             Expr::Let(_, x, a, b) => {
-                let i = self.expr(alloc, places, a.get())?;
-                let j = self.under(alloc, places, &x.text, b.get())?;
-                self.add(Node::Let(i, j))
+                let i = self.part(alloc, places, a)?;
+                self.given(alloc, places, i, &x.text, b)
             }
             Expr::Or(a, links) => {
-                let i = self.expr(alloc, places, a.get())?;
-                let links = self.links(alloc, places, BinaryForm::Or, links)?;
-                self.add(Node::Chain(i, links))
+                let i = self.part(alloc, places, a)?;
+                self.chain(alloc, places, i, BinaryForm::Or, links)
             }
             Expr::And(a, links) => {
-                let i = self.expr(alloc, places, a.get())?;
-                let links = self.links(alloc, places, BinaryForm::And, links)?;
-                self.add(Node::Chain(i, links))
+                let i = self.part(alloc, places, a)?;
+                self.chain(alloc, places, i, BinaryForm::And, links)
             }
             Expr::Compare(a, op, _, b) => {
-                let i = self.expr(alloc, places, a.get())?;
-                let j = self.expr(alloc, places, b.get())?;
-                self.add(Node::Binary(compare_form(*op), i, j))
+                let i = self.part(alloc, places, a)?;
+                self.second(alloc, places, compare_form(*op), i, b)
             }
             Expr::Cons(a, links) => {
-                let i = self.expr(alloc, places, a.get())?;
-                let links = self.list_links(alloc, places, links)?;
-                self.add(Node::Conses(i, links))
+                let i = self.part(alloc, places, a)?;
+                self.conses(alloc, places, i, links)
             }
-            Expr::Negate(_, a) => self.single(alloc, places, UnaryForm::Negate, a.get()),
+            Expr::Negate(_, a) => self.single(alloc, places, UnaryForm::Negate, a),
             Expr::Sum(a, links) => {
-                let i = self.expr(alloc, places, a.get())?;
-                let links = self.sum_links(alloc, places, links)?;
-                self.add(Node::Chain(i, links))
+                let i = self.part(alloc, places, a)?;
+                self.sum_chain(alloc, places, i, links)
             }
             Expr::Product(a, links) => {
-                let i = self.expr(alloc, places, a.get())?;
-                let links = self.links(alloc, places, BinaryForm::Times, links)?;
-                self.add(Node::Chain(i, links))
+                let i = self.part(alloc, places, a)?;
+                self.chain(alloc, places, i, BinaryForm::Times, links)
             }
-            Expr::Call(x, es) => {
-                let id = self.call(alloc, places, &x.text, es)?;
-                Ok(id)
-            }
-            Expr::Just(_, a) => self.single(alloc, places, UnaryForm::Just, a.get()),
+            Expr::Call(x, es) => self.call(alloc, places, &x.text, es),
+            Expr::Just(_, a) => self.single(alloc, places, UnaryForm::Just, a),
             Expr::Nothing(_, _) => self.add(Node::Empty(EmptyForm::Nothing)),
-            Expr::Left(_, _, _, a) => self.aside(alloc, places, SideForm::Left, a.get()),
-            Expr::Right(_, _, _, a) => self.aside(alloc, places, SideForm::Right, a.get()),
+            Expr::Left(_, _, _, a) => self.aside(alloc, places, SideForm::Left, a),
+            Expr::Right(_, _, _, a) => self.aside(alloc, places, SideForm::Right, a),
             Expr::EmptyList(_, _) => self.add(Node::Empty(EmptyForm::EmptyList)),
-            Expr::ErrorCall(_, a) => self.single(alloc, places, UnaryForm::ErrorCall, a.get()),
-            Expr::Not(_, a) => self.single(alloc, places, UnaryForm::Not, a.get()),
-            Expr::Fst(_, a) => self.single(alloc, places, UnaryForm::Fst, a.get()),
-            Expr::Snd(_, a) => self.single(alloc, places, UnaryForm::Snd, a.get()),
-            Expr::Show(_, a) => self.single(alloc, places, UnaryForm::Show, a.get()),
+            Expr::ErrorCall(_, a) => self.single(alloc, places, UnaryForm::ErrorCall, a),
+            Expr::Not(_, a) => self.single(alloc, places, UnaryForm::Not, a),
+            Expr::Fst(_, a) => self.single(alloc, places, UnaryForm::Fst, a),
+            Expr::Snd(_, a) => self.single(alloc, places, UnaryForm::Snd, a),
+            Expr::Show(_, a) => self.single(alloc, places, UnaryForm::Show, a),
             Expr::Div(_, a, b) => {
-                let i = self.expr(alloc, places, a.get())?;
-                let j = self.expr(alloc, places, b.get())?;
-                self.add(Node::Binary(BinaryForm::Div, i, j))
+                let i = self.part(alloc, places, a)?;
+                self.second(alloc, places, BinaryForm::Div, i, b)
             }
             Expr::Mod(_, a, b) => {
-                let i = self.expr(alloc, places, a.get())?;
-                let j = self.expr(alloc, places, b.get())?;
+                let i = self.part(alloc, places, a)?;
+                let j = self.part(alloc, places, b)?;
                 self.add(Node::Binary(BinaryForm::Mod, i, j))
             }
             Expr::Int(_, m) => self.add(Node::Int(*m)),
@@ -152,15 +140,19 @@ impl Emitter {
             Expr::Constant(_, c) => self.add(constant(*c)),
             Expr::Unit(_) => self.add(Node::Unit),
             Expr::Pair(_, a, b) => {
-                let i = self.expr(alloc, places, a.get())?;
-                let j = self.expr(alloc, places, b.get())?;
-                self.add(Node::Binary(BinaryForm::Pair, i, j))
+                let i = self.part(alloc, places, a)?;
+                self.second(alloc, places, BinaryForm::Pair, i, b)
             }
-            Expr::List(_, es) => {
-                let id = self.items(alloc, places, es)?;
-                Ok(id)
-            }
+            Expr::List(_, es) => self.items(alloc, places, es),
         }
+    }
+
+    /// A part of an expression.
+    #[cycle(emit)]
+    fn part(&mut self, alloc: Global, places: &Places, a: &Boxed<Expr>) -> Result<ExprId, NoMemory>
+        ensures { IfOk result (λ id. Emitted self.old self.new id (nodes_of places.now.all (scope_of self.old.scope) (length self.old.nodes) (ex_of a.now))) }
+    {
+        self.expr(alloc, places, a.get())
     }
 
     /// A form with one part.
@@ -170,11 +162,11 @@ impl Emitter {
         alloc: Global,
         places: &Places,
         form: UnaryForm,
-        a: &Expr,
+        a: &Boxed<Expr>,
     ) -> Result<ExprId, NoMemory>
         ensures { IfOk result (λ id. Emitted self.old self.new id (own1 (length self.old.nodes) (nodes_of places.now.all (scope_of self.old.scope) (length self.old.nodes) (ex_of a.now)) (Node.Unary form))) }
     {
-        let i = self.expr(alloc, places, a)?;
+        let i = self.expr(alloc, places, a.get())?;
         self.unary(form, i)
     }
 
@@ -185,12 +177,60 @@ impl Emitter {
         alloc: Global,
         places: &Places,
         form: SideForm,
-        a: &Expr,
+        a: &Boxed<Expr>,
     ) -> Result<ExprId, NoMemory>
         ensures { IfOk result (λ id. Emitted self.old self.new id (own1 (length self.old.nodes) (nodes_of places.now.all (scope_of self.old.scope) (length self.old.nodes) (ex_of a.now)) (Node.Side form))) }
     {
-        let i = self.expr(alloc, places, a)?;
+        let i = self.expr(alloc, places, a.get())?;
         self.add(Node::Side(form, i))
+    }
+
+    /// A form with two parts, after its first.
+    #[cycle(emit)]
+    fn second(
+        &mut self,
+        alloc: Global,
+        places: &Places,
+        form: BinaryForm,
+        i: ExprId,
+        b: &Boxed<Expr>,
+    ) -> Result<ExprId, NoMemory>
+        ensures { IfOk result (λ id. Emitted self.old self.new id (own1 (length self.old.nodes) (nodes_of places.now.all (scope_of self.old.scope) (length self.old.nodes) (ex_of b.now)) (Node.Binary form i))) }
+    {
+        let j = self.expr(alloc, places, b.get())?;
+        self.add(Node::Binary(form, i, j))
+    }
+
+    /// `if`, after its condition and its first arm.
+    #[cycle(emit)]
+    fn third(
+        &mut self,
+        alloc: Global,
+        places: &Places,
+        h: ExprId,
+        i: ExprId,
+        b: &Boxed<Expr>,
+    ) -> Result<ExprId, NoMemory>
+        ensures { IfOk result (λ id. Emitted self.old self.new id (own1 (length self.old.nodes) (nodes_of places.now.all (scope_of self.old.scope) (length self.old.nodes) (ex_of b.now)) (Node.If h i))) }
+    {
+        let j = self.expr(alloc, places, b.get())?;
+        self.add(Node::If(h, i, j))
+    }
+
+    /// `let`, after what its name stands for.
+    #[cycle(emit)]
+    fn given(
+        &mut self,
+        alloc: Global,
+        places: &Places,
+        i: ExprId,
+        x: &Txt,
+        b: &Boxed<Expr>,
+    ) -> Result<ExprId, NoMemory>
+        ensures { IfOk result (λ id. Emitted self.old self.new id (own1 (length self.old.nodes) (nodes_of places.now.all (Written x.now ∷ scope_of self.old.scope) (length self.old.nodes) (ex_of b.now)) (Node.Let i))) }
+    {
+        let j = self.under(alloc, places, x, b.get())?;
+        self.add(Node::Let(i, j))
     }
 
     /// An expression under one more name.
@@ -281,32 +321,36 @@ impl Emitter {
         Ok(ids)
     }
 
+    /// A chain of one operator, after its first operand.
     #[cycle(emit)]
-    fn links(
+    fn chain(
         &mut self,
         alloc: Global,
         places: &Places,
+        first: ExprId,
         form: BinaryForm,
         links: &Items<Link>,
-    ) -> Result<Items<NodeLink>, NoMemory>
-        ensures { IfOk result (λ ks. (self.new.nodes ≡ self.old.nodes ++ link_nodes places.now.all (scope_of self.old.scope) (length self.old.nodes) (links_of form links.now)) × (self.new.scope ≡ self.old.scope) × (ks ≡ node_links places.now.all (scope_of self.old.scope) (length self.old.nodes) (links_of form links.now))) }
+    ) -> Result<ExprId, NoMemory>
+        ensures { IfOk result (λ id. Emitted self.old self.new id (link_nodes places.now.all (scope_of self.old.scope) (length self.old.nodes) (links_of form links.now) ++ Node.Chain first (node_links places.now.all (scope_of self.old.scope) (length self.old.nodes) (links_of form links.now)) ∷ [])) }
     {
         let mut ks = Items::new(alloc);
         'each: for link in links.as_slice() {
             let operand = self.expr(alloc, places, &link.operand)?;
             ks.add(NodeLink { form, operand })?;
         }
-        Ok(ks)
+        self.add(Node::Chain(first, ks))
     }
 
+    /// A chain of `+` and `-`, after its first operand.
     #[cycle(emit)]
-    fn sum_links(
+    fn sum_chain(
         &mut self,
         alloc: Global,
         places: &Places,
+        first: ExprId,
         links: &Items<SumLink>,
-    ) -> Result<Items<NodeLink>, NoMemory>
-        ensures { IfOk result (λ ks. (self.new.nodes ≡ self.old.nodes ++ link_nodes places.now.all (scope_of self.old.scope) (length self.old.nodes) (sum_links_of links.now)) × (self.new.scope ≡ self.old.scope) × (ks ≡ node_links places.now.all (scope_of self.old.scope) (length self.old.nodes) (sum_links_of links.now))) }
+    ) -> Result<ExprId, NoMemory>
+        ensures { IfOk result (λ id. Emitted self.old self.new id (link_nodes places.now.all (scope_of self.old.scope) (length self.old.nodes) (sum_links_of links.now) ++ Node.Chain first (node_links places.now.all (scope_of self.old.scope) (length self.old.nodes) (sum_links_of links.now)) ∷ [])) }
     {
         let mut ks = Items::new(alloc);
         'each: for link in links.as_slice() {
@@ -314,17 +358,19 @@ impl Emitter {
             let form = sum_form(link.op);
             ks.add(NodeLink { form, operand })?;
         }
-        Ok(ks)
+        self.add(Node::Chain(first, ks))
     }
 
+    /// A chain of `:` and `++`, after its first operand.
     #[cycle(emit)]
-    fn list_links(
+    fn conses(
         &mut self,
         alloc: Global,
         places: &Places,
+        first: ExprId,
         links: &Items<ListLink>,
-    ) -> Result<Items<NodeLink>, NoMemory>
-        ensures { IfOk result (λ ks. (self.new.nodes ≡ self.old.nodes ++ link_nodes places.now.all (scope_of self.old.scope) (length self.old.nodes) (list_links_of links.now)) × (self.new.scope ≡ self.old.scope) × (ks ≡ node_links places.now.all (scope_of self.old.scope) (length self.old.nodes) (list_links_of links.now))) }
+    ) -> Result<ExprId, NoMemory>
+        ensures { IfOk result (λ id. Emitted self.old self.new id (link_nodes places.now.all (scope_of self.old.scope) (length self.old.nodes) (list_links_of links.now) ++ Node.Conses first (node_links places.now.all (scope_of self.old.scope) (length self.old.nodes) (list_links_of links.now)) ∷ [])) }
     {
         let mut ks = Items::new(alloc);
         'each: for link in links.as_slice() {
@@ -332,7 +378,7 @@ impl Emitter {
             let form = cons_form(link.op);
             ks.add(NodeLink { form, operand })?;
         }
-        Ok(ks)
+        self.add(Node::Conses(first, ks))
     }
 
     /// The arms of a `case`, after what it looks at.
