@@ -5,8 +5,8 @@ use Rattle.rules_trees.specs.declared.forms.UnaryForm.TheVariants as u
 use Rattle.rules_trees.specs.declared.forms.BinaryForm.TheVariants as b
 use Rattle.rules_trees.specs.declared.forms.EmptyForm.TheVariants as e
 use Rattle.rules_trees.specs.declared.forms.SideForm.TheVariants as d
-use Rattle.rules_trees.specs.Trees.{ex_of, exs_of, wr_of, arms_of, links_of, sum_links_of, list_links_of, constant_of, compare_form, sum_form, cons_form, number, letters, nothing_more, lit, name, unary, binary, chain, conses, choose, items, empty, side, given, case, maybe_arms, either_arms, list_arms, pair_arms}
-use Rattle.rules_trees.proofs.Equations.{ex-If, ex-Case, ex-Let, ex-Or, ex-And, ex-Product, ex-Sum, ex-Cons, ex-Compare, ex-Call, ex-Negate, ex-Just, ex-ErrorCall, ex-Not, ex-Fst, ex-Snd, ex-Show, ex-Nothing, ex-EmptyList, ex-Left, ex-Right, ex-Div, ex-Mod, ex-Pair, ex-Int, ex-Unit, ex-List, arms-OfMaybe, arms-OfEither, arms-OfList, arms-OfPair}
+use Rattle.rules_trees.specs.Trees.{ex_of, exs_of, wr_of, arms_of, links_of, sum_links_of, list_links_of, compare_form, sum_form, cons_form, nothing_more, lit, name, unary, binary, chain, conses, choose, items, empty, side, given, case, maybe_arms, either_arms, list_arms, pair_arms}
+use Rattle.rules_trees.proofs.Equations.{ex-If, ex-Case, ex-Let, ex-Or, ex-And, ex-Product, ex-Sum, ex-Cons, ex-Compare, ex-Call, ex-Negate, ex-Just, ex-ErrorCall, ex-Not, ex-Fst, ex-Snd, ex-Show, ex-Nothing, ex-EmptyList, ex-Left, ex-Right, ex-Div, ex-Mod, ex-Pair, ex-Unit, ex-List, arms-OfMaybe, arms-OfEither, arms-OfList, arms-OfPair}
 use Rattle.rules_expansion.specs.Names.{Written}
 use Rattle.rules_code.specs.declared.node.Node.TheVariants as n
 use Rattle.hs_nodes.specs.declared.names.Bound.TheVariants as w
