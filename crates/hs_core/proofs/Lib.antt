@@ -3,3 +3,4 @@ pub mod ActArena
 pub mod Steps
 pub mod Openings
 pub mod Placings
+pub mod Afterwards

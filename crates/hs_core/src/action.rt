@@ -36,10 +36,10 @@ impl ActEmitter {
     ghost use Rattle.rules_expansion.specs.Names.{Written, Added, Restorer, Given, Caught, TheCell, Instance, BracketResult, BracketFault, Allowed, Owner, Expiry, Helper};
     ghost use Rattle.rules_trees.specs.Programs.{act_of, bl_of, act_arms_of};
     ghost use Rattle.rules_code.specs.Slots.{Sx, slotted, slot_of};
-    ghost use Rattle.rules_code.specs.CodeTrees.{a_if, a_bind, a_fork, a_fork_unmask, a_mask, a_mask_hard, a_catch, a_restore, slot_or_end};
+    ghost use Rattle.rules_code.specs.CodeTrees.{Sa, a_if, a_bind, a_fork, a_fork_unmask, a_mask, a_mask_hard, a_catch, a_restore, slot_or_end};
     ghost use Rattle.hs_nodes.specs.Names.{scope_after};
     ghost use Rattle.hs_core.specs.Defining.{Knows, roots};
-    ghost use Rattle.hs_core.specs.Emits.{Emits, StandsIn};
+    ghost use Rattle.hs_core.specs.Emits.{Emits, DoneIn, StandsIn};
     ghost use Rattle.hs_core.specs.Opening.{action_tree, block_tree, arms_tree, added, Opens, OpensAll};
     ghost use Rattle.hs_core.specs.Forms as form;
 
@@ -54,9 +54,7 @@ impl ActEmitter {
             Action::If(_, e, b, d) => {
                 let t = self.expr(alloc, defs, e)?;
                 let i = self.block(alloc, defs, b)?;
-                let j = self.block(alloc, defs, d)?;
-                let id = self.act(Act::If(t, i, j))?;
-                Ok(id)
+                self.if_form(alloc, defs, t, i, d)
             }
             Action::Case(_, e, arms) => {
                 let t = self.expr(alloc, defs, e)?;
@@ -83,9 +81,7 @@ impl ActEmitter {
             ),
             Action::ModifyMVar(_, e, x, b) => {
                 let t = self.expr(alloc, defs, e)?;
-                let i = self.within(alloc, defs, &MODIFIED, &x.text, &[], b)?;
-                let id = self.modify(alloc, t, &x.text, i)?;
-                Ok(id)
+                self.modify_form(alloc, defs, t, &x.text, b)
             }
             Action::ForkIo(_, b) => self.fork(alloc, defs, b),
             Action::ForkIoWithUnmask(_, x, b) => self.fork_unmask(alloc, defs, &x.text, b),
@@ -97,9 +93,7 @@ impl ActEmitter {
             Action::GetMaskingState(_) => self.primitive(alloc, defs, Primitive::GetMaskingState),
             Action::Catch(_, b, x, d) => {
                 let i = self.block(alloc, defs, b)?;
-                let j = self.named(alloc, defs, &x.text, d)?;
-                let id = self.act(Act::Catch(i, j))?;
-                Ok(id)
+                self.catch_form(alloc, defs, i, &x.text, d)
             }
             Action::Mask(_, x, b) => self.mask(alloc, defs, &x.text, b),
             Action::MaskOnly(_, b) => self.mask_only(alloc, defs, b),
@@ -108,33 +102,142 @@ impl ActEmitter {
             Action::Restore(_, x, b) => self.restore_form(alloc, defs, &x.text, b),
             Action::OnException(_, b, d) => {
                 let i = self.block(alloc, defs, b)?;
-                let j = self.under(alloc, defs, &[Hidden::Caught], d)?;
-                let id = self.on_exception(i, j)?;
-                Ok(id)
+                self.on_exception_form(alloc, defs, i, d)
             }
             Action::Finally(_, b, d) => {
                 let i = self.under(alloc, defs, &MASKED, b)?;
-                let j = self.under(alloc, defs, &[Hidden::Restorer, Hidden::Caught], d)?;
-                let k = self.under(alloc, defs, &[Hidden::Restorer, Hidden::Given], d)?;
-                let id = self.finally(i, j, k)?;
-                Ok(id)
+                self.finally_form(alloc, defs, i, d)
             }
             Action::Bracket(_, b, x, d, u) => {
                 let i = self.under(alloc, defs, &MASKED, b)?;
                 let j = self.within(alloc, defs, &MASKED, &x.text, &[Hidden::Instance], u)?;
-                let k = self.within(alloc, defs, &MASKED, &x.text, &FAULT, d)?;
-                let l = self.within(alloc, defs, &MASKED, &x.text, &EXIT, d)?;
-                let id = self.bracket_whole(alloc, &x.text, i, j, k, l)?;
-                Ok(id)
+                self.bracket_form(alloc, defs, i, j, &x.text, d)
             }
             Action::Timeout(_, e, b) => {
                 let t = self.expr(alloc, defs, e)?;
-                let i = self.under(alloc, defs, &[Hidden::Allowed], b)?;
-                let j = self.under(alloc, defs, &TIMED, b)?;
-                let id = self.timeout(alloc, t, i, j)?;
-                Ok(id)
+                self.timeout_form(alloc, defs, t, b)
             }
         }
+    }
+
+    /// `if`, after its condition and its first block.
+    #[cycle(expand)]
+    fn if_form(
+        &mut self,
+        alloc: Global,
+        defs: &Defs,
+        t: ExprId,
+        i: ActId,
+        d: &Block,
+    ) -> Result<ActId, NoMemory>
+        ensures { (u : Sx) (A : Sa) → IfOk result (λ id. Emits (Knows self.old.emitter.nodes defs.now × StandsIn self.old t u × DoneIn self.old i A) self.old self.new id (λ s. a_if u A (block_tree defs.now s (bl_of d.now)))) }
+    {
+        let j = self.block(alloc, defs, d)?;
+        let id = self.act(Act::If(t, i, j))?;
+        Ok(id)
+    }
+
+    /// `modifyMVar_`, after its cell.
+    #[cycle(expand)]
+    fn modify_form(
+        &mut self,
+        alloc: Global,
+        defs: &Defs,
+        t: ExprId,
+        x: &Txt,
+        b: &Block,
+    ) -> Result<ActId, NoMemory>
+        ensures { (u : Sx) → IfOk result (λ id. Emits (Knows self.old.emitter.nodes defs.now × StandsIn self.old t u) self.old self.new id (λ s. form.modify s u (Written x.now) (block_tree defs.now (Written x.now ∷ Added Restorer ∷ Added TheCell ∷ s) (bl_of b.now)))) }
+    {
+        let i = self.within(alloc, defs, &MODIFIED, x, &[], b)?;
+        let id = self.modify(alloc, t, x, i)?;
+        Ok(id)
+    }
+
+    /// `catch`, after what it guards.
+    #[cycle(expand)]
+    fn catch_form(
+        &mut self,
+        alloc: Global,
+        defs: &Defs,
+        i: ActId,
+        x: &Txt,
+        d: &Block,
+    ) -> Result<ActId, NoMemory>
+        ensures { (A : Sa) → IfOk result (λ id. Emits (Knows self.old.emitter.nodes defs.now × DoneIn self.old i A) self.old self.new id (λ s. a_catch A (block_tree defs.now (Written x.now ∷ s) (bl_of d.now)))) }
+    {
+        let j = self.named(alloc, defs, x, d)?;
+        let id = self.act(Act::Catch(i, j))?;
+        Ok(id)
+    }
+
+    /// `onException`, after what it guards.
+    #[cycle(expand)]
+    fn on_exception_form(
+        &mut self,
+        alloc: Global,
+        defs: &Defs,
+        i: ActId,
+        d: &Block,
+    ) -> Result<ActId, NoMemory>
+        ensures { (A : Sa) → IfOk result (λ id. Emits (Knows self.old.emitter.nodes defs.now × DoneIn self.old i A) self.old self.new id (λ s. a_catch A (form.handler s (block_tree defs.now (Added Caught ∷ s) (bl_of d.now))))) }
+    {
+        let j = self.under(alloc, defs, &[Hidden::Caught], d)?;
+        let id = self.on_exception(i, j)?;
+        Ok(id)
+    }
+
+    /// `finally`, after what it guards.
+    #[cycle(expand)]
+    fn finally_form(
+        &mut self,
+        alloc: Global,
+        defs: &Defs,
+        i: ActId,
+        d: &Block,
+    ) -> Result<ActId, NoMemory>
+        ensures { (A : Sa) → IfOk result (λ id. Emits (Knows self.old.emitter.nodes defs.now × DoneIn self.old i A) self.old self.new id (λ s. form.finally s A (block_tree defs.now (Added Caught ∷ Added Restorer ∷ s) (bl_of d.now)) (block_tree defs.now (Added Given ∷ Added Restorer ∷ s) (bl_of d.now)))) }
+    {
+        let j = self.under(alloc, defs, &[Hidden::Restorer, Hidden::Caught], d)?;
+        let k = self.under(alloc, defs, &[Hidden::Restorer, Hidden::Given], d)?;
+        let id = self.finally(i, j, k)?;
+        Ok(id)
+    }
+
+    /// `bracket`, after what acquires and what uses.
+    #[cycle(expand)]
+    fn bracket_form(
+        &mut self,
+        alloc: Global,
+        defs: &Defs,
+        i: ActId,
+        j: ActId,
+        x: &Txt,
+        d: &Block,
+    ) -> Result<ActId, NoMemory>
+        ensures { (A B : Sa) → IfOk result (λ id. Emits (Knows self.old.emitter.nodes defs.now × DoneIn self.old i A × DoneIn self.old j B) self.old self.new id (λ s. a_mask (a_bind A (form.bracket_marked (Written x.now ∷ Added Restorer ∷ s) B (block_tree defs.now (Added BracketFault ∷ Added Instance ∷ Written x.now ∷ Added Restorer ∷ s) (bl_of d.now)) (block_tree defs.now (Added BracketResult ∷ Added Instance ∷ Written x.now ∷ Added Restorer ∷ s) (bl_of d.now)))))) }
+    {
+        let k = self.within(alloc, defs, &MASKED, x, &FAULT, d)?;
+        let l = self.within(alloc, defs, &MASKED, x, &EXIT, d)?;
+        let id = self.bracket_whole(alloc, x, i, j, k, l)?;
+        Ok(id)
+    }
+
+    /// `timeout`, after the time that it allows.
+    #[cycle(expand)]
+    fn timeout_form(
+        &mut self,
+        alloc: Global,
+        defs: &Defs,
+        t: ExprId,
+        b: &Block,
+    ) -> Result<ActId, NoMemory>
+        ensures { (u : Sx) → IfOk result (λ id. Emits (Knows self.old.emitter.nodes defs.now × StandsIn self.old t u) self.old self.new id (λ s. form.timeout s u (block_tree defs.now (Added Allowed ∷ s) (bl_of b.now)) (block_tree defs.now (Added Instance ∷ Added Helper ∷ Added Restorer ∷ Added Expiry ∷ Added Owner ∷ Added Allowed ∷ s) (bl_of b.now)))) }
+    {
+        let i = self.under(alloc, defs, &[Hidden::Allowed], b)?;
+        let j = self.under(alloc, defs, &TIMED, b)?;
+        let id = self.timeout(alloc, t, i, j)?;
+        Ok(id)
     }
 
     /// Adds the nodes of a block, and answers the number of its last.
