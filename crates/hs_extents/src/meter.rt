@@ -143,7 +143,6 @@ impl Meter {
 
     /// How far an expression unfolds.
     #[cycle(extents)]
-    #[tactic(auto, using(rules_trees::proofs::Equations::ex_rules))]
     pub fn extent(&mut self, alloc: Global, funs: &Funs, e: &Expr) -> Result<Extent, NoMemory>
         ensures { IfOk result (λ x. Extends self.old self.new x (extent (sigs_of funs.now.types.nodes funs.now.sigs) (exts_of self.old.extents) (scope_of [] self.old.scope.items) (ex_of e.now))) }
     {

@@ -37,7 +37,6 @@ impl Meter {
 
     /// The greatest expression of an action.
     #[cycle(worst)]
-    #[tactic(auto, using(rules_trees::proofs::EquationsOfActions::act_rules))]
     fn action(&mut self, alloc: Global, funs: &Funs, a: &Action) -> Result<Extent, NoMemory>
         ensures { IfOk result (λ x. Extends self.old self.new x (worst_act (sigs_of funs.now.types.nodes funs.now.sigs) (exts_of self.old.extents) (scope_of [] self.old.scope.items) (act_of a.now))) }
     {
