@@ -132,8 +132,7 @@ impl Emitter {
             }
             Expr::Mod(_, a, b) => {
                 let i = self.part(alloc, places, a)?;
-                let j = self.part(alloc, places, b)?;
-                self.add(Node::Binary(BinaryForm::Mod, i, j))
+                self.second(alloc, places, BinaryForm::Mod, i, b)
             }
             Expr::Int(_, m) => self.add(Node::Int(*m)),
             Expr::Text(_, text) => self.add(Node::Text(text.copy(alloc)?)),

@@ -111,11 +111,10 @@ expr-returns-in_ok-i-in-If t c =
     as_form c.third.result c.args.self.now _ c.args.places.now.all (ex_of c.args.e.now) (choose c.in-If.field-0 (ex_of c.in-If.c) (ex_of c.in-If.a) (ex_of c.in-If.b)) (ap ex_of c.in-If.is ∙ ex-If c.in-If.field-0 c.in-If.c c.in-If.a c.in-If.b)
     (three c.third.result c.args.self.now c.part.new.self c.part-in-If.new.self _ c.in_ok-h-in-If.h c.in_ok-i-in-If.i (nodes_of c.args.places.now.all (scope_of c.args.self.now.scope) (length c.args.self.now.nodes) (ex_of c.in-If.c)) (λ s m. nodes_of c.args.places.now.all s m (ex_of c.in-If.a)) (λ s m. nodes_of c.args.places.now.all s m (ex_of c.in-If.b)) n.If c.in_ok-h-in-If.ensures c.in_ok-i-in-If.ensures c.third.ensures)
 
-pub expr-returns-in_ok-j-in-Mod : goal.expr-returns-in_ok-j-in-Mod
-expr-returns-in_ok-j-in-Mod t c =
-    as_form c.add-in-Mod.result c.args.self.now _ c.args.places.now.all (ex_of c.args.e.now) (binary b.Mod c.in-Mod.field-0 (ex_of c.in-Mod.a) (ex_of c.in-Mod.b)) (ap ex_of c.in-Mod.is ∙ ex-Mod c.in-Mod.field-0 c.in-Mod.a c.in-Mod.b)
-    (two c.add-in-Mod.result c.args.self.now c.part-in-Mod.new.self _ c.in_ok-i-in-Mod.i (nodes_of c.args.places.now.all (scope_of c.args.self.now.scope) (length c.args.self.now.nodes) (ex_of c.in-Mod.a)) (λ s m. nodes_of c.args.places.now.all s m (ex_of c.in-Mod.b)) (n.Binary b.Mod) c.in_ok-i-in-Mod.ensures
-    (owned c.add-in-Mod.result c.part-in-Mod.new.self c.part-in-Mod-2.new.self _ c.in_ok-j-in-Mod.j (nodes_of c.args.places.now.all (scope_of c.part-in-Mod.new.self.scope) (length c.part-in-Mod.new.self.nodes) (ex_of c.in-Mod.b)) (n.Binary b.Mod c.in_ok-i-in-Mod.i) c.in_ok-j-in-Mod.ensures c.add-in-Mod.ensures))
+pub expr-returns-in_ok-i-in-Mod : goal.expr-returns-in_ok-i-in-Mod
+expr-returns-in_ok-i-in-Mod t c =
+    as_form c.second-in-Mod.result c.args.self.now _ c.args.places.now.all (ex_of c.args.e.now) (binary b.Mod c.in-Mod.field-0 (ex_of c.in-Mod.a) (ex_of c.in-Mod.b)) (ap ex_of c.in-Mod.is ∙ ex-Mod c.in-Mod.field-0 c.in-Mod.a c.in-Mod.b)
+    (two c.second-in-Mod.result c.args.self.now c.part-in-Mod.new.self _ c.in_ok-i-in-Mod.i (nodes_of c.args.places.now.all (scope_of c.args.self.now.scope) (length c.args.self.now.nodes) (ex_of c.in-Mod.a)) (λ s m. nodes_of c.args.places.now.all s m (ex_of c.in-Mod.b)) (n.Binary b.Mod) c.in_ok-i-in-Mod.ensures c.second-in-Mod.ensures)
 
 pub expr-returns-in_ok-h-in-Case : goal.expr-returns-in_ok-h-in-Case
 expr-returns-in_ok-h-in-Case t c =
