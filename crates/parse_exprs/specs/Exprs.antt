@@ -10,10 +10,6 @@ use Rattle.rules_grammar.specs.GrammarKinds as k
 abbrev pub branches : Rule (Expr × Expr)
 branches = give (λ x y. (x, y)) ⊛ expr ◁ k.else' ⊛ expr
 
--- a `;` and an arm
-abbrev pub next_arm : {A : Type 0} → Rule A → Rule A
-next_arm p = give (λ x. x) ◁ k.semicolon ⊛ p
-
 -- an operator that compares, and what stands behind it
 abbrev pub compared : Rule (CompareOp × Pos × Expr)
 compared = give (λ o x. (o.0, o.1, x)) ⊛ compare_operator ⊛ cons

@@ -4,7 +4,7 @@ ghost use Rattle.hs_grammar.specs.Parser as parser;
 ghost use Rattle.parse_leaves.specs.Reads.{Reads};
 
 use crate::halt::Halt;
-use hs_base::{CompareOp, Expr, ExprArms, Link, ListLink, Name, Pos, SumLink};
+use hs_base::{CompareOp, Expr, Link, ListLink, Pos, SumLink};
 use hs_items::{Boxed, Items};
 use std::alloc::Global;
 
@@ -89,25 +89,4 @@ pub fn compare(alloc: Global, first: Expr, rest: (CompareOp, Pos, Expr)) -> Resu
     let first = Boxed::new(alloc, first)?;
     let second = Boxed::new(alloc, rest.2)?;
     Ok(Expr::Compare(first, rest.0, rest.1, second))
-}
-
-/// The arms of `Nothing` and `Just`.
-pub fn of_maybe(nothing: Expr, just: (Name, Expr)) -> ExprArms
-    ensures { result ≡ ExprArms.OfMaybe nothing just.0 just.1 }
-{
-    ExprArms::OfMaybe(nothing, just.0, just.1)
-}
-
-/// The arms of `Left` and `Right`.
-pub fn of_either(left: (Name, Expr), right: (Name, Expr)) -> ExprArms
-    ensures { result ≡ ExprArms.OfEither left.0 left.1 right.0 right.1 }
-{
-    ExprArms::OfEither(left.0, left.1, right.0, right.1)
-}
-
-/// The arms of the empty list and of one with items.
-pub fn of_list(empty: Expr, items: (Name, Name, Expr)) -> ExprArms
-    ensures { result ≡ ExprArms.OfList empty items.0 items.1 items.2 }
-{
-    ExprArms::OfList(empty, items.0, items.1, items.2)
 }

@@ -1,15 +1,20 @@
 use Rattle.std.proofs.Common.{rules}
-use Rattle.parse_blocks.proofs.ArmSteps.{braces_arms, braces_semicolon, braces_close, braces_ok}
+use Rattle.rules_grammar.specs.Grammar.{rule_of}
+use Rattle.parse_arms.proofs.Parts.{closed_arms, closed_semicolon, closed_brace, closed_ok}
 use Rattle.parse_blocks.proofs.arms.block_arms_in_braces.Goals as goal
 
 pub returns-in_err-arms-clause-reads : goal.returns-in_err-arms-clause-reads
-returns-in_err-arms-clause-reads b c = search (rules, braces_arms)
+unfolding rule_of
+returns-in_err-arms-clause-reads b c = search (rules, closed_arms)
 
 pub returns-in_err-semicolon-clause-reads : goal.returns-in_err-semicolon-clause-reads
-returns-in_err-semicolon-clause-reads b c = search (rules, braces_semicolon)
+unfolding rule_of
+returns-in_err-semicolon-clause-reads b c = search (rules, closed_semicolon)
 
 pub returns-in_err-symbol-clause-reads : goal.returns-in_err-symbol-clause-reads
-returns-in_err-symbol-clause-reads b c = search (rules, braces_close)
+unfolding rule_of
+returns-in_err-symbol-clause-reads b c = search (rules, closed_brace)
 
 pub returns-clause-reads : goal.returns-clause-reads
-returns-clause-reads b c = search (rules, braces_ok)
+unfolding rule_of
+returns-clause-reads b c = search (rules, closed_ok)
