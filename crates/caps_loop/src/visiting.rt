@@ -15,7 +15,6 @@ const MOST_JOBS: u32 = 64;
 
 /// Commits this slice, if there is one, and all that are in the inbox; lets the value do what
 /// needs no slice; raises the flags of jobs that were overtaken; and takes jobs.
-#[tactic(auto, using(conc_turn::proofs::Prefixes::prefix_trans))]
 pub(crate) fn attend<D: Runs<J, S>, J: Ticketed + Drop, S: Ticketed + Drop, R: Wait>(
     rt: &R,
     alloc: Global,
@@ -53,7 +52,6 @@ pub(crate) fn attend<D: Runs<J, S>, J: Ticketed + Drop, S: Ticketed + Drop, R: W
 }
 
 // Commits this slice, if there is one, and all slices of the inbox. Whether there was one.
-#[tactic(auto, using(conc_turn::proofs::Prefixes::prefix_trans))]
 fn commit_slices<D: Runs<J, S>, J: Ticketed, S: Ticketed + Drop, R: Wait>(
     rt: &R,
     hands: &Hands<J, S>,
@@ -80,7 +78,6 @@ fn commit_slices<D: Runs<J, S>, J: Ticketed, S: Ticketed + Drop, R: Wait>(
 }
 
 // Lets the value do what needs no slice, and takes jobs. How many it pushed, and one that came back.
-#[tactic(auto, using(conc_turn::proofs::Prefixes::prefix_trans))]
 fn refresh<D: Runs<J, S>, J: Ticketed + Drop, S: Ticketed, R: Wait>(
     rt: &R,
     hands: &Hands<J, S>,
@@ -100,7 +97,6 @@ fn refresh<D: Runs<J, S>, J: Ticketed + Drop, S: Ticketed, R: Wait>(
 }
 
 // Commits a slice, and lists its ticket where it was taken. Where the list has no room the slice is dropped.
-#[tactic(auto, using(conc_turn::proofs::Prefixes::prefix_self))]
 fn commit_one<D: Runs<J, S>, J: Ticketed, S: Ticketed + Drop>(
     desk: &mut D,
     slice: S,
@@ -121,7 +117,6 @@ fn commit_one<D: Runs<J, S>, J: Ticketed, S: Ticketed + Drop>(
 }
 
 // Commits all slices of the inbox. Whether there was one.
-#[tactic(auto, using(conc_turn::proofs::Prefixes::prefix_trans, conc_turn::proofs::Prefixes::prefix_self))]
 fn commit_inbox<D: Runs<J, S>, J: Ticketed, S: Ticketed + Drop, R: Wait>(
     rt: &R,
     hands: &Hands<J, S>,
@@ -147,7 +142,6 @@ fn commit_inbox<D: Runs<J, S>, J: Ticketed, S: Ticketed + Drop, R: Wait>(
 }
 
 // Raises the flags of all jobs that were overtaken.
-#[tactic(auto, using(conc_turn::proofs::Prefixes::prefix_trans, conc_turn::proofs::Prefixes::prefix_self))]
 fn raise_overtaken<D: Runs<J, S>, J: Ticketed, S: Ticketed, R: Wait>(
     rt: &R,
     hands: &Hands<J, S>,
@@ -168,7 +162,6 @@ fn raise_overtaken<D: Runs<J, S>, J: Ticketed, S: Ticketed, R: Wait>(
 }
 
 // Pushes jobs on the own deque. How many, and one that came back, with which it stops.
-#[tactic(auto, using(conc_turn::proofs::Prefixes::prefix_trans, conc_turn::proofs::Prefixes::prefix_self))]
 fn take_jobs<D: Runs<J, S>, J: Ticketed + Drop, S: Ticketed>(
     hands: &Hands<J, S>,
     hand: &mut Hand<J, S>,
