@@ -78,7 +78,7 @@ impl Draft {
 }
 
 // In which of four ways a row says what it gives.
-#[derive(Clone, Copy, Debug, PartialEq, Eq)]
+#[derive(Clone, Copy)]
 enum Outcome {
     Told(u8),
     Status(u8),

@@ -44,7 +44,7 @@ const FILES: [&str; 9] = [
 const FAILED: u8 = 1;
 
 /// How many rows there are, how many gave something else, and how many can't run yet.
-#[derive(Clone, Copy, Debug, PartialEq, Eq)]
+#[derive(Clone, Copy)]
 struct Count {
     rows: usize,
     failed: usize,

@@ -30,7 +30,7 @@ pub struct SinkPlan {
     pub fails: Vec<(u32, u32)>,
 }
 
-#[derive(Clone, Copy, Debug, PartialEq, Eq)]
+#[derive(Clone, Copy)]
 pub enum ClockPlan {
     Virtual,
     Standing,

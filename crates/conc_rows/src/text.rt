@@ -4,7 +4,7 @@ use crate::flaw::Flaw;
 use std::alloc::{AllocError, Global};
 
 /// What stands at one place of a text.
-#[derive(Clone, Copy, Debug, PartialEq, Eq)]
+#[derive(Clone, Copy)]
 pub enum Letter {
     Byte(u8),
     /// The number of the repetition, from 1.
@@ -94,7 +94,7 @@ fn push_number(alloc: Global, bytes: &mut Vec<u8>, number: usize) -> Result<(), 
 }
 
 /// Where the reading of a text in quotes stands.
-#[derive(Clone, Copy, Debug, PartialEq, Eq)]
+#[derive(Clone, Copy)]
 enum Reading {
     Start,
     Inside,

@@ -8,7 +8,7 @@ use hs_rules::{Entry, History};
 use std::alloc::{AllocError, Global};
 
 /// One case of a row.
-#[derive(Clone, Copy, Debug)]
+#[derive(Clone, Copy)]
 pub enum Case<'a> {
     Whole,
     Byte(u8),
