@@ -6,7 +6,7 @@ use crate::plans::{
     byte_ranges, entries_of, entry_of, number_of, numbers_of, refusal_of, sink_of, source_of,
     words_of,
 };
-use crate::row::{Cases, ClockPlan, Plan, Told};
+use crate::row::{Cases, ClockPlan, Plan};
 use crate::text::Text;
 use std::alloc::Global;
 
@@ -79,29 +79,18 @@ fn read_mark(draft: &mut Draft, line: &str) -> Result<(), Flaw> {
     Ok(())
 }
 
-impl Plan {
-    // A row has cases of one kind.
-    fn set_cases(&mut self, cases: Cases) -> Result<(), Flaw> {
-        match self.cases {
-            Cases::One => {
-                self.cases = cases;
-                Ok(())
-            }
-            _ => Err(Flaw::Says("a row has one line that begins with `each`")),
-        }
-    }
-}
-
 // A line `key: value`.
 fn read_key(draft: &mut Draft, key: &str, value: &str) -> Result<(), Flaw> {
     let alloc = draft.alloc;
     match key {
+        "out" => add_line(&mut draft.told.out, value)?,
+        "err" => add_line(&mut draft.told.err, value)?,
+        "entries" => draft.told.entries = Some(entries_of(alloc, value)?),
+        "steps" => draft.told.steps = Some(number_of(value)?),
+        "limit at" => draft.told.limit_at = Some(entry_of(alloc, value)?),
         "status" => draft.status = Some(number_of(value)?),
         "only status" => draft.only_status = Some(number_of(value)?),
         "refused" | "or refused" => draft.refusals.push(refusal_of(alloc, value)?)?,
-        "out" | "err" | "entries" | "steps" | "limit at" => {
-            read_told(alloc, &mut draft.told, key, value)?;
-        }
         _ => read_plan(alloc, &mut draft.plan, key, value)?,
     }
     Ok(())
@@ -118,19 +107,6 @@ fn read_plan(alloc: Global, plan: &mut Plan, key: &str, value: &str) -> Result<(
         "each byte" => plan.set_cases(Cases::Bytes(byte_ranges(alloc, value)?))?,
         "each capabilities" => plan.set_cases(Cases::Capabilities(numbers_of(alloc, value)?))?,
         "times" => plan.times = times_of(value)?,
-        _ => return Err(Flaw::Says("there is no such key")),
-    }
-    Ok(())
-}
-
-// A line of what the row tells and keeps.
-fn read_told(alloc: Global, told: &mut Told, key: &str, value: &str) -> Result<(), Flaw> {
-    match key {
-        "out" => add_line(&mut told.out, value)?,
-        "err" => add_line(&mut told.err, value)?,
-        "entries" => told.entries = Some(entries_of(alloc, value)?),
-        "steps" => told.steps = Some(number_of(value)?),
-        "limit at" => told.limit_at = Some(entry_of(alloc, value)?),
         _ => return Err(Flaw::Says("there is no such key")),
     }
     Ok(())

@@ -1,5 +1,6 @@
 //! A row: one call of the top call, or one for each of its cases, and what it gives.
 
+use crate::flaw::Flaw;
 use crate::text::Text;
 use hs_rules::Entry;
 use std::alloc::{AllocError, Global};
@@ -137,6 +138,17 @@ impl Plan {
             err: SinkPlan::ample(alloc),
             clock: ClockPlan::Virtual,
         })
+    }
+
+    /// Sets which calls the row makes, which one line says.
+    pub fn set_cases(&mut self, cases: Cases) -> Result<(), Flaw> {
+        match self.cases {
+            Cases::One => {
+                self.cases = cases;
+                Ok(())
+            }
+            _ => Err(Flaw::Says("a row has one line that begins with `each`")),
+        }
     }
 }
 
