@@ -10,7 +10,7 @@ use hs_lex::lex;
 use hs_parse::parse;
 use hs_types::check;
 use rules_code::{Act, ActId, Body, Code, ExprId, Node, Primitive};
-use rules_trees::forms::{BinaryForm, EmptyForm, UnaryForm};
+use hs_base::tree::forms::{BinaryForm, EmptyForm, UnaryForm};
 use std::alloc::Global;
 use std::test::Fail;
 

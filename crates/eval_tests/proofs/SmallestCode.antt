@@ -3,7 +3,7 @@ use Rattle.std.proofs.Common.{◌≡◌, List, [], ◌∷◌, codes, true, refl,
 use Rattle.hs_base.specs.declared.pos.Pos.{Pos}
 use Rattle.hs_base.specs.declared.tree.action.Action.TheVariants as a
 use Rattle.hs_base.specs.declared.tree.expr.Expr.TheVariants as e
-use Rattle.rules_trees.specs.declared.forms.UnaryAction.TheVariants as u
+use Rattle.hs_base.specs.declared.tree.forms.UnaryAction.TheVariants as u
 use Rattle.hs_base.specs.declared.tree.script.Script.{Script}
 use Rattle.rules_code.specs.declared.node.Node.{Node}
 use Rattle.rules_code.specs.declared.act.Act.{Act}

@@ -3,7 +3,7 @@ use hs_base::{Exn, NoMemory, Split, Txt, Value, ValueList, Values};
 use hs_eval::{Found, eval_node, slots_mean};
 use hs_items::Items;
 use rules_code::{ExprId, Node, NodeLink};
-use rules_trees::forms::BinaryForm;
+use hs_base::tree::forms::BinaryForm;
 use std::alloc::Global;
 use std::test::Fail;
 

@@ -25,7 +25,7 @@ use hs_typing::act_rows::bare_type;
 use hs_typing::checker::Checker;
 use hs_typing::funs::Funs;
 use hs_typing::parts::Part;
-use rules_trees::forms::{BareAction, BinaryAction, BlockAction, MaskingAction, UnaryAction};
+use hs_base::tree::forms::{BareAction, BinaryAction, BlockAction, MaskingAction, UnaryAction};
 use std::alloc::Global;
 
 /// The type of an action, where it has one.

@@ -15,7 +15,7 @@ use hs_items::Items;
 use hs_type_table::ty::TypeTerm;
 use hs_typing::checker::Checker;
 use hs_typing::funs::Funs;
-use rules_trees::forms::{BinaryAction, UnaryAction};
+use hs_base::tree::forms::{BinaryAction, UnaryAction};
 use std::alloc::Global;
 
 /// An action with one expression.

@@ -5,11 +5,11 @@ use Rattle.std.specs.Int.{int_wrap}
 use Rattle.std.specs.Fmt.{digits}
 use Rattle.hs_rules.specs.declared.entry.Entry.{Entry}
 use Rattle.hs_rules.specs.declared.entry.Entry.TheVariants as entry
-use Rattle.rules_trees.specs.declared.forms.UnaryForm.TheVariants.{Show}
-use Rattle.rules_trees.specs.declared.forms.BinaryForm.TheVariants.{Plus}
-use Rattle.rules_trees.specs.declared.forms.UnaryAction.TheVariants.{PutStrLn, ReadMVar, TryTakeMVar}
-use Rattle.rules_trees.specs.declared.forms.BlockAction.TheVariants.{UninterruptibleMaskOnly}
-use Rattle.rules_trees.specs.declared.forms.GuardAction.TheVariants.{Finally}
+use Rattle.hs_base.specs.declared.tree.forms.UnaryForm.TheVariants.{Show}
+use Rattle.hs_base.specs.declared.tree.forms.BinaryForm.TheVariants.{Plus}
+use Rattle.hs_base.specs.declared.tree.forms.UnaryAction.TheVariants.{PutStrLn, ReadMVar, TryTakeMVar}
+use Rattle.hs_base.specs.declared.tree.forms.BlockAction.TheVariants.{UninterruptibleMaskOnly}
+use Rattle.hs_base.specs.declared.tree.forms.GuardAction.TheVariants.{Finally}
 use Rattle.rules_trees.specs.Trees.{Ex, unary, chain, link, end}
 use Rattle.rules_trees.specs.Programs.{Act, unary_act, scoped, catch, guard, case_act, maybe_acts, Bl, last, then, bind, Fn}
 use Rattle.rules_meaning.specs.CoreMeaning.{code_of}

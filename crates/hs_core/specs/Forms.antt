@@ -1,6 +1,6 @@
 -- The expansions of forms with blocks, with slots: what stands for a block in its own scope is given.
 use Rattle.std.specs.Prelude.{[], ◌∷◌}
-use Rattle.rules_trees.specs.declared.forms.UnaryForm.TheVariants as u
+use Rattle.hs_base.specs.declared.tree.forms.UnaryForm.TheVariants as u
 use Rattle.rules_expansion.specs.Names.{Name, Added, Hidden, Restorer, Given, Caught, TheCell, Instance, BracketResult, BracketFault, Allowed, InTime, Owner, Expiry, Helper}
 use Rattle.rules_expansion.specs.Core.{ThreadDelay, ThrowTo, TakeMVar, PutMVar, Acquired, Release, MyThreadId, NewTimeout, CoreEx, Read, NoValue, BelowZero, IsZero, SameExn, Core, Return, ThrowIo, If}
 use Rattle.rules_expansion.specs.Expansion.{timeout_helper, timeout_end}

@@ -5,7 +5,7 @@ use hs_items::Items;
 use hs_nodes::Emitter;
 use hs_nodes::names::Hidden;
 use rules_code::{Act, ActId, ExprId, Node, Primitive};
-use rules_trees::forms::{BinaryForm, EmptyForm, UnaryForm};
+use hs_base::tree::forms::{BinaryForm, EmptyForm, UnaryForm};
 use std::alloc::Global;
 
 /// The nodes of expressions with the names of the scope, and the nodes of actions.
@@ -18,9 +18,9 @@ pub struct ActEmitter {
 impl ActEmitter {
     ghost use Rattle.std.specs.Prelude.{◌≡◌, ◌∷◌, [], IfOk, pos};
     ghost use Rattle.hs_base.specs.declared.exn.Exn.TheVariants as x;
-    ghost use Rattle.rules_trees.specs.declared.forms.UnaryForm.TheVariants as u;
-    ghost use Rattle.rules_trees.specs.declared.forms.BinaryForm.TheVariants as b;
-    ghost use Rattle.rules_trees.specs.declared.forms.EmptyForm.TheVariants as n;
+    ghost use Rattle.hs_base.specs.declared.tree.forms.UnaryForm.TheVariants as u;
+    ghost use Rattle.hs_base.specs.declared.tree.forms.BinaryForm.TheVariants as b;
+    ghost use Rattle.hs_base.specs.declared.tree.forms.EmptyForm.TheVariants as n;
     ghost use Rattle.rules_trees.specs.Trees.{ex_of, number, exception};
     ghost use Rattle.rules_expansion.specs.Names.{Written, Added};
     ghost use Rattle.rules_code.specs.Slots.{Sx, Sxs, slotted, slot_of, s_literal, s_empty, s_unary, s_binary, s_none, s_more};

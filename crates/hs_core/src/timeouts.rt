@@ -3,7 +3,7 @@ use crate::emitter::ActEmitter;
 use hs_base::NoMemory;
 use hs_nodes::names::{Hidden, bind_added, off};
 use rules_code::{Act, ActId, ExprId, Primitive};
-use rules_trees::forms::BinaryForm;
+use hs_base::tree::forms::BinaryForm;
 use std::alloc::Global;
 
 impl ActEmitter {

@@ -5,10 +5,10 @@ use Rattle.std.proofs.Math.ListN.{drop_of_length-le}
 use Rattle.hs_base.specs.declared.exn.Exn.{Exn}
 use Rattle.hs_base.specs.declared.value.Value.{Value}
 use Rattle.hs_base.specs.declared.value.Value.TheVariants as raw
-use Rattle.rules_trees.specs.declared.forms.BinaryForm.{BinaryForm}
-use Rattle.rules_trees.specs.declared.forms.BinaryForm.TheVariants as b
-use Rattle.rules_trees.specs.declared.forms.UnaryForm.{UnaryForm}
-use Rattle.rules_trees.specs.declared.forms.SideForm.{SideForm}
+use Rattle.hs_base.specs.declared.tree.forms.BinaryForm.{BinaryForm}
+use Rattle.hs_base.specs.declared.tree.forms.BinaryForm.TheVariants as b
+use Rattle.hs_base.specs.declared.tree.forms.UnaryForm.{UnaryForm}
+use Rattle.hs_base.specs.declared.tree.forms.SideForm.{SideForm}
 use Rattle.rules_code.specs.declared.node.Node.{Node}
 use Rattle.rules_code.specs.declared.node.Node.TheVariants as n
 use Rattle.rules_code.specs.declared.node.ExprId.{ExprId}

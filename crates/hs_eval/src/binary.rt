@@ -10,7 +10,7 @@ use crate::found::Found;
 use crate::numbers::{minus, plus, quotient, remainder, times};
 use crate::read::{as_number, as_text};
 use hs_base::{NoMemory, Txt, Value, ValueList};
-use rules_trees::forms::BinaryForm;
+use hs_base::tree::forms::BinaryForm;
 use std::alloc::Global;
 use std::cmp::Ordering;
 

@@ -15,7 +15,7 @@ use crate::read::as_truth;
 use hs_base::{NoMemory, Value, Values};
 use hs_items::Items;
 use rules_code::{ExprId, Node, NodeLink};
-use rules_trees::forms::BinaryForm;
+use hs_base::tree::forms::BinaryForm;
 use std::alloc::Global;
 
 /// What the node of a number gives, where the values of the slots are those of `outer` and then those of `inner`. `inner` is

@@ -13,7 +13,7 @@ use crate::found::{Found, FoundAll};
 use hs_base::{NoMemory, Value, ValueList, Values};
 use hs_items::Items;
 use rules_code::{ExprId, Node};
-use rules_trees::forms::{BinaryForm, EmptyForm};
+use hs_base::tree::forms::{BinaryForm, EmptyForm};
 use std::alloc::Global;
 
 /// The node of a number.

@@ -14,7 +14,7 @@ use crate::numbers::{minus, plus, quotient, remainder, times};
 use hs_base::Value;
 use hs_items::Items;
 use rules_code::{ExprId, Node, NodeLink};
-use rules_trees::forms::BinaryForm;
+use hs_base::tree::forms::BinaryForm;
 
 /// What a comparison says of two numbers. None for all other forms.
 fn compared(form: BinaryForm, m: i64, n: i64) -> Option<bool>

@@ -4,7 +4,7 @@ use Rattle.hs_base.specs.declared.pos.Pos.{Pos}
 use Rattle.hs_type_table.specs.declared.table.Node.{Node}
 use Rattle.hs_type_table.specs.declared.ty.TypeTerm.{TypeTerm}
 use Rattle.hs_base.specs.declared.tree.expr.Expr.{Expr}
-use Rattle.rules_trees.specs.declared.forms.BinaryForm.{BinaryForm}
+use Rattle.hs_base.specs.declared.tree.forms.BinaryForm.{BinaryForm}
 use Rattle.rules_trees.specs.Trees.{T, Ex, binary, Links, link, ex_of, exs_of}
 use Rattle.rules_typing.specs.Typing.{Ctx, Bound, row_binary}
 use Rattle.hs_judging.specs.Judging.{Found, Founds, own, parts2, typed, with2, judge, judges, judge_links, operand_faults, operand_types}

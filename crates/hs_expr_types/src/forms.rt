@@ -6,7 +6,7 @@ ghost use Rattle.hs_typing.specs.Views.{form_of};
 
 use hs_base::tree::{CompareOp, ExprArms, SumOp};
 use hs_typing::Form;
-use rules_trees::forms::BinaryForm;
+use hs_base::tree::forms::BinaryForm;
 
 /// A comparison as a form.
 pub fn compare_form(op: CompareOp) -> BinaryForm

@@ -18,7 +18,7 @@ use hs_typing::Form;
 use hs_typing::checker::Checker;
 use hs_typing::first::Broken;
 use hs_typing::parts::Part;
-use rules_trees::forms::EmptyForm;
+use hs_base::tree::forms::EmptyForm;
 use std::alloc::Global;
 
 /// The type of an atom that is one word.

@@ -19,7 +19,7 @@ use hs_type_table::ty::TypeTerm;
 use hs_typing::checker::Checker;
 use hs_typing::funs::Funs;
 use hs_typing::parts::Part;
-use rules_trees::forms::{BinaryForm, EmptyForm, SideForm, UnaryForm};
+use hs_base::tree::forms::{BinaryForm, EmptyForm, SideForm, UnaryForm};
 use std::alloc::Global;
 
 /// The type of an expression, where it has one.

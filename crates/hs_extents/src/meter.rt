@@ -13,7 +13,7 @@ use hs_sizes::{add, greater};
 use hs_typing::entry::{Entry, Sorted};
 use hs_typing::funs::Funs;
 use hs_typing::table::Table;
-use rules_trees::forms::BinaryForm;
+use hs_base::tree::forms::BinaryForm;
 use std::alloc::Global;
 
 /// How far an expression unfolds, in counts.

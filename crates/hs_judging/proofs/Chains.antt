@@ -2,7 +2,7 @@
 use Rattle.std.proofs.Common.{◌≡◌, List, [], ◌∷◌, ◌++◌, Option, Some, None, refl, ap, ◌∙◌, sym, append_assoc}
 use Rattle.std.proofs.lemmas.List.{append-nil}
 use Rattle.hs_base.specs.declared.pos.Pos.{Pos}
-use Rattle.rules_trees.specs.declared.forms.BinaryForm.{BinaryForm}
+use Rattle.hs_base.specs.declared.tree.forms.BinaryForm.{BinaryForm}
 use Rattle.rules_trees.specs.Trees.{T, Links, end, link}
 use Rattle.rules_typing.specs.Typing.{Ctx, Bound, row_binary}
 use Rattle.hs_judging.specs.Judging.{Found, after, with2, own, parts2, typed, folded, judge, judge_links, operand_faults, operand_types}

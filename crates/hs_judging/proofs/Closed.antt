@@ -1,17 +1,17 @@
 -- The expanded size is what the forms add up to.
 use Rattle.std.proofs.Common.{◌≡◌, ℕ, ◌+◌, refl, arith, ◌∙◌}
-use Rattle.rules_trees.specs.declared.forms.BareAction.{BareAction}
-use Rattle.rules_trees.specs.declared.forms.BareAction.TheVariants as z
-use Rattle.rules_trees.specs.declared.forms.UnaryAction.{UnaryAction}
-use Rattle.rules_trees.specs.declared.forms.UnaryAction.TheVariants as u
-use Rattle.rules_trees.specs.declared.forms.BinaryAction.{BinaryAction}
-use Rattle.rules_trees.specs.declared.forms.BinaryAction.TheVariants as b
-use Rattle.rules_trees.specs.declared.forms.BlockAction.{BlockAction}
-use Rattle.rules_trees.specs.declared.forms.BlockAction.TheVariants as k
-use Rattle.rules_trees.specs.declared.forms.MaskingAction.{MaskingAction}
-use Rattle.rules_trees.specs.declared.forms.MaskingAction.TheVariants as m
-use Rattle.rules_trees.specs.declared.forms.GuardAction.{GuardAction}
-use Rattle.rules_trees.specs.declared.forms.GuardAction.TheVariants as g
+use Rattle.hs_base.specs.declared.tree.forms.BareAction.{BareAction}
+use Rattle.hs_base.specs.declared.tree.forms.BareAction.TheVariants as z
+use Rattle.hs_base.specs.declared.tree.forms.UnaryAction.{UnaryAction}
+use Rattle.hs_base.specs.declared.tree.forms.UnaryAction.TheVariants as u
+use Rattle.hs_base.specs.declared.tree.forms.BinaryAction.{BinaryAction}
+use Rattle.hs_base.specs.declared.tree.forms.BinaryAction.TheVariants as b
+use Rattle.hs_base.specs.declared.tree.forms.BlockAction.{BlockAction}
+use Rattle.hs_base.specs.declared.tree.forms.BlockAction.TheVariants as k
+use Rattle.hs_base.specs.declared.tree.forms.MaskingAction.{MaskingAction}
+use Rattle.hs_base.specs.declared.tree.forms.MaskingAction.TheVariants as m
+use Rattle.hs_base.specs.declared.tree.forms.GuardAction.{GuardAction}
+use Rattle.hs_base.specs.declared.tree.forms.GuardAction.TheVariants as g
 use Rattle.rules_expansion.specs.Names.{Name, Written}
 use Rattle.rules_trees.specs.Trees.{Ex}
 use Rattle.rules_trees.specs.Programs.{Act, bare, unary_act, binary_act, throw_io, new_empty, call, choose_act, case_act, modify, scoped, masking, restore, catch, guard, bracket, timeout, Bl, last, then, bind, let_in, ActArms, maybe_acts, either_acts, list_acts, pair_acts, Bd, pure_body, io_body}

@@ -1,9 +1,9 @@
 -- The expanded size of an action without its expansion: what each form adds to the sizes of its parts.
 use Rattle.std.specs.Prelude.{ℕ, ◌+◌}
-use Rattle.rules_trees.specs.declared.forms.UnaryAction.{UnaryAction}
-use Rattle.rules_trees.specs.declared.forms.UnaryAction.TheVariants as u
-use Rattle.rules_trees.specs.declared.forms.GuardAction.{GuardAction}
-use Rattle.rules_trees.specs.declared.forms.GuardAction.TheVariants as g
+use Rattle.hs_base.specs.declared.tree.forms.UnaryAction.{UnaryAction}
+use Rattle.hs_base.specs.declared.tree.forms.UnaryAction.TheVariants as u
+use Rattle.hs_base.specs.declared.tree.forms.GuardAction.{GuardAction}
+use Rattle.hs_base.specs.declared.tree.forms.GuardAction.TheVariants as g
 use Rattle.rules_trees.specs.Programs.{Act, bare, unary_act, binary_act, throw_io, new_empty, call, choose_act, case_act, modify, scoped, masking, restore, catch, guard, bracket, timeout, Bl, last, then, bind, let_in, ActArms, maybe_acts, either_acts, list_acts, pair_acts, Bd, pure_body, io_body}
 use Rattle.rules_expansion.specs.Sizes.{ex_size, exs_size}
 

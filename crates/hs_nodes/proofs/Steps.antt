@@ -9,7 +9,7 @@ use Rattle.hs_base.specs.declared.tree.expr.Expr.{Expr}
 use Rattle.hs_base.specs.declared.tree.expr.Link.{Link}
 use Rattle.hs_base.specs.declared.tree.expr.ListLink.{ListLink}
 use Rattle.hs_base.specs.declared.tree.expr.SumLink.{SumLink}
-use Rattle.rules_trees.specs.declared.forms.BinaryForm.{BinaryForm}
+use Rattle.hs_base.specs.declared.tree.forms.BinaryForm.{BinaryForm}
 use Rattle.rules_trees.specs.Trees.{Ex, Links, Arms, more, link, ex_of, exs_of, links_of, sum_links_of, list_links_of, sum_form, cons_form}
 use Rattle.rules_code.specs.declared.node.ExprId.{ExprId}
 use Rattle.rules_code.specs.declared.node.NodeLink.{NodeLink}

@@ -14,7 +14,7 @@ use hs_base::{
 };
 use hs_items::{Boxed, Items};
 use rules_code::{ExprId, Node, NodeLink};
-use rules_trees::forms::{BinaryForm, EmptyForm, SideForm, UnaryForm};
+use hs_base::tree::forms::{BinaryForm, EmptyForm, SideForm, UnaryForm};
 use std::alloc::Global;
 
 fn constant(constant: Constant) -> Node

@@ -3,14 +3,14 @@ use Rattle.std.proofs.Common.{◌≡◌, ℕ, ◌+◌, ◌==◌, List, [], ◌�
 use Rattle.std.proofs.lemmas.Slice.Eq.{bytes_eq-Decides}
 use Rattle.hs_base.specs.declared.tree.expr.Name.{Name}
 use Rattle.hs_base.specs.declared.pos.Pos.{Pos}
-use Rattle.rules_trees.specs.declared.forms.BareAction.TheVariants as z
-use Rattle.rules_trees.specs.declared.forms.UnaryAction.{UnaryAction}
-use Rattle.rules_trees.specs.declared.forms.UnaryAction.TheVariants as u
-use Rattle.rules_trees.specs.declared.forms.BinaryAction.{BinaryAction}
-use Rattle.rules_trees.specs.declared.forms.BinaryAction.TheVariants as b
-use Rattle.rules_trees.specs.declared.forms.BlockAction.TheVariants as k
-use Rattle.rules_trees.specs.declared.forms.MaskingAction.TheVariants as m
-use Rattle.rules_trees.specs.declared.forms.GuardAction.TheVariants as g
+use Rattle.hs_base.specs.declared.tree.forms.BareAction.TheVariants as z
+use Rattle.hs_base.specs.declared.tree.forms.UnaryAction.{UnaryAction}
+use Rattle.hs_base.specs.declared.tree.forms.UnaryAction.TheVariants as u
+use Rattle.hs_base.specs.declared.tree.forms.BinaryAction.{BinaryAction}
+use Rattle.hs_base.specs.declared.tree.forms.BinaryAction.TheVariants as b
+use Rattle.hs_base.specs.declared.tree.forms.BlockAction.TheVariants as k
+use Rattle.hs_base.specs.declared.tree.forms.MaskingAction.TheVariants as m
+use Rattle.hs_base.specs.declared.tree.forms.GuardAction.TheVariants as g
 use Rattle.rules_trees.specs.Trees.{T, unit, int, bool, text, thread, exn, pair, maybe, either, list, cell, Ex, Exs, none, more}
 use Rattle.rules_trees.specs.Programs as tree
 use Rattle.rules_trees.specs.Programs.{Act, Bl, ActArms}

@@ -3,12 +3,12 @@ use Rattle.std.proofs.Common.{◌≡◌, ℕ, Bool, true, List, [], ◌∷◌, �
 use Rattle.hs_base.specs.declared.exn.Exn.TheVariants.{UserInterrupt, ThreadKilled}
 use Rattle.hs_rules.specs.declared.entry.Entry.{Entry}
 use Rattle.hs_rules.specs.declared.entry.Entry.TheVariants.{Local, Op, Receive, Wake, Finish, Tick}
-use Rattle.rules_trees.specs.declared.forms.UnaryForm.TheVariants.{Show}
-use Rattle.rules_trees.specs.declared.forms.BareAction.TheVariants.{MyThreadId, GetMaskingState}
-use Rattle.rules_trees.specs.declared.forms.UnaryAction.TheVariants.{Return, PutStrLn, NewMVar, TakeMVar, ReadMVar}
-use Rattle.rules_trees.specs.declared.forms.BinaryAction.TheVariants.{PutMVar, ThrowTo}
-use Rattle.rules_trees.specs.declared.forms.BlockAction.TheVariants.{ForkIo, MaskOnly, UninterruptibleMaskOnly}
-use Rattle.rules_trees.specs.declared.forms.GuardAction.TheVariants.{Finally}
+use Rattle.hs_base.specs.declared.tree.forms.UnaryForm.TheVariants.{Show}
+use Rattle.hs_base.specs.declared.tree.forms.BareAction.TheVariants.{MyThreadId, GetMaskingState}
+use Rattle.hs_base.specs.declared.tree.forms.UnaryAction.TheVariants.{Return, PutStrLn, NewMVar, TakeMVar, ReadMVar}
+use Rattle.hs_base.specs.declared.tree.forms.BinaryAction.TheVariants.{PutMVar, ThrowTo}
+use Rattle.hs_base.specs.declared.tree.forms.BlockAction.TheVariants.{ForkIo, MaskOnly, UninterruptibleMaskOnly}
+use Rattle.hs_base.specs.declared.tree.forms.GuardAction.TheVariants.{Finally}
 use Rattle.rules_trees.specs.Trees.{lit, unary, nothing_more, exception}
 use Rattle.rules_trees.specs.Programs.{Act, bare, unary_act, binary_act, throw_io, new_empty, scoped, catch, guard, bracket, timeout, case_act, maybe_acts, Bl, last, then, bind}
 use Rattle.hs_rules.specs.State.{State, Mark, AcquiredBy, ReleasedBy, Thread}

@@ -4,10 +4,10 @@ use Rattle.hs_base.specs.declared.pos.Pos.{Pos}
 use Rattle.hs_base.specs.declared.tree.expr.Name.{Name}
 use Rattle.hs_rules.specs.declared.entry.Entry.{Entry}
 use Rattle.hs_rules.specs.declared.entry.Entry.TheVariants.{Tick}
-use Rattle.rules_trees.specs.declared.forms.UnaryForm.TheVariants.{Show, ErrorCall}
-use Rattle.rules_trees.specs.declared.forms.UnaryAction.TheVariants.{Return, PutStrLn, TakeMVar, KillThread, ThreadDelay}
-use Rattle.rules_trees.specs.declared.forms.BinaryAction.TheVariants.{PutMVar}
-use Rattle.rules_trees.specs.declared.forms.BlockAction.TheVariants.{ForkIo}
+use Rattle.hs_base.specs.declared.tree.forms.UnaryForm.TheVariants.{Show, ErrorCall}
+use Rattle.hs_base.specs.declared.tree.forms.UnaryAction.TheVariants.{Return, PutStrLn, TakeMVar, KillThread, ThreadDelay}
+use Rattle.hs_base.specs.declared.tree.forms.BinaryAction.TheVariants.{PutMVar}
+use Rattle.hs_base.specs.declared.tree.forms.BlockAction.TheVariants.{ForkIo}
 use Rattle.rules_trees.specs.Trees.{unit, Wr, Ex, lit, name, none, unary, number, letters, nothing_more}
 use Rattle.rules_trees.specs.Programs.{Act, unary_act, binary_act, throw_io, new_empty, call, scoped, Bl, bind, io_body, Par, Fn}
 use Rattle.hs_rules.specs.State.{State}

@@ -3,13 +3,13 @@ use Rattle.std.proofs.Common.{◌≡◌, ℕ, Bool, true, false, List, [], ◌�
 use Rattle.hs_base.specs.declared.exn.Exn.TheVariants.{ThreadKilled}
 use Rattle.hs_rules.specs.declared.entry.Entry.{Entry}
 use Rattle.hs_rules.specs.declared.entry.Entry.TheVariants.{Local, Op, Receive, Wake, Finish}
-use Rattle.rules_trees.specs.declared.forms.UnaryForm.TheVariants.{ErrorCall}
-use Rattle.rules_trees.specs.declared.forms.BinaryForm.TheVariants.{Equal}
-use Rattle.rules_trees.specs.declared.forms.MaskingAction.TheVariants as mask
-use Rattle.rules_trees.specs.declared.forms.BareAction.TheVariants.{MyThreadId, GetMaskingState}
-use Rattle.rules_trees.specs.declared.forms.UnaryAction.TheVariants.{ThreadDelay}
-use Rattle.rules_trees.specs.declared.forms.BinaryAction.TheVariants.{ThrowTo}
-use Rattle.rules_trees.specs.declared.forms.BlockAction.TheVariants.{MaskOnly, UninterruptibleMaskOnly}
+use Rattle.hs_base.specs.declared.tree.forms.UnaryForm.TheVariants.{ErrorCall}
+use Rattle.hs_base.specs.declared.tree.forms.BinaryForm.TheVariants.{Equal}
+use Rattle.hs_base.specs.declared.tree.forms.MaskingAction.TheVariants as mask
+use Rattle.hs_base.specs.declared.tree.forms.BareAction.TheVariants.{MyThreadId, GetMaskingState}
+use Rattle.hs_base.specs.declared.tree.forms.UnaryAction.TheVariants.{ThreadDelay}
+use Rattle.hs_base.specs.declared.tree.forms.BinaryAction.TheVariants.{ThrowTo}
+use Rattle.hs_base.specs.declared.tree.forms.BlockAction.TheVariants.{MaskOnly, UninterruptibleMaskOnly}
 use Rattle.rules_trees.specs.Trees.{lit, none, more, unary, binary, exception}
 use Rattle.rules_trees.specs.Programs.{bare, unary_act, binary_act, call, choose_act, scoped, masking, restore, catch, bracket, last, then, bind, Fn}
 use Rattle.hs_rules.specs.State.{State, Thread}

@@ -9,7 +9,7 @@ use hs_base::tree::{
     Action, Block, BlockArms, Body, Expr, ExprArms, Link, ListLink, Stmt, SumLink,
 };
 use hs_items::Items;
-use rules_trees::forms::BinaryForm;
+use hs_base::tree::forms::BinaryForm;
 
 /// The nodes of an expression.
 #[cycle(nodes)]

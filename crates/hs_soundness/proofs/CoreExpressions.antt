@@ -2,7 +2,7 @@
 use Rattle.std.proofs.Common.{◌≡◌, ℕ, pos, List, [], ◌∷◌, Bool, true, false, cond, Option, Some, None, refl, sym, subst, bytes_eq}
 use Rattle.std.proofs.lemmas.Slice.Eq.{bytes_eq-Decides}
 use Rattle.hs_base.specs.declared.tree.script.Script.{Script}
-use Rattle.rules_trees.specs.declared.forms.BinaryForm.TheVariants as b
+use Rattle.hs_base.specs.declared.tree.forms.BinaryForm.TheVariants as b
 use Rattle.rules_trees.specs.Trees.{T, int, bool, exn, maybe}
 use Rattle.rules_trees.specs.Programs.{script_of}
 use Rattle.rules_expansion.specs.Names.{Name, Written, Added, same_name}

@@ -1,8 +1,8 @@
 -- An expression of a core action with slots means what it means with names.
 use Rattle.std.proofs.Common.{◌≡◌, ℕ, zero, suc, ◌≤◌, pos, List, [], ◌∷◌, length, false, Option, Some, None, refl, ap, ◌∙◌, arith}
 use Rattle.std.specs.Prelude.{slice_get}
-use Rattle.rules_trees.specs.declared.forms.BinaryForm.TheVariants as b
-use Rattle.rules_trees.specs.declared.forms.UnaryForm.TheVariants as u
+use Rattle.hs_base.specs.declared.tree.forms.BinaryForm.TheVariants as b
+use Rattle.hs_base.specs.declared.tree.forms.UnaryForm.TheVariants as u
 use Rattle.rules_trees.specs.Trees.{T}
 use Rattle.rules_trees.specs.Programs.{Fn}
 use Rattle.rules_expansion.specs.Names.{Name}

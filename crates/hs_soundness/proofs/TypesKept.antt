@@ -3,14 +3,14 @@ use Rattle.std.proofs.Common.{◌≡◌, ℕ, ◌==◌, ltb, ℤ, pos, List, [],
 use Rattle.hs_base.specs.declared.exn.Exn.{Exn}
 use Rattle.hs_base.specs.declared.exn.Exn.TheVariants as raw
 use Rattle.std.specs.Ordering.{int_eq}
-use Rattle.rules_trees.specs.declared.forms.UnaryForm.{UnaryForm}
-use Rattle.rules_trees.specs.declared.forms.UnaryForm.TheVariants as u
-use Rattle.rules_trees.specs.declared.forms.BinaryForm.{BinaryForm}
-use Rattle.rules_trees.specs.declared.forms.BinaryForm.TheVariants as b
-use Rattle.rules_trees.specs.declared.forms.EmptyForm.{EmptyForm}
-use Rattle.rules_trees.specs.declared.forms.EmptyForm.TheVariants as n
-use Rattle.rules_trees.specs.declared.forms.SideForm.{SideForm}
-use Rattle.rules_trees.specs.declared.forms.SideForm.TheVariants as d
+use Rattle.hs_base.specs.declared.tree.forms.UnaryForm.{UnaryForm}
+use Rattle.hs_base.specs.declared.tree.forms.UnaryForm.TheVariants as u
+use Rattle.hs_base.specs.declared.tree.forms.BinaryForm.{BinaryForm}
+use Rattle.hs_base.specs.declared.tree.forms.BinaryForm.TheVariants as b
+use Rattle.hs_base.specs.declared.tree.forms.EmptyForm.{EmptyForm}
+use Rattle.hs_base.specs.declared.tree.forms.EmptyForm.TheVariants as n
+use Rattle.hs_base.specs.declared.tree.forms.SideForm.{SideForm}
+use Rattle.hs_base.specs.declared.tree.forms.SideForm.TheVariants as d
 use Rattle.rules_trees.specs.Trees.{T, unit, int, bool, text, thread, exn, pair, maybe, either, list, Lit, number, letters, truth, nothing_more, exception, Ex, Exs, Links, Arms, lit, name, unary, binary, chain, conses, choose, items, empty, side, given, case, none, more, end, link, maybe_arms, either_arms, list_arms, pair_arms}
 use Rattle.rules_meaning.specs.Values as val
 use Rattle.rules_meaning.specs.Values.{V, UnitValue, Int, Truth, Text, Pair, Nothing, Just, Left, Right, Nil, Cons, Exception, Outcome, Gives, Throws, Stuck, Outcomes, AllGive, OneThrows, OneStuck, Restore, Env, value_at, with_name, list_of, and_one, and_then}

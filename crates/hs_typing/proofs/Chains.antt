@@ -7,7 +7,7 @@ use Rattle.hs_base.specs.declared.tree.expr.ListLink.{ListLink}
 use Rattle.hs_base.specs.declared.tree.expr.SumLink.{SumLink}
 use Rattle.hs_type_table.specs.declared.table.Node.{Node}
 use Rattle.hs_type_table.specs.declared.ty.TypeTerm.{TypeTerm}
-use Rattle.rules_trees.specs.declared.forms.BinaryForm.{BinaryForm}
+use Rattle.hs_base.specs.declared.tree.forms.BinaryForm.{BinaryForm}
 use Rattle.rules_trees.specs.Trees.{T, Ex, Links, link, ex_of, links_of, sum_links_of, list_links_of, sum_form, cons_form}
 use Rattle.rules_typing.specs.Typing.{Fault, Ctx, Bound, row_binary}
 use Rattle.hs_judging.specs.Judging.{Found, after, with2, own, parts2, typed, folded, judge, judge_links, operand_faults, operand_types}

@@ -13,7 +13,7 @@ use hs_type_table::base::Base;
 use hs_type_table::parts::inner_part;
 use hs_type_table::table::TypeTable;
 use hs_type_table::ty::{TypeTerm, cell_of, maybe_of};
-use rules_trees::forms::{BareAction, BinaryAction, BlockAction, MaskingAction, UnaryAction};
+use hs_base::tree::forms::{BareAction, BinaryAction, BlockAction, MaskingAction, UnaryAction};
 use std::alloc::Global;
 
 /// The type of an action without parts.

@@ -11,7 +11,7 @@ use hs_base::{NoMemory, Pos};
 use hs_items::Items;
 use hs_type_table::table::TypeTable;
 use hs_type_table::ty::TypeTerm;
-use rules_trees::forms::BinaryForm;
+use hs_base::tree::forms::BinaryForm;
 use std::alloc::Global;
 
 /// `:` or `++` as a form.

@@ -18,7 +18,7 @@ use hs_type_table::table::TypeTable;
 use hs_type_table::ty::{TypeTerm, either_of, list_of, maybe_of, pair_of};
 use hs_type_table::widths::is_wide_written;
 use hs_type_table::written::from_written;
-use rules_trees::forms::{BinaryForm, EmptyForm, SideForm, UnaryForm};
+use hs_base::tree::forms::{BinaryForm, EmptyForm, SideForm, UnaryForm};
 use std::alloc::Global;
 
 #[tactic(auto, using(hs_type_table::proofs::Equations::type_rules))]

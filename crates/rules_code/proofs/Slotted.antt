@@ -3,7 +3,7 @@ use Rattle.std.proofs.Common.{◌≡◌, ℕ, zero, suc, ◌+◌, ◌==◌, ◌<
 use Rattle.std.specs.Prelude.{slice_get, bytes_eq}
 use Rattle.std.proofs.lemmas.List.{append-nil}
 use Rattle.hs_base.specs.declared.exn.Exn.{Exn}
-use Rattle.rules_trees.specs.declared.forms.BinaryForm.{BinaryForm}
+use Rattle.hs_base.specs.declared.tree.forms.BinaryForm.{BinaryForm}
 use Rattle.rules_trees.specs.Trees.{Ex, Exs, Links, Arms, lit, name, unary, binary, chain, conses, choose, items, empty, side, given, case, none, more, end, link, maybe_arms, either_arms, list_arms, pair_arms}
 use Rattle.rules_trees.specs.Programs.{Bd, pure_body, io_body, Fn, Par}
 use Rattle.rules_expansion.specs.Names.{Name, Written, Added, Unread, same_name}

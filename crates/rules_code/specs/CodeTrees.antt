@@ -6,9 +6,9 @@
 use Rattle.std.specs.Prelude.{◌≡◌, ℕ, ◌+◌, pos, List, [], ◌∷◌, ◌++◌, length, Bool, cond, Option, Some, None, slice_index_or, bytes_eq}
 use Rattle.hs_base.specs.declared.exn.Exn.TheVariants as x
 use Rattle.hs_base.specs.declared.tree.script.Script.{Script}
-use Rattle.rules_trees.specs.declared.forms.UnaryForm.TheVariants as u
-use Rattle.rules_trees.specs.declared.forms.BinaryForm.TheVariants as b
-use Rattle.rules_trees.specs.declared.forms.EmptyForm.TheVariants as n
+use Rattle.hs_base.specs.declared.tree.forms.UnaryForm.TheVariants as u
+use Rattle.hs_base.specs.declared.tree.forms.BinaryForm.TheVariants as b
+use Rattle.hs_base.specs.declared.tree.forms.EmptyForm.TheVariants as n
 use Rattle.rules_code.specs.declared.node.Node.{Node}
 use Rattle.rules_code.specs.declared.act.ActId.{ActId}
 use Rattle.rules_code.specs.declared.act.Primitive.TheVariants as p

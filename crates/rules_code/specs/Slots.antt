@@ -3,10 +3,10 @@
 -- The slot of a name is how many names stand before it in its scope. A node is read with the trees of the nodes before
 -- it, and a call holds the tree of its function's body, so that the meaning needs no table of functions.
 use Rattle.std.specs.Prelude.{◌≡◌, ℕ, ◌+◌, ◌<◌, ◌==◌, List, [], ◌∷◌, ◌++◌, length, Bool, true, false, cond, Option, Some, None, slice_get, slice_index_or, bytes_eq}
-use Rattle.rules_trees.specs.declared.forms.UnaryForm.{UnaryForm}
-use Rattle.rules_trees.specs.declared.forms.BinaryForm.{BinaryForm}
-use Rattle.rules_trees.specs.declared.forms.EmptyForm.{EmptyForm}
-use Rattle.rules_trees.specs.declared.forms.SideForm.{SideForm}
+use Rattle.hs_base.specs.declared.tree.forms.UnaryForm.{UnaryForm}
+use Rattle.hs_base.specs.declared.tree.forms.BinaryForm.{BinaryForm}
+use Rattle.hs_base.specs.declared.tree.forms.EmptyForm.{EmptyForm}
+use Rattle.hs_base.specs.declared.tree.forms.SideForm.{SideForm}
 use Rattle.rules_code.specs.declared.node.ExprId.{ExprId}
 use Rattle.rules_code.specs.declared.node.NodeLink.{NodeLink}
 use Rattle.rules_code.specs.declared.node.Node.{Node}

@@ -4,18 +4,18 @@
 -- expansions, the helper thread of `timeout` among them, are this project's own. A name that an expansion adds is a
 -- constructor of `Names`, so no script can write or capture it. In the comments it is written with a `$`.
 use Rattle.std.specs.Prelude.{ℕ, List, [], ◌∷◌, Option, Some, None, codes}
-use Rattle.rules_trees.specs.declared.forms.BareAction.{BareAction}
-use Rattle.rules_trees.specs.declared.forms.BareAction.TheVariants as z
-use Rattle.rules_trees.specs.declared.forms.UnaryAction.{UnaryAction}
-use Rattle.rules_trees.specs.declared.forms.UnaryAction.TheVariants as u
-use Rattle.rules_trees.specs.declared.forms.BinaryAction.{BinaryAction}
-use Rattle.rules_trees.specs.declared.forms.BinaryAction.TheVariants as b
-use Rattle.rules_trees.specs.declared.forms.BlockAction.{BlockAction}
-use Rattle.rules_trees.specs.declared.forms.BlockAction.TheVariants as k
-use Rattle.rules_trees.specs.declared.forms.MaskingAction.{MaskingAction}
-use Rattle.rules_trees.specs.declared.forms.MaskingAction.TheVariants as m
-use Rattle.rules_trees.specs.declared.forms.GuardAction.{GuardAction}
-use Rattle.rules_trees.specs.declared.forms.GuardAction.TheVariants as g
+use Rattle.hs_base.specs.declared.tree.forms.BareAction.{BareAction}
+use Rattle.hs_base.specs.declared.tree.forms.BareAction.TheVariants as z
+use Rattle.hs_base.specs.declared.tree.forms.UnaryAction.{UnaryAction}
+use Rattle.hs_base.specs.declared.tree.forms.UnaryAction.TheVariants as u
+use Rattle.hs_base.specs.declared.tree.forms.BinaryAction.{BinaryAction}
+use Rattle.hs_base.specs.declared.tree.forms.BinaryAction.TheVariants as b
+use Rattle.hs_base.specs.declared.tree.forms.BlockAction.{BlockAction}
+use Rattle.hs_base.specs.declared.tree.forms.BlockAction.TheVariants as k
+use Rattle.hs_base.specs.declared.tree.forms.MaskingAction.{MaskingAction}
+use Rattle.hs_base.specs.declared.tree.forms.MaskingAction.TheVariants as m
+use Rattle.hs_base.specs.declared.tree.forms.GuardAction.{GuardAction}
+use Rattle.hs_base.specs.declared.tree.forms.GuardAction.TheVariants as g
 use Rattle.rules_trees.specs.Programs as tree
 use Rattle.rules_trees.specs.Programs.{Act, Bl, ActArms, Par, Bd, Fn}
 use Rattle.rules_expansion.specs.Names.{Name, Written, Added, Unread, Restorer, Given, Caught, TheCell, Instance, BracketResult, BracketFault, Allowed, InTime, Owner, Expiry, Helper, HelperRestorer}

@@ -30,6 +30,15 @@ use Rattle.hs_base.specs.declared.tree.expr.Name.{Name}
 use Rattle.hs_base.specs.declared.tree.expr.SumLink.{SumLink}
 use Rattle.hs_base.specs.declared.tree.expr.SumOp.{SumOp}
 use Rattle.hs_base.specs.declared.tree.expr.SumOp.TheVariants as sum_op
+use Rattle.hs_base.specs.declared.tree.forms.UnaryForm.TheVariants as unary_form
+use Rattle.hs_base.specs.declared.tree.forms.EmptyForm.TheVariants as empty_form
+use Rattle.hs_base.specs.declared.tree.forms.SideForm.TheVariants as side
+use Rattle.hs_base.specs.declared.tree.forms.BareAction.TheVariants as bare
+use Rattle.hs_base.specs.declared.tree.forms.UnaryAction.TheVariants as unary
+use Rattle.hs_base.specs.declared.tree.forms.BinaryAction.TheVariants as binary
+use Rattle.hs_base.specs.declared.tree.forms.BlockAction.TheVariants as scoped
+use Rattle.hs_base.specs.declared.tree.forms.MaskingAction.TheVariants as masking
+use Rattle.hs_base.specs.declared.tree.forms.GuardAction.TheVariants as guard
 use Rattle.hs_base.specs.declared.tree.script.Body.{Body}
 use Rattle.hs_base.specs.declared.tree.script.Body.TheVariants as body
 use Rattle.hs_base.specs.declared.tree.script.Def.{Def}
@@ -145,21 +154,21 @@ side_form f w = give (λ s x. f s.0 s.1 s.2 x) ⊛ side_types w ⊛ arg
 
 unfoldable pub constructed : Rule Expr
 constructed =
-    alt (with_arg e.Just k.Just)
-    (alt (give e.Nothing ⊛ at k.Nothing ◁ k.at_sign ⊛ atype)
-    (alt (side_form e.Left k.Left)
-    (side_form e.Right k.Right)))
+    alt (with_arg (e.Unary unary_form.Just) k.Just)
+    (alt (give (e.Empty empty_form.Nothing) ⊛ at k.Nothing ◁ k.at_sign ⊛ atype)
+    (alt (side_form (e.Side side.Left) k.Left)
+    (side_form (e.Side side.Right) k.Right)))
 
 unfoldable pub list_form : Rule Expr
-list_form = go_on (λ p t. e.EmptyList p t) list_or_empty (give (λ t. t) ◁ k.at_sign ⊛ atype)
+list_form = go_on (e.Empty empty_form.EmptyList) list_or_empty (give (λ t. t) ◁ k.at_sign ⊛ atype)
 
 unfoldable pub computed : Rule Expr
 computed =
-    alt (with_arg e.ErrorCall k.ErrorCall)
-    (alt (with_arg e.Not k.not)
-    (alt (with_arg e.Fst k.fst)
-    (alt (with_arg e.Snd k.snd)
-    (alt (with_arg e.Show k.show)
+    alt (with_arg (e.Unary unary_form.ErrorCall) k.ErrorCall)
+    (alt (with_arg (e.Unary unary_form.Not) k.not)
+    (alt (with_arg (e.Unary unary_form.Fst) k.fst)
+    (alt (with_arg (e.Unary unary_form.Snd) k.snd)
+    (alt (with_arg (e.Unary unary_form.Show) k.show)
     (alt (with_args e.Div k.div)
     (with_args e.Mod k.mod'))))))
 
@@ -208,7 +217,7 @@ product = give product_tree ⊛ app ⊛ many product_link
 
 -- the prefix - takes the first product of its sum
 unfoldable pub first_term : Rule Expr
-first_term = alt (give e.Negate ⊛ at k.minus ⊛ product) product
+first_term = alt (give (e.Unary unary_form.Negate) ⊛ at k.minus ⊛ product) product
 
 unfoldable pub sum_operator : Rule (SumOp × Pos)
 sum_operator = alt (map (λ p. (sum_op.Plus, p)) (at k.plus)) (map (λ p. (sum_op.Minus, p)) (at k.minus))
@@ -321,47 +330,47 @@ block = within (λ p b. b) k.open_brace block_in_braces
 -- ---- action: the forms that begin with a reserved word
 unfoldable pub value_action : Rule Action
 value_action =
-    alt (with_arg a.Return k.return)
+    alt (with_arg (a.Unary unary.Return) k.return)
     (alt (give a.ThrowIo ⊛ at k.throwIO ◁ k.at_sign ⊛ atype ⊛ arg)
-    (alt (with_arg a.PutStr k.putStr)
-    (alt (with_arg a.PutStrLn k.putStrLn)
-    (give a.HPutStrLn ⊛ at k.hPutStrLn ◁ k.stderr ⊛ arg))))
+    (alt (with_arg (a.Unary unary.PutStr) k.putStr)
+    (alt (with_arg (a.Unary unary.PutStrLn) k.putStrLn)
+    (give (a.Unary unary.HPutStrLn) ⊛ at k.hPutStrLn ◁ k.stderr ⊛ arg))))
 
 unfoldable pub modify_form : Rule Action
 modify_form = give a.ModifyMVar ⊛ at k.modifyMVar_ ⊛ arg ⊛ name ⊛ block
 
 unfoldable pub cell_action : Rule Action
 cell_action =
-    alt (with_arg a.NewMVar k.newMVar)
+    alt (with_arg (a.Unary unary.NewMVar) k.newMVar)
     (alt (give a.NewEmptyMVar ⊛ at k.newEmptyMVar ◁ k.at_sign ⊛ atype)
-    (alt (with_arg a.TakeMVar k.takeMVar)
-    (alt (with_args a.PutMVar k.putMVar)
-    (alt (with_arg a.ReadMVar k.readMVar)
-    (alt (with_arg a.TryTakeMVar k.tryTakeMVar)
-    (alt (with_args a.TryPutMVar k.tryPutMVar)
+    (alt (with_arg (a.Unary unary.TakeMVar) k.takeMVar)
+    (alt (with_args (a.Binary binary.PutMVar) k.putMVar)
+    (alt (with_arg (a.Unary unary.ReadMVar) k.readMVar)
+    (alt (with_arg (a.Unary unary.TryTakeMVar) k.tryTakeMVar)
+    (alt (with_args (a.Binary binary.TryPutMVar) k.tryPutMVar)
     modify_form))))))
 
 unfoldable pub other_thread_action : Rule Action
 other_thread_action =
-    alt (map a.MyThreadId (at k.myThreadId))
-    (alt (with_args a.ThrowTo k.throwTo)
-    (alt (with_arg a.KillThread k.killThread)
-    (alt (with_arg a.ThreadDelay k.threadDelay)
-    (alt (map a.ClockMicros (at k.clockMicros))
-    (map a.GetMaskingState (at k.getMaskingState))))))
+    alt (map (a.Bare bare.MyThreadId) (at k.myThreadId))
+    (alt (with_args (a.Binary binary.ThrowTo) k.throwTo)
+    (alt (with_arg (a.Unary unary.KillThread) k.killThread)
+    (alt (with_arg (a.Unary unary.ThreadDelay) k.threadDelay)
+    (alt (map (a.Bare bare.ClockMicros) (at k.clockMicros))
+    (map (a.Bare bare.GetMaskingState) (at k.getMaskingState))))))
 
 unfoldable pub thread_action : Rule Action
 thread_action =
-    alt (give a.ForkIo ⊛ at k.forkIO ⊛ block)
-    (alt (give a.ForkIoWithUnmask ⊛ at k.forkIOWithUnmask ⊛ name ⊛ block)
+    alt (give (a.Scoped scoped.ForkIo) ⊛ at k.forkIO ⊛ block)
+    (alt (give (a.Masking masking.ForkIoWithUnmask) ⊛ at k.forkIOWithUnmask ⊛ name ⊛ block)
     other_thread_action)
 
 unfoldable pub mask_action : Rule Action
 mask_action =
-    alt (give a.Mask ⊛ at k.mask ⊛ name ⊛ block)
-    (alt (give a.MaskOnly ⊛ at k.mask_ ⊛ block)
-    (alt (give a.UninterruptibleMask ⊛ at k.uninterruptibleMask ⊛ name ⊛ block)
-    (alt (give a.UninterruptibleMaskOnly ⊛ at k.uninterruptibleMask_ ⊛ block)
+    alt (give (a.Masking masking.Mask) ⊛ at k.mask ⊛ name ⊛ block)
+    (alt (give (a.Scoped scoped.MaskOnly) ⊛ at k.mask_ ⊛ block)
+    (alt (give (a.Masking masking.UninterruptibleMask) ⊛ at k.uninterruptibleMask ⊛ name ⊛ block)
+    (alt (give (a.Scoped scoped.UninterruptibleMaskOnly) ⊛ at k.uninterruptibleMask_ ⊛ block)
     (give a.Restore ⊛ at k.restore ⊛ name ⊛ block))))
 
 unfoldable pub bracket_form : Rule Action
@@ -370,8 +379,8 @@ bracket_form = give a.Bracket ⊛ at k.bracket ⊛ block ⊛ name ⊛ block ⊛ 
 unfoldable pub guard_action : Rule Action
 guard_action =
     alt (give a.Catch ⊛ at k.catch' ⊛ block ⊛ name ⊛ block)
-    (alt (give a.OnException ⊛ at k.onException ⊛ block ⊛ block)
-    (alt (give a.Finally ⊛ at k.finally' ⊛ block ⊛ block)
+    (alt (give (a.Guard guard.OnException) ⊛ at k.onException ⊛ block ⊛ block)
+    (alt (give (a.Guard guard.Finally) ⊛ at k.finally' ⊛ block ⊛ block)
     (alt bracket_form
     (give a.Timeout ⊛ at k.timeout ⊛ arg ⊛ block))))
 

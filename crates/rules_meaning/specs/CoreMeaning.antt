@@ -2,7 +2,7 @@
 -- action gives.
 use Rattle.std.specs.Prelude.{ℕ, pos, List, [], ◌∷◌, Option, Some, None}
 use Rattle.hs_base.specs.declared.exn.Exn.TheVariants as exn
-use Rattle.rules_trees.specs.declared.forms.BinaryForm.TheVariants as b
+use Rattle.hs_base.specs.declared.tree.forms.BinaryForm.TheVariants as b
 use Rattle.rules_trees.specs.Programs.{Fn}
 use Rattle.rules_expansion.specs.Names.{Name}
 use Rattle.rules_expansion.specs.Core.{CoreEx, OfScript, Read, JustRead, NoValue, BelowZero, IsZero, SameExn, Killed, ActionFunction}

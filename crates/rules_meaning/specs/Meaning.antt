@@ -12,14 +12,14 @@ use Rattle.std.specs.Fmt.{decimal, signed_decimal}
 use Rattle.hs_base.specs.declared.exn.Exn.{Exn}
 use Rattle.hs_base.specs.declared.exn.Exn.TheVariants as x
 use Rattle.hs_base.specs.ExceptionTexts.{text_of}
-use Rattle.rules_trees.specs.declared.forms.UnaryForm.{UnaryForm}
-use Rattle.rules_trees.specs.declared.forms.UnaryForm.TheVariants as u
-use Rattle.rules_trees.specs.declared.forms.BinaryForm.{BinaryForm}
-use Rattle.rules_trees.specs.declared.forms.BinaryForm.TheVariants as b
-use Rattle.rules_trees.specs.declared.forms.EmptyForm.{EmptyForm}
-use Rattle.rules_trees.specs.declared.forms.EmptyForm.TheVariants as n
-use Rattle.rules_trees.specs.declared.forms.SideForm.{SideForm}
-use Rattle.rules_trees.specs.declared.forms.SideForm.TheVariants as d
+use Rattle.hs_base.specs.declared.tree.forms.UnaryForm.{UnaryForm}
+use Rattle.hs_base.specs.declared.tree.forms.UnaryForm.TheVariants as u
+use Rattle.hs_base.specs.declared.tree.forms.BinaryForm.{BinaryForm}
+use Rattle.hs_base.specs.declared.tree.forms.BinaryForm.TheVariants as b
+use Rattle.hs_base.specs.declared.tree.forms.EmptyForm.{EmptyForm}
+use Rattle.hs_base.specs.declared.tree.forms.EmptyForm.TheVariants as n
+use Rattle.hs_base.specs.declared.tree.forms.SideForm.{SideForm}
+use Rattle.hs_base.specs.declared.tree.forms.SideForm.TheVariants as d
 use Rattle.rules_trees.specs.Trees.{Ex, Exs, Links, Arms, Lit, number, letters, truth, nothing_more, exception, lit, name, unary, binary, chain, conses, choose, items, empty, side, given, case, none, more, end, link, maybe_arms, either_arms, list_arms, pair_arms}
 use Rattle.rules_trees.specs.Programs.{Bd, pure_body, io_body, Fn, Par}
 use Rattle.rules_expansion.specs.Names.{Name, Written}

@@ -18,11 +18,11 @@ use Rattle.hs_base.specs.declared.tree.expr.ListLink.{ListLink}
 use Rattle.hs_base.specs.declared.tree.expr.SumLink.{SumLink}
 use Rattle.hs_base.specs.declared.tree.expr.Expr.TheOpen.{Expr-F, ExprArms-F, Link-F, ListLink-F, SumLink-F}
 use Rattle.hs_base.specs.declared.tree.expr.Expr.TheFolds.{fold-Expr, fold-roll-Expr, fold-ExprArms, fold-roll-ExprArms, fold_out-Link, fold_out-ListLink, fold_out-SumLink}
-use Rattle.rules_trees.specs.declared.forms.UnaryForm.TheVariants as u
-use Rattle.rules_trees.specs.declared.forms.BinaryForm.{BinaryForm}
-use Rattle.rules_trees.specs.declared.forms.BinaryForm.TheVariants as b
-use Rattle.rules_trees.specs.declared.forms.EmptyForm.TheVariants as n
-use Rattle.rules_trees.specs.declared.forms.SideForm.TheVariants as d
+use Rattle.hs_base.specs.declared.tree.forms.UnaryForm.{UnaryForm}
+use Rattle.hs_base.specs.declared.tree.forms.BinaryForm.{BinaryForm}
+use Rattle.hs_base.specs.declared.tree.forms.BinaryForm.TheVariants as b
+use Rattle.hs_base.specs.declared.tree.forms.EmptyForm.{EmptyForm}
+use Rattle.hs_base.specs.declared.tree.forms.SideForm.{SideForm}
 use Rattle.rules_trees.specs.Trees.{T, unit, int, bool, text, thread, exn, pair, maybe, either, list, cell, ty_step, ty_of, Wr, wr_of, Lit, number, letters, truth, nothing_more, exception, Ex, lit, name, unary, binary, chain, conses, choose, items, empty, side, given, case, Exs, none, more, Links, end, link, Arms, maybe_arms, either_arms, list_arms, pair_arms, constant_of, compare_form, sum_form, cons_form, to_exs, Linked, Joined, to_links, all_by, ex_step, arms_step, link_step, list_link_step, sum_link_step, ex_of, arms_of, joined_of, list_linked_of, sum_linked_of, exs_of, links_of, list_links_of, sum_links_of}
 
 pub ty-Unit : ty_of t.Unit ≡ unit
@@ -118,38 +118,14 @@ ex-Compare c o p f = ap ex_of (sym (e.rolls-Compare c o p f)) ∙ fold-roll-Expr
 pub ex-Call : (y : Name) (es : List Expr) → ex_of (e.Call y es) ≡ name y (exs_of es)
 ex-Call y es = ap ex_of (sym (e.rolls-Call y es)) ∙ (fold-roll-Expr Ex Arms Joined Linked Linked ex_step arms_step link_step list_link_step sum_link_step (Expr-F.Call y es) ∙ ap (name y) (exs_are es))
 
-pub ex-Negate : (p : Pos) (c : Expr) → ex_of (e.Negate p c) ≡ unary u.Negate p (ex_of c)
-ex-Negate p c = ap ex_of (sym (e.rolls-Negate p c)) ∙ fold-roll-Expr Ex Arms Joined Linked Linked ex_step arms_step link_step list_link_step sum_link_step (Expr-F.Negate p c)
+pub ex-Unary : (o : UnaryForm) (p : Pos) (c : Expr) → ex_of (e.Unary o p c) ≡ unary o p (ex_of c)
+ex-Unary o p c = ap ex_of (sym (e.rolls-Unary o p c)) ∙ fold-roll-Expr Ex Arms Joined Linked Linked ex_step arms_step link_step list_link_step sum_link_step (Expr-F.Unary o p c)
 
-pub ex-Just : (p : Pos) (c : Expr) → ex_of (e.Just p c) ≡ unary u.Just p (ex_of c)
-ex-Just p c = ap ex_of (sym (e.rolls-Just p c)) ∙ fold-roll-Expr Ex Arms Joined Linked Linked ex_step arms_step link_step list_link_step sum_link_step (Expr-F.Just p c)
+pub ex-Empty : (o : EmptyForm) (p : Pos) (w : Written) → ex_of (e.Empty o p w) ≡ empty o p (wr_of w)
+ex-Empty o p w = ap ex_of (sym (e.rolls-Empty o p w)) ∙ fold-roll-Expr Ex Arms Joined Linked Linked ex_step arms_step link_step list_link_step sum_link_step (Expr-F.Empty o p w)
 
-pub ex-ErrorCall : (p : Pos) (c : Expr) → ex_of (e.ErrorCall p c) ≡ unary u.ErrorCall p (ex_of c)
-ex-ErrorCall p c = ap ex_of (sym (e.rolls-ErrorCall p c)) ∙ fold-roll-Expr Ex Arms Joined Linked Linked ex_step arms_step link_step list_link_step sum_link_step (Expr-F.ErrorCall p c)
-
-pub ex-Not : (p : Pos) (c : Expr) → ex_of (e.Not p c) ≡ unary u.Not p (ex_of c)
-ex-Not p c = ap ex_of (sym (e.rolls-Not p c)) ∙ fold-roll-Expr Ex Arms Joined Linked Linked ex_step arms_step link_step list_link_step sum_link_step (Expr-F.Not p c)
-
-pub ex-Fst : (p : Pos) (c : Expr) → ex_of (e.Fst p c) ≡ unary u.Fst p (ex_of c)
-ex-Fst p c = ap ex_of (sym (e.rolls-Fst p c)) ∙ fold-roll-Expr Ex Arms Joined Linked Linked ex_step arms_step link_step list_link_step sum_link_step (Expr-F.Fst p c)
-
-pub ex-Snd : (p : Pos) (c : Expr) → ex_of (e.Snd p c) ≡ unary u.Snd p (ex_of c)
-ex-Snd p c = ap ex_of (sym (e.rolls-Snd p c)) ∙ fold-roll-Expr Ex Arms Joined Linked Linked ex_step arms_step link_step list_link_step sum_link_step (Expr-F.Snd p c)
-
-pub ex-Show : (p : Pos) (c : Expr) → ex_of (e.Show p c) ≡ unary u.Show p (ex_of c)
-ex-Show p c = ap ex_of (sym (e.rolls-Show p c)) ∙ fold-roll-Expr Ex Arms Joined Linked Linked ex_step arms_step link_step list_link_step sum_link_step (Expr-F.Show p c)
-
-pub ex-Nothing : (p : Pos) (w : Written) → ex_of (e.Nothing p w) ≡ empty n.Nothing p (wr_of w)
-ex-Nothing p w = ap ex_of (sym (e.rolls-Nothing p w)) ∙ fold-roll-Expr Ex Arms Joined Linked Linked ex_step arms_step link_step list_link_step sum_link_step (Expr-F.Nothing p w)
-
-pub ex-EmptyList : (p : Pos) (w : Written) → ex_of (e.EmptyList p w) ≡ empty n.EmptyList p (wr_of w)
-ex-EmptyList p w = ap ex_of (sym (e.rolls-EmptyList p w)) ∙ fold-roll-Expr Ex Arms Joined Linked Linked ex_step arms_step link_step list_link_step sum_link_step (Expr-F.EmptyList p w)
-
-pub ex-Left : (p : Pos) (w : Written) (v : Written) (c : Expr) → ex_of (e.Left p w v c) ≡ side d.Left p (wr_of w) (wr_of v) (ex_of c)
-ex-Left p w v c = ap ex_of (sym (e.rolls-Left p w v c)) ∙ fold-roll-Expr Ex Arms Joined Linked Linked ex_step arms_step link_step list_link_step sum_link_step (Expr-F.Left p w v c)
-
-pub ex-Right : (p : Pos) (w : Written) (v : Written) (c : Expr) → ex_of (e.Right p w v c) ≡ side d.Right p (wr_of w) (wr_of v) (ex_of c)
-ex-Right p w v c = ap ex_of (sym (e.rolls-Right p w v c)) ∙ fold-roll-Expr Ex Arms Joined Linked Linked ex_step arms_step link_step list_link_step sum_link_step (Expr-F.Right p w v c)
+pub ex-Side : (o : SideForm) (p : Pos) (w : Written) (v : Written) (c : Expr) → ex_of (e.Side o p w v c) ≡ side o p (wr_of w) (wr_of v) (ex_of c)
+ex-Side o p w v c = ap ex_of (sym (e.rolls-Side o p w v c)) ∙ fold-roll-Expr Ex Arms Joined Linked Linked ex_step arms_step link_step list_link_step sum_link_step (Expr-F.Side o p w v c)
 
 pub ex-Div : (p : Pos) (c : Expr) (f : Expr) → ex_of (e.Div p c f) ≡ binary b.Div p (ex_of c) (ex_of f)
 ex-Div p c f = ap ex_of (sym (e.rolls-Div p c f)) ∙ fold-roll-Expr Ex Arms Joined Linked Linked ex_step arms_step link_step list_link_step sum_link_step (Expr-F.Div p c f)
@@ -175,7 +151,7 @@ ex-Unit p = ap ex_of (sym (e.rolls-Unit p)) ∙ fold-roll-Expr Ex Arms Joined Li
 pub ex-List : (p : Pos) (es : List Expr) → ex_of (e.List p es) ≡ items p (exs_of es)
 ex-List p es = ap ex_of (sym (e.rolls-List p es)) ∙ (fold-roll-Expr Ex Arms Joined Linked Linked ex_step arms_step link_step list_link_step sum_link_step (Expr-F.List p es) ∙ ap (items p) (exs_are es))
 
-pub ruleset ex_rules = (ex-If, ex-Case, ex-Let, ex-Or, ex-And, ex-Product, ex-Sum, ex-Cons, ex-Compare, ex-Call, ex-Negate, ex-Just, ex-ErrorCall, ex-Not, ex-Fst, ex-Snd, ex-Show, ex-Nothing, ex-EmptyList, ex-Left, ex-Right, ex-Div, ex-Mod, ex-Pair, ex-Int, ex-Text, ex-Constant, ex-Unit, ex-List)
+pub ruleset ex_rules = (ex-If, ex-Case, ex-Let, ex-Or, ex-And, ex-Product, ex-Sum, ex-Cons, ex-Compare, ex-Call, ex-Unary, ex-Empty, ex-Side, ex-Div, ex-Mod, ex-Pair, ex-Int, ex-Text, ex-Constant, ex-Unit, ex-List)
 
 pub arms-OfMaybe : (c : Expr) (y : Name) (f : Expr) → arms_of (a.OfMaybe c y f) ≡ maybe_arms (ex_of c) y (ex_of f)
 arms-OfMaybe c y f = ap arms_of (sym (a.rolls-OfMaybe c y f)) ∙ fold-roll-ExprArms Ex Arms Joined Linked Linked ex_step arms_step link_step list_link_step sum_link_step (ExprArms-F.OfMaybe c y f)

@@ -13,12 +13,12 @@ use Rattle.hs_base.specs.declared.tree.action.Stmt.{Stmt}
 use Rattle.hs_base.specs.declared.tree.action.Stmt.TheVariants as s
 use Rattle.hs_base.specs.declared.tree.action.Action.TheOpen.{Action-F, Block-F, BlockArms-F, Stmt-F}
 use Rattle.hs_base.specs.declared.tree.action.Action.TheFolds.{fold-Action, fold-roll-Action, fold-Block, fold_out-Block, fold-BlockArms, fold-roll-BlockArms, fold-Stmt, fold-roll-Stmt}
-use Rattle.rules_trees.specs.declared.forms.BareAction.TheVariants as z
-use Rattle.rules_trees.specs.declared.forms.UnaryAction.TheVariants as u
-use Rattle.rules_trees.specs.declared.forms.BinaryAction.TheVariants as b
-use Rattle.rules_trees.specs.declared.forms.BlockAction.TheVariants as k
-use Rattle.rules_trees.specs.declared.forms.MaskingAction.TheVariants as m
-use Rattle.rules_trees.specs.declared.forms.GuardAction.TheVariants as g
+use Rattle.hs_base.specs.declared.tree.forms.BareAction.{BareAction}
+use Rattle.hs_base.specs.declared.tree.forms.UnaryAction.{UnaryAction}
+use Rattle.hs_base.specs.declared.tree.forms.BinaryAction.{BinaryAction}
+use Rattle.hs_base.specs.declared.tree.forms.BlockAction.{BlockAction}
+use Rattle.hs_base.specs.declared.tree.forms.MaskingAction.{MaskingAction}
+use Rattle.hs_base.specs.declared.tree.forms.GuardAction.{GuardAction}
 use Rattle.rules_trees.specs.Trees.{wr_of, ex_of, exs_of}
 use Rattle.rules_trees.specs.Programs.{Act, bare, unary_act, binary_act, throw_io, new_empty, call, choose_act, case_act, modify, scoped, masking, restore, catch, guard, bracket, timeout, Bl, last, then, bind, let_in, ActArms, maybe_acts, either_acts, list_acts, pair_acts, before, act_step, act_arms_step, stmt_step, block_step, act_of, stmt_of, bl_of, act_arms_of, rest_of}
 
@@ -34,53 +34,14 @@ act-Case p e q = ap act_of (sym (a.rolls-Case p e q)) ∙ fold-roll-Action Act A
 pub act-Call : (x : Name) (es : List Expr) → act_of (a.Call x es) ≡ call x (exs_of es)
 act-Call x es = ap act_of (sym (a.rolls-Call x es)) ∙ fold-roll-Action Act ActArms (Bl → Bl) Bl act_step act_arms_step stmt_step block_step (Action-F.Call x es)
 
-pub act-Return : (p : Pos) (e : Expr) → act_of (a.Return p e) ≡ unary_act u.Return p (ex_of e)
-act-Return p e = ap act_of (sym (a.rolls-Return p e)) ∙ fold-roll-Action Act ActArms (Bl → Bl) Bl act_step act_arms_step stmt_step block_step (Action-F.Return p e)
+pub act-Unary : (w : UnaryAction) (p : Pos) (e : Expr) → act_of (a.Unary w p e) ≡ unary_act w p (ex_of e)
+act-Unary w p e = ap act_of (sym (a.rolls-Unary w p e)) ∙ fold-roll-Action Act ActArms (Bl → Bl) Bl act_step act_arms_step stmt_step block_step (Action-F.Unary w p e)
 
-pub act-PutStr : (p : Pos) (e : Expr) → act_of (a.PutStr p e) ≡ unary_act u.PutStr p (ex_of e)
-act-PutStr p e = ap act_of (sym (a.rolls-PutStr p e)) ∙ fold-roll-Action Act ActArms (Bl → Bl) Bl act_step act_arms_step stmt_step block_step (Action-F.PutStr p e)
+pub act-Binary : (w : BinaryAction) (p : Pos) (e : Expr) (f : Expr) → act_of (a.Binary w p e f) ≡ binary_act w p (ex_of e) (ex_of f)
+act-Binary w p e f = ap act_of (sym (a.rolls-Binary w p e f)) ∙ fold-roll-Action Act ActArms (Bl → Bl) Bl act_step act_arms_step stmt_step block_step (Action-F.Binary w p e f)
 
-pub act-PutStrLn : (p : Pos) (e : Expr) → act_of (a.PutStrLn p e) ≡ unary_act u.PutStrLn p (ex_of e)
-act-PutStrLn p e = ap act_of (sym (a.rolls-PutStrLn p e)) ∙ fold-roll-Action Act ActArms (Bl → Bl) Bl act_step act_arms_step stmt_step block_step (Action-F.PutStrLn p e)
-
-pub act-HPutStrLn : (p : Pos) (e : Expr) → act_of (a.HPutStrLn p e) ≡ unary_act u.HPutStrLn p (ex_of e)
-act-HPutStrLn p e = ap act_of (sym (a.rolls-HPutStrLn p e)) ∙ fold-roll-Action Act ActArms (Bl → Bl) Bl act_step act_arms_step stmt_step block_step (Action-F.HPutStrLn p e)
-
-pub act-NewMVar : (p : Pos) (e : Expr) → act_of (a.NewMVar p e) ≡ unary_act u.NewMVar p (ex_of e)
-act-NewMVar p e = ap act_of (sym (a.rolls-NewMVar p e)) ∙ fold-roll-Action Act ActArms (Bl → Bl) Bl act_step act_arms_step stmt_step block_step (Action-F.NewMVar p e)
-
-pub act-TakeMVar : (p : Pos) (e : Expr) → act_of (a.TakeMVar p e) ≡ unary_act u.TakeMVar p (ex_of e)
-act-TakeMVar p e = ap act_of (sym (a.rolls-TakeMVar p e)) ∙ fold-roll-Action Act ActArms (Bl → Bl) Bl act_step act_arms_step stmt_step block_step (Action-F.TakeMVar p e)
-
-pub act-ReadMVar : (p : Pos) (e : Expr) → act_of (a.ReadMVar p e) ≡ unary_act u.ReadMVar p (ex_of e)
-act-ReadMVar p e = ap act_of (sym (a.rolls-ReadMVar p e)) ∙ fold-roll-Action Act ActArms (Bl → Bl) Bl act_step act_arms_step stmt_step block_step (Action-F.ReadMVar p e)
-
-pub act-TryTakeMVar : (p : Pos) (e : Expr) → act_of (a.TryTakeMVar p e) ≡ unary_act u.TryTakeMVar p (ex_of e)
-act-TryTakeMVar p e = ap act_of (sym (a.rolls-TryTakeMVar p e)) ∙ fold-roll-Action Act ActArms (Bl → Bl) Bl act_step act_arms_step stmt_step block_step (Action-F.TryTakeMVar p e)
-
-pub act-KillThread : (p : Pos) (e : Expr) → act_of (a.KillThread p e) ≡ unary_act u.KillThread p (ex_of e)
-act-KillThread p e = ap act_of (sym (a.rolls-KillThread p e)) ∙ fold-roll-Action Act ActArms (Bl → Bl) Bl act_step act_arms_step stmt_step block_step (Action-F.KillThread p e)
-
-pub act-ThreadDelay : (p : Pos) (e : Expr) → act_of (a.ThreadDelay p e) ≡ unary_act u.ThreadDelay p (ex_of e)
-act-ThreadDelay p e = ap act_of (sym (a.rolls-ThreadDelay p e)) ∙ fold-roll-Action Act ActArms (Bl → Bl) Bl act_step act_arms_step stmt_step block_step (Action-F.ThreadDelay p e)
-
-pub act-PutMVar : (p : Pos) (e : Expr) (f : Expr) → act_of (a.PutMVar p e f) ≡ binary_act b.PutMVar p (ex_of e) (ex_of f)
-act-PutMVar p e f = ap act_of (sym (a.rolls-PutMVar p e f)) ∙ fold-roll-Action Act ActArms (Bl → Bl) Bl act_step act_arms_step stmt_step block_step (Action-F.PutMVar p e f)
-
-pub act-TryPutMVar : (p : Pos) (e : Expr) (f : Expr) → act_of (a.TryPutMVar p e f) ≡ binary_act b.TryPutMVar p (ex_of e) (ex_of f)
-act-TryPutMVar p e f = ap act_of (sym (a.rolls-TryPutMVar p e f)) ∙ fold-roll-Action Act ActArms (Bl → Bl) Bl act_step act_arms_step stmt_step block_step (Action-F.TryPutMVar p e f)
-
-pub act-ThrowTo : (p : Pos) (e : Expr) (f : Expr) → act_of (a.ThrowTo p e f) ≡ binary_act b.ThrowTo p (ex_of e) (ex_of f)
-act-ThrowTo p e f = ap act_of (sym (a.rolls-ThrowTo p e f)) ∙ fold-roll-Action Act ActArms (Bl → Bl) Bl act_step act_arms_step stmt_step block_step (Action-F.ThrowTo p e f)
-
-pub act-MyThreadId : (p : Pos) → act_of (a.MyThreadId p) ≡ bare z.MyThreadId p
-act-MyThreadId p = ap act_of (sym (a.rolls-MyThreadId p)) ∙ fold-roll-Action Act ActArms (Bl → Bl) Bl act_step act_arms_step stmt_step block_step (Action-F.MyThreadId p)
-
-pub act-ClockMicros : (p : Pos) → act_of (a.ClockMicros p) ≡ bare z.ClockMicros p
-act-ClockMicros p = ap act_of (sym (a.rolls-ClockMicros p)) ∙ fold-roll-Action Act ActArms (Bl → Bl) Bl act_step act_arms_step stmt_step block_step (Action-F.ClockMicros p)
-
-pub act-GetMaskingState : (p : Pos) → act_of (a.GetMaskingState p) ≡ bare z.GetMaskingState p
-act-GetMaskingState p = ap act_of (sym (a.rolls-GetMaskingState p)) ∙ fold-roll-Action Act ActArms (Bl → Bl) Bl act_step act_arms_step stmt_step block_step (Action-F.GetMaskingState p)
+pub act-Bare : (w : BareAction) (p : Pos) → act_of (a.Bare w p) ≡ bare w p
+act-Bare w p = ap act_of (sym (a.rolls-Bare w p)) ∙ fold-roll-Action Act ActArms (Bl → Bl) Bl act_step act_arms_step stmt_step block_step (Action-F.Bare w p)
 
 pub act-NewEmptyMVar : (p : Pos) (w : Written) → act_of (a.NewEmptyMVar p w) ≡ new_empty p (wr_of w)
 act-NewEmptyMVar p w = ap act_of (sym (a.rolls-NewEmptyMVar p w)) ∙ fold-roll-Action Act ActArms (Bl → Bl) Bl act_step act_arms_step stmt_step block_step (Action-F.NewEmptyMVar p w)
@@ -88,23 +49,11 @@ act-NewEmptyMVar p w = ap act_of (sym (a.rolls-NewEmptyMVar p w)) ∙ fold-roll-
 pub act-ModifyMVar : (p : Pos) (e : Expr) (x : Name) (c : Block) → act_of (a.ModifyMVar p e x c) ≡ modify p (ex_of e) x (bl_of c)
 act-ModifyMVar p e x c = ap act_of (sym (a.rolls-ModifyMVar p e x c)) ∙ fold-roll-Action Act ActArms (Bl → Bl) Bl act_step act_arms_step stmt_step block_step (Action-F.ModifyMVar p e x c)
 
-pub act-ForkIo : (p : Pos) (c : Block) → act_of (a.ForkIo p c) ≡ scoped k.ForkIo p (bl_of c)
-act-ForkIo p c = ap act_of (sym (a.rolls-ForkIo p c)) ∙ fold-roll-Action Act ActArms (Bl → Bl) Bl act_step act_arms_step stmt_step block_step (Action-F.ForkIo p c)
+pub act-Scoped : (w : BlockAction) (p : Pos) (c : Block) → act_of (a.Scoped w p c) ≡ scoped w p (bl_of c)
+act-Scoped w p c = ap act_of (sym (a.rolls-Scoped w p c)) ∙ fold-roll-Action Act ActArms (Bl → Bl) Bl act_step act_arms_step stmt_step block_step (Action-F.Scoped w p c)
 
-pub act-MaskOnly : (p : Pos) (c : Block) → act_of (a.MaskOnly p c) ≡ scoped k.MaskOnly p (bl_of c)
-act-MaskOnly p c = ap act_of (sym (a.rolls-MaskOnly p c)) ∙ fold-roll-Action Act ActArms (Bl → Bl) Bl act_step act_arms_step stmt_step block_step (Action-F.MaskOnly p c)
-
-pub act-UninterruptibleMaskOnly : (p : Pos) (c : Block) → act_of (a.UninterruptibleMaskOnly p c) ≡ scoped k.UninterruptibleMaskOnly p (bl_of c)
-act-UninterruptibleMaskOnly p c = ap act_of (sym (a.rolls-UninterruptibleMaskOnly p c)) ∙ fold-roll-Action Act ActArms (Bl → Bl) Bl act_step act_arms_step stmt_step block_step (Action-F.UninterruptibleMaskOnly p c)
-
-pub act-ForkIoWithUnmask : (p : Pos) (x : Name) (c : Block) → act_of (a.ForkIoWithUnmask p x c) ≡ masking m.ForkIoWithUnmask p x (bl_of c)
-act-ForkIoWithUnmask p x c = ap act_of (sym (a.rolls-ForkIoWithUnmask p x c)) ∙ fold-roll-Action Act ActArms (Bl → Bl) Bl act_step act_arms_step stmt_step block_step (Action-F.ForkIoWithUnmask p x c)
-
-pub act-Mask : (p : Pos) (x : Name) (c : Block) → act_of (a.Mask p x c) ≡ masking m.Mask p x (bl_of c)
-act-Mask p x c = ap act_of (sym (a.rolls-Mask p x c)) ∙ fold-roll-Action Act ActArms (Bl → Bl) Bl act_step act_arms_step stmt_step block_step (Action-F.Mask p x c)
-
-pub act-UninterruptibleMask : (p : Pos) (x : Name) (c : Block) → act_of (a.UninterruptibleMask p x c) ≡ masking m.UninterruptibleMask p x (bl_of c)
-act-UninterruptibleMask p x c = ap act_of (sym (a.rolls-UninterruptibleMask p x c)) ∙ fold-roll-Action Act ActArms (Bl → Bl) Bl act_step act_arms_step stmt_step block_step (Action-F.UninterruptibleMask p x c)
+pub act-Masking : (w : MaskingAction) (p : Pos) (x : Name) (c : Block) → act_of (a.Masking w p x c) ≡ masking w p x (bl_of c)
+act-Masking w p x c = ap act_of (sym (a.rolls-Masking w p x c)) ∙ fold-roll-Action Act ActArms (Bl → Bl) Bl act_step act_arms_step stmt_step block_step (Action-F.Masking w p x c)
 
 pub act-Restore : (p : Pos) (x : Name) (c : Block) → act_of (a.Restore p x c) ≡ restore p x (bl_of c)
 act-Restore p x c = ap act_of (sym (a.rolls-Restore p x c)) ∙ fold-roll-Action Act ActArms (Bl → Bl) Bl act_step act_arms_step stmt_step block_step (Action-F.Restore p x c)
@@ -112,11 +61,8 @@ act-Restore p x c = ap act_of (sym (a.rolls-Restore p x c)) ∙ fold-roll-Action
 pub act-Catch : (p : Pos) (c : Block) (x : Name) (d : Block) → act_of (a.Catch p c x d) ≡ catch p (bl_of c) x (bl_of d)
 act-Catch p c x d = ap act_of (sym (a.rolls-Catch p c x d)) ∙ fold-roll-Action Act ActArms (Bl → Bl) Bl act_step act_arms_step stmt_step block_step (Action-F.Catch p c x d)
 
-pub act-OnException : (p : Pos) (c : Block) (d : Block) → act_of (a.OnException p c d) ≡ guard g.OnException p (bl_of c) (bl_of d)
-act-OnException p c d = ap act_of (sym (a.rolls-OnException p c d)) ∙ fold-roll-Action Act ActArms (Bl → Bl) Bl act_step act_arms_step stmt_step block_step (Action-F.OnException p c d)
-
-pub act-Finally : (p : Pos) (c : Block) (d : Block) → act_of (a.Finally p c d) ≡ guard g.Finally p (bl_of c) (bl_of d)
-act-Finally p c d = ap act_of (sym (a.rolls-Finally p c d)) ∙ fold-roll-Action Act ActArms (Bl → Bl) Bl act_step act_arms_step stmt_step block_step (Action-F.Finally p c d)
+pub act-Guard : (w : GuardAction) (p : Pos) (c : Block) (d : Block) → act_of (a.Guard w p c d) ≡ guard w p (bl_of c) (bl_of d)
+act-Guard w p c d = ap act_of (sym (a.rolls-Guard w p c d)) ∙ fold-roll-Action Act ActArms (Bl → Bl) Bl act_step act_arms_step stmt_step block_step (Action-F.Guard w p c d)
 
 pub act-Bracket : (p : Pos) (c : Block) (x : Name) (d : Block) (h : Block) → act_of (a.Bracket p c x d h) ≡ bracket p (bl_of c) x (bl_of d) (bl_of h)
 act-Bracket p c x d h = ap act_of (sym (a.rolls-Bracket p c x d h)) ∙ fold-roll-Action Act ActArms (Bl → Bl) Bl act_step act_arms_step stmt_step block_step (Action-F.Bracket p c x d h)
@@ -124,7 +70,7 @@ act-Bracket p c x d h = ap act_of (sym (a.rolls-Bracket p c x d h)) ∙ fold-rol
 pub act-Timeout : (p : Pos) (e : Expr) (c : Block) → act_of (a.Timeout p e c) ≡ timeout p (ex_of e) (bl_of c)
 act-Timeout p e c = ap act_of (sym (a.rolls-Timeout p e c)) ∙ fold-roll-Action Act ActArms (Bl → Bl) Bl act_step act_arms_step stmt_step block_step (Action-F.Timeout p e c)
 
-pub ruleset act_rules = (act-ThrowIo, act-If, act-Case, act-Call, act-Return, act-PutStr, act-PutStrLn, act-HPutStrLn, act-NewMVar, act-TakeMVar, act-ReadMVar, act-TryTakeMVar, act-KillThread, act-ThreadDelay, act-PutMVar, act-TryPutMVar, act-ThrowTo, act-MyThreadId, act-ClockMicros, act-GetMaskingState, act-NewEmptyMVar, act-ModifyMVar, act-ForkIo, act-MaskOnly, act-UninterruptibleMaskOnly, act-ForkIoWithUnmask, act-Mask, act-UninterruptibleMask, act-Restore, act-Catch, act-OnException, act-Finally, act-Bracket, act-Timeout)
+pub ruleset act_rules = (act-Bare, act-Unary, act-Binary, act-ThrowIo, act-NewEmptyMVar, act-Call, act-If, act-Case, act-ModifyMVar, act-Scoped, act-Masking, act-Restore, act-Catch, act-Guard, act-Bracket, act-Timeout)
 
 pub stmt-Bind : (x : Name) (c : Action) → stmt_of (s.Bind x c) ≡ bind x (act_of c)
 stmt-Bind x c = ap stmt_of (sym (s.rolls-Bind x c)) ∙ fold-roll-Stmt Act ActArms (Bl → Bl) Bl act_step act_arms_step stmt_step block_step (Stmt-F.Bind x c)

@@ -14,18 +14,12 @@ use Rattle.hs_base.specs.declared.tree.script.Body.TheVariants as y
 use Rattle.hs_base.specs.declared.tree.script.Def.{Def}
 use Rattle.hs_base.specs.declared.tree.script.Script.{Script}
 use Rattle.rules_trees.specs.Trees.{Wr, wr_of, Ex, Exs, ex_of, exs_of}
-use Rattle.rules_trees.specs.declared.forms.BareAction.{BareAction}
-use Rattle.rules_trees.specs.declared.forms.BareAction.TheVariants as z
-use Rattle.rules_trees.specs.declared.forms.UnaryAction.{UnaryAction}
-use Rattle.rules_trees.specs.declared.forms.UnaryAction.TheVariants as u
-use Rattle.rules_trees.specs.declared.forms.BinaryAction.{BinaryAction}
-use Rattle.rules_trees.specs.declared.forms.BinaryAction.TheVariants as b
-use Rattle.rules_trees.specs.declared.forms.BlockAction.{BlockAction}
-use Rattle.rules_trees.specs.declared.forms.BlockAction.TheVariants as k
-use Rattle.rules_trees.specs.declared.forms.MaskingAction.{MaskingAction}
-use Rattle.rules_trees.specs.declared.forms.MaskingAction.TheVariants as m
-use Rattle.rules_trees.specs.declared.forms.GuardAction.{GuardAction}
-use Rattle.rules_trees.specs.declared.forms.GuardAction.TheVariants as g
+use Rattle.hs_base.specs.declared.tree.forms.BareAction.{BareAction}
+use Rattle.hs_base.specs.declared.tree.forms.UnaryAction.{UnaryAction}
+use Rattle.hs_base.specs.declared.tree.forms.BinaryAction.{BinaryAction}
+use Rattle.hs_base.specs.declared.tree.forms.BlockAction.{BlockAction}
+use Rattle.hs_base.specs.declared.tree.forms.MaskingAction.{MaskingAction}
+use Rattle.hs_base.specs.declared.tree.forms.GuardAction.{GuardAction}
 
 -- ---- actions and blocks
 
@@ -69,38 +63,20 @@ before [] c = c
 before (s ∷ ss) c = s (before ss c)
 
 abbrev pub act_step : Action-F Act ActArms (Bl → Bl) Bl → Act
-act_step (Action-F.Return p e) = unary_act u.Return p (ex_of e)
+act_step (Action-F.Bare w p) = bare w p
+act_step (Action-F.Unary w p e) = unary_act w p (ex_of e)
+act_step (Action-F.Binary w p e f) = binary_act w p (ex_of e) (ex_of f)
 act_step (Action-F.ThrowIo p w e) = throw_io p (wr_of w) (ex_of e)
+act_step (Action-F.NewEmptyMVar p w) = new_empty p (wr_of w)
+act_step (Action-F.Call f es) = call f (exs_of es)
 act_step (Action-F.If p e a c) = choose_act p (ex_of e) a c
 act_step (Action-F.Case p e arms) = case_act p (ex_of e) arms
-act_step (Action-F.Call f es) = call f (exs_of es)
-act_step (Action-F.PutStr p e) = unary_act u.PutStr p (ex_of e)
-act_step (Action-F.PutStrLn p e) = unary_act u.PutStrLn p (ex_of e)
-act_step (Action-F.HPutStrLn p e) = unary_act u.HPutStrLn p (ex_of e)
-act_step (Action-F.NewMVar p e) = unary_act u.NewMVar p (ex_of e)
-act_step (Action-F.NewEmptyMVar p w) = new_empty p (wr_of w)
-act_step (Action-F.TakeMVar p e) = unary_act u.TakeMVar p (ex_of e)
-act_step (Action-F.PutMVar p e f) = binary_act b.PutMVar p (ex_of e) (ex_of f)
-act_step (Action-F.ReadMVar p e) = unary_act u.ReadMVar p (ex_of e)
-act_step (Action-F.TryTakeMVar p e) = unary_act u.TryTakeMVar p (ex_of e)
-act_step (Action-F.TryPutMVar p e f) = binary_act b.TryPutMVar p (ex_of e) (ex_of f)
 act_step (Action-F.ModifyMVar p e x a) = modify p (ex_of e) x a
-act_step (Action-F.ForkIo p a) = scoped k.ForkIo p a
-act_step (Action-F.ForkIoWithUnmask p x a) = masking m.ForkIoWithUnmask p x a
-act_step (Action-F.MyThreadId p) = bare z.MyThreadId p
-act_step (Action-F.ThrowTo p e f) = binary_act b.ThrowTo p (ex_of e) (ex_of f)
-act_step (Action-F.KillThread p e) = unary_act u.KillThread p (ex_of e)
-act_step (Action-F.ThreadDelay p e) = unary_act u.ThreadDelay p (ex_of e)
-act_step (Action-F.ClockMicros p) = bare z.ClockMicros p
-act_step (Action-F.GetMaskingState p) = bare z.GetMaskingState p
-act_step (Action-F.Catch p a x c) = catch p a x c
-act_step (Action-F.Mask p x a) = masking m.Mask p x a
-act_step (Action-F.MaskOnly p a) = scoped k.MaskOnly p a
-act_step (Action-F.UninterruptibleMask p x a) = masking m.UninterruptibleMask p x a
-act_step (Action-F.UninterruptibleMaskOnly p a) = scoped k.UninterruptibleMaskOnly p a
+act_step (Action-F.Scoped w p a) = scoped w p a
+act_step (Action-F.Masking w p x a) = masking w p x a
 act_step (Action-F.Restore p x a) = restore p x a
-act_step (Action-F.OnException p a c) = guard g.OnException p a c
-act_step (Action-F.Finally p a c) = guard g.Finally p a c
+act_step (Action-F.Catch p a x c) = catch p a x c
+act_step (Action-F.Guard w p a c) = guard w p a c
 act_step (Action-F.Bracket p a x c e) = bracket p a x c e
 act_step (Action-F.Timeout p e a) = timeout p (ex_of e) a
 

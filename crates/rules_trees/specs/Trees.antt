@@ -25,14 +25,11 @@ use Rattle.hs_base.specs.declared.tree.expr.ListLink.{ListLink}
 use Rattle.hs_base.specs.declared.tree.expr.SumLink.{SumLink}
 use Rattle.hs_base.specs.declared.tree.expr.Expr.TheOpen.{Expr-F, ExprArms-F, Link-F, ListLink-F, SumLink-F}
 use Rattle.hs_base.specs.declared.tree.expr.Expr.TheFolds.{fold-Expr, fold-ExprArms, fold-Link, fold-ListLink, fold-SumLink}
-use Rattle.rules_trees.specs.declared.forms.UnaryForm.{UnaryForm}
-use Rattle.rules_trees.specs.declared.forms.UnaryForm.TheVariants as u
-use Rattle.rules_trees.specs.declared.forms.BinaryForm.{BinaryForm}
-use Rattle.rules_trees.specs.declared.forms.BinaryForm.TheVariants as b
-use Rattle.rules_trees.specs.declared.forms.EmptyForm.{EmptyForm}
-use Rattle.rules_trees.specs.declared.forms.EmptyForm.TheVariants as n
-use Rattle.rules_trees.specs.declared.forms.SideForm.{SideForm}
-use Rattle.rules_trees.specs.declared.forms.SideForm.TheVariants as d
+use Rattle.hs_base.specs.declared.tree.forms.UnaryForm.{UnaryForm}
+use Rattle.hs_base.specs.declared.tree.forms.BinaryForm.{BinaryForm}
+use Rattle.hs_base.specs.declared.tree.forms.BinaryForm.TheVariants as b
+use Rattle.hs_base.specs.declared.tree.forms.EmptyForm.{EmptyForm}
+use Rattle.hs_base.specs.declared.tree.forms.SideForm.{SideForm}
 
 -- ---- types
 
@@ -169,20 +166,12 @@ ex_step (Expr-F.Or e ks) = chain e (all_by b.Or ks)
 ex_step (Expr-F.And e ks) = chain e (all_by b.And ks)
 ex_step (Expr-F.Compare e op p f) = binary (compare_form op) p e f
 ex_step (Expr-F.Cons e ks) = conses e (to_links ks)
-ex_step (Expr-F.Negate p e) = unary u.Negate p e
 ex_step (Expr-F.Sum e ks) = chain e (to_links ks)
 ex_step (Expr-F.Product e ks) = chain e (all_by b.Times ks)
 ex_step (Expr-F.Call f es) = name f (to_exs es)
-ex_step (Expr-F.Just p e) = unary u.Just p e
-ex_step (Expr-F.Nothing p w) = empty n.Nothing p (wr_of w)
-ex_step (Expr-F.Left p w v e) = side d.Left p (wr_of w) (wr_of v) e
-ex_step (Expr-F.Right p w v e) = side d.Right p (wr_of w) (wr_of v) e
-ex_step (Expr-F.EmptyList p w) = empty n.EmptyList p (wr_of w)
-ex_step (Expr-F.ErrorCall p e) = unary u.ErrorCall p e
-ex_step (Expr-F.Not p e) = unary u.Not p e
-ex_step (Expr-F.Fst p e) = unary u.Fst p e
-ex_step (Expr-F.Snd p e) = unary u.Snd p e
-ex_step (Expr-F.Show p e) = unary u.Show p e
+ex_step (Expr-F.Empty o p w) = empty o p (wr_of w)
+ex_step (Expr-F.Side o p w v e) = side o p (wr_of w) (wr_of v) e
+ex_step (Expr-F.Unary o p e) = unary o p e
 ex_step (Expr-F.Div p e f) = binary b.Div p e f
 ex_step (Expr-F.Mod p e f) = binary b.Mod p e f
 ex_step (Expr-F.Int p m) = lit p (number m)

@@ -1,7 +1,7 @@
 -- When values, environments and pure functions fit the typing rules (own): what meaning keeps.
 use Rattle.std.specs.Prelude.{◌≡◌, ◌+◌, ℕ, ltb, List, [], ◌∷◌, Bool, true, false, Option, Some, None}
-use Rattle.rules_trees.specs.declared.forms.BinaryForm.{BinaryForm}
-use Rattle.rules_trees.specs.declared.forms.BinaryForm.TheVariants as b
+use Rattle.hs_base.specs.declared.tree.forms.BinaryForm.{BinaryForm}
+use Rattle.hs_base.specs.declared.tree.forms.BinaryForm.TheVariants as b
 use Rattle.rules_trees.specs.Trees.{T, unit, int, bool, text, thread, exn, pair, maybe, either, list, cell, Ex, Exs, Links, Arms, lit, name, unary, binary, chain, conses, choose, items, empty, side, given, case, none, more, end, link, maybe_arms, either_arms, list_arms, pair_arms}
 use Rattle.rules_meaning.specs.Values as val
 use Rattle.rules_meaning.specs.Values.{V, UnitValue, Int, Truth, Text, Pair, Nothing, Just, Left, Right, Nil, Cons, Exception, Restore, Env, value_at, Outcome, Gives, Throws, Stuck, Outcomes, AllGive, OneThrows, OneStuck}

@@ -7,14 +7,14 @@ use Rattle.std.specs.Prelude.{◌≡◌, ℕ, ◌+◌, ◌<◌, ◌≤◌, ◌==
 use Rattle.std.specs.Str.{bytes_eq}
 use Rattle.hs_base.specs.declared.pos.Pos.{Pos}
 use Rattle.hs_base.specs.declared.tree.expr.Name.{Name}
-use Rattle.rules_trees.specs.declared.forms.UnaryForm.{UnaryForm}
-use Rattle.rules_trees.specs.declared.forms.UnaryForm.TheVariants as u
-use Rattle.rules_trees.specs.declared.forms.BinaryForm.{BinaryForm}
-use Rattle.rules_trees.specs.declared.forms.BinaryForm.TheVariants as b
-use Rattle.rules_trees.specs.declared.forms.EmptyForm.{EmptyForm}
-use Rattle.rules_trees.specs.declared.forms.EmptyForm.TheVariants as n
-use Rattle.rules_trees.specs.declared.forms.SideForm.{SideForm}
-use Rattle.rules_trees.specs.declared.forms.SideForm.TheVariants as d
+use Rattle.hs_base.specs.declared.tree.forms.UnaryForm.{UnaryForm}
+use Rattle.hs_base.specs.declared.tree.forms.UnaryForm.TheVariants as u
+use Rattle.hs_base.specs.declared.tree.forms.BinaryForm.{BinaryForm}
+use Rattle.hs_base.specs.declared.tree.forms.BinaryForm.TheVariants as b
+use Rattle.hs_base.specs.declared.tree.forms.EmptyForm.{EmptyForm}
+use Rattle.hs_base.specs.declared.tree.forms.EmptyForm.TheVariants as n
+use Rattle.hs_base.specs.declared.tree.forms.SideForm.{SideForm}
+use Rattle.hs_base.specs.declared.tree.forms.SideForm.TheVariants as d
 use Rattle.rules_trees.specs.Trees.{T, unit, int, bool, text, thread, exn, pair, maybe, either, list, cell, Wr, Lit, number, letters, truth, nothing_more, exception, Ex, lit, name, unary, binary, chain, conses, choose, items, empty, side, given, case, Exs, none, more, Links, end, link, Arms, maybe_arms, either_arms, list_arms, pair_arms}
 
 -- ---- broken rules

@@ -5,16 +5,16 @@
 -- ends the judging of its block.
 use Rattle.std.specs.Prelude.{◌≡◌, ◌⊎◌, List, [], ◌∷◌, Some, None}
 use Rattle.hs_base.specs.declared.pos.Pos.{Pos}
-use Rattle.rules_trees.specs.declared.forms.BareAction.{BareAction}
-use Rattle.rules_trees.specs.declared.forms.BareAction.TheVariants as z
-use Rattle.rules_trees.specs.declared.forms.UnaryAction.{UnaryAction}
-use Rattle.rules_trees.specs.declared.forms.UnaryAction.TheVariants as u
-use Rattle.rules_trees.specs.declared.forms.BinaryAction.{BinaryAction}
-use Rattle.rules_trees.specs.declared.forms.BinaryAction.TheVariants as b
-use Rattle.rules_trees.specs.declared.forms.BlockAction.{BlockAction}
-use Rattle.rules_trees.specs.declared.forms.BlockAction.TheVariants as k
-use Rattle.rules_trees.specs.declared.forms.MaskingAction.{MaskingAction}
-use Rattle.rules_trees.specs.declared.forms.MaskingAction.TheVariants as m
+use Rattle.hs_base.specs.declared.tree.forms.BareAction.{BareAction}
+use Rattle.hs_base.specs.declared.tree.forms.BareAction.TheVariants as z
+use Rattle.hs_base.specs.declared.tree.forms.UnaryAction.{UnaryAction}
+use Rattle.hs_base.specs.declared.tree.forms.UnaryAction.TheVariants as u
+use Rattle.hs_base.specs.declared.tree.forms.BinaryAction.{BinaryAction}
+use Rattle.hs_base.specs.declared.tree.forms.BinaryAction.TheVariants as b
+use Rattle.hs_base.specs.declared.tree.forms.BlockAction.{BlockAction}
+use Rattle.hs_base.specs.declared.tree.forms.BlockAction.TheVariants as k
+use Rattle.hs_base.specs.declared.tree.forms.MaskingAction.{MaskingAction}
+use Rattle.hs_base.specs.declared.tree.forms.MaskingAction.TheVariants as m
 use Rattle.rules_trees.specs.Trees.{T, unit, int, bool, text, thread, exn, maybe, cell}
 use Rattle.rules_trees.specs.Programs.{Act, bare, unary_act, binary_act, throw_io, new_empty, call, choose_act, case_act, modify, scoped, masking, restore, catch, guard, bracket, timeout, Bl, last, then, bind, let_in, ActArms, maybe_acts, either_acts, list_acts, pair_acts}
 use Rattle.rules_typing.specs.Typing.{Form, a_maybe, an_either, a_list, a_pair, a_cell, Fault, Has, first_of, second_of, inner_of, is, of, Row, gives, makes, FirstUnmet, Gives, Breaks, row_choose, row_arms, IsWritten, WrittenBreaks, Bound, bound, masked, Ctx, wrong, meant_act, no_mask, Calls, BreaksCall, NotFull, NoRoom, count, HasType, HaveTypes, BreaksIn, BreaksAny}

@@ -3,7 +3,7 @@ use Rattle.std.proofs.Common.{ℕ, ◌+◌, ◌≤◌, cond, List, [], ◌∷◌
 use Rattle.std.specs.Prelude.{◌==◌}
 use Rattle.hs_base.specs.declared.pos.Pos.{Pos}
 use Rattle.hs_base.specs.declared.tree.expr.Name.{Name}
-use Rattle.rules_trees.specs.declared.forms.BinaryForm.{BinaryForm}
+use Rattle.hs_base.specs.declared.tree.forms.BinaryForm.{BinaryForm}
 use Rattle.rules_trees.specs.Trees.{T, Ex, lit, name, unary, binary, chain, conses, choose, items, empty, side, given, case, Exs, none, more, Links, end, link, Arms, maybe_arms, either_arms, list_arms, pair_arms}
 use Rattle.rules_typing.specs.Typing.{Fault, of, kind, forward, Sig, Sort, value, masking_name, meant_act_sig, meant_act_sort, unmask_sig, unmask_sort, row_unary, row_binary, row_empty, row_side, row_choose, row_items, row_arms, form_of_arms, first_of, second_of, inner_of, Ctx, Bound, bound, wrong, arity, takes, meant_args, meant_sig, meant_sort, meant, shown_count, find, look, count}
 use Rattle.hs_judging.specs.Judging.{Found, after, own, written, unless_full, typed, folded, with2, scope_faults, not_full, part, parts2, operand_faults, operand_types, judge, judges, judge_links, judge_arms}

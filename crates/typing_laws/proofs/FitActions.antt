@@ -13,18 +13,18 @@ use Rattle.hs_base.specs.declared.tree.expr.ExprArms.TheVariants as expr_arm
 use Rattle.hs_base.specs.declared.tree.expr.Name.{Name}
 use Rattle.hs_base.specs.declared.tree.script.Def.{Def}
 use Rattle.hs_base.specs.declared.tree.script.Script.{Script}
-use Rattle.rules_trees.specs.declared.forms.UnaryAction.{UnaryAction}
-use Rattle.rules_trees.specs.declared.forms.UnaryAction.TheVariants as u
-use Rattle.rules_trees.specs.declared.forms.BinaryAction.{BinaryAction}
-use Rattle.rules_trees.specs.declared.forms.BinaryAction.TheVariants as b
-use Rattle.rules_trees.specs.declared.forms.BareAction.{BareAction}
-use Rattle.rules_trees.specs.declared.forms.BareAction.TheVariants as z
-use Rattle.rules_trees.specs.declared.forms.BlockAction.{BlockAction}
-use Rattle.rules_trees.specs.declared.forms.BlockAction.TheVariants as scope
-use Rattle.rules_trees.specs.declared.forms.MaskingAction.{MaskingAction}
-use Rattle.rules_trees.specs.declared.forms.MaskingAction.TheVariants as mask
-use Rattle.rules_trees.specs.declared.forms.GuardAction.{GuardAction}
-use Rattle.rules_trees.specs.declared.forms.GuardAction.TheVariants as guarded
+use Rattle.hs_base.specs.declared.tree.forms.UnaryAction.{UnaryAction}
+use Rattle.hs_base.specs.declared.tree.forms.UnaryAction.TheVariants as u
+use Rattle.hs_base.specs.declared.tree.forms.BinaryAction.{BinaryAction}
+use Rattle.hs_base.specs.declared.tree.forms.BinaryAction.TheVariants as b
+use Rattle.hs_base.specs.declared.tree.forms.BareAction.{BareAction}
+use Rattle.hs_base.specs.declared.tree.forms.BareAction.TheVariants as z
+use Rattle.hs_base.specs.declared.tree.forms.BlockAction.{BlockAction}
+use Rattle.hs_base.specs.declared.tree.forms.BlockAction.TheVariants as scope
+use Rattle.hs_base.specs.declared.tree.forms.MaskingAction.{MaskingAction}
+use Rattle.hs_base.specs.declared.tree.forms.MaskingAction.TheVariants as mask
+use Rattle.hs_base.specs.declared.tree.forms.GuardAction.{GuardAction}
+use Rattle.hs_base.specs.declared.tree.forms.GuardAction.TheVariants as guarded
 use Rattle.rules_trees.specs.Trees.{wr_of, ex_of, exs_of, maybe_arms, either_arms, list_arms, pair_arms}
 use Rattle.rules_trees.specs.Programs.{Fn, before, stmt_of, bare, unary_act, binary_act, throw_io, new_empty, call, choose_act, case_act, modify, scoped, masking, restore, catch, guard, bracket, timeout, last, then, bind, let_in, maybe_acts, either_acts, list_acts, pair_acts, act_of, bl_of, act_arms_of, fn_of}
 use Rattle.rules_trees.proofs.Equations.{arms-OfMaybe, arms-OfEither, arms-OfList, arms-OfPair}

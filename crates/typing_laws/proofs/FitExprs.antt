@@ -12,13 +12,13 @@ use Rattle.hs_base.specs.declared.tree.expr.Name.{Name}
 use Rattle.hs_base.specs.declared.tree.expr.SumLink.{SumLink}
 use Rattle.hs_base.specs.declared.tree.ty.Ty.{Ty}
 use Rattle.hs_base.specs.declared.tree.ty.Written.{Written}
-use Rattle.rules_trees.specs.declared.forms.UnaryForm.{UnaryForm}
-use Rattle.rules_trees.specs.declared.forms.UnaryForm.TheVariants as u
-use Rattle.rules_trees.specs.declared.forms.BinaryForm.{BinaryForm}
-use Rattle.rules_trees.specs.declared.forms.BinaryForm.TheVariants as b
-use Rattle.rules_trees.specs.declared.forms.SideForm.{SideForm}
-use Rattle.rules_trees.specs.declared.forms.SideForm.TheVariants as d
-use Rattle.rules_trees.specs.declared.forms.EmptyForm.TheVariants as blank
+use Rattle.hs_base.specs.declared.tree.forms.UnaryForm.{UnaryForm}
+use Rattle.hs_base.specs.declared.tree.forms.UnaryForm.TheVariants as u
+use Rattle.hs_base.specs.declared.tree.forms.BinaryForm.{BinaryForm}
+use Rattle.hs_base.specs.declared.tree.forms.BinaryForm.TheVariants as b
+use Rattle.hs_base.specs.declared.tree.forms.SideForm.{SideForm}
+use Rattle.hs_base.specs.declared.tree.forms.SideForm.TheVariants as d
+use Rattle.hs_base.specs.declared.tree.forms.EmptyForm.TheVariants as blank
 use Rattle.rules_trees.specs.Trees.{lit, Lit, number, letters, nothing_more, constant_of, name, unary, binary, chain, conses, choose, items, empty, side, given, case, compare_form, wr_of, ex_of, arms_of, exs_of, links_of, list_links_of, sum_links_of}
 use Rattle.rules_trees.proofs.Equations.{ex-If, ex-Case, ex-Let, ex-Or, ex-And, ex-Product, ex-Sum, ex-Cons, ex-Compare, ex-Call, ex-Negate, ex-Just, ex-ErrorCall, ex-Not, ex-Fst, ex-Snd, ex-Show, ex-Nothing, ex-EmptyList, ex-Left, ex-Right, ex-Div, ex-Mod, ex-Pair, ex-Int, ex-Text, ex-Constant, ex-Unit, ex-List}
 use Rattle.rules_grammar.specs.Grammar as g

@@ -16,7 +16,7 @@ use Rattle.hs_base.specs.declared.tree.script.Body.{Body}
 use Rattle.hs_base.specs.declared.tree.script.Def.{Def}
 use Rattle.hs_base.specs.declared.tree.script.Param.{Param}
 use Rattle.hs_base.specs.declared.tree.ty.Written.{Written}
-use Rattle.rules_trees.specs.declared.forms.BinaryForm.{BinaryForm}
+use Rattle.hs_base.specs.declared.tree.forms.BinaryForm.{BinaryForm}
 use Rattle.rules_trees.specs.Trees.{Ex, Arms, ex_of, arms_of, exs_of, links_of, list_links_of, sum_links_of}
 use Rattle.rules_trees.specs.Programs.{Act, Bl, ActArms, before, act_of, bl_of, stmt_of, act_arms_of, par_of, bd_of, fn_of}
 use Rattle.rules_grammar.specs.GrammarParts.{Part, type_in_parens, type_in_brackets, param_in_parens, block_in_braces, block_if, block_case, block_arms, let_stmt, no_items, two_names, expr_if, expr_case, expr_arms, expr_let, expr_in_parens, items_in_brackets, items_or_none}

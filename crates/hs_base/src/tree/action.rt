@@ -1,5 +1,8 @@
 use crate::pos::Pos;
 use crate::tree::expr::{Expr, Name};
+use crate::tree::forms::{
+    BareAction, BinaryAction, BlockAction, GuardAction, MaskingAction, UnaryAction,
+};
 use crate::tree::ty::Written;
 use hs_items::{Boxed, Items};
 
@@ -41,73 +44,38 @@ impl Drop for Stmt {
     }
 }
 
-/// An action. Where a variant begins with a position, that is the node's: its first word. A call has that of its name.
+/// An action: one variant for each shape, in which a word says which of its forms it is. The position is that of the
+/// node: its first word. A call has that of its name.
 #[cycle(action)]
 pub enum Action {
-    /// `return a`
-    Return(Pos, Expr),
+    /// a word alone
+    Bare(BareAction, Pos),
+    /// a word and an expression
+    Unary(UnaryAction, Pos, Expr),
+    /// a word and two expressions
+    Binary(BinaryAction, Pos, Expr, Expr),
     /// `throwIO @t a`
     ThrowIo(Pos, Written, Expr),
+    /// `newEmptyMVar @t`
+    NewEmptyMVar(Pos, Written),
+    /// `f a b ..`
+    Call(Name, Items<Expr>),
     /// `if c then A else B`
     If(Pos, Expr, Block, Block),
     /// `case e of { arms }`
     Case(Pos, Expr, Boxed<BlockArms>),
-    /// `f a b ..`
-    Call(Name, Items<Expr>),
-    /// `putStr a`
-    PutStr(Pos, Expr),
-    /// `putStrLn a`
-    PutStrLn(Pos, Expr),
-    /// `hPutStrLn stderr a`
-    HPutStrLn(Pos, Expr),
-    /// `newMVar a`
-    NewMVar(Pos, Expr),
-    /// `newEmptyMVar @t`
-    NewEmptyMVar(Pos, Written),
-    /// `takeMVar m`
-    TakeMVar(Pos, Expr),
-    /// `putMVar m a`
-    PutMVar(Pos, Expr, Expr),
-    /// `readMVar m`
-    ReadMVar(Pos, Expr),
-    /// `tryTakeMVar m`
-    TryTakeMVar(Pos, Expr),
-    /// `tryPutMVar m a`
-    TryPutMVar(Pos, Expr, Expr),
     /// `modifyMVar_ m x B`
     ModifyMVar(Pos, Expr, Name, Block),
-    /// `forkIO A`
-    ForkIo(Pos, Block),
-    /// `forkIOWithUnmask r A`
-    ForkIoWithUnmask(Pos, Name, Block),
-    /// `myThreadId`
-    MyThreadId(Pos),
-    /// `throwTo t e`
-    ThrowTo(Pos, Expr, Expr),
-    /// `killThread t`
-    KillThread(Pos, Expr),
-    /// `threadDelay n`
-    ThreadDelay(Pos, Expr),
-    /// `clockMicros`
-    ClockMicros(Pos),
-    /// `getMaskingState`
-    GetMaskingState(Pos),
-    /// `catch A e B`
-    Catch(Pos, Block, Name, Block),
-    /// `mask r A`
-    Mask(Pos, Name, Block),
-    /// `mask_ A`
-    MaskOnly(Pos, Block),
-    /// `uninterruptibleMask r A`
-    UninterruptibleMask(Pos, Name, Block),
-    /// `uninterruptibleMask_ A`
-    UninterruptibleMaskOnly(Pos, Block),
+    /// a word and a block
+    Scoped(BlockAction, Pos, Block),
+    /// a word, a masking name and the block in which it stands
+    Masking(MaskingAction, Pos, Name, Block),
     /// `restore r A`
     Restore(Pos, Name, Block),
-    /// `onException A B`
-    OnException(Pos, Block, Block),
-    /// `finally A B`
-    Finally(Pos, Block, Block),
+    /// `catch A e B`
+    Catch(Pos, Block, Name, Block),
+    /// a word, a block and what is run after it
+    Guard(GuardAction, Pos, Block, Block),
     /// `bracket A x B C`
     Bracket(Pos, Block, Name, Block, Block),
     /// `timeout n A`
@@ -119,38 +87,20 @@ impl Drop for Action {
     #[cycle(action_drop)]
     fn drop(self) {
         match self {
-            Action::Return(_, _) => {}
+            Action::Bare(_, _) => {}
+            Action::Unary(_, _, _) => {}
+            Action::Binary(_, _, _, _) => {}
             Action::ThrowIo(_, _, _) => {}
+            Action::NewEmptyMVar(_, _) => {}
+            Action::Call(_, _) => {}
             Action::If(_, _, _, _) => {}
             Action::Case(_, _, _) => {}
-            Action::Call(_, _) => {}
-            Action::PutStr(_, _) => {}
-            Action::PutStrLn(_, _) => {}
-            Action::HPutStrLn(_, _) => {}
-            Action::NewMVar(_, _) => {}
-            Action::NewEmptyMVar(_, _) => {}
-            Action::TakeMVar(_, _) => {}
-            Action::PutMVar(_, _, _) => {}
-            Action::ReadMVar(_, _) => {}
-            Action::TryTakeMVar(_, _) => {}
-            Action::TryPutMVar(_, _, _) => {}
             Action::ModifyMVar(_, _, _, _) => {}
-            Action::ForkIo(_, _) => {}
-            Action::ForkIoWithUnmask(_, _, _) => {}
-            Action::MyThreadId(_) => {}
-            Action::ThrowTo(_, _, _) => {}
-            Action::KillThread(_, _) => {}
-            Action::ThreadDelay(_, _) => {}
-            Action::ClockMicros(_) => {}
-            Action::GetMaskingState(_) => {}
-            Action::Catch(_, _, _, _) => {}
-            Action::Mask(_, _, _) => {}
-            Action::MaskOnly(_, _) => {}
-            Action::UninterruptibleMask(_, _, _) => {}
-            Action::UninterruptibleMaskOnly(_, _) => {}
+            Action::Scoped(_, _, _) => {}
+            Action::Masking(_, _, _, _) => {}
             Action::Restore(_, _, _) => {}
-            Action::OnException(_, _, _) => {}
-            Action::Finally(_, _, _) => {}
+            Action::Catch(_, _, _, _) => {}
+            Action::Guard(_, _, _, _) => {}
             Action::Bracket(_, _, _, _, _) => {}
             Action::Timeout(_, _, _) => {}
         }

@@ -1,5 +1,6 @@
 use crate::pos::Pos;
 use crate::text::Txt;
+use crate::tree::forms::{EmptyForm, SideForm, UnaryForm};
 use crate::tree::ty::Written;
 use hs_items::{Boxed, Items};
 
@@ -56,7 +57,7 @@ pub enum Constant {
     Overflow,
 }
 
-/// An expression. Where a variant begins with a position, that is the node's: its first word or token. A chain has the
+/// An expression: one variant for each shape. The position is that of the node: its first word or token. A chain has the
 /// positions of its operators, and a call that of its name.
 #[cycle(expr)]
 pub enum Expr {
@@ -74,34 +75,18 @@ pub enum Expr {
     Compare(Boxed<Expr>, CompareOp, Pos, Boxed<Expr>),
     /// `a : b ++ ..`, with at least one link; it groups from the right
     Cons(Boxed<Expr>, Items<ListLink>),
-    /// `- a`, the prefix
-    Negate(Pos, Boxed<Expr>),
     /// `a + b - ..`, with at least one link; it groups from the left
     Sum(Boxed<Expr>, Items<SumLink>),
     /// `a * b * ..`, with at least one link
     Product(Boxed<Expr>, Items<Link>),
     /// `f a b ..`, or a name alone
     Call(Name, Items<Expr>),
-    /// `Just a`
-    Just(Pos, Boxed<Expr>),
-    /// `Nothing @t`
-    Nothing(Pos, Written),
-    /// `Left @s @t a`
-    Left(Pos, Written, Written, Boxed<Expr>),
-    /// `Right @s @t b`
-    Right(Pos, Written, Written, Boxed<Expr>),
-    /// `[] @t`
-    EmptyList(Pos, Written),
-    /// `ErrorCall a`
-    ErrorCall(Pos, Boxed<Expr>),
-    /// `not a`
-    Not(Pos, Boxed<Expr>),
-    /// `fst a`
-    Fst(Pos, Boxed<Expr>),
-    /// `snd a`
-    Snd(Pos, Boxed<Expr>),
-    /// `show a`
-    Show(Pos, Boxed<Expr>),
+    /// a word, or the prefix `-`, and one part
+    Unary(UnaryForm, Pos, Boxed<Expr>),
+    /// `Nothing @t` or `[] @t`
+    Empty(EmptyForm, Pos, Written),
+    /// `Left @s @t a` or `Right @s @t b`
+    Side(SideForm, Pos, Written, Written, Boxed<Expr>),
     /// `div a b`
     Div(Pos, Boxed<Expr>, Boxed<Expr>),
     /// `mod a b`
@@ -132,20 +117,12 @@ impl Drop for Expr {
             Expr::And(_, _) => {}
             Expr::Compare(_, _, _, _) => {}
             Expr::Cons(_, _) => {}
-            Expr::Negate(_, _) => {}
             Expr::Sum(_, _) => {}
             Expr::Product(_, _) => {}
             Expr::Call(_, _) => {}
-            Expr::Just(_, _) => {}
-            Expr::Nothing(_, _) => {}
-            Expr::Left(_, _, _, _) => {}
-            Expr::Right(_, _, _, _) => {}
-            Expr::EmptyList(_, _) => {}
-            Expr::ErrorCall(_, _) => {}
-            Expr::Not(_, _) => {}
-            Expr::Fst(_, _) => {}
-            Expr::Snd(_, _) => {}
-            Expr::Show(_, _) => {}
+            Expr::Unary(_, _, _) => {}
+            Expr::Empty(_, _, _) => {}
+            Expr::Side(_, _, _, _, _) => {}
             Expr::Div(_, _, _) => {}
             Expr::Mod(_, _, _) => {}
             Expr::Int(_, _) => {}

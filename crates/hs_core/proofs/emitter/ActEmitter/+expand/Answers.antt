@@ -1,5 +1,5 @@
 use Rattle.std.proofs.Common.{refl, ap, sym, ◌∙◌, ◌∷◌, length, get_or, arith}
-use Rattle.rules_trees.specs.declared.forms.GuardAction.TheVariants as g
+use Rattle.hs_base.specs.declared.tree.forms.GuardAction.TheVariants as g
 use Rattle.rules_code.specs.declared.act.Act.TheVariants as k
 use Rattle.rules_trees.specs.Trees.{ex_of}
 use Rattle.rules_expansion.specs.Names.{Written, Added, Restorer, Given, Caught, TheCell, Instance, BracketResult, BracketFault, Allowed, Owner, Expiry, Helper}

@@ -1,7 +1,7 @@
 use Rattle.std.proofs.Common.{ap}
 use Rattle.rules_code.specs.declared.node.Node.TheVariants as n
 use Rattle.rules_code.specs.Slots.{s_unary}
-use Rattle.rules_trees.specs.declared.forms.UnaryForm.TheVariants as u
+use Rattle.hs_base.specs.declared.tree.forms.UnaryForm.TheVariants as u
 use Rattle.hs_core.proofs.Steps.{leaf}
 use Rattle.hs_core.proofs.emitter.ActEmitter.just.Goals as goal
 

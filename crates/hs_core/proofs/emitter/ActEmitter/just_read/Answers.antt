@@ -1,4 +1,4 @@
-use Rattle.rules_trees.specs.declared.forms.UnaryForm.TheVariants as u
+use Rattle.hs_base.specs.declared.tree.forms.UnaryForm.TheVariants as u
 use Rattle.rules_code.specs.Slots.{s_unary}
 use Rattle.hs_core.proofs.Steps.{ex_after}
 use Rattle.hs_core.proofs.emitter.ActEmitter.just_read.Goals as goal

@@ -1,7 +1,7 @@
 use Rattle.std.proofs.Common.{refl}
 use Rattle.rules_code.specs.declared.node.Node.TheVariants as n
 use Rattle.rules_code.specs.Slots.{s_empty}
-use Rattle.rules_trees.specs.declared.forms.EmptyForm.TheVariants as f
+use Rattle.hs_base.specs.declared.tree.forms.EmptyForm.TheVariants as f
 use Rattle.hs_core.proofs.Steps.{leaf}
 use Rattle.hs_core.proofs.emitter.ActEmitter.no_value.Goals as goal
 

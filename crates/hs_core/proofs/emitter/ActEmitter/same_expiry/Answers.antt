@@ -1,4 +1,4 @@
-use Rattle.rules_trees.specs.declared.forms.BinaryForm.TheVariants as b
+use Rattle.hs_base.specs.declared.tree.forms.BinaryForm.TheVariants as b
 use Rattle.rules_code.specs.Slots.{s_binary}
 use Rattle.hs_core.proofs.Steps.{ex_after2}
 use Rattle.hs_core.proofs.emitter.ActEmitter.same_expiry.Goals as goal

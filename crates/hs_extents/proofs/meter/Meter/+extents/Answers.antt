@@ -1,6 +1,6 @@
 use Rattle.std.proofs.Common.{ap, ◌∙◌, sym}
 use Rattle.hs_base.specs.declared.tree.expr.ExprArms.{ExprArms}
-use Rattle.rules_trees.specs.declared.forms.BinaryForm.TheVariants as bf
+use Rattle.hs_base.specs.declared.tree.forms.BinaryForm.TheVariants as bf
 use Rattle.rules_trees.specs.Trees.{ex_of, exs_of, arms_of, links_of, sum_links_of, list_links_of}
 use Rattle.rules_trees.proofs.Equations.{ex-If, ex-Case, ex-Let, ex-Or, ex-And, ex-Product, ex-Sum, ex-Cons, ex-Compare, ex-Call, ex-List, ex-Negate, ex-Just, ex-ErrorCall, ex-Not, ex-Fst, ex-Snd, ex-Show, ex-Nothing, ex-EmptyList, ex-Left, ex-Right, ex-Div, ex-Mod, ex-Pair, ex-Int, ex-Text, ex-Constant, ex-Unit}
 use Rattle.rules_typing.specs.TypingSizes as rule

@@ -1,10 +1,10 @@
 -- What each function answers, step by step: the nodes of its parts, and then its own.
 use Rattle.std.proofs.Common.{ap, ◌∙◌, sym, subst, refl, ◌∷◌, ◌++◌, ◌+◌, length, drop, get_or, arith}
 use Rattle.std.specs.Prelude.{IfOk}
-use Rattle.rules_trees.specs.declared.forms.UnaryForm.TheVariants as u
-use Rattle.rules_trees.specs.declared.forms.BinaryForm.TheVariants as b
-use Rattle.rules_trees.specs.declared.forms.EmptyForm.TheVariants as e
-use Rattle.rules_trees.specs.declared.forms.SideForm.TheVariants as d
+use Rattle.hs_base.specs.declared.tree.forms.UnaryForm.TheVariants as u
+use Rattle.hs_base.specs.declared.tree.forms.BinaryForm.TheVariants as b
+use Rattle.hs_base.specs.declared.tree.forms.EmptyForm.TheVariants as e
+use Rattle.hs_base.specs.declared.tree.forms.SideForm.TheVariants as d
 use Rattle.rules_trees.specs.Trees.{ex_of, exs_of, wr_of, arms_of, links_of, sum_links_of, list_links_of, compare_form, sum_form, cons_form, nothing_more, lit, name, unary, binary, chain, conses, choose, items, empty, side, given, case, maybe_arms, either_arms, list_arms, pair_arms}
 use Rattle.rules_trees.proofs.Equations.{ex-If, ex-Case, ex-Let, ex-Or, ex-And, ex-Product, ex-Sum, ex-Cons, ex-Compare, ex-Call, ex-Negate, ex-Just, ex-ErrorCall, ex-Not, ex-Fst, ex-Snd, ex-Show, ex-Nothing, ex-EmptyList, ex-Left, ex-Right, ex-Div, ex-Mod, ex-Pair, ex-Unit, ex-List, arms-OfMaybe, arms-OfEither, arms-OfList, arms-OfPair}
 use Rattle.rules_expansion.specs.Names.{Written}

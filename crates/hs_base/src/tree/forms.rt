@@ -1,4 +1,4 @@
-//! Names for the forms of one shape, so that a table has one row for each of them.
+//! The words of the forms of one shape, so that a tree has one variant, and a table one row, for each shape.
 
 /// An expression with one part.
 #[derive(Clone, Copy, Debug, PartialEq, Eq)]
