@@ -4,8 +4,9 @@ use crate::emitter::ActEmitter;
 use crate::pending::{Pending, back_to, bind_all};
 use hs_base::{Action, Block, BlockArms, Expr, NoMemory, Stmt, Txt};
 use hs_items::Items;
-use hs_nodes::names::{Hidden, bind, off};
+use hs_nodes::names::{bind, off};
 use rules_code::{Act, ActId, ExprId, Primitive};
+use rules_expansion::Hidden;
 use std::alloc::Global;
 
 /// The names of a form with a mask of its own round its blocks.
@@ -33,7 +34,8 @@ const TIMED: [Hidden; 6] = [
 impl ActEmitter {
     ghost use Rattle.std.specs.Prelude.{IfOk, ◌∷◌, []};
     ghost use Rattle.rules_trees.specs.Trees.{ex_of};
-    ghost use Rattle.rules_expansion.specs.Names.{Written, Added, Restorer, Given, Caught, TheCell, Instance, BracketResult, BracketFault, Allowed, Owner, Expiry, Helper};
+    ghost use Rattle.rules_expansion.specs.Names.{Written, Added};
+    ghost use Rattle.rules_expansion.specs.declared.hidden.Hidden.TheVariants.{Restorer, Given, Caught, TheCell, Instance, BracketResult, BracketFault, Allowed, Owner, Expiry, Helper};
     ghost use Rattle.rules_trees.specs.Programs.{act_of, bl_of, act_arms_of};
     ghost use Rattle.rules_code.specs.Slots.{Sx, slotted, slot_of};
     ghost use Rattle.rules_code.specs.CodeTrees.{Sa, a_if, a_bind, a_fork, a_fork_unmask, a_mask, a_mask_hard, a_catch, a_restore, slot_or_end};

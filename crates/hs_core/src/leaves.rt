@@ -9,9 +9,10 @@ use std::alloc::Global;
 impl ActEmitter {
     ghost use Rattle.std.specs.Prelude.{IfOk, []};
     ghost use Rattle.rules_trees.specs.Trees.{ex_of, exs_of};
-    ghost use Rattle.rules_expansion.specs.Core.{ThrowTo, Killed};
+    ghost use Rattle.rules_expansion.specs.Core.{Killed};
+    ghost use Rattle.rules_expansion.specs.declared.primitive.Primitive.TheVariants.{ThrowTo};
     ghost use Rattle.rules_code.specs.Slots.{slotted, slotted_all, s_none, s_more};
-    ghost use Rattle.rules_code.specs.CodeTrees.{a_return, a_throw, a_call, a_perform, primitive_of, place_among, slotted_core_ex};
+    ghost use Rattle.rules_code.specs.CodeTrees.{a_return, a_throw, a_call, a_perform, place_among, slotted_core_ex};
     ghost use Rattle.hs_core.specs.Defining.{Knows, roots, functions};
     ghost use Rattle.hs_core.specs.Emits.{Emits, EmitsAll};
     ghost use Rattle.hs_core.specs.Forms as form;
@@ -23,7 +24,7 @@ impl ActEmitter {
         _defs: &Defs,
         primitive: Primitive,
     ) -> Result<ActId, NoMemory>
-        ensures { IfOk result (λ id. Emits (Knows self.old.emitter.nodes _defs.now) self.old self.new id (λ s. a_perform (primitive_of primitive) s_none)) }
+        ensures { IfOk result (λ id. Emits (Knows self.old.emitter.nodes _defs.now) self.old self.new id (λ s. a_perform primitive s_none)) }
     {
         let id = self.perform_none(alloc, primitive)?;
         Ok(id)
@@ -37,7 +38,7 @@ impl ActEmitter {
         primitive: Primitive,
         e: &Expr,
     ) -> Result<ActId, NoMemory>
-        ensures { IfOk result (λ id. Emits (Knows self.old.emitter.nodes defs.now) self.old self.new id (λ s. a_perform (primitive_of primitive) (s_more (slotted (roots defs.now) s (ex_of e.now)) s_none))) }
+        ensures { IfOk result (λ id. Emits (Knows self.old.emitter.nodes defs.now) self.old self.new id (λ s. a_perform primitive (s_more (slotted (roots defs.now) s (ex_of e.now)) s_none))) }
     {
         let i = self.expr(alloc, defs, e)?;
         let id = self.perform_one(alloc, primitive, i)?;
@@ -53,7 +54,7 @@ impl ActEmitter {
         e: &Expr,
         f: &Expr,
     ) -> Result<ActId, NoMemory>
-        ensures { IfOk result (λ id. Emits (Knows self.old.emitter.nodes defs.now) self.old self.new id (λ s. a_perform (primitive_of primitive) (s_more (slotted (roots defs.now) s (ex_of e.now)) (s_more (slotted (roots defs.now) s (ex_of f.now)) s_none)))) }
+        ensures { IfOk result (λ id. Emits (Knows self.old.emitter.nodes defs.now) self.old self.new id (λ s. a_perform primitive (s_more (slotted (roots defs.now) s (ex_of e.now)) (s_more (slotted (roots defs.now) s (ex_of f.now)) s_none)))) }
     {
         let i = self.expr(alloc, defs, e)?;
         let j = self.expr(alloc, defs, f)?;

@@ -29,7 +29,7 @@ use Rattle.hs_progress.specs.TypedStates.{ctx_of, HeadsKept, AllOfSorts, no_valu
 
 binds_read : (y : Name) (k : Sort) → Binds y k → is_unread y ≡ false
 binds_read (Written x) k h = refl
-binds_read (Added Unread) k h = absurd h
+binds_read Unread k h = absurd h
 binds_read (Added z) k h = refl
 
 module _ (cells : ℕ → T → Type 0) where

@@ -15,7 +15,9 @@ use Rattle.rules_trees.specs.Trees.{T, unit, int, bool, text, thread, exn, pair,
 use Rattle.rules_trees.specs.Programs as tree
 use Rattle.rules_trees.specs.Programs.{Act, Bl, ActArms}
 use Rattle.rules_expansion.specs.Names as names
-use Rattle.rules_expansion.specs.Names.{Written, Added, Unread, Restorer, Given, Caught, TheCell, Instance, BracketResult, BracketFault, Allowed, InTime, Owner, Expiry, Helper, HelperRestorer, Hidden, same_name}
+use Rattle.rules_expansion.specs.Names.{Written, Added, same_name, Unread}
+use Rattle.rules_expansion.specs.declared.hidden.Hidden.{Hidden}
+use Rattle.rules_expansion.specs.declared.hidden.Hidden.TheVariants.{Restorer, Given, Caught, TheCell, Instance, BracketResult, BracketFault, Allowed, InTime, Owner, Expiry, Helper, HelperRestorer}
 use Rattle.rules_typed.specs.Sorts.{Sort, a_value, a_masking_name, an_instance, sort_at, Bound}
 use Rattle.rules_typing.specs.Typing.{Need, is, AllMet, Sig, inner_of, first_of, second_of}
 use Rattle.rules_typing.specs.Typing as typing

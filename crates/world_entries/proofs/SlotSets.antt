@@ -16,7 +16,7 @@ use Rattle.hs_base.specs.declared.tree.forms.BinaryForm.{BinaryForm}
 use Rattle.hs_base.specs.declared.tree.forms.EmptyForm.{EmptyForm}
 use Rattle.hs_base.specs.declared.tree.forms.SideForm.{SideForm}
 use Rattle.rules_trees.specs.Trees.{Lit}
-use Rattle.rules_expansion.specs.Core.{Primitive}
+use Rattle.rules_expansion.specs.declared.primitive.Primitive.{Primitive}
 use Rattle.rules_meaning.specs.Values.{V, UnitValue, Int, Truth, Text, Pair, Nothing, Just, Left, Right, Nil, Cons, Cell, Thread, Exception, Restore, Inst}
 use Rattle.rules_code.specs.Slots.{Sx, Sxs, Slinks, s_literal, s_empty, s_slot, s_unary, s_side, s_binary, s_chain, s_conses, s_items, s_choose, s_given, s_maybe, s_either, s_list, s_pair, s_call, s_bad, s_none, s_more, s_end, s_link}
 use Rattle.rules_code.specs.CodeTrees.{Sa, a_return, a_throw, a_let, a_bind, a_then, a_if, a_maybe, a_either, a_list, a_pair, a_call, a_perform, a_fork, a_fork_unmask, a_catch, a_mask, a_mask_hard, a_restore, a_bad}

@@ -2,7 +2,8 @@ use Rattle.std.proofs.Common.{refl, ap, sym, ◌∙◌, ◌∷◌, length, get_o
 use Rattle.hs_base.specs.declared.tree.forms.GuardAction.TheVariants as g
 use Rattle.rules_code.specs.declared.act.Act.TheVariants as k
 use Rattle.rules_trees.specs.Trees.{ex_of}
-use Rattle.rules_expansion.specs.Names.{Written, Added, Restorer, Given, Caught, TheCell, Instance, BracketResult, BracketFault, Allowed, Owner, Expiry, Helper}
+use Rattle.rules_expansion.specs.Names.{Written, Added}
+use Rattle.rules_expansion.specs.declared.hidden.Hidden.TheVariants.{Restorer, Given, Caught, TheCell, Instance, BracketResult, BracketFault, Allowed, Owner, Expiry, Helper}
 use Rattle.rules_trees.specs.Programs.{choose_act, case_act, modify, catch, guard, bracket, timeout, bind, let_in, then, maybe_acts, either_acts, list_acts, pair_acts, act_of, bl_of, stmt_of, act_arms_of}
 use Rattle.rules_trees.proofs.EquationsOfActions.{act-If, act-Case, act-ModifyMVar, act-Catch, act-OnException, act-Finally, act-Bracket, act-Timeout, stmt-Bind, stmt-Let, stmt-Do, acts-OfMaybe, acts-OfEither, acts-OfList, acts-OfPair}
 use Rattle.rules_code.specs.Slots.{slot_of, slotted}
