@@ -65,6 +65,9 @@ module _ (cells more : ℕ → T → Type 0) (grow : (m : ℕ) (t : T) → cells
   at_more (Added z) (Some (a_value t)) (Some v) h = has_more t v h
   at_more (Added z) (Some a_masking_name) (Some v) h = h
   at_more (Added z) (Some an_instance) (Some v) h = h
+  at_more Unread (Some (a_value t)) (Some v) h = has_more t v h
+  at_more Unread (Some a_masking_name) (Some v) h = h
+  at_more Unread (Some an_instance) (Some v) h = h
 
   pub scope_more : (g : List Bound) (env : Env) → FitsScope cells g env → FitsScope more g env
   scope_more g env f y = at_more y (sort_at y g) (value_at y env) (f y)
@@ -117,6 +120,11 @@ module _ (cells : ℕ → T → Type 0) where
   fits_same (Written x) (Added z) k v e h = absurd (cc e)
   fits_same (Added z) (Written y) k v e h = absurd (cc e)
   fits_same (Added z) (Added w) k v e h = h
+  fits_same (Written x) Unread k v e h = absurd (cc e)
+  fits_same (Added z) Unread k v e h = absurd (cc e)
+  fits_same Unread (Written y) k v e h = absurd (cc e)
+  fits_same Unread (Added w) k v e h = absurd (cc e)
+  fits_same Unread Unread k v e h = h
 
   sorts_with : (g : List Bound) (env : Env) (y : Name) (k : Sort) (v : V) → FitsScope cells g env → FitsAt cells y (Some k) (Some v) → FitsScope cells (record { name = y; sort = k } ∷ g) (record { name = y; value = v } ∷ env)
   sorts_with g env y k v f h x = by (same_name x y) refl

@@ -63,6 +63,7 @@ pub data Sa : Type 0 where
   a_restore : ℕ → Sa → Sa
   -- what no node stands for
   a_bad : Sa
+  deriving IsSet as action_set
 
 -- ---- from names to slots
 

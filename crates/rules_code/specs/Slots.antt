@@ -37,14 +37,17 @@ mutual
     s_call : Sx → Sxs → Sx
     -- what no node stands for
     s_bad : Sx
+    deriving IsSet as ex_set
 
   pub data Sxs : Type 0 where
     s_none : Sxs
     s_more : Sx → Sxs → Sxs
+    deriving IsSet as exs_set
 
   pub data Slinks : Type 0 where
     s_end : Slinks
     s_link : BinaryForm → Sx → Slinks → Slinks
+    deriving IsSet as links_set
 
 -- ---- what they mean, with the values of the slots
 

@@ -35,6 +35,7 @@ pub data V : Type 0 where
   Restore : Mask → V
   -- the number of one use of `bracket`
   Inst : ℕ → V
+  deriving IsSet as value_set
 
 -- the list of these
 abbrev pub list_of : List V → V

@@ -44,6 +44,7 @@ module _ (cells : ℕ → T → Type 0) where
   binds_fits (Written x) a_masking_name v b h = h
   binds_fits (Written x) an_instance v b h = absurd b
   binds_fits (Added z) k v b h = h
+  binds_fits Unread k v b h = absurd b
 
   pub more_fits : (g : List Bound) (env : Env) (vs : List V) (y : Name) (k : Sort) (v : V) → Binds y k → OfSort cells k v → SlotsFit cells g env vs → SlotsFit cells (with_bound y k g) (with_name y v env) (vs ++ v ∷ [])
   more_fits g env vs y k v b h f = fits_with cells g env vs y k v (binds_read y k b) (binds_fits y k v b h) f
@@ -67,6 +68,7 @@ module _ (cells : ℕ → T → Type 0) where
   pub mask_of : (y : Name) (v : V) → FitsAt cells y (Some a_masking_name) (Some v) → of_masking v
   mask_of (Written x) v h = h
   mask_of (Added z) v h = h
+  mask_of Unread v h = h
 
   -- ---- expressions of a primitive
 
