@@ -1,7 +1,7 @@
 -- When the values of slots are those of the names of a scope (own).
 use Rattle.std.specs.Prelude.{◌≡◌, ℕ, ◌==◌, List, [], ◌∷◌, length, false, cond, Option, Some, None, slice_get}
-use Rattle.rules_expansion.specs.Names.{Name, Added, same_name, Unread}
-use Rattle.rules_meaning.specs.Values.{V, Env, value_at, Outcome}
+use Rattle.rules_expansion.specs.Names.{Name, Added, Unread, same_name}
+use Rattle.rules_meaning.specs.Values.{V, Env, value_at}
 use Rattle.rules_meaning.specs.Meaning.{Functions}
 use Rattle.rules_code.specs.Slots.{Scope, slot_of, Root, s_bad, run}
 
