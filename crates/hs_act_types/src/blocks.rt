@@ -16,6 +16,7 @@ ghost use Rattle.hs_act_types.specs.Parts.{row_two, second_part, third_part};
 use crate::closing::{TwoParts, close_two, dropped, kept_if};
 use crate::opening::{asked_form, back_to, mark, open, open_exception, open_mask, open_part};
 use crate::simple::{applied, binary, empty_cell, throw, unary};
+use hs_base::tree::forms::{BlockAction, MaskingAction};
 use hs_base::tree::{Action, Block, BlockArms, Name, Stmt};
 use hs_base::{NoMemory, Pos};
 use hs_expr_types::type_of;
@@ -25,7 +26,6 @@ use hs_typing::act_rows::bare_type;
 use hs_typing::checker::Checker;
 use hs_typing::funs::Funs;
 use hs_typing::parts::Part;
-use hs_base::tree::forms::{BareAction, BinaryAction, BlockAction, MaskingAction, UnaryAction};
 use std::alloc::Global;
 
 /// The type of an action, where it has one.
@@ -40,64 +40,14 @@ fn action(
     ensures { IfOk result (λ t. Judged funs.now.types.nodes checker.old checker.new (opt_ty funs.now.types.nodes t) (judge_act (ctx_of funs.now) (names funs.now.types.nodes checker.old) (act_of a.now))) }
 {
     match a {
-        Action::MyThreadId(_) => Ok(Some(TypeTerm::Base(bare_type(BareAction::MyThreadId)))),
-        Action::ClockMicros(_) => Ok(Some(TypeTerm::Base(bare_type(BareAction::ClockMicros)))),
-        Action::GetMaskingState(_) => Ok(Some(TypeTerm::Base(bare_type(
-            BareAction::GetMaskingState,
-        )))),
-        Action::NewEmptyMVar(p, w) => empty_cell(checker, alloc, funs, *p, w),
+        Action::Bare(w, _) => Ok(Some(TypeTerm::Base(bare_type(*w)))),
+        Action::Unary(w, p, e) => unary(checker, alloc, funs, *p, *w, e),
+        Action::Binary(w, p, d, e) => binary(checker, alloc, funs, *p, *w, d, e),
         Action::ThrowIo(p, w, e) => throw(checker, alloc, funs, *p, w, e),
+        Action::NewEmptyMVar(p, w) => empty_cell(checker, alloc, funs, *p, w),
         Action::Call(x, es) => applied(checker, alloc, funs, x, es),
-        Action::Return(p, e) => unary(checker, alloc, funs, *p, UnaryAction::Return, e),
-        Action::PutStr(p, e) => unary(checker, alloc, funs, *p, UnaryAction::PutStr, e),
-        Action::PutStrLn(p, e) => unary(checker, alloc, funs, *p, UnaryAction::PutStrLn, e),
-        Action::HPutStrLn(p, e) => unary(checker, alloc, funs, *p, UnaryAction::HPutStrLn, e),
-        Action::NewMVar(p, e) => unary(checker, alloc, funs, *p, UnaryAction::NewMVar, e),
-        Action::TakeMVar(p, e) => unary(checker, alloc, funs, *p, UnaryAction::TakeMVar, e),
-        Action::ReadMVar(p, e) => unary(checker, alloc, funs, *p, UnaryAction::ReadMVar, e),
-        Action::TryTakeMVar(p, e) => unary(checker, alloc, funs, *p, UnaryAction::TryTakeMVar, e),
-        Action::KillThread(p, e) => unary(checker, alloc, funs, *p, UnaryAction::KillThread, e),
-        Action::ThreadDelay(p, e) => unary(checker, alloc, funs, *p, UnaryAction::ThreadDelay, e),
-        Action::PutMVar(p, m, e) => binary(checker, alloc, funs, *p, BinaryAction::PutMVar, m, e),
-        Action::TryPutMVar(p, m, e) => {
-            binary(checker, alloc, funs, *p, BinaryAction::TryPutMVar, m, e)
-        }
-        Action::ThrowTo(p, t, e) => binary(checker, alloc, funs, *p, BinaryAction::ThrowTo, t, e),
-        Action::ForkIo(p, b) => in_block(checker, alloc, funs, b, *p, BlockAction::ForkIo),
-        Action::MaskOnly(p, b) => in_block(checker, alloc, funs, b, *p, BlockAction::MaskOnly),
-        Action::UninterruptibleMaskOnly(p, b) => {
-            in_block(
-                checker,
-                alloc,
-                funs,
-                b,
-                *p,
-                BlockAction::UninterruptibleMaskOnly,
-            )
-        }
-        Action::ForkIoWithUnmask(p, x, b) => {
-            in_masking(
-                checker,
-                alloc,
-                funs,
-                b,
-                *p,
-                MaskingAction::ForkIoWithUnmask,
-                x,
-            )
-        }
-        Action::Mask(p, x, b) => in_masking(checker, alloc, funs, b, *p, MaskingAction::Mask, x),
-        Action::UninterruptibleMask(p, x, b) => {
-            in_masking(
-                checker,
-                alloc,
-                funs,
-                b,
-                *p,
-                MaskingAction::UninterruptibleMask,
-                x,
-            )
-        }
+        Action::Scoped(w, p, b) => in_block(checker, alloc, funs, b, *p, *w),
+        Action::Masking(w, p, x, b) => in_masking(checker, alloc, funs, b, *p, *w, x),
         Action::Restore(_, x, b) => restored(checker, alloc, funs, b, x),
         Action::If(p, e, b, d) => {
             let t = type_of(checker, alloc, funs, e)?;
@@ -116,11 +66,7 @@ fn action(
             let t = block(checker, alloc, funs, b)?;
             caught(checker, alloc, funs, d, *p, t, x)
         }
-        Action::OnException(p, b, d) => {
-            let t = block(checker, alloc, funs, b)?;
-            second(checker, alloc, funs, d, *p, TwoParts::Guard, t)
-        }
-        Action::Finally(p, b, d) => {
+        Action::Guard(_, p, b, d) => {
             let t = block(checker, alloc, funs, b)?;
             second(checker, alloc, funs, d, *p, TwoParts::Guard, t)
         }

@@ -8,6 +8,7 @@ ghost use Rattle.hs_typing.specs.Views.{opt_ty};
 ghost use Rattle.hs_typing.specs.Contexts.{ctx_of};
 ghost use Rattle.hs_typing.specs.Judged.{Judged, names};
 
+use hs_base::tree::forms::{BinaryAction, UnaryAction};
 use hs_base::tree::{Expr, Name, Written};
 use hs_base::{NoMemory, Pos};
 use hs_expr_types::{type_of, types_of};
@@ -15,7 +16,6 @@ use hs_items::Items;
 use hs_type_table::ty::TypeTerm;
 use hs_typing::checker::Checker;
 use hs_typing::funs::Funs;
-use hs_base::tree::forms::{BinaryAction, UnaryAction};
 use std::alloc::Global;
 
 /// An action with one expression.

@@ -4,9 +4,9 @@ ghost use Rattle.rules_trees.specs.Trees.{arms_of, compare_form, sum_form};
 ghost use Rattle.rules_typing.specs.Typing.{form_of_arms};
 ghost use Rattle.hs_typing.specs.Views.{form_of};
 
+use hs_base::tree::forms::BinaryForm;
 use hs_base::tree::{CompareOp, ExprArms, SumOp};
 use hs_typing::Form;
-use hs_base::tree::forms::BinaryForm;
 
 /// A comparison as a form.
 pub fn compare_form(op: CompareOp) -> BinaryForm

@@ -8,6 +8,7 @@ ghost use Rattle.hs_typing.specs.Views.{form_of, opt_ty, part_of};
 ghost use Rattle.hs_typing.specs.Judged.{Judged, pushed};
 ghost use Rattle.hs_expr_types.specs.Entering.{Entered};
 
+use hs_base::tree::forms::EmptyForm;
 use hs_base::tree::{Constant, Name, Written};
 use hs_base::{NoMemory, Pos};
 use hs_items::Items;
@@ -18,7 +19,6 @@ use hs_typing::Form;
 use hs_typing::checker::Checker;
 use hs_typing::first::Broken;
 use hs_typing::parts::Part;
-use hs_base::tree::forms::EmptyForm;
 use std::alloc::Global;
 
 /// The type of an atom that is one word.

@@ -11,6 +11,7 @@ ghost use Rattle.hs_typing.specs.Judged.{Judged, JudgedAll, Gathered, names};
 
 use crate::forms::{asked_form, compare_form, sum_form};
 use crate::leaves::{added, alone, constant_type, empty, enter, fitting};
+use hs_base::tree::forms::{BinaryForm, SideForm, UnaryForm};
 use hs_base::tree::{Expr, ExprArms, Link, ListLink, Name, SumLink, Written};
 use hs_base::{NoMemory, Pos};
 use hs_items::Items;
@@ -19,7 +20,6 @@ use hs_type_table::ty::TypeTerm;
 use hs_typing::checker::Checker;
 use hs_typing::funs::Funs;
 use hs_typing::parts::Part;
-use hs_base::tree::forms::{BinaryForm, EmptyForm, SideForm, UnaryForm};
 use std::alloc::Global;
 
 /// The type of an expression, where it has one.
@@ -38,17 +38,9 @@ pub fn type_of(
         Expr::Text(_, _) => Ok(Some(TypeTerm::Base(Base::Text))),
         Expr::Constant(_, c) => Ok(Some(TypeTerm::Base(constant_type(*c)))),
         Expr::Unit(_) => Ok(Some(TypeTerm::Base(Base::Unit))),
-        Expr::Nothing(p, w) => empty(checker, alloc, &funs.types, *p, EmptyForm::Nothing, w),
-        Expr::EmptyList(p, w) => empty(checker, alloc, &funs.types, *p, EmptyForm::EmptyList, w),
-        Expr::Negate(p, a) => unary(checker, alloc, funs, a.get(), *p, UnaryForm::Negate),
-        Expr::Just(p, a) => unary(checker, alloc, funs, a.get(), *p, UnaryForm::Just),
-        Expr::ErrorCall(p, a) => unary(checker, alloc, funs, a.get(), *p, UnaryForm::ErrorCall),
-        Expr::Not(p, a) => unary(checker, alloc, funs, a.get(), *p, UnaryForm::Not),
-        Expr::Fst(p, a) => unary(checker, alloc, funs, a.get(), *p, UnaryForm::Fst),
-        Expr::Snd(p, a) => unary(checker, alloc, funs, a.get(), *p, UnaryForm::Snd),
-        Expr::Show(p, a) => unary(checker, alloc, funs, a.get(), *p, UnaryForm::Show),
-        Expr::Left(p, s, t, a) => side(checker, alloc, funs, a.get(), *p, SideForm::Left, s, t),
-        Expr::Right(p, s, t, a) => side(checker, alloc, funs, a.get(), *p, SideForm::Right, s, t),
+        Expr::Empty(w, p, t) => empty(checker, alloc, &funs.types, *p, *w, t),
+        Expr::Unary(w, p, a) => unary(checker, alloc, funs, a.get(), *p, *w),
+        Expr::Side(w, p, s, t, a) => side(checker, alloc, funs, a.get(), *p, *w, s, t),
         Expr::Compare(a, o, p, b) => {
             let t = type_of(checker, alloc, funs, a.get())?;
             let r = second(checker, alloc, funs, b.get(), *p, compare_form(*o), t)?;

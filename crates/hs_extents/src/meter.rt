@@ -7,13 +7,13 @@ ghost use Rattle.hs_typing.specs.Views.{scope_of, sigs_of};
 ghost use Rattle.hs_extents.specs.Measuring.{Extends, ext_of, exts_of};
 
 use hs_base::NoMemory;
+use hs_base::tree::forms::BinaryForm;
 use hs_base::tree::{Expr, ExprArms, Link, ListLink, Name, SumLink};
 use hs_items::Items;
 use hs_sizes::{add, greater};
 use hs_typing::entry::{Entry, Sorted};
 use hs_typing::funs::Funs;
 use hs_typing::table::Table;
-use hs_base::tree::forms::BinaryForm;
 use std::alloc::Global;
 
 /// How far an expression unfolds, in counts.
@@ -151,17 +151,9 @@ impl Meter {
             Expr::Text(_, _) => Ok(over(nothing())),
             Expr::Constant(_, _) => Ok(over(nothing())),
             Expr::Unit(_) => Ok(over(nothing())),
-            Expr::Nothing(_, _) => Ok(over(nothing())),
-            Expr::EmptyList(_, _) => Ok(over(nothing())),
-            Expr::Negate(_, a) => self.around(alloc, funs, a.get()),
-            Expr::Just(_, a) => self.around(alloc, funs, a.get()),
-            Expr::ErrorCall(_, a) => self.around(alloc, funs, a.get()),
-            Expr::Not(_, a) => self.around(alloc, funs, a.get()),
-            Expr::Fst(_, a) => self.around(alloc, funs, a.get()),
-            Expr::Snd(_, a) => self.around(alloc, funs, a.get()),
-            Expr::Show(_, a) => self.around(alloc, funs, a.get()),
-            Expr::Left(_, _, _, a) => self.around(alloc, funs, a.get()),
-            Expr::Right(_, _, _, a) => self.around(alloc, funs, a.get()),
+            Expr::Empty(_, _, _) => Ok(over(nothing())),
+            Expr::Unary(_, _, a) => self.around(alloc, funs, a.get()),
+            Expr::Side(_, _, _, _, a) => self.around(alloc, funs, a.get()),
             Expr::Compare(a, _, _, b) => {
                 let x = self.extent(alloc, funs, a.get())?;
                 self.around_two(alloc, funs, b.get(), x)

@@ -41,24 +41,11 @@ impl Meter {
         ensures { IfOk result (λ x. Extends self.old self.new x (worst_act (sigs_of funs.now.types.nodes funs.now.sigs) (exts_of self.old.extents) (scope_of [] self.old.scope.items) (act_of a.now))) }
     {
         match a {
-            Action::MyThreadId(_) => Ok(nothing()),
-            Action::ClockMicros(_) => Ok(nothing()),
-            Action::GetMaskingState(_) => Ok(nothing()),
-            Action::NewEmptyMVar(_, _) => Ok(nothing()),
-            Action::Return(_, e) => self.extent(alloc, funs, e),
+            Action::Bare(_, _) => Ok(nothing()),
+            Action::Unary(_, _, e) => self.extent(alloc, funs, e),
+            Action::Binary(_, _, e, f) => self.both(alloc, funs, e, f),
             Action::ThrowIo(_, _, e) => self.extent(alloc, funs, e),
-            Action::PutStr(_, e) => self.extent(alloc, funs, e),
-            Action::PutStrLn(_, e) => self.extent(alloc, funs, e),
-            Action::HPutStrLn(_, e) => self.extent(alloc, funs, e),
-            Action::NewMVar(_, e) => self.extent(alloc, funs, e),
-            Action::TakeMVar(_, e) => self.extent(alloc, funs, e),
-            Action::ReadMVar(_, e) => self.extent(alloc, funs, e),
-            Action::TryTakeMVar(_, e) => self.extent(alloc, funs, e),
-            Action::KillThread(_, e) => self.extent(alloc, funs, e),
-            Action::ThreadDelay(_, e) => self.extent(alloc, funs, e),
-            Action::PutMVar(_, e, f) => self.both(alloc, funs, e, f),
-            Action::TryPutMVar(_, e, f) => self.both(alloc, funs, e, f),
-            Action::ThrowTo(_, e, f) => self.both(alloc, funs, e, f),
+            Action::NewEmptyMVar(_, _) => Ok(nothing()),
             Action::Call(_, es) => self.each(alloc, funs, es),
             Action::If(_, e, b, d) => {
                 let x = self.extent(alloc, funs, e)?;
@@ -76,24 +63,15 @@ impl Meter {
                 let y = self.under_block(alloc, funs, v, b)?;
                 Ok(worse(x, y))
             }
-            Action::ForkIo(_, b) => self.block(alloc, funs, b),
-            Action::MaskOnly(_, b) => self.block(alloc, funs, b),
-            Action::UninterruptibleMaskOnly(_, b) => self.block(alloc, funs, b),
-            Action::ForkIoWithUnmask(_, v, b) => self.under_block(alloc, funs, v, b),
-            Action::Mask(_, v, b) => self.under_block(alloc, funs, v, b),
-            Action::UninterruptibleMask(_, v, b) => self.under_block(alloc, funs, v, b),
+            Action::Scoped(_, _, b) => self.block(alloc, funs, b),
+            Action::Masking(_, _, v, b) => self.under_block(alloc, funs, v, b),
             Action::Restore(_, _, b) => self.block(alloc, funs, b),
             Action::Catch(_, b, v, d) => {
                 let x = self.block(alloc, funs, b)?;
                 let y = self.under_block(alloc, funs, v, d)?;
                 Ok(worse(x, y))
             }
-            Action::OnException(_, b, d) => {
-                let x = self.block(alloc, funs, b)?;
-                let y = self.block(alloc, funs, d)?;
-                Ok(worse(x, y))
-            }
-            Action::Finally(_, b, d) => {
+            Action::Guard(_, _, b, d) => {
                 let x = self.block(alloc, funs, b)?;
                 let y = self.block(alloc, funs, d)?;
                 Ok(worse(x, y))

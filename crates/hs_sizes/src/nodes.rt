@@ -2,14 +2,14 @@ ghost use Rattle.std.specs.Prelude.{◌≡◌, ◌+◌, min};
 ghost use Rattle.rules_trees.specs.Trees.{ex_of, exs_of, arms_of, links_of, sum_links_of, list_links_of};
 ghost use Rattle.rules_trees.specs.Programs.{Bl, act_of, bl_of, stmt_of, act_arms_of, bd_of};
 ghost use Rattle.rules_expansion.specs.Sizes.{ex_size, exs_size, links_size, arms_size, body_size};
-ghost use Rattle.hs_judging.specs.Closed.{act_nodes, bl_nodes, act_arm_nodes};
+ghost use Rattle.hs_judging.specs.Closed.{act_nodes, bl_nodes, act_arm_nodes, guard_nodes, unary_nodes};
 
 use crate::count::add;
+use hs_base::tree::forms::{BinaryForm, GuardAction, UnaryAction};
 use hs_base::tree::{
     Action, Block, BlockArms, Body, Expr, ExprArms, Link, ListLink, Stmt, SumLink,
 };
 use hs_items::Items;
-use hs_base::tree::forms::BinaryForm;
 
 /// The nodes of an expression.
 #[cycle(nodes)]
@@ -22,17 +22,9 @@ fn ex_nodes(e: &Expr) -> u32
         Expr::Text(_, _) => 1,
         Expr::Constant(_, _) => 1,
         Expr::Unit(_) => 1,
-        Expr::Nothing(_, _) => 1,
-        Expr::EmptyList(_, _) => 1,
-        Expr::Negate(_, a) => over(a.get()),
-        Expr::Just(_, a) => over(a.get()),
-        Expr::ErrorCall(_, a) => over(a.get()),
-        Expr::Not(_, a) => over(a.get()),
-        Expr::Fst(_, a) => over(a.get()),
-        Expr::Snd(_, a) => over(a.get()),
-        Expr::Show(_, a) => over(a.get()),
-        Expr::Left(_, _, _, a) => over(a.get()),
-        Expr::Right(_, _, _, a) => over(a.get()),
+        Expr::Empty(_, _, _) => 1,
+        Expr::Unary(_, _, a) => over(a.get()),
+        Expr::Side(_, _, _, _, a) => over(a.get()),
         Expr::Compare(a, _, _, b) => over_two(b.get(), ex_nodes(a.get())),
         Expr::Div(_, a, b) => over_two(b.get(), ex_nodes(a.get())),
         Expr::Mod(_, a, b) => over_two(b.get(), ex_nodes(a.get())),
@@ -125,46 +117,25 @@ fn arm_nodes(arms: &ExprArms) -> u32
 
 /// The nodes of an action's expansion.
 #[cycle(actions)]
-#[tactic(auto, using(rules_trees::proofs::EquationsOfActions::act_rules))]
+#[tactic(auto, using(rules_trees::proofs::EquationsOfActions::act_rules, crate::proofs::Capped::guard_capped))]
 fn act_nodes(a: &Action) -> u32
     ensures { result ≡ min (act_nodes (act_of a.now)) 1000001 }
 {
     match a {
-        Action::MyThreadId(_) => 1,
-        Action::ClockMicros(_) => 1,
-        Action::GetMaskingState(_) => 1,
-        Action::NewEmptyMVar(_, _) => 1,
-        Action::Return(_, e) => over(e),
+        Action::Bare(_, _) => 1,
+        Action::Unary(w, _, e) => add(unary_nodes(*w), ex_nodes(e)),
+        Action::Binary(_, _, e, f) => over_two(f, ex_nodes(e)),
         Action::ThrowIo(_, _, e) => over(e),
-        Action::PutStr(_, e) => over(e),
-        Action::PutStrLn(_, e) => over(e),
-        Action::HPutStrLn(_, e) => over(e),
-        Action::NewMVar(_, e) => over(e),
-        Action::TakeMVar(_, e) => over(e),
-        Action::ReadMVar(_, e) => over(e),
-        Action::TryTakeMVar(_, e) => over(e),
-        Action::KillThread(_, e) => add(2, ex_nodes(e)),
-        Action::ThreadDelay(_, e) => over(e),
-        Action::PutMVar(_, e, f) => over_two(f, ex_nodes(e)),
-        Action::TryPutMVar(_, e, f) => over_two(f, ex_nodes(e)),
-        Action::ThrowTo(_, e, f) => over_two(f, ex_nodes(e)),
+        Action::NewEmptyMVar(_, _) => 1,
         Action::Call(_, es) => add(1, exs_nodes(es)),
         Action::If(_, e, b, d) => add(1, add(ex_nodes(e), add(bl_nodes(b), bl_nodes(d)))),
         Action::Case(_, e, arms) => add(1, add(ex_nodes(e), act_arm_nodes(arms.get()))),
         Action::ModifyMVar(_, e, _, b) => add(17, add(ex_nodes(e), bl_nodes(b))),
-        Action::ForkIo(_, b) => over_block(b),
-        Action::MaskOnly(_, b) => over_block(b),
-        Action::UninterruptibleMaskOnly(_, b) => over_block(b),
-        Action::ForkIoWithUnmask(_, _, b) => over_block(b),
-        Action::Mask(_, _, b) => over_block(b),
-        Action::UninterruptibleMask(_, _, b) => over_block(b),
+        Action::Scoped(_, _, b) => over_block(b),
+        Action::Masking(_, _, _, b) => over_block(b),
         Action::Restore(_, _, b) => over_block(b),
         Action::Catch(_, b, _, d) => add(1, add(bl_nodes(b), bl_nodes(d))),
-        Action::OnException(_, b, d) => add(4, add(bl_nodes(b), bl_nodes(d))),
-        Action::Finally(_, b, d) => {
-            let n = bl_nodes(d);
-            add(10, add(bl_nodes(b), add(n, n)))
-        }
+        Action::Guard(w, _, b, d) => guard_nodes(*w, bl_nodes(b), bl_nodes(d)),
         Action::Bracket(_, b, _, d, h) => {
             let n = bl_nodes(d);
             add(19, add(bl_nodes(b), add(add(n, n), bl_nodes(h))))
@@ -173,6 +144,27 @@ fn act_nodes(a: &Action) -> u32
             let n = bl_nodes(b);
             add(67, add(ex_nodes(e), add(n, n)))
         }
+    }
+}
+
+/// What a word adds to the nodes of its expression.
+fn unary_nodes(o: UnaryAction) -> u32
+    ensures { result ≡ unary_nodes o }
+{
+    match o {
+        // `throwTo` with the exception `ThreadKilled`
+        UnaryAction::KillThread => 2,
+        _ => 1,
+    }
+}
+
+/// The nodes of a block and of what is run after it, by the word between them.
+fn guard_nodes(o: GuardAction, m: u32, n: u32) -> u32
+    ensures { result ≡ min (guard_nodes o m n) 1000001 }
+{
+    match o {
+        GuardAction::OnException => add(4, add(m, n)),
+        GuardAction::Finally => add(10, add(m, add(n, n))),
     }
 }
 

@@ -8,12 +8,12 @@ ghost use Rattle.hs_typing.specs.Judged.{Judged};
 
 use crate::checker::Checker;
 use crate::fault::Form;
+use hs_base::tree::forms::{BareAction, BinaryAction, BlockAction, MaskingAction, UnaryAction};
 use hs_base::{NoMemory, Pos};
 use hs_type_table::base::Base;
 use hs_type_table::parts::inner_part;
 use hs_type_table::table::TypeTable;
 use hs_type_table::ty::{TypeTerm, cell_of, maybe_of};
-use hs_base::tree::forms::{BareAction, BinaryAction, BlockAction, MaskingAction, UnaryAction};
 use std::alloc::Global;
 
 /// The type of an action without parts.

@@ -6,12 +6,12 @@ ghost use Rattle.hs_typing.specs.Views.{opt_ty, opts_of};
 ghost use Rattle.hs_typing.specs.Judged.{Judged};
 
 use crate::checker::Checker;
+use hs_base::tree::forms::BinaryForm;
 use hs_base::tree::{ConsOp, ListLink};
 use hs_base::{NoMemory, Pos};
 use hs_items::Items;
 use hs_type_table::table::TypeTable;
 use hs_type_table::ty::TypeTerm;
-use hs_base::tree::forms::BinaryForm;
 use std::alloc::Global;
 
 /// `:` or `++` as a form.

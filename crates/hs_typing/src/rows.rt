@@ -10,6 +10,7 @@ use crate::checker::Checker;
 use crate::fault::Form;
 use crate::first::Broken;
 use hs_base::tree::Written;
+use hs_base::tree::forms::{BinaryForm, EmptyForm, SideForm, UnaryForm};
 use hs_base::{NoMemory, Pos};
 use hs_items::Items;
 use hs_type_table::base::Base;
@@ -18,7 +19,6 @@ use hs_type_table::table::TypeTable;
 use hs_type_table::ty::{TypeTerm, either_of, list_of, maybe_of, pair_of};
 use hs_type_table::widths::is_wide_written;
 use hs_type_table::written::from_written;
-use hs_base::tree::forms::{BinaryForm, EmptyForm, SideForm, UnaryForm};
 use std::alloc::Global;
 
 #[tactic(auto, using(hs_type_table::proofs::Equations::type_rules))]

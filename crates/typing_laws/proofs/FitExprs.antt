@@ -13,18 +13,15 @@ use Rattle.hs_base.specs.declared.tree.expr.SumLink.{SumLink}
 use Rattle.hs_base.specs.declared.tree.ty.Ty.{Ty}
 use Rattle.hs_base.specs.declared.tree.ty.Written.{Written}
 use Rattle.hs_base.specs.declared.tree.forms.UnaryForm.{UnaryForm}
-use Rattle.hs_base.specs.declared.tree.forms.UnaryForm.TheVariants as u
 use Rattle.hs_base.specs.declared.tree.forms.BinaryForm.{BinaryForm}
 use Rattle.hs_base.specs.declared.tree.forms.BinaryForm.TheVariants as b
 use Rattle.hs_base.specs.declared.tree.forms.SideForm.{SideForm}
-use Rattle.hs_base.specs.declared.tree.forms.SideForm.TheVariants as d
-use Rattle.hs_base.specs.declared.tree.forms.EmptyForm.TheVariants as blank
+use Rattle.hs_base.specs.declared.tree.forms.EmptyForm.{EmptyForm}
 use Rattle.rules_trees.specs.Trees.{lit, Lit, number, letters, nothing_more, constant_of, name, unary, binary, chain, conses, choose, items, empty, side, given, case, compare_form, wr_of, ex_of, arms_of, exs_of, links_of, list_links_of, sum_links_of}
-use Rattle.rules_trees.proofs.Equations.{ex-If, ex-Case, ex-Let, ex-Or, ex-And, ex-Product, ex-Sum, ex-Cons, ex-Compare, ex-Call, ex-Negate, ex-Just, ex-ErrorCall, ex-Not, ex-Fst, ex-Snd, ex-Show, ex-Nothing, ex-EmptyList, ex-Left, ex-Right, ex-Div, ex-Mod, ex-Pair, ex-Int, ex-Text, ex-Constant, ex-Unit, ex-List}
+use Rattle.rules_trees.proofs.Equations.{ex-If, ex-Case, ex-Let, ex-Or, ex-And, ex-Product, ex-Sum, ex-Cons, ex-Compare, ex-Call, ex-Unary, ex-Empty, ex-Side, ex-Div, ex-Mod, ex-Pair, ex-Int, ex-Text, ex-Constant, ex-Unit, ex-List}
 use Rattle.rules_grammar.specs.Grammar as g
 use Rattle.rules_grammar.specs.Grammar.{number_of, text_of, type_word, constant_word, with_arg, with_args, side_form, side_types, many, or_tree, and_tree, cons_tree, sum_tree, product_tree, compare_tree, link}
 use Rattle.rules_grammar.specs.GrammarForms.{Rule, at, Spelling}
-use Rattle.rules_grammar.specs.GrammarKinds as k
 use Rattle.rules_grammar.specs.GrammarParts.{Kind, Part, type_in_parens, type_in_brackets, expr_if, expr_case, expr_let, expr_in_parens, items_in_brackets, items_or_none}
 use Rattle.typing_laws.specs.Positions.{has_node, ex_positions, exs_positions, link_positions, arm_positions}
 use Rattle.typing_laws.proofs.Counts.{here, times-append}
@@ -33,8 +30,11 @@ use Rattle.typing_laws.proofs.Weights.{name_weight, written_weight, expr_weight,
 
 -- ---- what the constructors weigh
 module _ (q : Pos) where
-  unary_weighs : (f : Pos → Expr → Expr) (o : UnaryForm) → ((p : Pos) (x : Expr) → ex_of (f p x) ≡ unary o p (ex_of x)) → (p : Pos) (x : Expr) (n : ℕ) → here q p + expr_weight q x ≡ n → expr_weight q (f p x) ≡ n
-  unary_weighs f o i p x n h = weigh_ex q (f p x) (unary o p (ex_of x)) n (i p x) (omega (arith, h))
+  unary_weighs : (o : UnaryForm) (p : Pos) (x : Expr) (n : ℕ) → here q p + expr_weight q x ≡ n → expr_weight q (e.Unary o p x) ≡ n
+  unary_weighs o p x n h = weigh_ex q (e.Unary o p x) (unary o p (ex_of x)) n (ex-Unary o p x) (omega (arith, h))
+
+  empty_weighs : (o : EmptyForm) (p : Pos) (w : Written) (n : ℕ) → here q p + here q w.pos ≡ n → expr_weight q (e.Empty o p w) ≡ n
+  empty_weighs o p w n h = weigh_ex q (e.Empty o p w) (empty o p (wr_of w)) n (ex-Empty o p w) (omega (arith, h))
 
   binary_weighs : (f : Pos → Expr → Expr → Expr) (o : BinaryForm) → ((p : Pos) (x y : Expr) → ex_of (f p x y) ≡ binary o p (ex_of x) (ex_of y))
       → (p : Pos) (x y : Expr) (n : ℕ) → here q p + expr_weight q x + expr_weight q y ≡ n → expr_weight q (f p x y) ≡ n
@@ -52,9 +52,8 @@ module _ (q : Pos) where
   list_weighs : (p : Pos) (es : List Expr) (n : ℕ) → here q p + exprs_weight q es ≡ n → expr_weight q (e.List p es) ≡ n
   list_weighs p es n h = weigh_ex q (e.List p es) (items p (exs_of es)) n (ex-List p es) (omega (arith, h))
 
-  side_weighs : (f : Pos → Written → Written → Expr → Expr) (o : SideForm) → ((p : Pos) (w v : Written) (x : Expr) → ex_of (f p w v x) ≡ side o p (wr_of w) (wr_of v) (ex_of x))
-      → (p : Pos) (w v : Written) (x : Expr) (n : ℕ) → (here q p + here q w.pos + here q v.pos) + expr_weight q x ≡ n → expr_weight q (f p w v x) ≡ n
-  side_weighs f o i p w v x n h = weigh_ex q (f p w v x) (side o p (wr_of w) (wr_of v) (ex_of x)) n (i p w v x) (omega (arith, h))
+  side_weighs : (o : SideForm) (p : Pos) (w v : Written) (x : Expr) (n : ℕ) → (here q p + here q w.pos + here q v.pos) + expr_weight q x ≡ n → expr_weight q (e.Side o p w v x) ≡ n
+  side_weighs o p w v x n h = weigh_ex q (e.Side o p w v x) (side o p (wr_of w) (wr_of v) (ex_of x)) n (ex-Side o p w v x) (omega (arith, h))
 
   if_weighs : (p : Pos) (x y z : Expr) (n : ℕ) → expr_weight q x + expr_weight q y + expr_weight q z ≡ n → expr_weight q (e.If p x y z) ≡ here q p + n
   if_weighs p x y z n h =
@@ -217,31 +216,35 @@ module _ (q : Pos) (inner : (B : Type 0) → Part B → Spelling B) where
     unfolding side_types
     fit_side_types w = fit_part fit_atype (fit_skip refl (fit_part fit_atype (fit_skip refl (fit_part fit_at (fit_give (λ p m h s n v t l w. omega (arith, h, v, w)))))))
 
-    fit_side : (f : Pos → Written → Written → Expr → Expr) (w : Kind) → ((p : Pos) (s t : Written) (x : Expr) (n : ℕ) → (here q p + here q s.pos + here q t.pos) + expr_weight q x ≡ n → expr_weight q (f p s t x) ≡ n) → FitsExpr (side_form f w)
-    fit_side f w i = fit_part fit_arg (fit_part (fit_side_types w) (fit_give (λ s m h x n v. i s.0 s.1 s.2 x (0 + m + n) (omega (arith, h, v)))))
+    -- the forms of one shape, whatever their word
+    fit_side : {o : SideForm} (w : Kind) → FitsExpr (side_form (e.Side o) w)
+    fit_side w = fit_part fit_arg (fit_part (fit_side_types w) (fit_give (λ s m h x n v. side_weighs q _ s.0 s.1 s.2 x (0 + m + n) (omega (arith, h, v)))))
+
+    fit_unary : {o : UnaryForm} {w : Kind} → FitsExpr (with_arg (e.Unary o) w)
+    fit_unary = fit_with_arg (unary_weighs q _)
 
     fit_constructed : FitsExpr g.constructed
     unfolding g.constructed
     fit_constructed =
-        fit_alt (fit_with_arg (unary_weighs q e.Just u.Just ex-Just))
-        (fit_alt (fit_part fit_atype (fit_skip refl (fit_part fit_at (fit_give (λ p m h w n v. weigh_ex q (e.Nothing p w) (empty blank.Nothing p (wr_of w)) (0 + m + n) (ex-Nothing p w) (omega (arith, h, v)))))))
-        (fit_alt (fit_side e.Left k.Left (side_weighs q e.Left d.Left ex-Left))
-        (fit_side e.Right k.Right (side_weighs q e.Right d.Right ex-Right))))
+        fit_alt fit_unary
+        (fit_alt (fit_part fit_atype (fit_skip refl (fit_part fit_at (fit_give (λ p m h w n v. empty_weighs q _ p w (0 + m + n) (omega (arith, h, v)))))))
+        (fit_alt (fit_side _)
+        (fit_side _)))
 
     fit_list_form : FitsExpr g.list_form
     unfolding g.list_form
     fit_list_form =
         fit_go_on {U = Weighs (written_weight q)} fit_list_or_empty (fit_part fit_atype (fit_skip refl (fit_give (λ t n v. omega (arith, v)))))
-        (λ p w m n h v. weigh_ex q (e.EmptyList p w) (empty blank.EmptyList p (wr_of w)) (m + n) (ex-EmptyList p w) (omega (arith, h, v)))
+        (λ p w m n h v. empty_weighs q _ p w (m + n) (omega (arith, h, v)))
 
     fit_computed : FitsExpr g.computed
     unfolding g.computed
     fit_computed =
-        fit_alt (fit_with_arg (unary_weighs q e.ErrorCall u.ErrorCall ex-ErrorCall))
-        (fit_alt (fit_with_arg (unary_weighs q e.Not u.Not ex-Not))
-        (fit_alt (fit_with_arg (unary_weighs q e.Fst u.Fst ex-Fst))
-        (fit_alt (fit_with_arg (unary_weighs q e.Snd u.Snd ex-Snd))
-        (fit_alt (fit_with_arg (unary_weighs q e.Show u.Show ex-Show))
+        fit_alt fit_unary
+        (fit_alt fit_unary
+        (fit_alt fit_unary
+        (fit_alt fit_unary
+        (fit_alt fit_unary
         (fit_alt (fit_with_args (binary_weighs q e.Div b.Div ex-Div))
         (fit_with_args (binary_weighs q e.Mod b.Mod ex-Mod)))))))
 
@@ -266,7 +269,7 @@ module _ (q : Pos) (inner : (B : Type 0) → Part B → Spelling B) where
 
     fit_first_term : FitsExpr g.first_term
     unfolding g.first_term
-    fit_first_term = fit_alt (fit_part fit_product (fit_part fit_at (fit_give (λ p m h x n v. unary_weighs q e.Negate u.Negate ex-Negate p x (0 + m + n) (omega (arith, h, v)))))) fit_product
+    fit_first_term = fit_alt (fit_part fit_product (fit_part fit_at (fit_give (λ p m h x n v. unary_weighs q _ p x (0 + m + n) (omega (arith, h, v)))))) fit_product
 
     fit_sum_operator : Fit g.sum_operator (Weighs (λ o. here q o.1))
     unfolding g.sum_operator

@@ -4,7 +4,7 @@ use Rattle.rules_trees.specs.Trees.{ex_of}
 use Rattle.rules_trees.specs.Programs.{case_act, act_of, act_arms_of, bl_of, stmt_of}
 use Rattle.rules_typing.specs.Typing.{a_cell, bound, inner_of, of}
 use Rattle.rules_typing.specs.TypingActions.{form_of_acts, row_modify, row_timeout}
-use Rattle.rules_trees.proofs.EquationsOfActions.{act-NewEmptyMVar, act-ThrowIo, act-Call, act-Return, act-PutStr, act-PutStrLn, act-HPutStrLn, act-NewMVar, act-TakeMVar, act-ReadMVar, act-TryTakeMVar, act-KillThread, act-ThreadDelay, act-PutMVar, act-TryPutMVar, act-ThrowTo, act-ForkIo, act-MaskOnly, act-UninterruptibleMaskOnly, act-ForkIoWithUnmask, act-Mask, act-UninterruptibleMask, act-Restore, act-Case, act-ModifyMVar, act-Timeout, stmt-Bind, stmt-Let}
+use Rattle.rules_trees.proofs.EquationsOfActions.{act-NewEmptyMVar, act-ThrowIo, act-Call, act-Unary, act-Binary, act-Scoped, act-Masking, act-Restore, act-Case, act-ModifyMVar, act-Timeout, stmt-Bind, stmt-Let}
 use Rattle.hs_judging.specs.Judging.{judge, needing, own, part, unless_full}
 use Rattle.hs_judging.specs.JudgingActions.{judge_act, judge_act_arms, judge_bl}
 use Rattle.hs_typing.specs.Contexts.{ctx_of}
@@ -23,62 +23,17 @@ action-returns-in-ThrowIo t c = tail0 c.args.funs.now.types.nodes _ _ _ _ _ (ap 
 pub action-returns-in-Call : goal.action-returns-in-Call
 action-returns-in-Call t c = tail0 c.args.funs.now.types.nodes _ _ _ _ _ (ap (judge_act (ctx_of c.args.funs.now) (names c.args.funs.now.types.nodes c.args.checker.now)) (ap act_of c.in-Call.is ∙ act-Call c.in-Call.x c.in-Call.es)) c.applied.ensures
 
-pub action-returns-in-Return : goal.action-returns-in-Return
-action-returns-in-Return t c = tail0 c.args.funs.now.types.nodes _ _ _ _ _ (ap (judge_act (ctx_of c.args.funs.now) (names c.args.funs.now.types.nodes c.args.checker.now)) (ap act_of c.in-Return.is ∙ act-Return c.in-Return.p c.in-Return.e)) c.unary.ensures
+pub action-returns-in-Unary : goal.action-returns-in-Unary
+action-returns-in-Unary t c = tail0 c.args.funs.now.types.nodes _ _ _ _ _ (ap (judge_act (ctx_of c.args.funs.now) (names c.args.funs.now.types.nodes c.args.checker.now)) (ap act_of c.in-Unary.is ∙ act-Unary c.in-Unary.w c.in-Unary.p c.in-Unary.e)) c.unary.ensures
 
-pub action-returns-in-PutStr : goal.action-returns-in-PutStr
-action-returns-in-PutStr t c = tail0 c.args.funs.now.types.nodes _ _ _ _ _ (ap (judge_act (ctx_of c.args.funs.now) (names c.args.funs.now.types.nodes c.args.checker.now)) (ap act_of c.in-PutStr.is ∙ act-PutStr c.in-PutStr.p c.in-PutStr.e)) c.unary-in-PutStr.ensures
+pub action-returns-in-Binary : goal.action-returns-in-Binary
+action-returns-in-Binary t c = tail0 c.args.funs.now.types.nodes _ _ _ _ _ (ap (judge_act (ctx_of c.args.funs.now) (names c.args.funs.now.types.nodes c.args.checker.now)) (ap act_of c.in-Binary.is ∙ act-Binary c.in-Binary.w c.in-Binary.p c.in-Binary.d c.in-Binary.e)) c.binary.ensures
 
-pub action-returns-in-PutStrLn : goal.action-returns-in-PutStrLn
-action-returns-in-PutStrLn t c = tail0 c.args.funs.now.types.nodes _ _ _ _ _ (ap (judge_act (ctx_of c.args.funs.now) (names c.args.funs.now.types.nodes c.args.checker.now)) (ap act_of c.in-PutStrLn.is ∙ act-PutStrLn c.in-PutStrLn.p c.in-PutStrLn.e)) c.unary-in-PutStrLn.ensures
+pub action-returns-in-Scoped : goal.action-returns-in-Scoped
+action-returns-in-Scoped t c = tail0 c.args.funs.now.types.nodes _ _ _ _ _ (ap (judge_act (ctx_of c.args.funs.now) (names c.args.funs.now.types.nodes c.args.checker.now)) (ap act_of c.in-Scoped.is ∙ act-Scoped c.in-Scoped.w c.in-Scoped.p c.in-Scoped.b)) c.in_block.ensures
 
-pub action-returns-in-HPutStrLn : goal.action-returns-in-HPutStrLn
-action-returns-in-HPutStrLn t c = tail0 c.args.funs.now.types.nodes _ _ _ _ _ (ap (judge_act (ctx_of c.args.funs.now) (names c.args.funs.now.types.nodes c.args.checker.now)) (ap act_of c.in-HPutStrLn.is ∙ act-HPutStrLn c.in-HPutStrLn.p c.in-HPutStrLn.e)) c.unary-in-HPutStrLn.ensures
-
-pub action-returns-in-NewMVar : goal.action-returns-in-NewMVar
-action-returns-in-NewMVar t c = tail0 c.args.funs.now.types.nodes _ _ _ _ _ (ap (judge_act (ctx_of c.args.funs.now) (names c.args.funs.now.types.nodes c.args.checker.now)) (ap act_of c.in-NewMVar.is ∙ act-NewMVar c.in-NewMVar.p c.in-NewMVar.e)) c.unary-in-NewMVar.ensures
-
-pub action-returns-in-TakeMVar : goal.action-returns-in-TakeMVar
-action-returns-in-TakeMVar t c = tail0 c.args.funs.now.types.nodes _ _ _ _ _ (ap (judge_act (ctx_of c.args.funs.now) (names c.args.funs.now.types.nodes c.args.checker.now)) (ap act_of c.in-TakeMVar.is ∙ act-TakeMVar c.in-TakeMVar.p c.in-TakeMVar.e)) c.unary-in-TakeMVar.ensures
-
-pub action-returns-in-ReadMVar : goal.action-returns-in-ReadMVar
-action-returns-in-ReadMVar t c = tail0 c.args.funs.now.types.nodes _ _ _ _ _ (ap (judge_act (ctx_of c.args.funs.now) (names c.args.funs.now.types.nodes c.args.checker.now)) (ap act_of c.in-ReadMVar.is ∙ act-ReadMVar c.in-ReadMVar.p c.in-ReadMVar.e)) c.unary-in-ReadMVar.ensures
-
-pub action-returns-in-TryTakeMVar : goal.action-returns-in-TryTakeMVar
-action-returns-in-TryTakeMVar t c = tail0 c.args.funs.now.types.nodes _ _ _ _ _ (ap (judge_act (ctx_of c.args.funs.now) (names c.args.funs.now.types.nodes c.args.checker.now)) (ap act_of c.in-TryTakeMVar.is ∙ act-TryTakeMVar c.in-TryTakeMVar.p c.in-TryTakeMVar.e)) c.unary-in-TryTakeMVar.ensures
-
-pub action-returns-in-KillThread : goal.action-returns-in-KillThread
-action-returns-in-KillThread t c = tail0 c.args.funs.now.types.nodes _ _ _ _ _ (ap (judge_act (ctx_of c.args.funs.now) (names c.args.funs.now.types.nodes c.args.checker.now)) (ap act_of c.in-KillThread.is ∙ act-KillThread c.in-KillThread.p c.in-KillThread.e)) c.unary-in-KillThread.ensures
-
-pub action-returns-in-ThreadDelay : goal.action-returns-in-ThreadDelay
-action-returns-in-ThreadDelay t c = tail0 c.args.funs.now.types.nodes _ _ _ _ _ (ap (judge_act (ctx_of c.args.funs.now) (names c.args.funs.now.types.nodes c.args.checker.now)) (ap act_of c.in-ThreadDelay.is ∙ act-ThreadDelay c.in-ThreadDelay.p c.in-ThreadDelay.e)) c.unary-in-ThreadDelay.ensures
-
-pub action-returns-in-PutMVar : goal.action-returns-in-PutMVar
-action-returns-in-PutMVar t c = tail0 c.args.funs.now.types.nodes _ _ _ _ _ (ap (judge_act (ctx_of c.args.funs.now) (names c.args.funs.now.types.nodes c.args.checker.now)) (ap act_of c.in-PutMVar.is ∙ act-PutMVar c.in-PutMVar.p c.in-PutMVar.m c.in-PutMVar.e)) c.binary.ensures
-
-pub action-returns-in-TryPutMVar : goal.action-returns-in-TryPutMVar
-action-returns-in-TryPutMVar t c = tail0 c.args.funs.now.types.nodes _ _ _ _ _ (ap (judge_act (ctx_of c.args.funs.now) (names c.args.funs.now.types.nodes c.args.checker.now)) (ap act_of c.in-TryPutMVar.is ∙ act-TryPutMVar c.in-TryPutMVar.p c.in-TryPutMVar.m c.in-TryPutMVar.e)) c.binary-in-TryPutMVar.ensures
-
-pub action-returns-in-ThrowTo : goal.action-returns-in-ThrowTo
-action-returns-in-ThrowTo t c = tail0 c.args.funs.now.types.nodes _ _ _ _ _ (ap (judge_act (ctx_of c.args.funs.now) (names c.args.funs.now.types.nodes c.args.checker.now)) (ap act_of c.in-ThrowTo.is ∙ act-ThrowTo c.in-ThrowTo.p c.in-ThrowTo.t c.in-ThrowTo.e)) c.binary-in-ThrowTo.ensures
-
-pub action-returns-in-ForkIo : goal.action-returns-in-ForkIo
-action-returns-in-ForkIo t c = tail0 c.args.funs.now.types.nodes _ _ _ _ _ (ap (judge_act (ctx_of c.args.funs.now) (names c.args.funs.now.types.nodes c.args.checker.now)) (ap act_of c.in-ForkIo.is ∙ act-ForkIo c.in-ForkIo.p c.in-ForkIo.b)) c.in_block.ensures
-
-pub action-returns-in-MaskOnly : goal.action-returns-in-MaskOnly
-action-returns-in-MaskOnly t c = tail0 c.args.funs.now.types.nodes _ _ _ _ _ (ap (judge_act (ctx_of c.args.funs.now) (names c.args.funs.now.types.nodes c.args.checker.now)) (ap act_of c.in-MaskOnly.is ∙ act-MaskOnly c.in-MaskOnly.p c.in-MaskOnly.b)) c.in_block-in-MaskOnly.ensures
-
-pub action-returns-in-UninterruptibleMaskOnly : goal.action-returns-in-UninterruptibleMaskOnly
-action-returns-in-UninterruptibleMaskOnly t c = tail0 c.args.funs.now.types.nodes _ _ _ _ _ (ap (judge_act (ctx_of c.args.funs.now) (names c.args.funs.now.types.nodes c.args.checker.now)) (ap act_of c.in-UninterruptibleMaskOnly.is ∙ act-UninterruptibleMaskOnly c.in-UninterruptibleMaskOnly.p c.in-UninterruptibleMaskOnly.b)) c.in_block-in-UninterruptibleMaskOnly.ensures
-
-pub action-returns-in-ForkIoWithUnmask : goal.action-returns-in-ForkIoWithUnmask
-action-returns-in-ForkIoWithUnmask t c = tail0 c.args.funs.now.types.nodes _ _ _ _ _ (ap (judge_act (ctx_of c.args.funs.now) (names c.args.funs.now.types.nodes c.args.checker.now)) (ap act_of c.in-ForkIoWithUnmask.is ∙ act-ForkIoWithUnmask c.in-ForkIoWithUnmask.p c.in-ForkIoWithUnmask.x c.in-ForkIoWithUnmask.b)) c.in_masking.ensures
-
-pub action-returns-in-Mask : goal.action-returns-in-Mask
-action-returns-in-Mask t c = tail0 c.args.funs.now.types.nodes _ _ _ _ _ (ap (judge_act (ctx_of c.args.funs.now) (names c.args.funs.now.types.nodes c.args.checker.now)) (ap act_of c.in-Mask.is ∙ act-Mask c.in-Mask.p c.in-Mask.x c.in-Mask.b)) c.in_masking-in-Mask.ensures
-
-pub action-returns-in-UninterruptibleMask : goal.action-returns-in-UninterruptibleMask
-action-returns-in-UninterruptibleMask t c = tail0 c.args.funs.now.types.nodes _ _ _ _ _ (ap (judge_act (ctx_of c.args.funs.now) (names c.args.funs.now.types.nodes c.args.checker.now)) (ap act_of c.in-UninterruptibleMask.is ∙ act-UninterruptibleMask c.in-UninterruptibleMask.p c.in-UninterruptibleMask.x c.in-UninterruptibleMask.b)) c.in_masking-in-UninterruptibleMask.ensures
+pub action-returns-in-Masking : goal.action-returns-in-Masking
+action-returns-in-Masking t c = tail0 c.args.funs.now.types.nodes _ _ _ _ _ (ap (judge_act (ctx_of c.args.funs.now) (names c.args.funs.now.types.nodes c.args.checker.now)) (ap act_of c.in-Masking.is ∙ act-Masking c.in-Masking.w c.in-Masking.p c.in-Masking.x c.in-Masking.b)) c.in_masking.ensures
 
 pub action-returns-in-Restore : goal.action-returns-in-Restore
 action-returns-in-Restore t c = tail0 c.args.funs.now.types.nodes _ _ _ _ _ (ap (judge_act (ctx_of c.args.funs.now) (names c.args.funs.now.types.nodes c.args.checker.now)) (ap act_of c.in-Restore.is ∙ act-Restore _ c.in-Restore.x c.in-Restore.b)) c.restored.ensures

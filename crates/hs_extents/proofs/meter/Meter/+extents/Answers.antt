@@ -2,7 +2,7 @@ use Rattle.std.proofs.Common.{ap, ◌∙◌, sym}
 use Rattle.hs_base.specs.declared.tree.expr.ExprArms.{ExprArms}
 use Rattle.hs_base.specs.declared.tree.forms.BinaryForm.TheVariants as bf
 use Rattle.rules_trees.specs.Trees.{ex_of, exs_of, arms_of, links_of, sum_links_of, list_links_of}
-use Rattle.rules_trees.proofs.Equations.{ex-If, ex-Case, ex-Let, ex-Or, ex-And, ex-Product, ex-Sum, ex-Cons, ex-Compare, ex-Call, ex-List, ex-Negate, ex-Just, ex-ErrorCall, ex-Not, ex-Fst, ex-Snd, ex-Show, ex-Nothing, ex-EmptyList, ex-Left, ex-Right, ex-Div, ex-Mod, ex-Pair, ex-Int, ex-Text, ex-Constant, ex-Unit}
+use Rattle.rules_trees.proofs.Equations.{ex-If, ex-Case, ex-Let, ex-Or, ex-And, ex-Product, ex-Sum, ex-Cons, ex-Compare, ex-Call, ex-List, ex-Unary, ex-Empty, ex-Side, ex-Div, ex-Mod, ex-Pair, ex-Int, ex-Text, ex-Constant, ex-Unit}
 use Rattle.rules_typing.specs.TypingSizes as rule
 use Rattle.hs_typing.specs.Views.{sigs_of}
 use Rattle.hs_extents.proofs.Steps.{At, at, tree_at, ex_at, exs_at, name_at, under_at, links_at, arms_at, both, leaf, two, over_parts, higher_parts, tail0, tail2}
@@ -36,82 +36,26 @@ extent-returns-in-Unit t c =
     let v = c.in-Unit in
     leaf o c.nothing-in-Unit.result _ _ (ap (λ z. at (tree_at gs z) o) (ap ex_of v.is ∙ ex-Unit _)) c.nothing-in-Unit.ensures c.over-in-Unit.ensures
 
-pub extent-returns-in-Nothing : goal.extent-returns-in-Nothing
-extent-returns-in-Nothing t c =
+pub extent-returns-in-Empty : goal.extent-returns-in-Empty
+extent-returns-in-Empty t c =
     let gs = sigs_of c.args.funs.now.types.nodes c.args.funs.now.sigs in
     let o = c.args.self.now in
-    let v = c.in-Nothing in
-    leaf o c.nothing-in-Nothing.result _ _ (ap (λ z. at (tree_at gs z) o) (ap ex_of v.is ∙ ex-Nothing _ _)) c.nothing-in-Nothing.ensures c.over-in-Nothing.ensures
+    let v = c.in-Empty in
+    leaf o c.nothing-in-Empty.result _ _ (ap (λ z. at (tree_at gs z) o) (ap ex_of v.is ∙ ex-Empty _ _ _)) c.nothing-in-Empty.ensures c.over-in-Empty.ensures
 
-pub extent-returns-in-EmptyList : goal.extent-returns-in-EmptyList
-extent-returns-in-EmptyList t c =
+pub extent-returns-in-Unary : goal.extent-returns-in-Unary
+extent-returns-in-Unary t c =
     let gs = sigs_of c.args.funs.now.types.nodes c.args.funs.now.sigs in
     let o = c.args.self.now in
-    let v = c.in-EmptyList in
-    leaf o c.nothing-in-EmptyList.result _ _ (ap (λ z. at (tree_at gs z) o) (ap ex_of v.is ∙ ex-EmptyList _ _)) c.nothing-in-EmptyList.ensures c.over-in-EmptyList.ensures
+    let v = c.in-Unary in
+    tail0 _ _ _ _ _ (ap (λ z. at (tree_at gs z) o) (ap ex_of v.is ∙ ex-Unary _ _ v.a) ∙ ap (λ z. rule.over (at (ex_at gs z) o)) (sym c.get.ensures)) c.around.ensures
 
-pub extent-returns-in-Negate : goal.extent-returns-in-Negate
-extent-returns-in-Negate t c =
+pub extent-returns-in-Side : goal.extent-returns-in-Side
+extent-returns-in-Side t c =
     let gs = sigs_of c.args.funs.now.types.nodes c.args.funs.now.sigs in
     let o = c.args.self.now in
-    let v = c.in-Negate in
-    tail0 _ _ _ _ _ (ap (λ z. at (tree_at gs z) o) (ap ex_of v.is ∙ ex-Negate _ v.a) ∙ ap (λ z. rule.over (at (ex_at gs z) o)) (sym c.get.ensures)) c.around.ensures
-
-pub extent-returns-in-Just : goal.extent-returns-in-Just
-extent-returns-in-Just t c =
-    let gs = sigs_of c.args.funs.now.types.nodes c.args.funs.now.sigs in
-    let o = c.args.self.now in
-    let v = c.in-Just in
-    tail0 _ _ _ _ _ (ap (λ z. at (tree_at gs z) o) (ap ex_of v.is ∙ ex-Just _ v.a) ∙ ap (λ z. rule.over (at (ex_at gs z) o)) (sym c.get-in-Just.ensures)) c.around-in-Just.ensures
-
-pub extent-returns-in-ErrorCall : goal.extent-returns-in-ErrorCall
-extent-returns-in-ErrorCall t c =
-    let gs = sigs_of c.args.funs.now.types.nodes c.args.funs.now.sigs in
-    let o = c.args.self.now in
-    let v = c.in-ErrorCall in
-    tail0 _ _ _ _ _ (ap (λ z. at (tree_at gs z) o) (ap ex_of v.is ∙ ex-ErrorCall _ v.a) ∙ ap (λ z. rule.over (at (ex_at gs z) o)) (sym c.get-in-ErrorCall.ensures)) c.around-in-ErrorCall.ensures
-
-pub extent-returns-in-Not : goal.extent-returns-in-Not
-extent-returns-in-Not t c =
-    let gs = sigs_of c.args.funs.now.types.nodes c.args.funs.now.sigs in
-    let o = c.args.self.now in
-    let v = c.in-Not in
-    tail0 _ _ _ _ _ (ap (λ z. at (tree_at gs z) o) (ap ex_of v.is ∙ ex-Not _ v.a) ∙ ap (λ z. rule.over (at (ex_at gs z) o)) (sym c.get-in-Not.ensures)) c.around-in-Not.ensures
-
-pub extent-returns-in-Fst : goal.extent-returns-in-Fst
-extent-returns-in-Fst t c =
-    let gs = sigs_of c.args.funs.now.types.nodes c.args.funs.now.sigs in
-    let o = c.args.self.now in
-    let v = c.in-Fst in
-    tail0 _ _ _ _ _ (ap (λ z. at (tree_at gs z) o) (ap ex_of v.is ∙ ex-Fst _ v.a) ∙ ap (λ z. rule.over (at (ex_at gs z) o)) (sym c.get-in-Fst.ensures)) c.around-in-Fst.ensures
-
-pub extent-returns-in-Snd : goal.extent-returns-in-Snd
-extent-returns-in-Snd t c =
-    let gs = sigs_of c.args.funs.now.types.nodes c.args.funs.now.sigs in
-    let o = c.args.self.now in
-    let v = c.in-Snd in
-    tail0 _ _ _ _ _ (ap (λ z. at (tree_at gs z) o) (ap ex_of v.is ∙ ex-Snd _ v.a) ∙ ap (λ z. rule.over (at (ex_at gs z) o)) (sym c.get-in-Snd.ensures)) c.around-in-Snd.ensures
-
-pub extent-returns-in-Show : goal.extent-returns-in-Show
-extent-returns-in-Show t c =
-    let gs = sigs_of c.args.funs.now.types.nodes c.args.funs.now.sigs in
-    let o = c.args.self.now in
-    let v = c.in-Show in
-    tail0 _ _ _ _ _ (ap (λ z. at (tree_at gs z) o) (ap ex_of v.is ∙ ex-Show _ v.a) ∙ ap (λ z. rule.over (at (ex_at gs z) o)) (sym c.get-in-Show.ensures)) c.around-in-Show.ensures
-
-pub extent-returns-in-Left : goal.extent-returns-in-Left
-extent-returns-in-Left t c =
-    let gs = sigs_of c.args.funs.now.types.nodes c.args.funs.now.sigs in
-    let o = c.args.self.now in
-    let v = c.in-Left in
-    tail0 _ _ _ _ _ (ap (λ z. at (tree_at gs z) o) (ap ex_of v.is ∙ ex-Left _ _ _ v.a) ∙ ap (λ z. rule.over (at (ex_at gs z) o)) (sym c.get-in-Left.ensures)) c.around-in-Left.ensures
-
-pub extent-returns-in-Right : goal.extent-returns-in-Right
-extent-returns-in-Right t c =
-    let gs = sigs_of c.args.funs.now.types.nodes c.args.funs.now.sigs in
-    let o = c.args.self.now in
-    let v = c.in-Right in
-    tail0 _ _ _ _ _ (ap (λ z. at (tree_at gs z) o) (ap ex_of v.is ∙ ex-Right _ _ _ v.a) ∙ ap (λ z. rule.over (at (ex_at gs z) o)) (sym c.get-in-Right.ensures)) c.around-in-Right.ensures
+    let v = c.in-Side in
+    tail0 _ _ _ _ _ (ap (λ z. at (tree_at gs z) o) (ap ex_of v.is ∙ ex-Side _ _ _ _ v.a) ∙ ap (λ z. rule.over (at (ex_at gs z) o)) (sym c.get-in-Side.ensures)) c.around-in-Side.ensures
 
 pub extent-returns-in_ok-x-in-Compare : goal.extent-returns-in_ok-x-in-Compare
 extent-returns-in_ok-x-in-Compare t c =
