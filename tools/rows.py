@@ -94,9 +94,10 @@ def built(crate):
         sys.exit("check: no command rt here: the kit is needed to build the program of the rows")
     os.makedirs(os.path.dirname(program), exist_ok=True)
     begun = time.time()
+    data = [word for it in here(f"crates/{crate}/data/*.rows") for word in ("--data", f"{os.path.basename(it)}={os.path.join(TOP, it)}")]
     with tempfile.TemporaryDirectory(prefix="rows-", dir=os.path.dirname(program)) as work:
         with open(f"{work}/log", "wb") as log:
-            ran = subprocess.Popen(["rt", "try", "--steps", "1"], cwd=os.path.join(TOP, "crates", crate), stdin=subprocess.DEVNULL,
+            ran = subprocess.Popen(["rt", "try", "--steps", "1", *data], cwd=os.path.join(TOP, "crates", crate), stdin=subprocess.DEVNULL,
                                    stdout=log, stderr=log, env={**os.environ, "TMPDIR": work})
         made = None
         try:
