@@ -127,7 +127,7 @@ def names_of(block, heading):
 UNITS = "eleven twelve thirteen fourteen fifteen sixteen seventeen eighteen nineteen".split()
 TENS = "twenty thirty forty fifty sixty seventy eighty ninety".split()
 NUMBER = rf"(?:\d[\d,]*|(?:{'|'.join(UNITS)}|(?:{'|'.join(TENS)})(?:-\w+)?))"
-COUNTED = re.compile(rf"\b({NUMBER}) (?:of them )?(?:(?:reserved|must-fail|public|test|proved|small|wrong) )?(rows|crates|examples|edits|tests|scripts|laws|files|texts|symbols|words|expressions|are tried|later)\b", re.I)
+COUNTED = re.compile(rf"\b({NUMBER}) (?:of them )?(?:(?:reserved|must-fail|public|test|proved|small|wrong) )?(rows|crates|examples|edits|tests|scripts|laws|files|texts|symbols|expressions|are tried|later)\b", re.I)
 
 
 def value(number):
