@@ -124,6 +124,22 @@ def names_of(block, heading):
             yield f"{block.at(it.start())}: {wrong}"
 
 
+def clauses():
+    """Names of calls and clauses on the page of promises that no crate has which is named beside them, or in the heading."""
+    path, headed = "docs/PROMISES.md", set()
+    for block in blocks(path):
+        spans = [" ".join(it.split()) for it in SPAN.findall(block.text)]
+        near = {part for it in spans for part in re.split(r"::|/|\(", it) if part in uses()}
+        if block.kind == "heading":
+            headed = near
+        elif block.kind != "code":
+            known = set().union(*(words_of(it) for it in near | headed)) if near | headed else all_words()
+            for it in SPAN.finditer(block.text):
+                word = " ".join(it[1].split())
+                if re.fullmatch(r"[a-z][a-z_]*", word) and word not in known and word not in {*uses(), *kit_crates()} | words_of("conc_words"):
+                    yield f"{block.at(it.start())}: no crate that is named here has `{word}`"
+
+
 UNITS = "eleven twelve thirteen fourteen fifteen sixteen seventeen eighteen nineteen".split()
 TENS = "twenty thirty forty fifty sixty seventy eighty ninety".split()
 NUMBER = rf"(?:\d[\d,]*|(?:{'|'.join(UNITS)}|(?:{'|'.join(TENS)})(?:-\w+)?))"
