@@ -13,7 +13,7 @@ from tools.sources import TOP, below, lines, read, uses
 TABLE = "docs/minutes.txt"
 KINDS = ("proof", "edits", "tests")
 # For what the table doesn't have, in processor minutes: a proof, and an edit.
-PROOF, EDIT = 1.5, 0.53
+PROOF, EDIT = 0.9, 0.53
 
 
 def table():
@@ -64,8 +64,8 @@ def cost(words):
     known, sums, guessed, dear = table(), dict.fromkeys(KINDS, 0.0), 0, []
     for name in anew:
         figures = known.get(name, {})
-        each = {"proof": figures.get("proof", PROOF), "edits": figures.get("edits", EDIT * len(edits_of(name))), "tests": figures.get("tests", 0.0)}
-        guessed += "proof" not in figures
+        each = {"proof": figures.get("proof", 0.0 if "tests" in figures else PROOF), "edits": figures.get("edits", EDIT * len(edits_of(name))), "tests": figures.get("tests", 0.0)}
+        guessed += not figures
         for kind in KINDS:
             sums[kind] += each[kind]
         dear.append((sum(each.values()), name))

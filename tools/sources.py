@@ -82,7 +82,7 @@ def words_of(crate):
 
 @functools.lru_cache(maxsize=None)
 def all_words():
-    found = set(uses()) | kit_crates()
+    found = set(uses()) | kit_crates() | {it for it in files() if "/" not in it}
     for text in [read("conc_run"), *(it.text for it in blocks("docs/LANGUAGE.md") if it.kind == "code")]:
         found.update(re.findall(r"\w+", text))
     return found.union(*(words_of(it) for it in uses()))
