@@ -167,6 +167,13 @@ def counts(known):
                     yield f"{block.at(it.start())}: no data gives the count `{it[0]}`: leave it out"
 
 
+def decisions():
+    """Each decision has its date and a title."""
+    for block in blocks("docs/DECISIONS.md"):
+        if block.text.startswith("- ") and not re.match(r"- \d{4}-\d\d-\d\d · \*\*[^*]+\*\*", block.text):
+            yield f"{block.at(0)}: a decision begins with `DATE · **Title**`"
+
+
 def lengths():
     for path in documents():
         count = len(lines(path)) - 1

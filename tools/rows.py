@@ -13,6 +13,8 @@ import time
 
 from tools.sources import TOP, below, here, lines, read
 
+# The most processor seconds of a row, among all and in one file.
+SHORT, LONG = 1, 20
 # The programs of rows, and how the last line of their runs reads.
 PROGRAMS = ("conc_rows", "stack_rows")
 WORD = re.compile(r"^# ([a-z0-9-]+): ")
@@ -131,14 +133,14 @@ def taken(work):
     return None
 
 
-def run_on(program, data, seconds=None):
+def run_on(program, data, seconds=LONG):
     """Runs a program of rows on files with these texts. Files that aren't named are empty."""
     with tempfile.TemporaryDirectory(prefix="row-") as folder:
         for crate in PROGRAMS:
             for it in here(f"crates/{crate}/data/*.rows"):
                 with open(f"{folder}/{os.path.basename(it)}", "w", encoding="utf-8") as file:
                     file.write(data.get(os.path.basename(it), ""))
-        limit = seconds and (lambda: resource.setrlimit(resource.RLIMIT_CPU, (seconds, seconds + 1)))
+        limit = lambda: resource.setrlimit(resource.RLIMIT_CPU, (seconds, seconds + 1))  # noqa: E731
         ran = subprocess.run([program], cwd=folder, stdin=subprocess.DEVNULL, stdout=subprocess.PIPE, stderr=subprocess.STDOUT,
                              env={**os.environ, "ASAN_OPTIONS": "symbolize=0"}, preexec_fn=limit, check=False)
         return ran.returncode, ran.stdout.decode(errors="replace")
@@ -148,7 +150,7 @@ def try_row(program, path, row, seconds):
     """What the program says of a row, or None where it takes longer. Empty lines before it keep the numbers of its lines."""
     name, number, text = row
     status, said = run_on(program, {os.path.basename(path): "\n" * (number - 1) + "\n".join(text) + "\n"}, seconds)
-    if seconds and status < 0:
+    if status < 0:
         return None
     if status == 0 and re.search(r"^1 rows, 0 failed", said, re.M):
         return ""
@@ -156,7 +158,7 @@ def try_row(program, path, row, seconds):
 
 
 def try_rows(words):
-    """`./check --rows [FILE]`: the rows of a file, or those of all files that end within a second of processor time."""
+    """`./check --rows [FILE]`: the rows of a file, or of all files, that end within so much processor time."""
     paths = here("crates/conc_rows/data/*.rows")
     if words:
         name = os.path.basename(words[0]).removesuffix(".rows") + ".rows"
@@ -167,7 +169,7 @@ def try_rows(words):
     rows = [(path, row) for path in paths for row in rows_of(path) if "later" not in row[2]]
     failed, longer = 0, []
     with concurrent.futures.ThreadPoolExecutor(os.cpu_count()) as pool:
-        tried = pool.map(lambda it: try_row(program, *it, None if words else 1), rows)
+        tried = pool.map(lambda it: try_row(program, *it, LONG if words else SHORT), rows)
         for (path, row), said in zip(rows, tried):
             if said is None:
                 longer.append(row[0])
@@ -175,6 +177,6 @@ def try_rows(words):
                 failed += 1
                 print(f"{path}:{row[1]}: {said}", flush=True)
     if longer:
-        print(f"not tried, since they take over a second: {' '.join(longer)}")
+        print(f"not tried, since they take over {LONG if words else SHORT} s: {' '.join(longer)}")
     print(f"{len(rows) - len(longer)} rows were tried by a build without proof, {failed} failed")
     return 1 if failed else 0
