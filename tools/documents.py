@@ -216,9 +216,16 @@ CITES = re.compile(r"\b(?:document|paper) 0[1-5]\b|shared/pape[r]s|/wor[k]/|\b0[
                    r"|\bissue \d+\b|\brow \d+\b|\b(?:T[1-5]\.[0-9]|[DRW][0-9]{1,2}(?:\.[0-9]{1,2})?)(?= |:|,|\.|\)|$)", re.M)
 
 
+# Most files have nothing like it, which is seen faster.
+HINTS = ("ocument 0", "aper 0", "shared/", "/wor" + "k/", "issue ", "row ", "-scope", "-surface", "-theorems", "-requests", "-language", "-outcomes")
+NUMBERED = re.compile(r"[TDRW][0-9]")
+
+
 def citations():
     for path in files():
         if path.endswith((".rt", ".antt", ".md", ".edit", ".conc", ".rows", ".txt", ".py")) or "." not in os.path.basename(path):
+            if not NUMBERED.search(read(path)) and not any(it in read(path) for it in HINTS):
+                continue
             for it in CITES.finditer(read(path)):
                 line = read(path).count("\n", 0, it.start()) + 1
                 yield f"{path}:{line}: `{it[0]}` looks like a citation of what stands outside of the repository"
