@@ -181,6 +181,13 @@ def lengths():
             yield f"{path}: {count} lines, and a document has {LONGEST} at most"
 
 
+def index():
+    """Documents that the README doesn't lead to."""
+    for path in documents():
+        if path != "README.md" and f"`{path}`" not in read("README.md"):
+            yield f"README.md: it doesn't lead to {path}"
+
+
 def places():
     """Crates that the map or the page of promises leaves out, and folders that crates.txt leaves out."""
     for path in ("docs/ARCHITECTURE.md", "docs/PROMISES.md"):
