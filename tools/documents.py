@@ -3,14 +3,13 @@
 import os
 import re
 
-from tools.sources import (TOP, all_words, blocks, code, documents, files, here, kit_crates, lines, read, root_of, uses, words_of)
+from tools.sources import TOP, SPAN, all_words, blocks, code, documents, files, here, kit_crates, lines, read, root_of, uses, words_of
 
 LONGEST = 350
 # A folder that a clone need not have: what is made, and edits that stand outside of the gate.
 MAY_BE_ABSENT = {"out", "more-edits"}
 OF_A_CRATE = ("src", "specs", "proofs", "data", "must-fail", "more-edits", "stdout")
 ENDINGS = ("", ".rt", ".antt", ".edit", ".md", ".rows")
-SPAN = re.compile(r"`([^`]+)`")
 PATH = re.compile(r"(\./)?[\w*.-]+(/[\w*.-]+)*/?")
 
 
@@ -245,22 +244,3 @@ def named_pages():
             for it in re.finditer(r"\b(?:docs/)([A-Z]+\.md)", read(path)):
                 if not os.path.isfile(os.path.join(TOP, "docs", it[1])):
                     yield f"{path}: there is no docs/{it[1]}"
-
-
-def same_as_code():
-    """The words and symbols of LANGUAGE.md are those of the lexer, and it has each text that the program prints."""
-    language = read("docs/LANGUAGE.md")
-    for title, source in (("Reserved words", "word"), ("Symbols", "symbol")):
-        table = re.search(r"TEXTS: [^=]*= \[(.*?)\n\];", code(f"crates/rules_tokens/src/{source}.rt"), re.S)
-        paragraph = re.search(rf"\*\*{title}\*\*[^`]*(.*?)\n\n", language, re.S)
-        # a word is a text, a symbol a list of characters
-        wanted = [a or "".join(re.findall(r"'(.)'", b)) for a, b in re.findall(r'"([^"]+)"|&\[([^]]*(?:\'.\'))\]', table[1])] if table else []
-        given = " ".join(SPAN.findall(paragraph[1])).split() if paragraph else []
-        if wanted != given:
-            odd = next((f"{b} where the code has {a}" for a, b in zip(wanted, given) if a != b), f"{len(given)} where the code has {len(wanted)}")
-            yield f"docs/LANGUAGE.md: {title} are not those of rules_tokens/src/{source}.rt: {odd}"
-    said = " ".join(language.split())
-    for path in here("crates/*/specs/Lines.antt") + here("crates/hs_rules/specs/E*.antt") + here("crates/*/specs/ExceptionTexts.antt"):
-        for text in re.findall(r'codes "([^"]+)"', code(path)):
-            if text.strip(" :") and text.strip() not in said:
-                yield f"docs/LANGUAGE.md: it doesn't have the text `{text.strip()}`, which {path} has the program print"

@@ -7,6 +7,8 @@ import re
 
 TOP = os.path.dirname(os.path.dirname(os.path.abspath(__file__)))
 NOT_OURS = {".git", "out", "__pycache__"}
+# What stands between backquotes.
+SPAN = re.compile(r"`([^`]+)`")
 
 
 @functools.lru_cache(maxsize=None)
@@ -83,7 +85,7 @@ def words_of(crate):
 @functools.lru_cache(maxsize=None)
 def all_words():
     found = set(uses()) | kit_crates() | {it for it in files() if "/" not in it}
-    for text in [read("conc_run"), *(it.text for it in blocks("docs/LANGUAGE.md") if it.kind == "code")]:
+    for text in [*(read(it) for it in ["conc_run", *here("tools/wrapper/*.sh")]), *(it.text for it in blocks("docs/LANGUAGE.md") if it.kind == "code")]:
         found.update(re.findall(r"\w+", text))
     return found.union(*(words_of(it) for it in uses()))
 
