@@ -66,9 +66,9 @@ prove() {
   local log=$kept/prove.log begun=$kept/begun since=$SECONDS status=0
   need_rt "prove the program"
   need_kept
-  if ! : > "$log" || ! touch "$begun"; then
+  if ! { : > "$log" && touch "$begun"; } 2> /dev/null; then
     cannot_build "no right to write to $log"
-  fi 2> /dev/null
+  fi
   guard_building
   (cd "$here/crates/conc_run" && exec rt run -- run) < "$here/crates/conc_run/stdin" > "$log" 2>&1 &
   building=$!
@@ -142,7 +142,7 @@ make_checked() {
   lock_building
   if ! is_new "$checked"; then
     guard_building
-    if ! work=$(mktemp -d "$kept/try.XXXXXX" 2> /dev/null) || ! touch "$work/begun"; then
+    if ! { work=$(mktemp -d "$kept/try.XXXXXX") && touch "$work/begun"; } 2> /dev/null; then
       cannot_build "no folder can be made in $kept"
     fi
     try_program
@@ -187,7 +187,8 @@ copy_running() {
 
 # `rt try` leaves it to its own user alone, and the sources may have changed since it was begun.
 take_program() {
-  if ! { chmod 755 "$work/conc_run" && touch -r "$work/begun" "$work/conc_run" && mv "$work/conc_run" "$checked"; } 2> /dev/null; then
+  local made=$work/conc_run
+  if ! { chmod 755 "$made" && touch -r "$work/begun" "$made" && mv "$made" "$checked"; } 2> /dev/null; then
     cannot_build "the program was built, and can't be moved to $checked"
   fi
 }

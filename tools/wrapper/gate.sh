@@ -2,7 +2,8 @@
 # shellcheck shell=bash disable=SC2034,SC2154
 
 # Lines of `rt ci` that tell of something wrong.
-wrong='^(rt: )?.*(NOT PROVED|NOT REFUSED|NOT TRIED|BAD EDIT|FAILED|, and not [0-9]+; it said:|is not what its file stdout has|had not ended after|was stopped by signal)'
+wrong='NOT PROVED|NOT REFUSED|NOT TRIED|BAD EDIT|FAILED|, and not [0-9]+; it said:'
+wrong+='|is not what its file stdout has|had not ended after|was stopped by signal'
 
 run_tests() {
   case ${words[*]} in
@@ -27,12 +28,12 @@ run_gate() {
   local log=$kept/test.log since=$SECONDS status=0 told=0
   need_rt "prove and to test"
   need_kept
-  if ! : > "$log"; then
+  if ! { : > "$log"; } 2> /dev/null; then
     cannot_build "no right to write to $log"
-  fi 2> /dev/null
+  fi
   count_gate
-  say "proves $crates crates, tries $edits wrong bodies and runs the tests of $tests crates: from nothing about two hours on four \
-processors. What passed on this machine before is not proved again. ./conc_run test --quick tries the rows alone, in a few minutes"
+  say "proves $crates crates, tries $edits wrong bodies and runs the tests of $tests crates: from nothing about two hours on four
+  processors; what passed on this machine before is not proved again. ./conc_run test --quick tries the rows alone, in minutes"
   guard_building
   (cd "$here" && exec rt ci) > "$log" 2>&1 &
   building=$!
@@ -63,7 +64,7 @@ count_gate() {
 gate_at() {
   awk -v crates="$crates" -v edits="$edits" -v tests="$tests" '
     /^rt: [a-z0-9_]+ (proved$|NOT PROVED|is kept:)/ { done++ }
-    /^rt: [a-z0-9_]+: trying its must-fail edits/ { match($0, /\([0-9]+\)/); begun += substr($0, RSTART + 1, RLENGTH - 2) }
+    /^rt: [a-z0-9_]+: trying its must-fail edits/ { sub(/.*\(/, ""); begun += $0 }
     /must-fail [a-z0-9_]+\/.*: (refused|NOT REFUSED|NOT TRIED|BAD EDIT)/ { told++ }
     /^rt: [a-z0-9_]+: its tests (passed|FAILED)/ { ran++ }
     END {

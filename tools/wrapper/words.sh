@@ -125,6 +125,6 @@ open_file() {
 # Who sits at the terminal is told what the program waits for.
 tell_waiting() {
   if reads_document && [ -t 0 ]; then
-    say "waits for a script from the terminal, up to Ctrl-D on a line of its own; ./conc_run $command FILE reads one from a file"
+    say "waits for a script from the terminal, up to Ctrl-D on a line of its own; ./conc_run $command FILE reads a file"
   fi
 }
