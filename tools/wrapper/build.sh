@@ -160,6 +160,7 @@ try_program() {
     <<< 'main :: IO () = { threadDelay 30000000 };' > "$work/log" 2>&1 9>&- &
   building=$!
   while kill -0 "$building" 2> /dev/null; do
+    progress "building without proof: $what" "$((SECONDS - since))"
     if copy_running; then
       progress_over
       return
@@ -167,7 +168,6 @@ try_program() {
     if [ -n "$(find "$work" -name '*.bc' -print -quit 2> /dev/null)" ]; then
       what="compiling them (2 of 2)"
     fi
-    progress "building without proof: $what" "$((SECONDS - since))"
     sleep 0.5
   done
   wait "$building" || status=$?
