@@ -11,7 +11,7 @@ import sys
 import tempfile
 import time
 
-from tools.sources import TOP, below, here, lines, read
+from tools.sources import TOP, below, blocks, here, lines, read
 
 # The most processor seconds of a row, among all and in one file.
 SHORT, LONG = 1, 20
@@ -54,6 +54,19 @@ def examples():
             yield f"{there[name]}: it and the row example-{name} have different lengths"
         if f"`{name}.conc`" not in tour:
             yield f"docs/TOUR.md: it has no paragraph on {name}.conc"
+
+
+def words_in(script):
+    return " ".join(re.sub(r"--.*", "", script).split())
+
+
+def readme():
+    """Each script of README is that of a row, so what README says of it is tried."""
+    scripts = {words_in(script_of(row)) for path in here("crates/conc_rows/data/*.rows") for _, _, row in rows_of(path)}
+    for block in blocks("README.md"):
+        script = "\n".join(block.lines[1:-1])
+        if block.kind == "code" and script.startswith("main ::") and words_in(script) not in scripts:
+            yield f"{block.at(0)}: no row of crates/conc_rows/data has this script"
 
 
 def count_of(crate):
