@@ -68,9 +68,9 @@ gate_at() {
     /must-fail [a-z0-9_]+\/.*: (refused|NOT REFUSED|NOT TRIED|BAD EDIT)/ { told++ }
     /^rt: [a-z0-9_]+: its tests (passed|FAILED)/ { ran++ }
     END {
-      printf "crates: %d of %d", done, crates
-      if (told) { printf ", edits: %d of %d", told, edits } else { printf ", edits: %d of %d begun", begun, edits }
-      printf ", tests: %d of %d crates", ran, tests
+      printf "crates %d of %d", done, crates
+      if (told) { printf ", edits %d of %d", told, edits } else { printf ", edits %d of %d begun", begun, edits }
+      printf ", tests %d of %d", ran, tests
     }' "$1"
 }
 

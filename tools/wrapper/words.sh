@@ -93,7 +93,7 @@ bad_input() {
   exit 66
 }
 
-# Whether the words name a file that can be read; it is opened when the program is there.
+# Whether the words name one file that can be read, or none. It is told before anything is built.
 check_file() {
   local folder
   if [ -n "$like_option" ]; then
