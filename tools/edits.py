@@ -83,6 +83,9 @@ def try_edits(names):
         if name not in uses() or not edits_of(name, "more-edits"):
             sys.exit(f"check: there are no edits in crates/{name}/more-edits")
     names = names or [it for it in uses() if edits_of(it, "more-edits")]
+    if not names:
+        print("there are no edits in crates/*/more-edits")
+        return 0
     missed = 0
     with tempfile.TemporaryDirectory(prefix="more-edits-") as work:
         copy = os.path.join(work, "repo")
