@@ -1,0 +1,246 @@
+"""What documents say of the repository: paths, names, counts, crates, what is trusted; and what none may say."""
+
+import os
+import re
+
+from tools.sources import TOP, SPAN, all_words, blocks, code, documents, files, here, kit_crates, lines, read, root_of, uses, words_of
+
+LONGEST = 350
+# A folder that a clone need not have: what is made, and edits that stand outside of the gate.
+MAY_BE_ABSENT = {"out", "more-edits"}
+OF_A_CRATE = ("src", "specs", "proofs", "data", "must-fail", "more-edits", "stdout")
+ENDINGS = ("", ".rt", ".antt", ".edit", ".md", ".rows")
+PATH = re.compile(r"(\./)?[\w*.-]+(/[\w*.-]+)*/?")
+
+
+def is_there(path):
+    """Whether the repository has this path, in which NAME and its like stand for any name."""
+    path = re.sub(r"(?<![A-Za-z])(NAME|PATH|X)(?![a-z])", "*", path.rstrip("/"))
+    if MAY_BE_ABSENT & set(path.split("/")):
+        return True
+    return any(here(path + ending) for ending in ENDINGS)
+
+
+class Reader:
+    """Goes along the names between backquotes of a block, and remembers which crate and folder were named last."""
+
+    def __init__(self, heading):
+        self.crate, self.folder, self.near = heading, None, False
+
+    def path(self, span):
+        """What is wrong with a path, or None."""
+        parts = span.removeprefix("./").rstrip("/").split("/")
+        if parts[0] in OF_A_CRATE and len(parts) > 1 or parts[0] in OF_A_CRATE and span.endswith("/"):
+            inside = f"crates/{self.crate or '*'}"
+        elif parts[0] in uses():
+            inside, self.crate = "crates", parts[0]
+        elif f"{parts[0]}" in ("crates",) and len(parts) > 1 and parts[1] in uses():
+            inside, self.crate = "", parts[1]
+        else:
+            inside = ""
+        whole = os.path.join(inside, "/".join(parts))
+        self.folder = os.path.dirname(whole)
+        return None if is_there(whole) else f"there is no {span}"
+
+    def file(self, span):
+        """What is wrong with a file's name, or None. It stands in the folder that was named last, or has a place of its own."""
+        if span.endswith(".md"):
+            known = here(span) + here(f"docs/{span}")
+        elif span.endswith(".conc"):
+            known = here(f"examples/{span}") or span == "mine.conc"
+        elif span.endswith(".rows"):
+            known = here(f"crates/*/data/{span}")
+        elif span.endswith((".rt", ".antt")):
+            known = self.folder and is_there(f"{self.folder}/{span}") or here(f"crates/{self.crate or '*'}/*/{span}")
+        else:
+            known = [it for it in files() if os.path.basename(it) == span]
+        return None if known else f"there is no {span}"
+
+    def module(self, span):
+        return None if is_there(f"{self.folder}/{span}") else f"there is no {self.folder}/{span}"
+
+
+def law(span):
+    """What is wrong with a name such as crate::module::function or Type::method, or None."""
+    parts = re.sub(r"\(.*\)$", "", span).split("::")
+    first = parts[0]
+    if first in kit_crates():
+        return None
+    if first not in uses():
+        return None if all(it in all_words() for it in parts) else f"nothing is called {span}"
+    for part in parts[1:]:
+        if part not in words_of(first):
+            return f"{first} has no {part}, which {span} names"
+    if len(parts) > 1 and parts[-1].islower() and not is_public(first, parts[-1]):
+        return f"{first} has no public function {parts[-1]}"
+    return None
+
+
+def is_public(crate, name):
+    say = re.compile(rf"\b(pub (const )?fn|pub mod|fn) {name}\b")
+    return any(say.search(code(it)) for it in files() if it.startswith(f"crates/{crate}/src/"))
+
+
+def names():
+    """Paths, crates, laws and other names between backquotes that the repository doesn't have."""
+    for path in documents():
+        heading = None
+        for block in blocks(path):
+            if block.kind == "code":
+                for it in re.finditer(r"(?<![\w/.-])(?:\./)?((?:examples|docs|crates)/[\w./*-]*\w)", block.text):
+                    if not is_there(it[1]):
+                        yield f"{block.at(it.start())}: there is no {it[1]}"
+                continue
+            if block.kind == "heading":
+                heading = next((it for it in SPAN.findall(block.text) if it in uses()), None)
+            yield from names_of(block, heading)
+
+
+def names_of(block, heading):
+    reader, end, beside, listed = Reader(heading), 0, False, False
+    for it in SPAN.finditer(block.text):
+        span = " ".join(it[1].split())
+        between = block.text[end:it.start()].replace("\n", " ")
+        follows = beside and between.strip() in (",", "and", "")
+        end, wrong, beside = it.end(), None, False
+        if span in uses():
+            reader.crate = span
+            if re.match(r":\s", block.text[end:end + 2]):
+                reader.folder, listed, beside = f"crates/{span}/specs", True, True
+        elif re.fullmatch(r"[\w:]+::\w+(\(.*\))?", span):
+            wrong = law(span)
+            reader.crate = span.split("::")[0] if span.split("::")[0] in uses() else reader.crate
+        elif "/" in span and PATH.fullmatch(span) and re.search(r"\w/\w|\w/$", span):
+            wrong, beside = reader.path(span), True
+        elif re.fullmatch(r"[\w*-]+\.(rt|antt|md|rows|conc|txt|edit|svg)", span):
+            wrong, beside = reader.file(span), span.endswith((".rt", ".antt")) and follows
+        elif follows and re.fullmatch(r"[A-Z]\w*\*?", span):
+            wrong, beside = reader.module(span), True
+        elif re.fullmatch(r"[a-z][a-z0-9]*(_[a-z0-9]+)+(\(.*\))?", span) or re.fullmatch(r"[A-Z]\w*", span):
+            if re.sub(r"\(.*", "", span) not in all_words():
+                wrong = f"nothing is called {span}"
+        if wrong:
+            yield f"{block.at(it.start())}: {wrong}"
+
+
+def clauses():
+    """Names of calls and clauses on the page of promises that no crate has which is named beside them, or in the heading."""
+    path, headed = "docs/PROMISES.md", set()
+    for block in blocks(path):
+        spans = [" ".join(it.split()) for it in SPAN.findall(block.text)]
+        near = {part for it in spans for part in re.split(r"::|/|\(", it) if part in uses()}
+        if block.kind == "heading":
+            headed = near
+        elif block.kind != "code":
+            known = set().union(*(words_of(it) for it in near | headed)) if near | headed else all_words()
+            for it in SPAN.finditer(block.text):
+                word = " ".join(it[1].split())
+                if re.fullmatch(r"[a-z][a-z_]*", word) and word not in known and word not in {*uses(), *kit_crates()} | words_of("conc_words"):
+                    yield f"{block.at(it.start())}: no crate that is named here has `{word}`"
+
+
+UNITS = "eleven twelve thirteen fourteen fifteen sixteen seventeen eighteen nineteen".split()
+TENS = "twenty thirty forty fifty sixty seventy eighty ninety".split()
+NUMBER = rf"(?:\d[\d,]*|(?:{'|'.join(UNITS)}|(?:{'|'.join(TENS)})(?:-\w+)?))"
+COUNTED = re.compile(rf"\b({NUMBER}) (?:of them )?(?:(?:reserved|must-fail|public|test|proved|small|wrong) )?(rows|crates|examples|edits|tests|scripts|laws|files|texts|symbols|expressions|are tried|later)\b", re.I)
+
+
+def value(number):
+    number = number.lower().replace(",", "")
+    if number.isdigit():
+        return int(number)
+    if number in UNITS:
+        return 11 + UNITS.index(number)
+    tens, _, ones = number.partition("-")
+    return 20 + 10 * TENS.index(tens) + ("one two three four five six seven eight nine".split().index(ones) + 1 if ones else 0)
+
+
+def counts(known):
+    """Counts of what the repository has that are not its own, or that nothing here can count. Small ones pass."""
+    for path in documents():
+        if os.path.basename(path) in ("MEASURES.md", "CHANGELOG.md"):
+            continue
+        for block in blocks(path):
+            for it in COUNTED.finditer(block.text.replace("\n", " ")):
+                if value(it[1]) > 10 and value(it[1]) not in known.get(it[2].lower(), ()):
+                    yield f"{block.at(it.start())}: no data gives the count `{it[0]}`: leave it out"
+
+
+def decisions():
+    """Each decision has its date and a title."""
+    for block in blocks("docs/DECISIONS.md"):
+        if block.text.startswith("- ") and not re.match(r"- \d{4}-\d\d-\d\d · \*\*[^*]+\*\*", block.text):
+            yield f"{block.at(0)}: a decision begins with `DATE · **Title**`"
+
+
+def lengths():
+    for path in documents():
+        count = len(lines(path)) - 1
+        if count > LONGEST:
+            yield f"{path}: {count} lines, and a document has {LONGEST} at most"
+
+
+def index():
+    """Documents that the README doesn't lead to."""
+    for path in documents():
+        if path != "README.md" and f"`{path}`" not in read("README.md"):
+            yield f"README.md: it doesn't lead to {path}"
+
+
+def places():
+    """Crates that the map or the page of promises leaves out, and folders that crates.txt leaves out."""
+    for path in ("docs/ARCHITECTURE.md", "docs/PROMISES.md"):
+        named = set(re.findall(r"\w+", read(path)))
+        for crate in uses():
+            if crate not in named:
+                yield f"{path}: the crate {crate} has no place in it"
+    for crate in uses():
+        if not root_of(crate):
+            yield f"crates.txt: there is no crate {crate}"
+    for folder in here("crates/*"):
+        if os.path.basename(folder) not in uses():
+            yield f"crates.txt: it has no line for {folder}"
+
+
+def trusted():
+    """Where a document lists the crates of the kit that are used, these are those of crates.txt."""
+    lists = 0
+    for path in documents():
+        for it in re.finditer(r"kit's\s+crates\s+that\s+are\s+used\s+\(([^)]*)\)", read(path)):
+            lists += 1
+            said = set(SPAN.findall(it[1]))
+            for name in sorted(kit_crates() - said):
+                yield f"{path}: `{name}` is used and so trusted, and isn't named"
+            for name in sorted(said - kit_crates()):
+                yield f"{path}: `{name}` is named as trusted, and no crate uses it"
+    if not lists:
+        yield "docs/PROMISES.md: it doesn't list the kit's crates that are used (`std`, ..)"
+
+
+# What this repository stands alone from.
+CITES = re.compile(r"\b(?:document|paper) 0[1-5]\b|shared/pape[r]s|/wor[k]/|\b0[1-5]-(?:scope|surface|theorems|requests|language|outcomes)"
+                   r"|\bissue \d+\b|\brow \d+\b|\b(?:T[1-5]\.[0-9]|[DRW][0-9]{1,2}(?:\.[0-9]{1,2})?)(?= |:|,|\.|\)|$)", re.M)
+
+
+# Most files have nothing like it, which is seen faster.
+HINTS = ("ocument 0", "aper 0", "shared/", "/wor" + "k/", "issue ", "row ", "-scope", "-surface", "-theorems", "-requests", "-language", "-outcomes")
+NUMBERED = re.compile(r"[TDRW][0-9]")
+
+
+def citations():
+    for path in files():
+        if path.endswith((".rt", ".antt", ".md", ".edit", ".conc", ".rows", ".txt", ".py")) or "." not in os.path.basename(path):
+            if not NUMBERED.search(read(path)) and not any(it in read(path) for it in HINTS):
+                continue
+            for it in CITES.finditer(read(path)):
+                line = read(path).count("\n", 0, it.start()) + 1
+                yield f"{path}:{line}: `{it[0]}` looks like a citation of what stands outside of the repository"
+
+
+def named_pages():
+    """Documents that comments of the sources name."""
+    for path in files():
+        if path.endswith((".rt", ".antt", ".rows", ".conc")) or path in ("conc_run", ".ci/run"):
+            for it in re.finditer(r"\b(?:docs/)([A-Z]+\.md)", read(path)):
+                if not os.path.isfile(os.path.join(TOP, "docs", it[1])):
+                    yield f"{path}: there is no docs/{it[1]}"

@@ -1,0 +1,195 @@
+"""Rows: that examples are theirs, that the counts of a run are right; and `./check --rows`, which tries them without proof."""
+
+import concurrent.futures
+import glob
+import os
+import re
+import resource
+import shutil
+import subprocess
+import sys
+import tempfile
+import time
+
+from tools.sources import TOP, below, blocks, here, lines, read
+
+# The most processor seconds of a row, among all and in one file.
+SHORT, LONG = 1, 20
+# The programs of rows, and how the last line of their runs reads.
+PROGRAMS = ("conc_rows", "stack_rows")
+WORD = re.compile(r"^# ([a-z0-9-]+): ")
+
+
+def rows_of(path):
+    """Each row of a file: its name, the number of its first line, and its lines."""
+    found = []
+    for number, line in enumerate(lines(path), 1):
+        name = WORD.match(line)
+        if name:
+            found.append((name[1], number, []))
+        if found:
+            found[-1][2].append(line)
+    return found
+
+
+def script_of(row):
+    return "\n".join(it[1:].removeprefix(" ") for it in row if it.startswith("|"))
+
+
+def examples():
+    """Each example is the script of its row, and each row of one has its file; the tour has all of them."""
+    path, tour = "crates/conc_rows/data/tour.rows", read("docs/TOUR.md")
+    rows = {name.removeprefix("example-"): script_of(row) for name, _, row in rows_of(path) if name.startswith("example-")}
+    there = {os.path.basename(it).removesuffix(".conc"): it for it in here("examples/*.conc")}
+    for name in sorted(set(there) - set(rows)):
+        yield f"{there[name]}: {path} has no row example-{name}"
+    for name in sorted(set(rows) - set(there)):
+        yield f"{path}: there is no examples/{name}.conc"
+    for name in sorted(set(rows) & set(there)):
+        for number, (one, other) in enumerate(zip(lines(there[name]), rows[name].split("\n") + [""]), 1):
+            if one != other:
+                yield f"{there[name]}:{number}: the row example-{name} of {path} has another line"
+                break
+        if len(lines(there[name])) != len(rows[name].split("\n")) + 1:
+            yield f"{there[name]}: it and the row example-{name} have different lengths"
+        if f"`{name}.conc`" not in tour:
+            yield f"docs/TOUR.md: it has no paragraph on {name}.conc"
+
+
+def words_in(script):
+    return " ".join(re.sub(r"--.*", "", script).split())
+
+
+def readme():
+    """Each script of README is that of a row, so what README says of it is tried."""
+    scripts = {words_in(script_of(row)) for path in here("crates/conc_rows/data/*.rows") for _, _, row in rows_of(path)}
+    for block in blocks("README.md"):
+        script = "\n".join(block.lines[1:-1])
+        if block.kind == "code" and script.startswith("main ::") and words_in(script) not in scripts:
+            yield f"{block.at(0)}: no row of crates/conc_rows/data has this script"
+
+
+def count_of(crate):
+    """How many rows a program has, and how many of them can't run yet."""
+    rows = [row for path in here(f"crates/{crate}/data/*.rows") for _, _, row in rows_of(path)]
+    return len(rows), sum("later" in row for row in rows)
+
+
+def last_lines():
+    """The counts that the programs of rows are to print."""
+    for crate in PROGRAMS:
+        rows, later = count_of(crate)
+        wanted = f"{rows} rows, 0 failed" + (f", {later} later" if crate == "conc_rows" else "")
+        if read(f"crates/{crate}/stdout").strip() != wanted:
+            yield f"crates/{crate}/stdout: it has to be `{wanted}`"
+        twice = [name for path in here(f"crates/{crate}/data/*.rows") for name, _, _ in rows_of(path)]
+        for name in sorted({it for it in twice if twice.count(it) > 1}):
+            yield f"crates/{crate}/data: two rows are called {name}"
+
+
+def say(text):
+    print(f"check: {text}", file=sys.stderr, flush=True)
+
+
+def is_new(program, crate):
+    """Whether the program is there and no source of it is newer."""
+    if not os.access(program, os.X_OK):
+        return False
+    made = os.path.getmtime(program)
+    folders = [f"crates/{it}/{part}" for it in below(crate) | {crate} for part in ("src", "specs", "proofs")]
+    return all(os.path.getmtime(os.path.join(at, it)) <= made for folder in folders for at, _, names in os.walk(os.path.join(TOP, folder)) for it in names)
+
+
+def built(crate):
+    """The program of the rows, without proof, which is kept in out/. `rt try` keeps none, so it is taken while it runs."""
+    program = os.path.join(TOP, "out", crate)
+    if is_new(program, crate):
+        return program
+    if not shutil.which("rt"):
+        sys.exit("check: no command rt here: the kit is needed to build the program of the rows")
+    os.makedirs(os.path.dirname(program), exist_ok=True)
+    begun = time.time()
+    data = [word for it in here(f"crates/{crate}/data/*.rows") for word in ("--data", f"{os.path.basename(it)}={os.path.join(TOP, it)}")]
+    with tempfile.TemporaryDirectory(prefix="rows-", dir=os.path.dirname(program)) as work:
+        with open(f"{work}/log", "wb") as log:
+            ran = subprocess.Popen(["rt", "try", "--steps", "1", *data], cwd=os.path.join(TOP, "crates", crate), stdin=subprocess.DEVNULL,
+                                   stdout=log, stderr=log, env={**os.environ, "TMPDIR": work})
+        made = None
+        try:
+            while made is None and ran.poll() is None:
+                time.sleep(0.1)
+                made = taken(work)
+                if int(time.time() - begun) % 20 == 0:
+                    say(f"building {crate} without proof, {int(time.time() - begun)} s")
+                    time.sleep(1)
+        finally:
+            ran.terminate()
+            ran.wait()
+        if made is None:
+            with open(f"{work}/log", errors="replace") as log:
+                sys.exit(f"{log.read()}check: {crate} was not built")
+        os.utime(made, (begun, begun))
+        os.replace(made, program)
+    return program
+
+
+def taken(work):
+    """A copy of the program that runs, once it does: its output stands beside it then."""
+    for found in glob.glob(f"{work}/**/program", recursive=True):
+        if os.path.exists(f"{os.path.dirname(found)}/stdout"):
+            try:
+                shutil.copy(found, f"{work}/taken")
+                if "0 rows" in run_on(f"{work}/taken", {})[1]:
+                    return f"{work}/taken"
+            except OSError:
+                pass
+    return None
+
+
+def run_on(program, data, seconds=LONG):
+    """Runs a program of rows on files with these texts. Files that aren't named are empty."""
+    with tempfile.TemporaryDirectory(prefix="row-") as folder:
+        for crate in PROGRAMS:
+            for it in here(f"crates/{crate}/data/*.rows"):
+                with open(f"{folder}/{os.path.basename(it)}", "w", encoding="utf-8") as file:
+                    file.write(data.get(os.path.basename(it), ""))
+        limit = lambda: resource.setrlimit(resource.RLIMIT_CPU, (seconds, seconds + 1))  # noqa: E731
+        ran = subprocess.run([program], cwd=folder, stdin=subprocess.DEVNULL, stdout=subprocess.PIPE, stderr=subprocess.STDOUT,
+                             env={**os.environ, "ASAN_OPTIONS": "symbolize=0"}, preexec_fn=limit, check=False)
+        return ran.returncode, ran.stdout.decode(errors="replace")
+
+
+def try_row(program, path, row, seconds):
+    """What the program says of a row, or None where it takes longer. Empty lines before it keep the numbers of its lines."""
+    name, number, text = row
+    status, said = run_on(program, {os.path.basename(path): "\n" * (number - 1) + "\n".join(text) + "\n"}, seconds)
+    if status < 0:
+        return None
+    if status == 0 and re.search(r"^1 rows, 0 failed", said, re.M):
+        return ""
+    return "\n".join(it for it in said.split("\n") if it and not re.match(r"\d+ rows, ", it)) or f"{name}: status {status}"
+
+
+def try_rows(words):
+    """`./check --rows [FILE]`: the rows of a file, or of all files, that end within so much processor time."""
+    paths = here("crates/conc_rows/data/*.rows")
+    if words:
+        name = os.path.basename(words[0]).removesuffix(".rows") + ".rows"
+        paths = here(f"crates/*/data/{name}")
+        if len(words) > 1 or not paths:
+            sys.exit(f"check: --rows takes one file of crates/*/data, such as tour.rows, and none is called {name}")
+    program = built(paths[0].split("/")[1])
+    rows = [(path, row) for path in paths for row in rows_of(path) if "later" not in row[2]]
+    failed, longer = 0, []
+    with concurrent.futures.ThreadPoolExecutor(os.cpu_count()) as pool:
+        tried = pool.map(lambda it: try_row(program, *it, LONG if words else SHORT), rows)
+        for (path, row), said in zip(rows, tried):
+            if said is None:
+                longer.append(row[0])
+            elif said:
+                failed += 1
+                print(f"{path}:{row[1]}: {said}", flush=True)
+    if longer:
+        print(f"not tried, since they take over {LONG if words else SHORT} s: {' '.join(longer)}")
+    print(f"{len(rows) - len(longer)} rows were tried by a build without proof, {failed} failed")
+    return 1 if failed else 0
