@@ -11,7 +11,7 @@ use Rattle.hs_rules.specs.Entries.{woken, strand_entry, on_thread, next, IsIdle,
 use Rattle.hs_rules.specs.Entries as entries
 use Rattle.hs_rules.specs.Endings.{IsTick, IsDeadlock}
 use Rattle.hs_rules.specs.Runs.{Run}
-use Rattle.timing_laws.specs.WithoutTime.{timeless, ReadsClock, LeadsTimeless, TimelessRun, NeverReadsClock, without_ticks, tick_until_due, with_its_tick}
+use Rattle.timing_laws.specs.WithoutTime.{timeless, ReadsClock, LeadsTimeless, TimelessRun, NeverReadsClock, without_ticks, tick_until_due, with_its_tick, WithTheirTicks}
 use Rattle.hs_laws.proofs.RunParts.{run_join}
 use Rattle.timing_laws.proofs.Passing.{same_item, passed, thread_there, on_running}
 use Rattle.timing_laws.proofs.Alike.{Alike, without_time, timeless_option, reason_still, asleep_still, awake_still, timeless_twice, resume_alike, alike_there}
@@ -315,10 +315,10 @@ module _ (code : Code) where
   time_ticks s (entry.Tick at) fs a = absurd (a tt)
   time_ticks s entry.Stranded fs a = refl
 
-  pub run_back : (s w : State) (es : List Entry) → TimelessRun code (timeless s) es w → (fs : List Entry) × (u : State) × Run code s fs u × (timeless u ≡ w) × (without_ticks fs ≡ es)
-  run_back s w [] h = ([], s, refl, h, refl)
+  pub run_back : (s w : State) (es : List Entry) → TimelessRun code (timeless s) es w → (fs : List Entry) × (u : State) × Run code s fs u × (timeless u ≡ w) × (without_ticks fs ≡ es) × WithTheirTicks code s es fs u
+  run_back s w [] h = ([], s, refl, h, refl, (refl, refl))
   run_back s w (e ∷ es) h =
       let g = h.1 in
       let k = entry_back s h.0 e g in
       let r = run_back k.0 w es (subst (λ q. TimelessRun code q es w) (sym k.2) h.2) in
-      (with_its_tick s e ++ r.0, r.1, run_join code (with_its_tick s e) r.0 s k.0 r.1 k.1 r.2, r.3, time_ticks s e r.0 g.3 ∙ ap (λ ds. e ∷ ds) r.4)
+      (with_its_tick s e ++ r.0, r.1, run_join code (with_its_tick s e) r.0 s k.0 r.1 k.1 r.2, r.3, time_ticks s e r.0 g.3 ∙ ap (λ ds. e ∷ ds) r.4, (k.0, r.0, refl, k.1, r.5))

@@ -2,7 +2,7 @@
 --
 -- `threadDelay` suspends a thread for at least so many microseconds (`Control.Concurrent`), so a sleeper may wake at any time
 -- from its due on. Over all the Ticks that a run may have, dues decide nothing but what a script reads off the clock.
-use Rattle.std.specs.Prelude.{◌≡◌, ℕ, Bool, true, false, cond, nat_le, List, [], ◌∷◌, Option, Some, None, slice_get}
+use Rattle.std.specs.Prelude.{◌≡◌, ℕ, Bool, true, false, cond, nat_le, List, [], ◌∷◌, ◌++◌, Option, Some, None, slice_get}
 use Rattle.rules_meaning.specs.Values.{V}
 use Rattle.rules_meaning.specs.CoreMeaning.{Code}
 use Rattle.rules_expansion.specs.Core.{Primitive, ClockMicros}
@@ -13,6 +13,7 @@ use Rattle.hs_rules.specs.Terms.{Calls, Forks, ForksUnmask, Part, Ret, Throw, Do
 use Rattle.hs_rules.specs.State.{Thread, State}
 use Rattle.hs_rules.specs.Entries.{Leads, IsLegal}
 use Rattle.hs_rules.specs.Endings.{IsTick}
+use Rattle.hs_rules.specs.Runs.{Run}
 
 -- ---- a state without time
 
@@ -93,3 +94,8 @@ tick_until_due now (Some (Sleeping due)) es = cond (nat_le due now) es (entry.Ti
 abbrev pub with_its_tick : State → Entry → List Entry
 with_its_tick s (entry.Wake t) = tick_until_due s.clock (reason_of t s.blocked) (entry.Wake t ∷ [])
 with_its_tick s e = e ∷ []
+
+-- The entries of a timeless run lead from a state to another, each with its Tick; these are all of them.
+abbrev pub WithTheirTicks : Code → State → List Entry → List Entry → State → Type 0
+WithTheirTicks code s [] fs u = (fs ≡ []) × (s ≡ u)
+WithTheirTicks code s (e ∷ es) fs u = (m : State) × (gs : List Entry) × (fs ≡ with_its_tick s e ++ gs) × Run code s (with_its_tick s e) m × WithTheirTicks code m es gs u

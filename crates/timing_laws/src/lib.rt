@@ -19,7 +19,7 @@ ghost use Rattle.hs_rules.specs.State.{State};
 ghost use Rattle.hs_rules.specs.Entries.{IsIdle, Leads, IsLegal};
 ghost use Rattle.hs_rules.specs.Endings.{IsDone, IsUncaught, IsDeadlock, IsTick};
 ghost use Rattle.hs_rules.specs.Runs.{Run};
-ghost use Rattle.timing_laws.specs.WithoutTime.{timeless, ReadsClock, LeadsTimeless, TimelessRun, NeverReadsClock, without_ticks, with_its_tick};
+ghost use Rattle.timing_laws.specs.WithoutTime.{timeless, ReadsClock, LeadsTimeless, TimelessRun, NeverReadsClock, without_ticks, with_its_tick, WithTheirTicks};
 
 /// A Tick changes nothing but time. Each other entry that is legal in a state and doesn't read the clock is legal in the
 /// state without time, and leaves the same but for time.
@@ -44,9 +44,9 @@ pub fn endings_need_no_time()
     ensures idle { (code : Code) (s : State) → sleepers_of s.blocked ≡ [] → IsIdle code s ↔ IsIdle code (timeless s) }
 {}
 
-/// Each timeless run is a run with Ticks between its entries. Where no timeless run from the state without time meets a legal
+/// Each timeless run is a run with at most one Tick before each Wake, to the due of the sleeper that wakes. Where no timeless run from the state without time meets a legal
 /// reading of the clock, each run is a timeless run without its Ticks.
 pub fn time_decides_nothing()
     ensures forth { (code : Code) (s u : State) (es : List Entry) → NeverReadsClock code (timeless s) → Run code s es u → TimelessRun code (timeless s) (without_ticks es) (timeless u) }
-    ensures back { (code : Code) (s w : State) (es : List Entry) → TimelessRun code (timeless s) es w → (fs : List Entry) × (u : State) × Run code s fs u × (timeless u ≡ w) × (without_ticks fs ≡ es) }
+    ensures back { (code : Code) (s w : State) (es : List Entry) → TimelessRun code (timeless s) es w → (fs : List Entry) × (u : State) × Run code s fs u × (timeless u ≡ w) × (without_ticks fs ≡ es) × WithTheirTicks code s es fs u }
 {}
