@@ -1,17 +1,18 @@
 -- A run that comes back goes on for ever, and a rank bounds every run.
-use Rattle.std.proofs.Common.{◌≡◌, ◌≤◌, ◌<◌, ◌+◌, ℕ, Bool, true, zero, suc, List, [], ◌∷◌, ◌++◌, length, refl, sym, subst, arith, length-append}
+use Rattle.std.proofs.Common.{◌≡◌, ◌≤◌, ◌<◌, ◌+◌, ℕ, Bool, true, zero, suc, List, [], ◌∷◌, ◌++◌, length, Some, refl, sym, subst, arith, length-append}
 use Rattle.hs_base.specs.declared.clock_choice.ClockChoice.{ClockChoice}
 use Rattle.hs_base.specs.declared.clock_choice.ClockChoice.TheVariants.{Real}
 use Rattle.hs_rules.specs.declared.entry.Entry.{Entry}
 use Rattle.hs_rules.specs.declared.entry.Entry.TheVariants as entry
-use Rattle.rules_meaning.specs.CoreMeaning.{Code}
+use Rattle.rules_trees.specs.Programs.{Fn}
+use Rattle.rules_meaning.specs.CoreMeaning.{Code, code_of}
 use Rattle.hs_rules.specs.State.{State}
 use Rattle.hs_rules.specs.Entries.{Leads}
-use Rattle.hs_rules.specs.Runs.{Run}
+use Rattle.hs_rules.specs.Runs.{Run, first_of, IsRun}
 use Rattle.timing_laws.specs.WithoutTime.{timeless, LeadsTimeless, TimelessRun, NeverReadsClock, without_ticks}
 use Rattle.timing_laws.proofs.Timing.{run_forth, run_back}
-use Rattle.outcome_laws.specs.Timings.{MayTick, TickFits, RunWithTicks, TimedRun, RunsPast, IsEndlessFrom}
-use Rattle.outcome_laws.proofs.Timed.{real_run, timed_join}
+use Rattle.outcome_laws.specs.Timings.{MayTick, TickFits, RunWithTicks, TimedRun, RunsPast, IsEndlessFrom, IsEndless}
+use Rattle.outcome_laws.proofs.Timed.{real_run, run_of_timed, timed_join}
 
 -- ---- so many times, one after another
 
@@ -85,3 +86,11 @@ module _ (code : Code) where
     timed_join code (MayTick clock code) es (times (suc n) round) s w w h (timed_round (MayTick clock code) (suc n) w round k),
     omega (arith, long_timed (suc n) round some, count_both es (times (suc n) round)),
   )
+
+-- ---- of a script
+
+pub endless_histories : (clock : ClockChoice) (ds : List Fn) → IsEndless clock ds → (n : ℕ) → (es : List Entry) × (u : State) × IsRun ds es u × (n < length (without_ticks es))
+endless_histories clock ds h n = let r = h.2 n in (r.0, r.1, (h.0, h.1, run_of_timed (code_of ds) (MayTick clock (code_of ds)) r.0 h.0 r.1 r.2), r.3)
+
+pub bound_ends : (clock : ClockChoice) (ds : List Fn) (m : ℕ) → ((s u : State) (es : List Entry) → first_of ds ≡ Some s → TimedRun clock (code_of ds) s es u → length (without_ticks es) ≤ m) → ¬ IsEndless clock ds
+bound_ends clock ds m b h = let r = h.2 m in let le : length (without_ticks r.0) ≤ m = b h.0 r.1 r.0 h.1 r.2 in absurd (omega (arith, le, r.3))

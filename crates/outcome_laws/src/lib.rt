@@ -24,7 +24,7 @@ ghost use Rattle.hs_rules.specs.Runs.{Run, first_of, IsRun};
 ghost use Rattle.hs_laws.specs.ClockLaw.{ClockKept};
 ghost use Rattle.hs_laws.specs.HistoryEndings.{HasEnding};
 ghost use Rattle.timing_laws.specs.WithoutTime.{timeless, LeadsTimeless, TimelessRun, NeverReadsClock, without_ticks};
-ghost use Rattle.outcome_laws.specs.Timings.{MayTick, TickFits, TimedRun, IsEndlessFrom};
+ghost use Rattle.outcome_laws.specs.Timings.{MayTick, TickFits, TimedRun, IsEndlessFrom, IsEndless};
 ghost use Rattle.outcome_laws.specs.Outcomes.{Outcome, ending_of, ReachesTimeless, Reaches, HasOutcome, IsOutcomeOf, outcome_cmp};
 
 /// In real timing each run is of the timing, and a run of any timing is a run.
@@ -67,15 +67,18 @@ pub fn scripts_need_no_time()
 {}
 
 /// Where a run comes back to a state by at least one entry other than a Tick, runs go on for ever: a timeless run in real
-/// timing, and a run of any timing in that timing.
+/// timing, and a run of any timing in that timing. A script that is endless has histories of any length.
 pub fn rounds_go_on()
     ensures timeless { (code : Code) (s w : State) (es round : List Entry) (e : Entry) → TimelessRun code (timeless s) es w → TimelessRun code w (e ∷ round) w → IsEndlessFrom Real code s }
     ensures timed { (clock : ClockChoice) (code : Code) (s w : State) (es round : List Entry) → TimedRun clock code s es w → TimedRun clock code w round w → 0 < length (without_ticks round) → IsEndlessFrom clock code s }
+    ensures histories { (clock : ClockChoice) (ds : List Fn) → IsEndless clock ds → (n : ℕ) → (es : List Entry) × (u : State) × IsRun ds es u × (n < length (without_ticks es)) }
 {}
 
 /// Where each entry from a state of a closed set lowers a rank, or is a Tick and doesn't raise it, no run has more entries other
-/// than Ticks than the rank of its first state: so it is of timeless runs and real timing, and of the runs of any timing.
+/// than Ticks than the rank of its first state: so it is of timeless runs and real timing, and of the runs of any timing. A script
+/// whose runs have a bound isn't endless.
 pub fn ranks_bound_runs()
     ensures timeless { (code : Code) (s : State) (visited : State → Bool) (rank : State → ℕ) → NeverReadsClock code (timeless s) → visited (timeless s) ≡ true → ((r q : State) (e : Entry) → visited r ≡ true → LeadsTimeless code r e q → (visited q ≡ true) × (rank q < rank r)) → (u : State) (es : List Entry) → Run code s es u → length (without_ticks es) ≤ rank (timeless s) }
     ensures timed { (clock : ClockChoice) (code : Code) (s : State) (visited : State → Bool) (rank : State → ℕ) → visited s ≡ true → ((r q : State) (e : Entry) → visited r ≡ true → Leads code r e q → TickFits (MayTick clock code) r e → (visited q ≡ true) × (length (without_ticks (e ∷ [])) + rank q ≤ rank r)) → (u : State) (es : List Entry) → TimedRun clock code s es u → length (without_ticks es) ≤ rank s }
+    ensures ends { (clock : ClockChoice) (ds : List Fn) (m : ℕ) → ((s u : State) (es : List Entry) → first_of ds ≡ Some s → TimedRun clock (code_of ds) s es u → length (without_ticks es) ≤ m) → ¬ IsEndless clock ds }
 {}
