@@ -1,15 +1,19 @@
 -- What runs come to, and how long they go on, over sets of states that are closed.
-use Rattle.std.proofs.Common.{◌≤◌, ◌+◌, ℕ, List, true, false, length, sym, ◌∙◌, subst, arith, inl, inr}
+use Rattle.std.proofs.Common.{◌≡◌, ◌≤◌, ◌+◌, ℕ, List, true, false, length, Some, sym, ◌∙◌, subst, arith, inl, inr}
 use Rattle.hs_base.specs.declared.clock_choice.ClockChoice.{ClockChoice}
 use Rattle.hs_base.specs.declared.clock_choice.ClockChoice.TheVariants.{Real, Virtual}
 use Rattle.hs_rules.specs.declared.entry.Entry.{Entry}
 use Rattle.hs_rules.specs.declared.entry.Entry.TheVariants as entry
-use Rattle.rules_meaning.specs.CoreMeaning.{Code}
+use Rattle.rules_trees.specs.Programs.{Fn}
+use Rattle.rules_meaning.specs.CoreMeaning.{Code, code_of}
 use Rattle.hs_rules.specs.State.{State}
 use Rattle.hs_rules.specs.Endings.{IsDone, IsUncaught, ended_by, result_of}
+use Rattle.hs_rules.specs.Runs.{first_of}
 use Rattle.timing_laws.specs.WithoutTime.{without_ticks}
-use Rattle.outcome_laws.specs.Timings.{MayTick, RunWithTicks}
-use Rattle.outcome_laws.specs.Outcomes.{Final, Done, Uncaught, Deadlock, Outcome, EndsBy, ShowsOutcome, Reaches}
+use Rattle.timing_laws.proofs.Passing.{same_item}
+use Rattle.outcome_laws.specs.Timings.{MayTick, RunWithTicks, IsEndless}
+use Rattle.outcome_laws.specs.Outcomes.{Final, Done, Uncaught, Deadlock, Outcome, EndsBy, ShowsOutcome, Reaches, IsOutcomeOf}
+use Rattle.outcome_laws.proofs.Going.{bound_ends}
 use Rattle.reduction_laws.specs.EagerRules.{EagerSteps}
 use Rattle.reduction_laws.specs.Paths.{IsStable, HasEnded, EndsLike, IsClosed, HasEndingLike, RankFalls}
 use Rattle.reduction_laws.proofs.Meeting.{alike_print, alike_done, alike_uncaught, alike_deadlock}
@@ -63,3 +67,16 @@ pub each_outcome : (clock : ClockChoice) (code : Code) (V : State → Type 0) �
 each_outcome clock code V closed n s r c i o h =
     let e = each_ending code (MayTick clock code) (clock_stable clock code) V closed n s r c i h.0 h.1 h.2 (has_ended o.end code h.1 h.3.2) in
     (e.0, e.1, alike_outcome code h.1 e.0 o e.2 h.3)
+
+-- ---- of a script
+
+module _ (clock : ClockChoice) (ds : List Fn) (V : State → Type 0) where
+  pub script_outcome : IsClosed (code_of ds) (MayTick clock (code_of ds)) V → (n : ℕ) (s r : State) → first_of ds ≡ Some s → EagerSteps (code_of ds) n s r → V r → (o : Outcome) → IsOutcomeOf clock ds o →
+      (w : State) × V w × ShowsOutcome (code_of ds) w o
+  script_outcome closed n s r f c i o h = each_outcome clock (code_of ds) V closed n s r c i o (subst (λ q. Reaches clock (code_of ds) q o) (same_item (sym h.1 ∙ f)) h.2)
+
+  pub script_ends : (rank : State → ℕ) → RankFalls (code_of ds) (MayTick clock (code_of ds)) V rank → (n : ℕ) (s r : State) → first_of ds ≡ Some s → EagerSteps (code_of ds) n s r → V r → ¬ IsEndless clock ds
+  script_ends rank falls n s r f c i =
+      bound_ends clock ds (n + rank r) (λ q u es g run.
+      run_bounded (code_of ds) (MayTick clock (code_of ds)) (clock_stable clock (code_of ds)) V rank falls n s r c i es u
+      (subst (λ z. RunWithTicks (code_of ds) (MayTick clock (code_of ds)) z es u) (same_item (sym g ∙ f)) run))

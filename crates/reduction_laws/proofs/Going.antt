@@ -85,9 +85,9 @@ pub met : (code : Code) (s u : State) (e : Entry) (m : State) → EagerStep code
 met code s u e m (inl c) o l = rule_commutes code c.0 s u e m c.1 o l
 met code s u e m (inr c) o l = ⊎_elim (λ q. inl q) (λ q. inr (q.0, q.1, ⊎_elim (λ r. inl (inr (c.0, r))) (λ r. inr (inl r)) q.2)) (finish_commutes code c.0 s u e m c.1 l)
 
-settled_goes : (code : Code) (s u : State) → EagerStep code s u → HasEnded code s → ⊥
-settled_goes code s u (inl c) d = not_end code s (entry.Local c.0 1) u (λ z. z) c.1.leads d
-settled_goes code s u (inr c) d = not_end code s (entry.Finish c.0) u (λ z. z) c.1.leads d
+eager_goes_on : (code : Code) (s u : State) → EagerStep code s u → HasEnded code s → ⊥
+eager_goes_on code s u (inl c) d = not_end code s (entry.Local c.0 1) u (λ z. z) c.1.leads d
+eager_goes_on code s u (inr c) d = not_end code s (entry.Finish c.0) u (λ z. z) c.1.leads d
 
 -- one local rule of each of these threads, and then these moves
 abbrev pub uncounted_moves : List ℕ → List Move → List Move
@@ -161,7 +161,7 @@ module _ (code : Code) (T : State → ℕ → Type 0) (stable : IsStable code T)
         joined x l (inr (inr q)) = behind v vs w.0 x q.0 q.1 q.2 q.3 l w.2 w.3
 
   pub lose : (vs : List Move) (s u z : State) → HasEnded code z → EagerStep code s u → Path code T s vs z → KeptEnding code T vs u z
-  lose [] s u z d c w = absurd (settled_goes code s u c (subst (HasEnded code) (sym w) d))
+  lose [] s u z d c w = absurd (eager_goes_on code s u c (subst (HasEnded code) (sym w) d))
   lose (v ∷ vs) s u z d c w = one s u z c v vs (λ m x q k. lose vs m x z d q k) w
 
   pub lose_steps : (k : ℕ) (s r : State) (vs : List Move) (z : State) → HasEnded code z → EagerSteps code k s r → Path code T s vs z → KeptEnding code T vs r z

@@ -12,17 +12,18 @@
 ghost use Rattle.std.specs.Prelude.{◌≡◌, ◌≤◌, ◌+◌, ℕ, Bool, true, List, length, Some};
 ghost use Rattle.hs_base.specs.declared.clock_choice.ClockChoice.{ClockChoice};
 ghost use Rattle.rules_expansion.specs.Core.{Core};
-ghost use Rattle.rules_meaning.specs.CoreMeaning.{Code};
+ghost use Rattle.rules_trees.specs.Programs.{Fn};
+ghost use Rattle.rules_meaning.specs.CoreMeaning.{Code, code_of};
 ghost use Rattle.hs_rules.specs.declared.entry.Entry.{Entry};
 ghost use Rattle.hs_rules.specs.declared.entry.Entry.TheVariants as entry;
 ghost use Rattle.hs_rules.specs.State.{State, first};
 ghost use Rattle.hs_rules.specs.Entries.{next, Leads};
 ghost use Rattle.hs_rules.specs.Histories.{steps_of};
-ghost use Rattle.hs_rules.specs.Runs.{Run};
+ghost use Rattle.hs_rules.specs.Runs.{Run, first_of};
 ghost use Rattle.hs_rules.specs.Endings.{IsDone, IsUncaught, IsDeadlock};
 ghost use Rattle.timing_laws.specs.WithoutTime.{without_ticks};
-ghost use Rattle.outcome_laws.specs.Timings.{MayTick, TimedRun};
-ghost use Rattle.outcome_laws.specs.Outcomes.{Outcome, ShowsOutcome, Reaches};
+ghost use Rattle.outcome_laws.specs.Timings.{MayTick, TimedRun, IsEndless};
+ghost use Rattle.outcome_laws.specs.Outcomes.{Outcome, ShowsOutcome, Reaches, IsOutcomeOf};
 ghost use Rattle.reduction_laws.specs.NoThrowTo.{NoThrowTo, NoThrowToActions, NobodyThrows};
 ghost use Rattle.reduction_laws.specs.EagerRules.{EagerRule, EagerFinish, EagerSteps};
 ghost use Rattle.reduction_laws.specs.Paths.{IsStable, Move, entries_of, Path, counted, HasEnded, EndsLike, KeptEnding, InSet, IsClosed, HasEndingLike, RankFalls, IsOther, Commutes, CommutesWithReceive, CommutesWithFinish, NamesThread};
@@ -69,10 +70,12 @@ pub fn no_ending_is_lost()
 {}
 
 /// Where eager steps lead from a state to one of a set, and from whatever a taken entry leaves of a state of the set to one of it
-/// again, the set has each ending that a run of the timing from that state reaches, and each outcome.
+/// again, the set has each ending that a run of the timing from that state reaches, and each outcome; from the first state of a
+/// script each outcome of the script.
 pub fn closed_sets_have_each_ending()
     ensures ending { (clock : ClockChoice) (code : Code) (V : State → Bool) → IsClosed code (MayTick clock code) (InSet V) → (k : ℕ) (s r : State) → EagerSteps code k s r → V r ≡ true → (es : List Entry) (z : State) → TimedRun clock code s es z → HasEnded code z → HasEndingLike (InSet V) z }
     ensures outcome { (clock : ClockChoice) (code : Code) (V : State → Bool) → IsClosed code (MayTick clock code) (InSet V) → (k : ℕ) (s r : State) → EagerSteps code k s r → V r ≡ true → (o : Outcome) → Reaches clock code s o → (w : State) × (V w ≡ true) × ShowsOutcome code w o }
+    ensures script { (clock : ClockChoice) (ds : List Fn) (V : State → Bool) → IsClosed (code_of ds) (MayTick clock (code_of ds)) (InSet V) → (k : ℕ) (s r : State) → first_of ds ≡ Some s → EagerSteps (code_of ds) k s r → V r ≡ true → (o : Outcome) → IsOutcomeOf clock ds o → (w : State) × (V w ≡ true) × ShowsOutcome (code_of ds) w o }
 {}
 
 /// Endings that are alike printed the same, are of one kind, and show the same outcome.
@@ -86,9 +89,10 @@ pub fn alike_endings_show_the_same()
 
 /// Where a rank of the states of such a set falls with each taken entry by at least the entries other than Ticks, that one and
 /// the eager steps after it, no run of the timing has more entries other than Ticks than the eager steps to the set and the rank
-/// that its state has there.
+/// that its state has there. So a script from whose first state eager steps lead to such a set isn't endless.
 pub fn ranks_bound_runs()
-    ensures { (clock : ClockChoice) (code : Code) (V : State → Bool) (rank : State → ℕ) → RankFalls code (MayTick clock code) (InSet V) rank → (k : ℕ) (s r : State) → EagerSteps code k s r → V r ≡ true → (es : List Entry) (z : State) → TimedRun clock code s es z → length (without_ticks es) ≤ k + rank r }
+    ensures runs { (clock : ClockChoice) (code : Code) (V : State → Bool) (rank : State → ℕ) → RankFalls code (MayTick clock code) (InSet V) rank → (k : ℕ) (s r : State) → EagerSteps code k s r → V r ≡ true → (es : List Entry) (z : State) → TimedRun clock code s es z → length (without_ticks es) ≤ k + rank r }
+    ensures script { (clock : ClockChoice) (ds : List Fn) (V : State → Bool) (rank : State → ℕ) → RankFalls (code_of ds) (MayTick clock (code_of ds)) (InSet V) rank → (k : ℕ) (s r : State) → first_of ds ≡ Some s → EagerSteps (code_of ds) k s r → V r ≡ true → ¬ IsEndless clock ds }
 {}
 
 /// Each entry that leads on names a thread that there is, or one that sleeps; so there are few to try in a state.
