@@ -43,9 +43,9 @@ pub record Unfinished (x : SlotState) (t : ℕ) : Type 0 where
   pub is : slice_get x.threads t ≡ Some thread
   pub unfinished : thread.finished ≡ false
 
--- An entry is offered: by a thread that isn't blocked and by its part and frames, to one that can receive an exception in flight
--- to it, to any sleeper that is due, by the clock; and a Stranded where all are at rest, nobody sleeps and somebody waits at a
--- cell and can be interrupted.
+-- An entry is offered: by a thread that isn't blocked and by its part and frames, to one that can receive an exception in
+-- flight to it, to any sleeper that is due, by the clock; and a Stranded where all are at rest, nobody sleeps and somebody
+-- waits at a cell and can be interrupted.
 abbrev pub Offers : SlotState → Entry → Type 0
 Offers x (entry.Local t k) = (th : Unfinished x t) × (th.thread.blocked ≡ false) × (has_local_rule th.thread.term.part (length th.thread.term.frames) ≡ true)
 Offers x (entry.Op t) = (th : Unfinished x t) × (th.thread.blocked ≡ false) × (stands_at_operation th.thread.term.part ≡ true)

@@ -1,12 +1,12 @@
-//! What a state with slots offers: of each kind of entry, which may be legal. This crate has no code: each public function with
-//! an empty body carries one law as its contract, so that a caller may use it and a reader find it.
+//! What a state with slots offers: of each kind of entry, which may be legal. This crate has no code: each public function
+//! with an empty body carries one law as its contract, so that a caller may use it and a reader find it.
 //!
-//! To a contract a state with slots is that of `slot_states`, and what it offers is said by `specs/Offers.antt`, of its threads,
-//! exceptions in flight, sleepers and clock alone.
+//! To a contract a state with slots is that of `slot_states`, and what it offers is said by `specs/Offers.antt`, of its
+//! threads, exceptions in flight, sleepers and clock alone.
 //!
 //! Its promise: in the state of a run of an accepted script whatever is legal is offered by a state with slots that stands for
-//! it, and of several sleepers that are due any may wake. So who takes each entry that is offered leaves none out. That what is
-//! offered is legal is left to `slot_states`, which says it of each kind of entry.
+//! it, and of several sleepers that are due any may wake. So who takes each entry that is offered leaves none out. That what
+//! is offered is legal is left to `slot_states`, which says it of each kind of entry.
 #![tactic(auto)]
 
 ghost use Rattle.std.specs.Prelude.{◌≡◌, ◌≤◌, ℕ, List};

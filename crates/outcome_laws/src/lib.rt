@@ -1,12 +1,12 @@
-//! What runs of a script may come to, and whether they may go on for ever. This crate has no code: each public function with an
-//! empty body carries laws as its contract, so that a caller may use them and a reader find them.
+//! What runs of a script may come to, and whether they may go on for ever. This crate has no code: each public function with
+//! an empty body carries laws as its contract, so that a caller may use them and a reader find them.
 //!
-//! To a contract an outcome is what a run printed and how it ended of itself (`specs/Outcomes.antt`), and a timing is a choice of
-//! the clock, which says where Ticks may stand (`specs/Timings.antt`). A timeless run is that of `timing_laws`.
+//! To a contract an outcome is what a run printed and how it ended of itself (`specs/Outcomes.antt`), and a timing is a choice
+//! of the clock, which says where Ticks may stand (`specs/Timings.antt`). A timeless run is that of `timing_laws`.
 //!
 //! Its promise: what timeless runs from the first state of a script come to is what its runs in real timing come to, by
-//! histories that keep the law of the clock; a run that comes back to its state goes on for ever, and a rank that falls at each
-//! entry bounds every run. Which entries need not be tried is left to `reduction_laws`, and what is legal in a state that
+//! histories that keep the law of the clock; a run that comes back to its state goes on for ever, and a rank that falls at
+//! each entry bounds every run. Which entries need not be tried is left to `reduction_laws`, and what is legal in a state that
 //! somebody has in hand to `offer_laws`.
 #![tactic(auto)]
 
@@ -45,15 +45,15 @@ pub fn outcomes_are_ordered()
     ensures same { (o p : Outcome) → outcome_cmp o p ≡ Equal → o ≡ p }
 {}
 
-/// Each timeless run from the first state of a script is a history of it with Ticks between its entries, which keeps the law of
-/// the clock with no early Tick; and so does each run in virtual timing.
+/// Each timeless run from the first state of a script is a history of it with Ticks between its entries, which keeps the law
+/// of the clock with no early Tick; and so does each run in virtual timing.
 pub fn witnesses_keep_the_clock()
     ensures real_timing { (ds : List Fn) (s w : State) (es : List Entry) → first_of ds ≡ Some s → TimelessRun (code_of ds) (timeless s) es w → (fs : List Entry) × (u : State) × IsRun ds fs u × (timeless u ≡ w) × (without_ticks fs ≡ es) × ClockKept ds fs 0 }
     ensures virtual_timing { (ds : List Fn) (s u : State) (es : List Entry) → first_of ds ≡ Some s → TimedRun Virtual (code_of ds) s es u → ClockKept ds es 0 }
 {}
 
-/// What timeless runs from the state without time come to, runs in real timing come to, and where no timeless run meets a legal
-/// reading of the clock they come to nothing else.
+/// What timeless runs from the state without time come to, runs in real timing come to, and where no timeless run meets a
+/// legal reading of the clock they come to nothing else.
 pub fn outcomes_need_no_time()
     ensures sound { (code : Code) (s : State) (o : Outcome) → ReachesTimeless code (timeless s) o → Reaches Real code s o }
     ensures complete { (code : Code) (s : State) (o : Outcome) → NeverReadsClock code (timeless s) → Reaches Real code s o → ReachesTimeless code (timeless s) o }
@@ -74,9 +74,9 @@ pub fn rounds_go_on()
     ensures histories { (clock : ClockChoice) (ds : List Fn) → IsEndless clock ds → (n : ℕ) → (es : List Entry) × (u : State) × IsRun ds es u × (n < length (without_ticks es)) }
 {}
 
-/// Where each entry from a state of a closed set lowers a rank, or is a Tick and doesn't raise it, no run has more entries other
-/// than Ticks than the rank of its first state: so it is of timeless runs and real timing, and of the runs of any timing. A script
-/// whose runs have a bound isn't endless.
+/// Where each entry from a state of a closed set lowers a rank, or is a Tick and doesn't raise it, no run has more entries
+/// other than Ticks than the rank of its first state: so it is of timeless runs and real timing, and of the runs of any
+/// timing. A script whose runs have a bound isn't endless.
 pub fn ranks_bound_runs()
     ensures timeless { (code : Code) (s : State) (visited : State → Bool) (rank : State → ℕ) → NeverReadsClock code (timeless s) → visited (timeless s) ≡ true → ((r q : State) (e : Entry) → visited r ≡ true → LeadsTimeless code r e q → (visited q ≡ true) × (rank q < rank r)) → (u : State) (es : List Entry) → Run code s es u → length (without_ticks es) ≤ rank (timeless s) }
     ensures timed { (clock : ClockChoice) (code : Code) (s : State) (visited : State → Bool) (rank : State → ℕ) → visited s ≡ true → ((r q : State) (e : Entry) → visited r ≡ true → Leads code r e q → TickFits (MayTick clock code) r e → (visited q ≡ true) × (length (without_ticks (e ∷ [])) + rank q ≤ rank r)) → (u : State) (es : List Entry) → TimedRun clock code s es u → length (without_ticks es) ≤ rank s }

@@ -2,10 +2,10 @@
 --
 -- A local rule changes one thread alone, and what others do comes to the same before it and after it. Only an exception from
 -- outside may reach the thread before the rule or after it, which can make a difference: round the one stands a handler that
--- isn't round the other, or the one is masked. A local rule is eager where such an exception would come to the same before it and
--- after it: the thread can receive none there, or the rule throws nothing and enters and leaves no `catch` and no masking scope
--- but an unmasked one. Where nobody throws at a thread each local rule is, and so is the end of a thread by a value, unless it is
--- the main one.
+-- isn't round the other, or the one is masked. A local rule is eager where such an exception would come to the same before it
+-- and after it: the thread can receive none there, or the rule throws nothing and enters and leaves no `catch` and no masking
+-- scope but an unmasked one. Where nobody throws at a thread each local rule is, and so is the end of a thread by a value,
+-- unless it is the main one.
 use Rattle.std.specs.Prelude.{◌≡◌, ◌≢◌, ◌⊎◌, ℕ, zero, suc, Bool, true, false, not, ◌&&◌, ◌||◌, List, [], ◌∷◌, Option, Some, None, slice_get}
 use Rattle.rules_meaning.specs.CoreMeaning.{Code}
 use Rattle.rules_waiting.specs.Waiting.{is_blocked}
@@ -17,7 +17,7 @@ use Rattle.hs_rules.specs.Entries.{is_throw, is_unmasked, Leads}
 use Rattle.hs_rules.specs.Endings.{is_ret}
 use Rattle.reduction_laws.specs.NoThrowTo.{NobodyThrows}
 
--- whether an exception passes this frame, and a thread is as open to one directly in it as an unmasked thread round it
+-- whether an exception passes this frame and isn't handled there, and a thread can receive one inside it where it can outside
 abbrev pub passes : Frame → Bool
 passes (BindTo x b env) = true
 passes (CatchBy x b env) = false
@@ -68,8 +68,8 @@ abbrev pub has_value : Option Thread → Bool
 has_value None = false
 has_value (Some th) = is_ret th.term.part
 
--- An eager Finish of thread t leads from a state to another: it isn't the main one, it isn't blocked and finishes by a value, and
--- nobody throws at a thread.
+-- An eager Finish of thread t leads from a state to another: it isn't the main one, it isn't blocked and finishes by a value,
+-- and nobody throws at a thread.
 pub record EagerFinish (code : Code) (t : ℕ) (s u : State) : Type 0 where
   pub other : 0 ≢ t
   pub free : is_blocked t s.blocked ≡ false

@@ -12,7 +12,8 @@ use Rattle.reduction_laws.specs.EagerRules.{EagerRule, EagerFinish, EagerStep, E
 
 -- ---- which entries are taken
 
--- where T is a relation between states and moments: a search takes a Local of one step, a Tick where T holds, and any other entry
+-- where T is a relation between states and moments: a search takes a Local of one step, a Tick where T holds, and any other
+-- entry
 abbrev pub IsTaken : (State → ℕ → Type 0) → State → Entry → Type 0
 IsTaken T s (entry.Tick at) = T s at
 IsTaken T s (entry.Local t k) = k ≡ 1
@@ -122,8 +123,8 @@ IsOther t (entry.Finish v) = v ≢ t
 IsOther t (entry.Tick at) = Unit {0}
 IsOther t entry.Stranded = Unit {0}
 
--- After an eager local rule of thread t that led to u, an entry that led to m before it leads to a state to which that rule leads
--- from m; or, where main finished meanwhile, to one that shows the same as m.
+-- After an eager local rule of thread t that led to u, an entry that led to m before it leads to a state to which that rule
+-- leads from m; or, where main finished meanwhile, to one that shows the same as m.
 abbrev pub Commutes : Code → ℕ → State → Entry → State → Type 0
 Commutes code t u e m = (w : State) × Leads code u e w × (EagerRule code t m w ⊎ (¬ MainRuns m × ShowsSame m w))
 
@@ -137,8 +138,8 @@ LocalsLead code (t ∷ ts) w m = (i : State) × Leads code w (entry.Local t 1) i
 abbrev pub CommutesWithReceive : Code → ℕ → State → State → Type 0
 CommutesWithReceive code t u m = (w : State) × Leads code u (entry.Receive t) w × (((ts : List ℕ) × LocalsLead code ts w m) ⊎ EagerRule code t m w)
 
--- After an eager Finish of thread t, which led to u, an entry that led to m before is that Finish itself, or leads to a state to
--- which an eager Finish of t leads from m; or, where main finished meanwhile, to one that shows the same as m.
+-- After an eager Finish of thread t, which led to u, an entry that led to m before is that Finish itself, or leads to a state
+-- to which an eager Finish of t leads from m; or, where main finished meanwhile, to one that shows the same as m.
 abbrev pub CommutesWithFinish : Code → ℕ → State → Entry → State → Type 0
 CommutesWithFinish code t u e m = (m ≡ u) ⊎ ((w : State) × Leads code u e w × (EagerFinish code t m w ⊎ (¬ MainRuns m × ShowsSame m w)))
 

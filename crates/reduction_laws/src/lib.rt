@@ -1,12 +1,12 @@
-//! Which entries a search over all schedules of a script may take at once. This crate has no code: each public function with an
-//! empty body carries laws as its contract, so that a caller may use them and a reader find them.
+//! Which entries a search over all schedules of a script may take at once. This crate has no code: each public function with
+//! an empty body carries laws as its contract, so that a caller may use them and a reader find them.
 //!
-//! To a contract a local rule is eager (`specs/EagerRules.antt`) by the term that it meets and the first step of its action alone,
-//! or, where nobody throws at a thread (`specs/NoThrowTo.antt`), always; there a thread's end by a value is eager too. A path
-//! (`specs/Paths.antt`) is a list of entries from state to state, each of which a search takes.
+//! To a contract a local rule is eager (`specs/EagerRules.antt`) by the term that it meets and the first step of its action
+//! alone, or, where nobody throws at a thread (`specs/NoThrowTo.antt`), always; there a thread's end by a value is eager too.
+//! A path (`specs/Paths.antt`) is a list of entries from state to state, each of which a search takes.
 //!
-//! Its promise: a set of states that each taken entry leads back into, but for eager steps, has each outcome that runs come to,
-//! and a rank of its states that falls bounds every run. How such a set is found is left to the crate that searches.
+//! Its promise: a set of states that each taken entry leads back into, but for eager steps, has each outcome that runs come
+//! to, and a rank of its states that falls bounds every run. How such a set is found is left to the crate that searches.
 #![tactic(auto)]
 
 ghost use Rattle.std.specs.Prelude.{◌≡◌, ◌≤◌, ◌+◌, ℕ, Bool, true, List, length, Some};
@@ -69,9 +69,9 @@ pub fn no_ending_is_lost()
     ensures { (clock : ClockChoice) (code : Code) (k : ℕ) (s u z : State) (vs : List Move) → EagerSteps code k s u → HasEnded code z → Path code (MayTick clock code) s vs z → KeptEnding code (MayTick clock code) vs u z }
 {}
 
-/// Where eager steps lead from a state to one of a set, and from whatever a taken entry leaves of a state of the set to one of it
-/// again, the set has each ending that a run of the timing from that state reaches, and each outcome; from the first state of a
-/// script each outcome of the script.
+/// Where eager steps lead from a state to one of a set, and from whatever a taken entry leaves of a state of the set to one of
+/// it again, the set has each ending that a run of the timing from that state reaches, and each outcome; from the first state
+/// of a script each outcome of the script.
 pub fn closed_sets_have_each_ending()
     ensures ending { (clock : ClockChoice) (code : Code) (V : State → Bool) → IsClosed code (MayTick clock code) (InSet V) → (k : ℕ) (s r : State) → EagerSteps code k s r → V r ≡ true → (es : List Entry) (z : State) → TimedRun clock code s es z → HasEnded code z → HasEndingLike (InSet V) z }
     ensures outcome { (clock : ClockChoice) (code : Code) (V : State → Bool) → IsClosed code (MayTick clock code) (InSet V) → (k : ℕ) (s r : State) → EagerSteps code k s r → V r ≡ true → (o : Outcome) → Reaches clock code s o → (w : State) × (V w ≡ true) × ShowsOutcome code w o }
@@ -88,8 +88,8 @@ pub fn alike_endings_show_the_same()
 {}
 
 /// Where a rank of the states of such a set falls with each taken entry by at least the entries other than Ticks, that one and
-/// the eager steps after it, no run of the timing has more entries other than Ticks than the eager steps to the set and the rank
-/// that its state has there. So a script from whose first state eager steps lead to such a set isn't endless.
+/// the eager steps after it, no run of the timing has more entries other than Ticks than the eager steps to the set and the
+/// rank that its state has there. So a script from whose first state eager steps lead to such a set isn't endless.
 pub fn ranks_bound_runs()
     ensures runs { (clock : ClockChoice) (code : Code) (V : State → Bool) (rank : State → ℕ) → RankFalls code (MayTick clock code) (InSet V) rank → (k : ℕ) (s r : State) → EagerSteps code k s r → V r ≡ true → (es : List Entry) (z : State) → TimedRun clock code s es z → length (without_ticks es) ≤ k + rank r }
     ensures script { (clock : ClockChoice) (ds : List Fn) (V : State → Bool) (rank : State → ℕ) → RankFalls (code_of ds) (MayTick clock (code_of ds)) (InSet V) rank → (k : ℕ) (s r : State) → first_of ds ≡ Some s → EagerSteps (code_of ds) k s r → V r ≡ true → ¬ IsEndless clock ds }

@@ -134,12 +134,12 @@ module _ (code : Code) (s r : State) (h : Alike s r) where
   finish_alike t th [] (Performs p) = refl
   finish_alike t th (f ∷ fs) p = refl
 
-  silent : (t : ℕ) (th : Thread) → slice_get s.threads t ≡ Some th → ¬ (thread_reads_clock (slice_get s.threads t) ≡ true) → part_reads_clock th.term.part ≡ false
-  silent t th is n = sym (ap thread_reads_clock is) ∙ false_of (thread_reads_clock (slice_get s.threads t)) n
+  reads_none : (t : ℕ) (th : Thread) → slice_get s.threads t ≡ Some th → ¬ (thread_reads_clock (slice_get s.threads t) ≡ true) → part_reads_clock th.term.part ≡ false
+  reads_none t th is n = sym (ap thread_reads_clock is) ∙ false_of (thread_reads_clock (slice_get s.threads t)) n
 
   entered_alike : (e : Entry) → ¬ IsTick e → ¬ IsWake e → ¬ ReadsClock s e → Alikes (entries.entered code s e) (entries.entered code r e)
   entered_alike (entry.Local t k) a b c = thread_seen without_time s r h t (λ th q. local_entry code t k th q) (λ th is. local_alike t k th)
-  entered_alike (entry.Op t) a b c = thread_seen without_time s r h t (λ th q. op_entry t th q) (λ th is. op_alike t th (silent t th is c))
+  entered_alike (entry.Op t) a b c = thread_seen without_time s r h t (λ th q. op_entry t th q) (λ th is. op_alike t th (reads_none t th is c))
   entered_alike (entry.Receive t) a b c = thread_seen without_time s r h t (λ th q. receive_entry t th q) (λ th is. receive_alike t th)
   entered_alike (entry.Wake t) a b c = absurd (b tt)
   entered_alike (entry.Finish t) a b c = thread_seen without_time s r h t (λ th q. finish_entry t th th.term.frames th.term.part q) (λ th is. finish_alike t th th.term.frames th.term.part)

@@ -6,8 +6,8 @@
 //! (`specs/WithoutTime.antt`).
 //!
 //! Its promise: each timeless run is a run with at most one Tick before each Wake; and where no timeless run meets a legal
-//! reading of the clock, each run is a timeless run without its Ticks. What runs come to is left to `outcome_laws`, and where a
-//! runner's Ticks may stand to `hs_laws`.
+//! reading of the clock, each run is a timeless run without its Ticks. What runs come to is left to `outcome_laws`, and where
+//! a runner's Ticks may stand to `hs_laws`.
 #![tactic(auto)]
 
 ghost use Rattle.std.specs.Prelude.{◌≡◌, ◌↔◌, ℕ, List, []};
@@ -35,8 +35,8 @@ pub fn time_can_be_given()
     ensures { (code : Code) (s w : State) (e : Entry) → LeadsTimeless code (timeless s) e w → (u : State) × Run code s (with_its_tick s e) u × (timeless u ≡ w) }
 {}
 
-/// A run has ended in a state exactly where it has in the state without time, and in the same way. Where nobody sleeps there is
-/// no work in the one exactly where there is none in the other.
+/// A run has ended in a state exactly where it has in the state without time, and in the same way. Where nobody sleeps there
+/// is no work in the one exactly where there is none in the other.
 pub fn endings_need_no_time()
     ensures done { (s : State) → IsDone s ↔ IsDone (timeless s) }
     ensures uncaught { (s : State) → IsUncaught s ↔ IsUncaught (timeless s) }
@@ -44,8 +44,8 @@ pub fn endings_need_no_time()
     ensures idle { (code : Code) (s : State) → sleepers_of s.blocked ≡ [] → IsIdle code s ↔ IsIdle code (timeless s) }
 {}
 
-/// Each timeless run is a run with at most one Tick before each Wake, to the due of the sleeper that wakes. Where no timeless run from the state without time meets a legal
-/// reading of the clock, each run is a timeless run without its Ticks.
+/// Each timeless run is a run with at most one Tick before each Wake, to the due of the sleeper that wakes. Where no timeless
+/// run from the state without time meets a legal reading of the clock, each run is a timeless run without its Ticks.
 pub fn time_decides_nothing()
     ensures forth { (code : Code) (s u : State) (es : List Entry) → NeverReadsClock code (timeless s) → Run code s es u → TimelessRun code (timeless s) (without_ticks es) (timeless u) }
     ensures back { (code : Code) (s w : State) (es : List Entry) → TimelessRun code (timeless s) es w → (fs : List Entry) × (u : State) × Run code s fs u × (timeless u ≡ w) × (without_ticks fs ≡ es) × WithTheirTicks code s es fs u }
