@@ -1,0 +1,5 @@
+use Rattle.offer_laws.proofs.Sleeping.{any_wakes}
+use Rattle.offer_laws.proofs.any_due_sleeper_wakes.Goals as goal
+
+pub returns : goal.returns
+returns c = any_wakes

@@ -1,0 +1,5 @@
+pub mod Timed
+pub mod Reaching
+pub mod Ordered
+pub mod Clocked
+pub mod Going

@@ -1,0 +1,12 @@
+pub mod Tests
+pub mod Lists
+pub mod Apart
+pub mod NobodyThrows
+pub mod Own
+pub mod Ending
+pub mod Meeting
+pub mod Finishing
+pub mod Going
+pub mod Ranks
+pub mod Cutting
+pub mod Closed

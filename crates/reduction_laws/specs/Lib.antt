@@ -1,0 +1,3 @@
+pub mod NoThrowTo
+pub mod EagerRules
+pub mod Paths

@@ -1,0 +1,5 @@
+pub mod Passing
+pub mod Alike
+pub mod Operating
+pub mod Entering
+pub mod Timing
