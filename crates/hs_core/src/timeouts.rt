@@ -1,9 +1,9 @@
 //! The parts of a `timeout`.
 use crate::emitter::ActEmitter;
 use hs_base::NoMemory;
+use hs_base::tree::forms::BinaryForm;
 use hs_nodes::names::{Hidden, bind_added, off};
 use rules_code::{Act, ActId, ExprId, Primitive};
-use hs_base::tree::forms::BinaryForm;
 use std::alloc::Global;
 
 impl ActEmitter {
