@@ -1,9 +1,9 @@
 //! Rows: what nodes give, where no script can write them, or where they are asked many times.
+use hs_base::tree::forms::BinaryForm;
 use hs_base::{Exn, NoMemory, Split, Txt, Value, ValueList, Values};
 use hs_eval::{Found, eval_node, slots_mean};
 use hs_items::Items;
 use rules_code::{ExprId, Node, NodeLink};
-use hs_base::tree::forms::BinaryForm;
 use std::alloc::Global;
 use std::test::Fail;
 

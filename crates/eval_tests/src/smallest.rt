@@ -29,7 +29,10 @@ fn only<T: Drop>(alloc: Global, item: T) -> Result<Items<T>, NoMemory>
 fn main_block(alloc: Global, pos: Pos) -> Result<Block, NoMemory>
     ensures { IfOk result (λ b. b ≡ record { stmts = []; last = a.Unary u.Return pos (e.Unit pos) }) }
 {
-    let last = Boxed::new(alloc, Action::Unary(UnaryAction::Return, pos, Expr::Unit(pos)))?;
+    let last = Boxed::new(
+        alloc,
+        Action::Unary(UnaryAction::Return, pos, Expr::Unit(pos)),
+    )?;
     Ok(Block {
         stmts: Items::new(alloc),
         last,

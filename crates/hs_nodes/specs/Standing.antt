@@ -1,5 +1,5 @@
 -- Nodes that stand for trees: with all nodes before them, and whatever nodes come after.
-use Rattle.std.specs.Prelude.{◌≡◌, ℕ, ◌<◌, List, [], ◌∷◌, length}
+use Rattle.std.specs.Prelude.{◌≡◌, ◌<◌, List, [], ◌∷◌, length}
 use Rattle.rules_code.specs.declared.node.ExprId.{ExprId}
 use Rattle.rules_code.specs.declared.node.Node.{Node}
 use Rattle.rules_code.specs.Slots.{Sx, Sxs, s_none, s_more, Root, tree_at}

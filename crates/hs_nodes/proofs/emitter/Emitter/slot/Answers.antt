@@ -1,4 +1,4 @@
-use Rattle.std.proofs.Common.{◌≡◌, ◌-◌, ◌+◌, ◌<◌, ◌≤◌, Bool, true, false, take, length, length-take-le, cond, Some, ap, ◌∙◌, sym, arith}
+use Rattle.std.proofs.Common.{◌≡◌, ◌-◌, true, false, take, length, length-take-le, ◌∙◌, arith}
 use Rattle.rules_expansion.specs.Names.{Written, same_name}
 use Rattle.hs_nodes.specs.Names.{scope_of, name_of}
 use Rattle.hs_nodes.proofs.Scopes.{slot-step, scope-length}
