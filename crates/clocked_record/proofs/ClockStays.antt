@@ -7,7 +7,8 @@ use Rattle.hs_rules.specs.declared.entry.Entry.{Entry}
 use Rattle.hs_rules.specs.declared.entry.Entry.TheVariants as entry
 use Rattle.rules_meaning.specs.Values.{V, UnitValue, Truth, Just}
 use Rattle.rules_meaning.specs.CoreMeaning.{Code}
-use Rattle.rules_expansion.specs.Core.{Primitive, PutStr, PutStrLn, HPutStrLn, NewMVar, NewEmptyMVar, TakeMVar, PutMVar, ReadMVar, TryTakeMVar, TryPutMVar, MyThreadId, GetMaskingState, ClockMicros, ThreadDelay, ThrowTo, NewTimeout, Acquired, Release}
+use Rattle.rules_expansion.specs.declared.primitive.Primitive.{Primitive}
+use Rattle.rules_expansion.specs.declared.primitive.Primitive.TheVariants.{PutStr, PutStrLn, HPutStrLn, NewMVar, NewEmptyMVar, TakeMVar, PutMVar, ReadMVar, TryTakeMVar, TryPutMVar, MyThreadId, GetMaskingState, ClockMicros, ThreadDelay, ThrowTo, NewTimeout, Acquired, Release}
 use Rattle.rules_waiting.specs.OneCell.{first_put, first_take, readers}
 use Rattle.rules_waiting.specs.Waiting.{Reason, Sleeping, Flying, Sleeper, is_blocked, reason_of, line_of, flight_of, flying_to, sleepers_of}
 use Rattle.hs_rules.specs.Terms.{Operation, Calls, Forks, ForksUnmask, Part, Ret, Throw, Do, Performs, Frame, Term, mask_at}

@@ -6,15 +6,15 @@ use Rattle.hs_base.specs.declared.mask.Mask.{Mask}
 use Rattle.hs_base.specs.declared.value.Value.{Value}
 use Rattle.hs_base.specs.declared.value.Value.TheVariants as raw
 use Rattle.hs_base.specs.declared.value.ValueList.{ValueList}
-use Rattle.rules_expansion.specs.Core.{PutStr, PutStrLn, HPutStrLn, NewMVar, NewEmptyMVar, TakeMVar, PutMVar, ReadMVar, TryTakeMVar, TryPutMVar, MyThreadId, GetMaskingState, ClockMicros, ThreadDelay, ThrowTo, NewTimeout, Acquired, Release, Primitive}
+use Rattle.rules_expansion.specs.declared.primitive.Primitive.{Primitive}
+use Rattle.rules_expansion.specs.declared.primitive.Primitive.TheVariants.{PutStr, PutStrLn, HPutStrLn, NewMVar, NewEmptyMVar, TakeMVar, PutMVar, ReadMVar, TryTakeMVar, TryPutMVar, MyThreadId, GetMaskingState, ClockMicros, ThreadDelay, ThrowTo, NewTimeout, Acquired, Release}
 use Rattle.rules_meaning.specs.Values as val
 use Rattle.rules_meaning.specs.Values.{V, value_of, values_of, list_value_of}
 use Rattle.rules_meaning.proofs.Values.{value_of-Pair, value_of-Just, value_of-Left, value_of-Right, value_of-List, list_value_of-Nil, list_value_of-before}
 use Rattle.rules_typed.specs.Sorts.{Sort}
 use Rattle.rules_typed.specs.TypedMeaning.{any_cell, of_int, of_text, of_exn, of_thread, of_cell}
-use Rattle.rules_code.specs.declared.act.Primitive.{Primitive as Asked}
-use Rattle.rules_code.specs.declared.act.Primitive.TheVariants as p
-use Rattle.rules_code.specs.CodeTrees.{primitive_of}
+use Rattle.rules_expansion.specs.declared.primitive.Primitive.{Primitive as Asked}
+use Rattle.rules_expansion.specs.declared.primitive.Primitive.TheVariants as p
 use Rattle.hs_eval.proofs.Cases.{by_form, by_list, value_of-Unit, value_of-Int, value_of-Bool, value_of-Text, value_of-Nothing, value_of-Cell, value_of-Thread, value_of-Exn, value_of-Restore, value_of-Inst}
 use Rattle.hs_soundness.specs.CoreSorts.{of_instance}
 use Rattle.hs_progress.specs.CoreTyping.{Asks, asks_put_str, asks_put_str_ln, asks_h_put_str_ln, asks_new, asks_new_empty, asks_take, asks_put, asks_read, asks_try_take, asks_try_put, asks_my_thread, asks_masking, asks_clock, asks_delay, asks_throw_to, asks_new_timeout, asks_acquired, asks_release}
@@ -171,7 +171,7 @@ wrong_count : (q : Primitive) (us : List V) → (length us ≡ count_of q → �
 wrong_count q us n ks k a h = n (each_one h ∙ asks_count a)
 
 -- a primitive that takes no one value
-pub other_one : (q : Asked) (v : V) → (q ≡ p.PutStr → ⊥) → (q ≡ p.PutStrLn → ⊥) → (q ≡ p.HPutStrLn → ⊥) → (q ≡ p.NewMVar → ⊥) → (q ≡ p.TakeMVar → ⊥) → (q ≡ p.ReadMVar → ⊥) → (q ≡ p.TryTakeMVar → ⊥) → (q ≡ p.ThreadDelay → ⊥) → (q ≡ p.Release → ⊥) → Unfit (primitive_of q) (v ∷ [])
+pub other_one : (q : Asked) (v : V) → (q ≡ p.PutStr → ⊥) → (q ≡ p.PutStrLn → ⊥) → (q ≡ p.HPutStrLn → ⊥) → (q ≡ p.NewMVar → ⊥) → (q ≡ p.TakeMVar → ⊥) → (q ≡ p.ReadMVar → ⊥) → (q ≡ p.TryTakeMVar → ⊥) → (q ≡ p.ThreadDelay → ⊥) → (q ≡ p.Release → ⊥) → Unfit q (v ∷ [])
 other_one p.PutStr v n0 n1 n2 n3 n4 n5 n6 n7 n8 = absurd (n0 refl)
 other_one p.PutStrLn v n0 n1 n2 n3 n4 n5 n6 n7 n8 = absurd (n1 refl)
 other_one p.HPutStrLn v n0 n1 n2 n3 n4 n5 n6 n7 n8 = absurd (n2 refl)
@@ -192,7 +192,7 @@ other_one p.Acquired v n0 n1 n2 n3 n4 n5 n6 n7 n8 = wrong_count Acquired (v ∷ 
 other_one p.Release v n0 n1 n2 n3 n4 n5 n6 n7 n8 = absurd (n8 refl)
 
 -- a primitive that takes no two values
-pub other_two : (q : Asked) (v w : V) → (q ≡ p.PutMVar → ⊥) → (q ≡ p.TryPutMVar → ⊥) → (q ≡ p.ThrowTo → ⊥) → Unfit (primitive_of q) (v ∷ w ∷ [])
+pub other_two : (q : Asked) (v w : V) → (q ≡ p.PutMVar → ⊥) → (q ≡ p.TryPutMVar → ⊥) → (q ≡ p.ThrowTo → ⊥) → Unfit q (v ∷ w ∷ [])
 other_two p.PutStr v w n0 n1 n2 = wrong_count PutStr (v ∷ w ∷ []) (λ e. omega (arith, e))
 other_two p.PutStrLn v w n0 n1 n2 = wrong_count PutStrLn (v ∷ w ∷ []) (λ e. omega (arith, e))
 other_two p.HPutStrLn v w n0 n1 n2 = wrong_count HPutStrLn (v ∷ w ∷ []) (λ e. omega (arith, e))
@@ -218,8 +218,8 @@ as_many : (vs : List Value) → length (values_of vs) ≡ length vs
 as_many [] = refl
 as_many (v ∷ vs) = let e = as_many vs in omega (arith, e)
 
-more_unfit : (q : Asked) (vs : List Value) → 2 < length vs → Unfit (primitive_of q) (values_of vs)
-more_unfit q vs l = wrong_count (primitive_of q) (values_of vs) (λ e. let m = two_at_most (primitive_of q) in let n = as_many vs in omega (arith, m, e, n, l))
+more_unfit : (q : Asked) (vs : List Value) → 2 < length vs → Unfit q (values_of vs)
+more_unfit q vs l = wrong_count q (values_of vs) (λ e. let m = two_at_most q in let n = as_many vs in omega (arith, m, e, n, l))
 
 none_longer : (xs : List Value) → (xs ≡ [] → ⊥) → 0 < length xs
 none_longer [] n = absurd (n refl)
@@ -227,7 +227,7 @@ none_longer (x ∷ xs) n = omega arith
 
 -- values from which two were taken, and some are left
 pub left_unfit : (q : Asked) (vs ms rest : List Value) (last first : Option Value) → MatchOption last ((vs ≡ []) × (ms ≡ [])) (λ x. vs ≡ ms ++ x ∷ []) → MatchOption first ((ms ≡ []) × (rest ≡ [])) (λ x. ms ≡ rest ++ x ∷ [])
-    → (rest ≡ [] → ⊥) → Unfit (primitive_of q) (values_of vs)
+    → (rest ≡ [] → ⊥) → Unfit q (values_of vs)
 left_unfit q vs ms rest last None h g n = absurd (n g.1)
 left_unfit q vs ms rest None (Some y) h g n =
     let e = ap length (sym h.1 ∙ g) in let a = length-append rest (y ∷ []) in absurd (omega (arith, e, a))

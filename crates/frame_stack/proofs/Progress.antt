@@ -6,13 +6,13 @@ use Rattle.hs_base.specs.declared.mask.Mask.{Mask}
 use Rattle.hs_base.specs.declared.mask.Mask.TheVariants.{Unmasked}
 use Rattle.rules_trees.specs.Trees.{T}
 use Rattle.rules_trees.specs.Programs.{Fn, script_of}
-use Rattle.rules_expansion.specs.Core.{Primitive}
+use Rattle.rules_expansion.specs.declared.primitive.Primitive.{Primitive}
 use Rattle.rules_meaning.specs.Values.{V, values_of}
 use Rattle.rules_meaning.specs.CoreMeaning.{code_of}
 use Rattle.rules_typed.specs.Sorts.{Sort}
 use Rattle.rules_typed.specs.TypedMeaning.{any_cell}
 use Rattle.rules_code.specs.declared.code.Body.{Body}
-use Rattle.rules_code.specs.CodeTrees.{StandsFor, code_trees, primitive_of}
+use Rattle.rules_code.specs.CodeTrees.{StandsFor, code_trees}
 use Rattle.hs_rules.specs.Terms as named
 use Rattle.hs_rules.specs.LocalRules as name
 use Rattle.hs_progress.specs.TypedStates.{HeadsKept}
@@ -101,7 +101,7 @@ asks_fit : {ds : List Fn} {x : named.Part} {k : Sort} (p : Primitive) (vs : List
 asks_fit p vs (op_stands (calls_stands {ks} {k} q h)) u = u ks k q h
 
 one_fits : (b : Body) (m : Mask) (p : Active) (fs : List SlotFrame) → MayGo b m (active_of b p) fs → Fits p
-one_fits b m (a.Asks p vs) fs may = asks_fit (primitive_of p) (values_of vs) may.1.part
+one_fits b m (a.Asks p vs) fs may = asks_fit p (values_of vs) may.1.part
 one_fits b m (a.Doing i vs) fs may = tt
 one_fits b m (a.Ret v) fs may = tt
 one_fits b m (a.Throw e) fs may = tt

@@ -5,9 +5,8 @@ use Rattle.rules_trees.specs.Programs.{script_of}
 use Rattle.rules_meaning.specs.Values.{V, values_of}
 use Rattle.rules_typed.specs.Sorts.{Sort}
 use Rattle.rules_typed.specs.TypedMeaning.{any_cell}
-use Rattle.rules_expansion.specs.Core.{Primitive}
+use Rattle.rules_expansion.specs.declared.primitive.Primitive.{Primitive}
 use Rattle.rules_code.specs.declared.code.Body.{Body}
-use Rattle.rules_code.specs.CodeTrees.{primitive_of}
 use Rattle.hs_rules.specs.Terms.{Term}
 use Rattle.hs_progress.specs.CoreTyping.{Asks}
 use Rattle.hs_progress.specs.TypedStates.{AllOfSorts}
@@ -56,7 +55,7 @@ Unfit p vs = (ks : List Sort) (k : Sort) → Asks p ks k → AllOfSorts any_cell
 
 -- a primitive has values of its types
 abbrev pub Fits : Active → Type 0
-Fits (a.Asks p vs) = Unfit (primitive_of p) (values_of vs) → ⊥
+Fits (a.Asks p vs) = Unfit p (values_of vs) → ⊥
 Fits (a.Doing i vs) = Unit {0}
 Fits (a.Ret v) = Unit {0}
 Fits (a.Throw e) = Unit {0}

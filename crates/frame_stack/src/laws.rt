@@ -4,7 +4,7 @@ ghost use Rattle.std.specs.Prelude.{◌≡◌, ℕ, List, Option, Some, length};
 ghost use Rattle.hs_base.specs.declared.mask.Mask.TheVariants.{Unmasked};
 ghost use Rattle.hs_base.specs.declared.exn.Exn.{Exn};
 ghost use Rattle.rules_trees.specs.Programs.{Fn, script_of};
-ghost use Rattle.rules_expansion.specs.Core.{Primitive};
+ghost use Rattle.rules_expansion.specs.declared.primitive.Primitive.{Primitive};
 ghost use Rattle.rules_meaning.specs.Values.{V};
 ghost use Rattle.rules_meaning.specs.CoreMeaning.{code_of};
 ghost use Rattle.rules_typed.specs.Sorts.{Sort};

@@ -1,7 +1,6 @@
 //! How far a control goes alone.
 ghost use Rattle.std.specs.Prelude.{◌≡◌, ◌<◌, ◌≤◌, ◌⊎◌, [], ◌↔◌, IsTrue, IfOk, IfErr, OnOk, Some, List};
 ghost use Rattle.rules_code.specs.declared.code.Body.{Body};
-ghost use Rattle.rules_code.specs.CodeTrees.{primitive_of};
 ghost use Rattle.rules_meaning.specs.Values.{values_of};
 ghost use Rattle.slot_laws.specs.SlotRules.{at, local, locals};
 ghost use Rattle.local_steps.specs.Machine.{active_of, frames_of, funs_of};

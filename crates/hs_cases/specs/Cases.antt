@@ -11,7 +11,8 @@ use Rattle.hs_base.specs.declared.exn.Exn.{Exn}
 use Rattle.hs_base.specs.declared.exn.Exn.TheVariants.{Timeout, BlockedIndefinitely}
 use Rattle.hs_base.specs.ExceptionTexts.{text_of}
 use Rattle.rules_expansion.specs.Names.{Name}
-use Rattle.rules_expansion.specs.Core.{Core, PutStr, PutStrLn, HPutStrLn, NewMVar, NewEmptyMVar, TakeMVar, PutMVar, ReadMVar, TryTakeMVar, TryPutMVar, MyThreadId, GetMaskingState, ClockMicros, ThreadDelay, ThrowTo, NewTimeout, Acquired, Release}
+use Rattle.rules_expansion.specs.Core.{Core}
+use Rattle.rules_expansion.specs.declared.primitive.Primitive.TheVariants.{PutStr, PutStrLn, HPutStrLn, NewMVar, NewEmptyMVar, TakeMVar, PutMVar, ReadMVar, TryTakeMVar, TryPutMVar, MyThreadId, GetMaskingState, ClockMicros, ThreadDelay, ThrowTo, NewTimeout, Acquired, Release}
 use Rattle.rules_meaning.specs.Values.{V, Env, UnitValue, Int, Truth, Text, Nothing, Just, Cell, Exception, Restore, Inst, with_name}
 use Rattle.rules_meaning.specs.Values as v
 use Rattle.rules_meaning.specs.CoreMeaning.{Code}

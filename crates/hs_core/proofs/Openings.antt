@@ -12,6 +12,8 @@ use Rattle.rules_code.specs.declared.act.Act.TheVariants as k
 use Rattle.rules_code.specs.declared.act.ActId.{ActId}
 use Rattle.rules_trees.specs.Trees.{Ex}
 use Rattle.rules_expansion.specs.Names.{Written}
+use Rattle.rules_expansion.specs.Core.{Core}
+use Rattle.rules_expansion.specs.Expansion.{core}
 use Rattle.rules_trees.specs.Programs.{Act as Action, Bl, last, ActArms, maybe_acts, either_acts, list_acts, pair_acts, case_act, before, stmt_of, act_of, bl_of}
 use Rattle.rules_trees.proofs.EquationsOfActions.{bl_is}
 use Rattle.hs_base.specs.declared.tree.action.Block.{Block}
@@ -28,7 +30,7 @@ use Rattle.hs_core.specs.declared.pending.Pending.{Pending}
 use Rattle.hs_core.specs.declared.pending.Pending.TheVariants as p
 use Rattle.hs_core.specs.Defining.{Knows, roots}
 use Rattle.hs_core.specs.Emits.{Grows, DoneIn, StandsIn, Emits, EmitsEx, Pushed}
-use Rattle.hs_core.specs.Opening.{action_tree, block_tree, arms_tree, Opened, o_bind, o_let, o_then, wrap, wrap_all, node_of, Holds, HoldAll, Opens, OpensAll}
+use Rattle.hs_core.specs.Opening.{core_tree, action_tree, block_tree, arms_tree, Opened, o_bind, o_let, o_then, wrap, wrap_all, node_of, Holds, HoldAll, Opens, OpensAll}
 use Rattle.hs_core.proofs.ActArena.{grows_same, grows_by, grows_on, stands_on, done_on, knows_on}
 use Rattle.hs_core.proofs.Steps.{goes, goes_ex, goes_on, kept, kept_ex, at, emits, follow, done_ex2, given2, given_ex1, with_ex, after2, after3, never, at_scope}
 
@@ -332,8 +334,11 @@ closes_all os (suc i) t l h = absurd (omega arith)
 
 -- ---- actions of the script
 
+pub as_core : {L : Type 0} {a n : ActEmitter} {id : ActId} {p q : Core} (d : Defs) → q ≡ p → Emits L a n id (λ s. core_tree d s p) → Emits L a n id (λ s. core_tree d s q)
+as_core {L = l} {a = o} {n = m} {id = i} d e h = subst (λ z. Emits l o m i (λ s. core_tree d s z)) (sym e) h
+
 pub as_action : {L : Type 0} {a n : ActEmitter} {id : ActId} (d : Defs) (r q : Action) → q ≡ r → Emits L a n id (λ s. action_tree d s r) → Emits L a n id (λ s. action_tree d s q)
-as_action {L = l} {a = o} {n = m} {id = i} d r q e h = subst (λ z. Emits l o m i (λ s. action_tree d s z)) (sym e) h
+as_action d r q e h = as_core d (ap core e) h
 
 -- the parts of a bracket, with what is known of the script
 pub acts_four : {a b l m o n : ActEmitter} {i j h g id : ActId} {t u v w : Scope → Sa} (d : Defs) (mt : Scope → Sa → Sa → Sa → Sa → Sa) → Emits (Knows a.emitter.nodes d) a b i t → Emits (Knows b.emitter.nodes d) b l j u

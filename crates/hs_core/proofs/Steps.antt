@@ -5,9 +5,9 @@ use Rattle.rules_code.specs.declared.node.ExprId.{ExprId}
 use Rattle.rules_code.specs.declared.act.ActId.{ActId}
 use Rattle.rules_code.specs.declared.act.Act.{Act}
 use Rattle.rules_code.specs.declared.act.Act.TheVariants as c
-use Rattle.rules_code.specs.declared.act.Primitive as named
+use Rattle.rules_expansion.specs.declared.primitive.Primitive as named
 use Rattle.rules_code.specs.Slots.{Sx, Sxs, s_none, s_more, Scope, slotted, slotted_all, decode, trees, tree_in, trees_in, tree_at}
-use Rattle.rules_code.specs.CodeTrees.{Sa, a_perform, a_restore, a_call, place_among, primitive_of, act_in, act_decode, act_trees, act_tree_at}
+use Rattle.rules_code.specs.CodeTrees.{Sa, a_perform, a_restore, a_call, place_among, act_in, act_decode, act_trees, act_tree_at}
 use Rattle.rules_code.proofs.Arena.{tree_at-more, tree_at-last}
 use Rattle.hs_nodes.specs.declared.emitter.Emitter.{Emitter}
 use Rattle.hs_nodes.specs.declared.names.Bound.{Bound}
@@ -188,16 +188,16 @@ branches mk mt dec e f g h o q p =
     (λ k. done_ex2 mk mt dec p (kept_ex (goes_on (goes g) (goes o)) (e.is (f k))) (kept (goes o) (at (goes_ex e) g (h k))) (at (goes_on (goes_ex e) (goes g)) o (q k)))
 
 -- a primitive
-pub performs : {a b : ActEmitter} {id : ActId} (p : named.Primitive) (es : List ExprId) (ts : Sxs) → Pushed a b id (c.Perform p es) → Emits (AllStandIn a es ts) a b id (λ s. a_perform (primitive_of p) ts)
+pub performs : {a b : ActEmitter} {id : ActId} (p : named.Primitive) (es : List ExprId) (ts : Sxs) → Pushed a b id (c.Perform p es) → Emits (AllStandIn a es ts) a b id (λ s. a_perform p ts)
 performs {a = o} p es ts h =
-    emits stays h (λ k. pushed h (λ more. ap (a_perform (primitive_of p)) (all_trees (o.emitter.nodes ++ more) es ts (all_stand_on es ts (grows_by more refl) k))))
+    emits stays h (λ k. pushed h (λ more. ap (a_perform p) (all_trees (o.emitter.nodes ++ more) es ts (all_stand_on es ts (grows_by more refl) k))))
 
 pub performed_one : {L : Type 0} {a b : ActEmitter} {id : ActId} (p : named.Primitive) (e : ExprId) (t : Sx) (es : List ExprId) → es ≡ e ∷ []
-    → ((ts : Sxs) → Emits (AllStandIn a es ts) a b id (λ s. a_perform (primitive_of p) ts)) → (L → StandsIn a e t) → Emits L a b id (λ s. a_perform (primitive_of p) (s_more t s_none))
+    → ((ts : Sxs) → Emits (AllStandIn a es ts) a b id (λ s. a_perform p ts)) → (L → StandsIn a e t) → Emits L a b id (λ s. a_perform p (s_more t s_none))
 performed_one {a = o} p e t es eq h f = weaken (λ k. subst (λ z. AllStandIn o z (s_more t s_none)) (sym eq) (f k, tt)) (h (s_more t s_none))
 
 pub performed_two : {L : Type 0} {a b : ActEmitter} {id : ActId} (p : named.Primitive) (e g : ExprId) (t u : Sx) (es : List ExprId) → es ≡ e ∷ g ∷ []
-    → ((ts : Sxs) → Emits (AllStandIn a es ts) a b id (λ s. a_perform (primitive_of p) ts)) → (L → StandsIn a e t) → (L → StandsIn a g u) → Emits L a b id (λ s. a_perform (primitive_of p) (s_more t (s_more u s_none)))
+    → ((ts : Sxs) → Emits (AllStandIn a es ts) a b id (λ s. a_perform p ts)) → (L → StandsIn a e t) → (L → StandsIn a g u) → Emits L a b id (λ s. a_perform p (s_more t (s_more u s_none)))
 performed_two {a = o} p e g t u es eq h f w = weaken (λ k. subst (λ z. AllStandIn o z (s_more t (s_more u s_none))) (sym eq) (f k, (w k, tt))) (h (s_more t (s_more u s_none)))
 
 -- ---- names that are bound on the way

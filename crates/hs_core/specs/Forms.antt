@@ -1,8 +1,11 @@
 -- The expansions of forms with blocks, with slots: what stands for a block in its own scope is given.
 use Rattle.std.specs.Prelude.{[], ◌∷◌}
 use Rattle.hs_base.specs.declared.tree.forms.UnaryForm.TheVariants as u
-use Rattle.rules_expansion.specs.Names.{Name, Added, Hidden, Restorer, Given, Caught, TheCell, Instance, BracketResult, BracketFault, Allowed, InTime, Owner, Expiry, Helper}
-use Rattle.rules_expansion.specs.Core.{ThreadDelay, ThrowTo, TakeMVar, PutMVar, Acquired, Release, MyThreadId, NewTimeout, CoreEx, Read, NoValue, BelowZero, IsZero, SameExn, Core, Return, ThrowIo, If}
+use Rattle.rules_expansion.specs.Names.{Name, Added}
+use Rattle.rules_expansion.specs.declared.hidden.Hidden.{Hidden}
+use Rattle.rules_expansion.specs.declared.hidden.Hidden.TheVariants.{Restorer, Given, Caught, TheCell, Instance, BracketResult, BracketFault, Allowed, InTime, Owner, Expiry, Helper}
+use Rattle.rules_expansion.specs.Core.{CoreEx, Read, NoValue, BelowZero, IsZero, SameExn, Core, Return, ThrowIo, If}
+use Rattle.rules_expansion.specs.declared.primitive.Primitive.TheVariants.{ThreadDelay, ThrowTo, TakeMVar, PutMVar, Acquired, Release, MyThreadId, NewTimeout}
 use Rattle.rules_expansion.specs.Expansion.{timeout_helper, timeout_end}
 use Rattle.rules_code.specs.Slots.{Sx, Scope, s_unary, s_none, s_more, slot_of}
 use Rattle.rules_code.specs.CodeTrees.{Sa, a_return, a_throw, a_let, a_bind, a_then, a_if, a_perform, a_catch, a_mask, a_restore, slot_or_end, slot_read, slotted_core, slotted_core_ex}

@@ -6,13 +6,14 @@ use Rattle.rules_code.specs.declared.act.ActId.{ActId}
 use Rattle.rules_code.specs.declared.act.Act.{Act}
 use Rattle.rules_code.specs.declared.act.Act.TheVariants as k
 use Rattle.rules_expansion.specs.Names.{Written}
+use Rattle.rules_expansion.specs.Core.{Core}
 use Rattle.rules_trees.specs.Programs.{Act as Action, Bl, ActArms, maybe_acts, either_acts, list_acts, pair_acts, before, stmt_of}
 use Rattle.rules_expansion.specs.Expansion.{core, block_core}
 use Rattle.rules_code.specs.Slots.{Sx, Scope}
 use Rattle.rules_code.specs.CodeTrees.{Sa, a_let, a_bind, a_then, a_maybe, a_either, a_list, a_pair, slotted_core}
 use Rattle.hs_nodes.specs.declared.names.Bound.{Bound}
 use Rattle.hs_nodes.specs.declared.names.Bound.TheVariants as w
-use Rattle.hs_nodes.specs.declared.names.Hidden as code
+use Rattle.rules_expansion.specs.declared.hidden.Hidden as code
 use Rattle.hs_nodes.specs.Names.{scope_of}
 use Rattle.hs_core.specs.declared.defs.Defs.{Defs}
 use Rattle.hs_core.specs.declared.emitter.ActEmitter.{ActEmitter}
@@ -21,12 +22,16 @@ use Rattle.hs_core.specs.declared.pending.Pending.TheVariants as p
 use Rattle.hs_core.specs.Defining.{Knows, roots, functions}
 use Rattle.hs_core.specs.Emits.{Grows, DoneIn, StandsIn}
 
+-- the tree of a core action of a script in a scope
+abbrev pub core_tree : Defs → Scope → Core → Sa
+core_tree d s c = slotted_core (roots d) (functions d) s c
+
 -- the tree of an action, of a block and of arms in a scope
 abbrev pub action_tree : Defs → Scope → Action → Sa
-action_tree d s a = slotted_core (roots d) (functions d) s (core a)
+action_tree d s a = core_tree d s (core a)
 
 abbrev pub block_tree : Defs → Scope → Bl → Sa
-block_tree d s b = slotted_core (roots d) (functions d) s (block_core b)
+block_tree d s b = core_tree d s (block_core b)
 
 abbrev pub arms_tree : Defs → Scope → Sx → ActArms → Sa
 arms_tree d s t (maybe_acts a x b) = a_maybe t (block_tree d s a) (block_tree d (Written x.text ∷ s) b)

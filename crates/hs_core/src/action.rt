@@ -2,10 +2,12 @@
 use crate::defs::Defs;
 use crate::emitter::ActEmitter;
 use crate::pending::{Pending, back_to, bind_all};
+use hs_base::tree::forms::{BlockAction, GuardAction, MaskingAction};
 use hs_base::{Action, Block, BlockArms, Expr, NoMemory, Stmt, Txt};
 use hs_items::Items;
-use hs_nodes::names::{Hidden, bind, off};
+use hs_nodes::names::{bind, off};
 use rules_code::{Act, ActId, ExprId, Primitive};
+use rules_expansion::Hidden;
 use std::alloc::Global;
 
 /// The names of a form with a mask of its own round its blocks.
@@ -33,14 +35,16 @@ const TIMED: [Hidden; 6] = [
 impl ActEmitter {
     ghost use Rattle.std.specs.Prelude.{IfOk, ◌∷◌, []};
     ghost use Rattle.rules_trees.specs.Trees.{ex_of};
-    ghost use Rattle.rules_expansion.specs.Names.{Written, Added, Restorer, Given, Caught, TheCell, Instance, BracketResult, BracketFault, Allowed, Owner, Expiry, Helper};
+    ghost use Rattle.rules_expansion.specs.Names.{Written, Added};
+    ghost use Rattle.rules_expansion.specs.declared.hidden.Hidden.TheVariants.{Restorer, Given, Caught, TheCell, Instance, BracketResult, BracketFault, Allowed, Owner, Expiry, Helper};
+    ghost use Rattle.rules_expansion.specs.Expansion.{block_core, scoped_core, masking_core};
     ghost use Rattle.rules_trees.specs.Programs.{act_of, bl_of, act_arms_of};
     ghost use Rattle.rules_code.specs.Slots.{Sx, slotted, slot_of};
-    ghost use Rattle.rules_code.specs.CodeTrees.{Sa, a_if, a_bind, a_fork, a_fork_unmask, a_mask, a_mask_hard, a_catch, a_restore, slot_or_end};
+    ghost use Rattle.rules_code.specs.CodeTrees.{Sa, a_if, a_bind, a_mask, a_catch, a_restore, slot_or_end};
     ghost use Rattle.hs_nodes.specs.Names.{scope_after};
     ghost use Rattle.hs_core.specs.Defining.{Knows, roots};
     ghost use Rattle.hs_core.specs.Emits.{Emits, DoneIn, StandsIn};
-    ghost use Rattle.hs_core.specs.Opening.{action_tree, block_tree, arms_tree, added, Opens, OpensAll};
+    ghost use Rattle.hs_core.specs.Opening.{core_tree, action_tree, block_tree, arms_tree, added, Opens, OpensAll};
     ghost use Rattle.hs_core.specs.Forms as form;
 
     /// Adds the nodes of an action, and answers the number of its last.
@@ -49,8 +53,12 @@ impl ActEmitter {
         ensures { IfOk result (λ id. Emits (Knows self.old.emitter.nodes defs.now) self.old self.new id (λ s. action_tree defs.now s (act_of a.now))) }
     {
         match a {
-            Action::Return(_, e) => self.give(alloc, defs, e),
+            Action::Bare(word, _) => self.bare(alloc, defs, *word),
+            Action::Unary(word, _, e) => self.unary(alloc, defs, *word, e),
+            Action::Binary(word, _, e, f) => self.binary(alloc, defs, *word, e, f),
             Action::ThrowIo(_, _, e) => self.throw(alloc, defs, e),
+            Action::NewEmptyMVar(_, _) => self.primitive(alloc, defs, Primitive::NewEmptyMVar),
+            Action::Call(f, es) => self.call(alloc, defs, &f.text, es),
             Action::If(_, e, b, d) => {
                 let t = self.expr(alloc, defs, e)?;
                 let i = self.block(alloc, defs, b)?;
@@ -62,52 +70,27 @@ impl ActEmitter {
                 let id = self.arms(alloc, defs, t, two)?;
                 Ok(id)
             }
-            Action::Call(f, es) => self.call(alloc, defs, &f.text, es),
-            Action::PutStr(_, e) => self.primitive_one(alloc, defs, Primitive::PutStr, e),
-            Action::PutStrLn(_, e) => self.primitive_one(alloc, defs, Primitive::PutStrLn, e),
-            Action::HPutStrLn(_, e) => self.primitive_one(alloc, defs, Primitive::HPutStrLn, e),
-            Action::NewMVar(_, e) => self.primitive_one(alloc, defs, Primitive::NewMVar, e),
-            Action::NewEmptyMVar(_, _) => self.primitive(alloc, defs, Primitive::NewEmptyMVar),
-            Action::TakeMVar(_, e) => self.primitive_one(alloc, defs, Primitive::TakeMVar, e),
-            Action::PutMVar(_, e, f) => self.primitive_two(alloc, defs, Primitive::PutMVar, e, f),
-            Action::ReadMVar(_, e) => self.primitive_one(alloc, defs, Primitive::ReadMVar, e),
-            Action::TryTakeMVar(_, e) => self.primitive_one(alloc, defs, Primitive::TryTakeMVar, e),
-            Action::TryPutMVar(_, e, f) => self.primitive_two(
-                alloc,
-                defs,
-                Primitive::TryPutMVar,
-                e,
-                f,
-            ),
             Action::ModifyMVar(_, e, x, b) => {
                 let t = self.expr(alloc, defs, e)?;
                 self.modify_form(alloc, defs, t, &x.text, b)
             }
-            Action::ForkIo(_, b) => self.fork(alloc, defs, b),
-            Action::ForkIoWithUnmask(_, x, b) => self.fork_unmask(alloc, defs, &x.text, b),
-            Action::MyThreadId(_) => self.primitive(alloc, defs, Primitive::MyThreadId),
-            Action::ThrowTo(_, e, f) => self.primitive_two(alloc, defs, Primitive::ThrowTo, e, f),
-            Action::KillThread(_, e) => self.kill_thread(alloc, defs, e),
-            Action::ThreadDelay(_, e) => self.primitive_one(alloc, defs, Primitive::ThreadDelay, e),
-            Action::ClockMicros(_) => self.primitive(alloc, defs, Primitive::ClockMicros),
-            Action::GetMaskingState(_) => self.primitive(alloc, defs, Primitive::GetMaskingState),
+            Action::Scoped(word, _, b) => self.scoped(alloc, defs, *word, b),
+            Action::Masking(word, _, x, b) => self.masking(alloc, defs, *word, &x.text, b),
+            Action::Restore(_, x, b) => self.restore_form(alloc, defs, &x.text, b),
             Action::Catch(_, b, x, d) => {
                 let i = self.block(alloc, defs, b)?;
                 self.catch_form(alloc, defs, i, &x.text, d)
             }
-            Action::Mask(_, x, b) => self.mask(alloc, defs, &x.text, b),
-            Action::MaskOnly(_, b) => self.mask_only(alloc, defs, b),
-            Action::UninterruptibleMask(_, x, b) => self.mask_hard(alloc, defs, &x.text, b),
-            Action::UninterruptibleMaskOnly(_, b) => self.mask_hard_only(alloc, defs, b),
-            Action::Restore(_, x, b) => self.restore_form(alloc, defs, &x.text, b),
-            Action::OnException(_, b, d) => {
-                let i = self.block(alloc, defs, b)?;
-                self.on_exception_form(alloc, defs, i, d)
-            }
-            Action::Finally(_, b, d) => {
-                let i = self.under(alloc, defs, &MASKED, b)?;
-                self.finally_form(alloc, defs, i, d)
-            }
+            Action::Guard(word, _, b, d) => match *word {
+                GuardAction::OnException => {
+                    let i = self.block(alloc, defs, b)?;
+                    self.on_exception_form(alloc, defs, i, d)
+                }
+                GuardAction::Finally => {
+                    let i = self.under(alloc, defs, &MASKED, b)?;
+                    self.finally_form(alloc, defs, i, d)
+                }
+            },
             Action::Bracket(_, b, x, d, u) => {
                 let i = self.under(alloc, defs, &MASKED, b)?;
                 let j = self.within(alloc, defs, &MASKED, &x.text, &[Hidden::Instance], u)?;
@@ -402,76 +385,63 @@ impl ActEmitter {
         }
     }
 
-    /// `forkIO A`
+    /// A word and a block.
     #[cycle(expand)]
-    fn fork(&mut self, alloc: Global, defs: &Defs, b: &Block) -> Result<ActId, NoMemory>
-        ensures { IfOk result (λ id. Emits (Knows self.old.emitter.nodes defs.now) self.old self.new id (λ s. a_fork (block_tree defs.now s (bl_of b.now)))) }
-    {
-        let i = self.block(alloc, defs, b)?;
-        let id = self.act(Act::Fork(i))?;
-        Ok(id)
-    }
-
-    /// `forkIOWithUnmask x A`
-    #[cycle(expand)]
-    fn fork_unmask(
+    fn scoped(
         &mut self,
         alloc: Global,
         defs: &Defs,
-        x: &Txt,
+        word: BlockAction,
         b: &Block,
     ) -> Result<ActId, NoMemory>
-        ensures { IfOk result (λ id. Emits (Knows self.old.emitter.nodes defs.now) self.old self.new id (λ s. a_fork_unmask (block_tree defs.now (Written x.now ∷ s) (bl_of b.now)))) }
+        ensures { IfOk result (λ id. Emits (Knows self.old.emitter.nodes defs.now) self.old self.new id (λ s. core_tree defs.now s (scoped_core word (block_core (bl_of b.now))))) }
     {
-        let i = self.named(alloc, defs, x, b)?;
-        let id = self.act(Act::ForkUnmask(i))?;
-        Ok(id)
+        match word {
+            BlockAction::ForkIo => {
+                let i = self.block(alloc, defs, b)?;
+                let id = self.act(Act::Fork(i))?;
+                Ok(id)
+            }
+            BlockAction::MaskOnly => {
+                let i = self.under(alloc, defs, &MASKED, b)?;
+                let id = self.act(Act::Mask(i))?;
+                Ok(id)
+            }
+            BlockAction::UninterruptibleMaskOnly => {
+                let i = self.under(alloc, defs, &MASKED, b)?;
+                let id = self.act(Act::UninterruptibleMask(i))?;
+                Ok(id)
+            }
+        }
     }
 
-    /// `mask x A`
+    /// A word, a masking name and the block in which it stands.
     #[cycle(expand)]
-    fn mask(&mut self, alloc: Global, defs: &Defs, x: &Txt, b: &Block) -> Result<ActId, NoMemory>
-        ensures { IfOk result (λ id. Emits (Knows self.old.emitter.nodes defs.now) self.old self.new id (λ s. a_mask (block_tree defs.now (Written x.now ∷ s) (bl_of b.now)))) }
-    {
-        let i = self.named(alloc, defs, x, b)?;
-        let id = self.act(Act::Mask(i))?;
-        Ok(id)
-    }
-
-    /// `uninterruptibleMask x A`
-    #[cycle(expand)]
-    fn mask_hard(
+    fn masking(
         &mut self,
         alloc: Global,
         defs: &Defs,
+        word: MaskingAction,
         x: &Txt,
         b: &Block,
     ) -> Result<ActId, NoMemory>
-        ensures { IfOk result (λ id. Emits (Knows self.old.emitter.nodes defs.now) self.old self.new id (λ s. a_mask_hard (block_tree defs.now (Written x.now ∷ s) (bl_of b.now)))) }
+        ensures { IfOk result (λ id. Emits (Knows self.old.emitter.nodes defs.now) self.old self.new id (λ s. core_tree defs.now s (masking_core word (Written x.now) (block_core (bl_of b.now))))) }
     {
         let i = self.named(alloc, defs, x, b)?;
-        let id = self.act(Act::UninterruptibleMask(i))?;
-        Ok(id)
-    }
-
-    /// `mask_ A`
-    #[cycle(expand)]
-    fn mask_only(&mut self, alloc: Global, defs: &Defs, b: &Block) -> Result<ActId, NoMemory>
-        ensures { IfOk result (λ id. Emits (Knows self.old.emitter.nodes defs.now) self.old self.new id (λ s. a_mask (block_tree defs.now (Added Restorer ∷ s) (bl_of b.now)))) }
-    {
-        let i = self.under(alloc, defs, &[Hidden::Restorer], b)?;
-        let id = self.act(Act::Mask(i))?;
-        Ok(id)
-    }
-
-    /// `uninterruptibleMask_ A`
-    #[cycle(expand)]
-    fn mask_hard_only(&mut self, alloc: Global, defs: &Defs, b: &Block) -> Result<ActId, NoMemory>
-        ensures { IfOk result (λ id. Emits (Knows self.old.emitter.nodes defs.now) self.old self.new id (λ s. a_mask_hard (block_tree defs.now (Added Restorer ∷ s) (bl_of b.now)))) }
-    {
-        let i = self.under(alloc, defs, &[Hidden::Restorer], b)?;
-        let id = self.act(Act::UninterruptibleMask(i))?;
-        Ok(id)
+        match word {
+            MaskingAction::ForkIoWithUnmask => {
+                let id = self.act(Act::ForkUnmask(i))?;
+                Ok(id)
+            }
+            MaskingAction::Mask => {
+                let id = self.act(Act::Mask(i))?;
+                Ok(id)
+            }
+            MaskingAction::UninterruptibleMask => {
+                let id = self.act(Act::UninterruptibleMask(i))?;
+                Ok(id)
+            }
+        }
     }
 
     /// `restore x A`

@@ -1,18 +1,20 @@
 //! The parts of a `bracket`.
 use crate::emitter::ActEmitter;
 use hs_base::{NoMemory, Txt};
-use hs_nodes::names::{Hidden, bind, bind_added, off};
+use hs_nodes::names::{bind, bind_added, off};
 use rules_code::{Act, ActId, Primitive};
+use rules_expansion::Hidden;
 use std::alloc::Global;
 
 impl ActEmitter {
     ghost use Rattle.std.specs.Prelude.{IfOk, ◌∷◌};
-    ghost use Rattle.rules_expansion.specs.Names.{Written, Added, Caught, TheCell, Restorer, Instance, BracketFault, BracketResult, Helper};
+    ghost use Rattle.rules_expansion.specs.Names.{Written, Added};
+    ghost use Rattle.rules_expansion.specs.declared.hidden.Hidden.TheVariants.{Caught, TheCell, Restorer, Instance, BracketFault, BracketResult, Helper};
     ghost use Rattle.rules_code.specs.Slots.{Sx, s_none, s_more, s_unary, slot_of};
-    ghost use Rattle.rules_expansion.specs.Core.{ThrowTo, Return, NoValue, Read};
+    ghost use Rattle.rules_expansion.specs.Core.{Return, NoValue, Read};
+    ghost use Rattle.rules_expansion.specs.declared.primitive.Primitive.TheVariants.{ThrowTo};
     ghost use Rattle.rules_expansion.specs.Expansion.{timeout_helper, timeout_end, kill_thread};
-    ghost use Rattle.rules_code.specs.CodeTrees.{Sa, slot_or_end, slot_read, a_return, a_throw, a_catch, a_mask, a_bind, a_perform, primitive_of, a_restore, slotted_core_ex};
-    ghost use Rattle.hs_nodes.specs.Names.{hidden_of};
+    ghost use Rattle.rules_code.specs.CodeTrees.{Sa, slot_or_end, slot_read, a_return, a_throw, a_catch, a_mask, a_bind, a_perform, a_restore, slotted_core_ex};
     ghost use Rattle.hs_core.specs.Emits.{Emits, EmitsEx, StandsIn, DoneIn, Nothing_given};
     ghost use Rattle.hs_core.specs.Forms as form;
 

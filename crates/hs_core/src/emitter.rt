@@ -3,7 +3,7 @@ use crate::defs::Defs;
 use hs_base::{Exn, Expr, NoMemory, Txt};
 use hs_items::Items;
 use hs_nodes::Emitter;
-use hs_nodes::names::Hidden;
+use rules_expansion::Hidden;
 use rules_code::{Act, ActId, ExprId, Node, Primitive};
 use hs_base::tree::forms::{BinaryForm, EmptyForm, UnaryForm};
 use std::alloc::Global;
@@ -24,8 +24,8 @@ impl ActEmitter {
     ghost use Rattle.rules_trees.specs.Trees.{ex_of, number, exception};
     ghost use Rattle.rules_expansion.specs.Names.{Written, Added};
     ghost use Rattle.rules_code.specs.Slots.{Sx, Sxs, slotted, slot_of, s_literal, s_empty, s_unary, s_binary, s_none, s_more};
-    ghost use Rattle.rules_code.specs.CodeTrees.{Sa, slot_or_end, slot_read, a_return, a_throw, a_perform, primitive_of};
-    ghost use Rattle.hs_nodes.specs.Names.{scope_of, hidden_of};
+    ghost use Rattle.rules_code.specs.CodeTrees.{Sa, slot_or_end, slot_read, a_return, a_throw, a_perform};
+    ghost use Rattle.hs_nodes.specs.Names.{scope_of};
     ghost use Rattle.hs_core.specs.Defining.{Knows, roots};
     ghost use Rattle.hs_core.specs.Emits.{Emits, EmitsEx, Pushed, StandsIn, AllStandIn, Nothing_given};
 
@@ -48,7 +48,7 @@ impl ActEmitter {
 
     /// The slot of an added name.
     pub fn slot(&self, h: Hidden) -> usize
-        ensures { result ≡ slot_or_end (slot_of (scope_of self.now.emitter.scope) (Added (hidden_of h))) (scope_of self.now.emitter.scope) }
+        ensures { result ≡ slot_or_end (slot_of (scope_of self.now.emitter.scope) (Added h)) (scope_of self.now.emitter.scope) }
     {
         match self.emitter.added_slot(h) {
             Some(k) => k,
@@ -68,7 +68,7 @@ impl ActEmitter {
 
     /// Reads an added name.
     pub fn read(&mut self, h: Hidden) -> Result<ExprId, NoMemory>
-        ensures { IfOk result (λ id. EmitsEx Nothing_given self.old self.new id (λ s. slot_read s (Added (hidden_of h)))) }
+        ensures { IfOk result (λ id. EmitsEx Nothing_given self.old self.new id (λ s. slot_read s (Added h))) }
     {
         let slot = self.slot(h);
         let id = self.emitter.add(Node::Slot(slot))?;
@@ -126,7 +126,7 @@ impl ActEmitter {
 
     /// A primitive.
     pub fn perform(&mut self, primitive: Primitive, es: Items<ExprId>) -> Result<ActId, NoMemory>
-        ensures { (ts : Sxs) → IfOk result (λ id. Emits (AllStandIn self.old es ts) self.old self.new id (λ s. a_perform (primitive_of primitive) ts)) }
+        ensures { (ts : Sxs) → IfOk result (λ id. Emits (AllStandIn self.old es ts) self.old self.new id (λ s. a_perform primitive ts)) }
     {
         let id = self.act(Act::Perform(primitive, es))?;
         Ok(id)

@@ -2,24 +2,26 @@
 use crate::emitter::ActEmitter;
 use hs_base::{NoMemory, Txt};
 use hs_items::Items;
-use hs_nodes::names::{Hidden, bind_added, off};
+use hs_nodes::names::{bind_added, off};
 use rules_code::{Act, ActId, ExprId, Primitive};
+use rules_expansion::Hidden;
 use std::alloc::Global;
 
 impl ActEmitter {
     ghost use Rattle.std.specs.Prelude.{IfOk, ◌∷◌, []};
-    ghost use Rattle.rules_expansion.specs.Names.{Written, Added, Caught, TheCell, Restorer, Instance, BracketFault, BracketResult, Helper};
+    ghost use Rattle.rules_expansion.specs.Names.{Written, Added};
+    ghost use Rattle.rules_expansion.specs.declared.hidden.Hidden.TheVariants.{Caught, TheCell, Restorer, Instance, BracketFault, BracketResult, Helper};
     ghost use Rattle.rules_code.specs.Slots.{Sx, s_none, s_more, s_unary, slot_of};
-    ghost use Rattle.rules_expansion.specs.Core.{ThrowTo, Killed, Return, NoValue, Read};
+    ghost use Rattle.rules_expansion.specs.Core.{Killed, Return, NoValue, Read};
+    ghost use Rattle.rules_expansion.specs.declared.primitive.Primitive.TheVariants.{ThrowTo};
     ghost use Rattle.rules_expansion.specs.Expansion.{timeout_helper, timeout_end, kill_thread};
-    ghost use Rattle.rules_code.specs.CodeTrees.{Sa, slot_or_end, slot_read, a_return, a_throw, a_catch, a_mask, a_bind, a_perform, primitive_of, a_restore, slotted_core_ex};
-    ghost use Rattle.hs_nodes.specs.Names.{hidden_of};
+    ghost use Rattle.rules_code.specs.CodeTrees.{Sa, slot_or_end, slot_read, a_return, a_throw, a_catch, a_mask, a_bind, a_perform, a_restore, slotted_core_ex};
     ghost use Rattle.hs_core.specs.Emits.{Emits, EmitsEx, StandsIn, DoneIn, Nothing_given};
     ghost use Rattle.hs_core.specs.Forms as form;
 
     /// A primitive of nothing.
     pub fn perform_none(&mut self, alloc: Global, primitive: Primitive) -> Result<ActId, NoMemory>
-        ensures { IfOk result (λ id. Emits Nothing_given self.old self.new id (λ s. a_perform (primitive_of primitive) s_none)) }
+        ensures { IfOk result (λ id. Emits Nothing_given self.old self.new id (λ s. a_perform primitive s_none)) }
     {
         let id = self.perform(primitive, Items::new(alloc))?;
         Ok(id)
@@ -32,7 +34,7 @@ impl ActEmitter {
         primitive: Primitive,
         e: ExprId,
     ) -> Result<ActId, NoMemory>
-        ensures { (t : Sx) → IfOk result (λ id. Emits (StandsIn self.old e t) self.old self.new id (λ s. a_perform (primitive_of primitive) (s_more t s_none))) }
+        ensures { (t : Sx) → IfOk result (λ id. Emits (StandsIn self.old e t) self.old self.new id (λ s. a_perform primitive (s_more t s_none))) }
     {
         let es = Items::from_slice(alloc, &[e])?;
         let id = self.perform(primitive, es)?;
@@ -47,7 +49,7 @@ impl ActEmitter {
         e: ExprId,
         f: ExprId,
     ) -> Result<ActId, NoMemory>
-        ensures { (t w : Sx) → IfOk result (λ id. Emits (StandsIn self.old e t × StandsIn self.old f w) self.old self.new id (λ s. a_perform (primitive_of primitive) (s_more t (s_more w s_none)))) }
+        ensures { (t w : Sx) → IfOk result (λ id. Emits (StandsIn self.old e t × StandsIn self.old f w) self.old self.new id (λ s. a_perform primitive (s_more t (s_more w s_none)))) }
     {
         let es = Items::from_slice(alloc, &[e, f])?;
         let id = self.perform(primitive, es)?;
@@ -61,7 +63,7 @@ impl ActEmitter {
         primitive: Primitive,
         h: Hidden,
     ) -> Result<ActId, NoMemory>
-        ensures { IfOk result (λ id. Emits Nothing_given self.old self.new id (λ s. a_perform (primitive_of primitive) (s_more (form.own (hidden_of h) s) s_none))) }
+        ensures { IfOk result (λ id. Emits Nothing_given self.old self.new id (λ s. a_perform primitive (s_more (form.own h s) s_none))) }
     {
         let e = self.read(h)?;
         let id = self.perform_one(alloc, primitive, e)?;
@@ -76,7 +78,7 @@ impl ActEmitter {
         h: Hidden,
         i: Hidden,
     ) -> Result<ActId, NoMemory>
-        ensures { IfOk result (λ id. Emits Nothing_given self.old self.new id (λ s. a_perform (primitive_of primitive) (s_more (form.own (hidden_of h) s) (s_more (form.own (hidden_of i) s) s_none)))) }
+        ensures { IfOk result (λ id. Emits Nothing_given self.old self.new id (λ s. a_perform primitive (s_more (form.own h s) (s_more (form.own i s) s_none)))) }
     {
         let e = self.read(h)?;
         let f = self.read(i)?;
@@ -95,7 +97,7 @@ impl ActEmitter {
 
     /// `throwIO $h`
     pub fn throw_read(&mut self, h: Hidden) -> Result<ActId, NoMemory>
-        ensures { IfOk result (λ id. Emits Nothing_given self.old self.new id (λ s. a_throw (form.own (hidden_of h) s))) }
+        ensures { IfOk result (λ id. Emits Nothing_given self.old self.new id (λ s. a_throw (form.own h s))) }
     {
         let e = self.read(h)?;
         let id = self.act(Act::Throw(e))?;
@@ -104,7 +106,7 @@ impl ActEmitter {
 
     /// `return $h`
     pub fn return_read(&mut self, h: Hidden) -> Result<ActId, NoMemory>
-        ensures { IfOk result (λ id. Emits Nothing_given self.old self.new id (λ s. a_return (form.own (hidden_of h) s))) }
+        ensures { IfOk result (λ id. Emits Nothing_given self.old self.new id (λ s. a_return (form.own h s))) }
     {
         let e = self.read(h)?;
         let id = self.act(Act::Return(e))?;
@@ -113,7 +115,7 @@ impl ActEmitter {
 
     /// `B; throwIO $h`
     pub fn then_throw(&mut self, b: ActId, h: Hidden) -> Result<ActId, NoMemory>
-        ensures { (B : Sa) → IfOk result (λ id. Emits (DoneIn self.old b B) self.old self.new id (λ s. form.thrown_after (hidden_of h) s B)) }
+        ensures { (B : Sa) → IfOk result (λ id. Emits (DoneIn self.old b B) self.old self.new id (λ s. form.thrown_after h s B)) }
     {
         let t = self.throw_read(h)?;
         let id = self.act(Act::Then(b, t))?;
@@ -122,7 +124,7 @@ impl ActEmitter {
 
     /// `B; return $h`
     pub fn then_return(&mut self, b: ActId, h: Hidden) -> Result<ActId, NoMemory>
-        ensures { (B : Sa) → IfOk result (λ id. Emits (DoneIn self.old b B) self.old self.new id (λ s. form.returned_after (hidden_of h) s B)) }
+        ensures { (B : Sa) → IfOk result (λ id. Emits (DoneIn self.old b B) self.old self.new id (λ s. form.returned_after h s B)) }
     {
         let t = self.return_read(h)?;
         let id = self.act(Act::Then(b, t))?;
@@ -141,7 +143,7 @@ impl ActEmitter {
 
     /// `restore $h A`
     pub fn restored(&mut self, h: Hidden, a: ActId) -> Result<ActId, NoMemory>
-        ensures { (A : Sa) → IfOk result (λ id. Emits (DoneIn self.old a A) self.old self.new id (λ s. form.restored_to (hidden_of h) s A)) }
+        ensures { (A : Sa) → IfOk result (λ id. Emits (DoneIn self.old a A) self.old self.new id (λ s. form.restored_to h s A)) }
     {
         let slot = self.slot(h);
         let id = self.act(Act::Restore(slot, a))?;

@@ -5,7 +5,8 @@ ghost use Rattle.hs_core.specs.Opening.{added};
 use crate::emitter::ActEmitter;
 use hs_base::NoMemory;
 use hs_items::Items;
-use hs_nodes::names::{Bound, Hidden, bind_added, off};
+use hs_nodes::names::{Bound, bind_added, off};
+use rules_expansion::Hidden;
 use rules_code::{Act, ActId, ExprId};
 
 /// A statement that has its nodes, before what follows it in its block.

@@ -1,26 +1,27 @@
 //! The parts of a `timeout`.
 use crate::emitter::ActEmitter;
 use hs_base::NoMemory;
-use hs_nodes::names::{Hidden, bind_added, off};
+use hs_nodes::names::{bind_added, off};
 use rules_code::{Act, ActId, ExprId, Primitive};
 use hs_base::tree::forms::BinaryForm;
+use rules_expansion::Hidden;
 use std::alloc::Global;
 
 impl ActEmitter {
     ghost use Rattle.std.specs.Prelude.{IfOk, ◌∷◌, [], pos};
-    ghost use Rattle.rules_expansion.specs.Names.{Written, Added, Caught, TheCell, Restorer, Instance, BracketFault, BracketResult, Helper, HelperRestorer, Allowed, InTime, Expiry};
+    ghost use Rattle.rules_expansion.specs.Names.{Written, Added};
+    ghost use Rattle.rules_expansion.specs.declared.hidden.Hidden.TheVariants.{Caught, TheCell, Restorer, Instance, BracketFault, BracketResult, Helper, HelperRestorer, Allowed, InTime, Expiry};
     ghost use Rattle.rules_code.specs.Slots.{Sx, s_binary, s_literal, s_none, s_more, s_unary, slot_of};
     ghost use Rattle.rules_expansion.specs.Core.{Return, NoValue, Read, JustRead, SameExn};
     ghost use Rattle.rules_trees.specs.Trees.{number};
     ghost use Rattle.rules_expansion.specs.Expansion.{timeout_helper, timeout_end, kill_thread};
-    ghost use Rattle.rules_code.specs.CodeTrees.{Sa, slot_or_end, slot_read, a_return, a_throw, a_catch, a_mask, a_bind, a_perform, primitive_of, a_restore, slotted_core_ex};
-    ghost use Rattle.hs_nodes.specs.Names.{hidden_of};
+    ghost use Rattle.rules_code.specs.CodeTrees.{Sa, slot_or_end, slot_read, a_return, a_throw, a_catch, a_mask, a_bind, a_perform, a_restore, slotted_core_ex};
     ghost use Rattle.hs_core.specs.Emits.{Emits, EmitsEx, StandsIn, DoneIn, Nothing_given};
     ghost use Rattle.hs_core.specs.Forms as form;
 
     /// `Just $h`
     pub fn just_read(&mut self, h: Hidden) -> Result<ExprId, NoMemory>
-        ensures { IfOk result (λ id. EmitsEx Nothing_given self.old self.new id (λ s. slotted_core_ex [] s (JustRead (Added (hidden_of h))))) }
+        ensures { IfOk result (λ id. EmitsEx Nothing_given self.old self.new id (λ s. slotted_core_ex [] s (JustRead (Added h)))) }
     {
         let e = self.read(h)?;
         let id = self.just(e)?;
@@ -109,7 +110,7 @@ impl ActEmitter {
 
     /// The end of the helper under one more name.
     pub fn end_under(&mut self, alloc: Global, h: Hidden) -> Result<ActId, NoMemory>
-        ensures { IfOk result (λ id. Emits Nothing_given self.old self.new id (λ s. form.bare (Added (hidden_of h) ∷ s) timeout_end)) }
+        ensures { IfOk result (λ id. Emits Nothing_given self.old self.new id (λ s. form.bare (Added h ∷ s) timeout_end)) }
     {
         bind_added(&mut self.emitter.scope, h)?;
         let id = self.timeout_end(alloc)?;
@@ -119,7 +120,7 @@ impl ActEmitter {
 
     /// The end of the helper in the `bracket` of a `timeout`.
     pub fn end_marked(&mut self, alloc: Global, h: Hidden) -> Result<ActId, NoMemory>
-        ensures { IfOk result (λ id. Emits Nothing_given self.old self.new id (λ s. form.bare (Added (hidden_of h) ∷ Added Instance ∷ s) timeout_end)) }
+        ensures { IfOk result (λ id. Emits Nothing_given self.old self.new id (λ s. form.bare (Added h ∷ Added Instance ∷ s) timeout_end)) }
     {
         bind_added(&mut self.emitter.scope, Hidden::Instance)?;
         let id = self.end_under(alloc, h)?;

@@ -3,7 +3,8 @@ use Rattle.std.proofs.Common.{◌≡◌, ℕ, List, [], ◌∷◌, refl}
 use Rattle.hs_base.specs.declared.exn.Exn.{Exn}
 use Rattle.rules_expansion.specs.Names.{Name}
 use Rattle.rules_meaning.specs.Values.{V, UnitValue, Inst, Env}
-use Rattle.rules_expansion.specs.Core.{Acquired, Release, Core}
+use Rattle.rules_expansion.specs.Core.{Core}
+use Rattle.rules_expansion.specs.declared.primitive.Primitive.TheVariants.{Acquired, Release}
 use Rattle.hs_rules.specs.Terms.{Operation, Calls, Forks, ForksUnmask, Part, Ret, Throw, Performs, Frame, mask_at}
 use Rattle.hs_laws.specs.BracketLaw.{IsMasked}
 use Rattle.hs_laws.specs.BracketPhases.{Fine, fine_return, fine_bind}

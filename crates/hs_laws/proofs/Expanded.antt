@@ -15,9 +15,11 @@ use Rattle.hs_base.specs.declared.tree.forms.GuardAction.{GuardAction}
 use Rattle.hs_base.specs.declared.tree.forms.GuardAction.TheVariants as g
 use Rattle.rules_trees.specs.Programs as tree
 use Rattle.rules_trees.specs.Programs.{Act, Bl, ActArms, Par, Bd, Fn}
-use Rattle.rules_expansion.specs.Names.{Name}
-use Rattle.rules_expansion.specs.Core.{CoreEx, Core, ActionFunction, action_named}
-use Rattle.rules_expansion.specs.Expansion.{in_time, timeout_helper, timeout_end, timed, timeout, bare_core, unary_core, binary_core, scoped_core, masking_core, guard_core, core, block_core, arms_core, with_action, actions_of}
+use Rattle.rules_expansion.specs.Names.{Name, Added}
+use Rattle.rules_expansion.specs.declared.hidden.Hidden.TheVariants.{InTime}
+use Rattle.rules_expansion.specs.Core.{CoreEx, JustRead, Core, Return, Bind, ActionFunction, action_named}
+use Rattle.rules_expansion.specs.declared.template.Derived.TheVariants as form
+use Rattle.rules_expansion.specs.Expansion.{derived, on_both, bare_core, unary_core, binary_core, scoped_core, masking_core, guard_core, core, block_core, arms_core, with_action, actions_of}
 use Rattle.hs_rules.specs.State.{Thread, State, resume_all, first}
 use Rattle.hs_rules.specs.Entries.{stranded, next, IsIdle, Leads}
 use Rattle.hs_rules.specs.Terms.{Throw}
@@ -46,20 +48,19 @@ use Rattle.hs_laws.proofs.States.{Holds, first_holds, run_kept, brackets, owing,
 
 -- ---- the forms
 
-fine_helper : Fine timeout_helper
-fine_helper = fine_fork_unmask (fine_restore (fine_bind tt (fine_primitive tt) (fine_primitive tt)))
-
-fine_end : Fine timeout_end
-fine_end = fine_mask_hard (fine_primitive tt)
-
-fine_in_time : {a : Core} → Fine a → Fine (in_time a)
+fine_in_time : {a : Core} → Fine a → Fine (Bind (Added InTime) a (Return (JustRead (Added InTime))))
 fine_in_time f = fine_bind tt f fine_return
 
-fine_timed : {a : Core} → Fine a → Fine (timed a)
-fine_timed f = fine_catch tt (fine_bracket tt fine_helper fine_end (fine_in_time f)) (fine_if fine_return fine_throw)
-
-fine_timeout : {a : Core} (e : CoreEx) → Fine a → Fine (timeout e a)
-fine_timeout e f = fine_let (fine_if (fine_in_time f) (fine_if fine_return (fine_bind tt (fine_primitive tt) (fine_bind tt (fine_primitive tt) (fine_timed f)))))
+fine_timeout : {a : Core} (e : CoreEx) → Fine a → Fine (derived form.Timeout (on_both e a))
+fine_timeout e f =
+    fine_let
+    (fine_if (fine_in_time f)
+    (fine_if fine_return
+    (fine_bind tt (fine_primitive tt)
+    (fine_bind tt (fine_primitive tt)
+    (fine_catch tt
+    (fine_bracket tt (fine_fork_unmask (fine_restore (fine_bind tt (fine_primitive tt) (fine_primitive tt)))) (fine_mask_hard (fine_primitive tt)) (fine_in_time f))
+    (fine_if fine_return fine_throw))))))
 
 fine_bare : (w : BareAction) → Fine (bare_core w)
 fine_bare z.MyThreadId = fine_primitive tt

@@ -1,8 +1,11 @@
 -- A held term owes what its facts say, and what owes stands masked.
 use Rattle.std.proofs.Common.{◌≡◌, ◌≢◌, ℕ, List, [], ◌∷◌, ◌++◌, Option, Some, refl, ap, ◌∙◌}
-use Rattle.rules_expansion.specs.Names.{Name, Written, Added, Instance, BracketResult, BracketFault}
+use Rattle.rules_expansion.specs.Names.{Name, Written, Added, Unread}
+use Rattle.rules_expansion.specs.declared.hidden.Hidden.TheVariants.{Instance, BracketResult, BracketFault}
 use Rattle.rules_meaning.specs.Values.{V, Inst, Env, value_at}
-use Rattle.rules_expansion.specs.Core.{Primitive, Release, Core}
+use Rattle.rules_expansion.specs.Core.{Core}
+use Rattle.rules_expansion.specs.declared.primitive.Primitive.{Primitive}
+use Rattle.rules_expansion.specs.declared.primitive.Primitive.TheVariants.{Release}
 use Rattle.hs_rules.specs.Terms.{Operation, Calls, Forks, ForksUnmask, Part, Frame, mask_at}
 use Rattle.hs_laws.specs.BracketLaw.{instance_of, owed_word, owed_start, owed_bind, owed_catch, owed_do, owed_to, owed_ret, owed_op, owed_here, owed_frames, owed, IsMasked, MaskedCatches}
 use Rattle.hs_laws.specs.BracketPhases.{IsCommon, IsOrdinary, Fine, fine_return, fine_throw, fine_let, fine_bind, fine_if, fine_maybe, fine_either, fine_list, fine_pair, fine_call, fine_primitive, fine_fork, fine_fork_unmask, fine_catch, fine_mask, fine_mask_hard, fine_restore, fine_bracket}
@@ -14,6 +17,7 @@ common_catch (Added Instance) env c = absurd c
 common_catch (Added BracketResult) env c = absurd c
 common_catch (Added BracketFault) env c = absurd c
 common_catch (Added h) env c = refl
+common_catch Unread env c = refl
 
 common_to : (x : Name) (v : V) (env : Env) → IsCommon x → owed_to x v env ≡ []
 common_to (Written x) v env c = refl
@@ -21,6 +25,7 @@ common_to (Added Instance) v env c = absurd c
 common_to (Added BracketResult) v env c = absurd c
 common_to (Added BracketFault) v env c = absurd c
 common_to (Added h) v env c = refl
+common_to Unread v env c = refl
 
 common_bind : (x : Name) (a : Core) (env : Env) → IsCommon x → owed_bind x a env ≡ owed_start a env
 common_bind (Written x) a env c = refl
@@ -28,6 +33,7 @@ common_bind (Added Instance) a env c = absurd c
 common_bind (Added BracketResult) a env c = absurd c
 common_bind (Added BracketFault) a env c = absurd c
 common_bind (Added h) a env c = refl
+common_bind Unread a env c = refl
 
 written_word : (w : Primitive) (env : Env) → IsOrdinary w → owed_word w env ≡ []
 written_word Release env h = absurd h

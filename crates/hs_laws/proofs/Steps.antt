@@ -2,9 +2,11 @@
 use Rattle.std.proofs.Common.{◌≡◌, ℕ, zero, suc, List, [], ◌∷◌, Bool, true, false, cond, Option, Some, None, refl, bytes_eq}
 use Rattle.hs_base.specs.declared.mask.Mask.{Mask}
 use Rattle.hs_base.specs.declared.exn.Exn.{Exn}
-use Rattle.rules_expansion.specs.Names.{Name, Added, Instance, BracketResult, BracketFault}
+use Rattle.rules_expansion.specs.Names.{Name, Added}
+use Rattle.rules_expansion.specs.declared.hidden.Hidden.TheVariants.{Instance, BracketResult, BracketFault}
 use Rattle.rules_meaning.specs.Values.{V, Truth, Nothing, Just, Left, Right, Pair, Nil, Cons, Exception, Restore, Inst, Env, value_at, Outcome, Gives, Throws, Stuck, Outcomes, AllGive, OneThrows, OneStuck}
-use Rattle.rules_expansion.specs.Core.{Release, Read, Core, ActionFunction, action_named}
+use Rattle.rules_expansion.specs.Core.{Read, Core, ActionFunction, action_named}
+use Rattle.rules_expansion.specs.declared.primitive.Primitive.TheVariants.{Release}
 use Rattle.rules_meaning.specs.CoreMeaning.{Code, value_of_core, values_of_core}
 use Rattle.rules_meaning.specs.Meaning.{values_of_exs}
 use Rattle.rules_expansion.specs.Expansion.{release, bracket_exit}

@@ -3,9 +3,12 @@
 use Rattle.std.specs.Prelude.{◌≡◌, ◌≢◌, ◌<◌, ℕ, suc, ◌≤◌, ◌==◌, List, [], ◌∷◌, ◌++◌, slice_get, true, cond, Option, Some}
 use Rattle.hs_base.specs.declared.mask.Mask.{Mask}
 use Rattle.hs_base.specs.declared.mask.Mask.TheVariants.{Unmasked, Masked, Uninterruptible}
-use Rattle.rules_expansion.specs.Names.{Name, Added, Instance, BracketResult, BracketFault}
+use Rattle.rules_expansion.specs.Names.{Name, Added}
+use Rattle.rules_expansion.specs.declared.hidden.Hidden.TheVariants.{Instance, BracketResult, BracketFault}
 use Rattle.rules_meaning.specs.Values.{V, Inst, Env, value_at}
-use Rattle.rules_expansion.specs.Core.{Primitive, Release, Core, Bind, Perform, Catch}
+use Rattle.rules_expansion.specs.Core.{Core, Bind, Perform, Catch}
+use Rattle.rules_expansion.specs.declared.primitive.Primitive.{Primitive}
+use Rattle.rules_expansion.specs.declared.primitive.Primitive.TheVariants.{Release}
 use Rattle.hs_rules.specs.Terms.{Operation, Calls, Part, Ret, Throw, Do, Performs, Frame, BindTo, CatchBy, MaskIn, mask_at}
 use Rattle.hs_rules.specs.State.{Mark, AcquiredBy, ReleasedBy, Thread, State}
 

@@ -3,10 +3,13 @@
 use Rattle.std.specs.Prelude.{◌≡◌, ◌≢◌, ◌≤◌, ℕ, ℤ, List, [], ◌∷◌, ◌++◌, Option, Some, None, slice_get}
 use Rattle.hs_base.specs.declared.mask.Mask.{Mask}
 use Rattle.hs_base.specs.declared.exn.Exn.{Exn}
-use Rattle.rules_expansion.specs.Names.{Name, Written, Added, Unread, Instance, BracketResult, BracketFault}
+use Rattle.rules_expansion.specs.Names.{Name, Written, Added, Unread}
+use Rattle.rules_expansion.specs.declared.hidden.Hidden.TheVariants.{Instance, BracketResult, BracketFault}
 use Rattle.rules_meaning.specs.Values.{V, Int, Exception, Inst, Env, value_at}
 use Rattle.rules_meaning.specs.Values as val
-use Rattle.rules_expansion.specs.Core.{Primitive, TakeMVar, ReadMVar, PutMVar, ThreadDelay, ThrowTo, Acquired, Release, CoreEx, Read, Core, Return, ThrowIo, Let, Bind, If, CaseMaybe, CaseEither, CaseList, CasePair, Call, Perform, Fork, ForkUnmask, Catch, MaskWith, MaskHard, ActionFunction}
+use Rattle.rules_expansion.specs.Core.{CoreEx, Read, Core, Return, ThrowIo, Let, Bind, If, CaseMaybe, CaseEither, CaseList, CasePair, Call, Perform, Fork, ForkUnmask, Catch, MaskWith, MaskHard, ActionFunction}
+use Rattle.rules_expansion.specs.declared.primitive.Primitive.{Primitive}
+use Rattle.rules_expansion.specs.declared.primitive.Primitive.TheVariants.{TakeMVar, ReadMVar, PutMVar, ThreadDelay, ThrowTo, Acquired, Release}
 use Rattle.rules_expansion.specs.Core as core
 use Rattle.rules_trees.specs.Trees.{Exs}
 use Rattle.rules_expansion.specs.Expansion.{release, bracket_return, bracket_exit, bracket_rethrow, bracket_handler, bracket_guarded, bracket_acquired, acquire, bracket_marked, bracket_masked}
@@ -25,6 +28,7 @@ IsCommon (Added Instance) = ⊥
 IsCommon (Added BracketResult) = ⊥
 IsCommon (Added BracketFault) = ⊥
 IsCommon (Added h) = Unit {0}
+IsCommon Unread = Unit {0}
 
 -- a primitive that isn't a bracket's own
 abbrev pub IsOrdinary : Primitive → Type 0
@@ -76,9 +80,9 @@ pub data Below : List Frame → List ℕ → Type 0 where
       Below (CatchBy (Added BracketFault) (bracket_handler b) env ∷ BindTo (Added BracketResult) (bracket_exit b) env ∷ fs) (i ∷ o)
   -- what is left of the handler after its release
   below_throw : {b b' : Core} {env env' : Env} {s : Mask} {fs : List Frame} {o : List ℕ} → Fine b → IsMasked (mask_at fs) → Below fs o →
-      Below (BindTo (Added Unread) (bracket_rethrow b) env ∷ MaskIn s ∷ BindTo (Added BracketResult) (bracket_exit b') env' ∷ fs) o
+      Below (BindTo Unread (bracket_rethrow b) env ∷ MaskIn s ∷ BindTo (Added BracketResult) (bracket_exit b') env' ∷ fs) o
   below_last : {b' : Core} {env env' : Env} {s : Mask} {fs : List Frame} {o : List ℕ} → IsMasked (mask_at fs) → Below fs o →
-      Below (BindTo (Added Unread) (ThrowIo (Read (Added BracketFault))) env ∷ MaskIn s ∷ BindTo (Added BracketResult) (bracket_exit b') env' ∷ fs) o
+      Below (BindTo Unread (ThrowIo (Read (Added BracketFault))) env ∷ MaskIn s ∷ BindTo (Added BracketResult) (bracket_exit b') env' ∷ fs) o
 
 -- An active part in its frames, and the instances that it owes, the innermost first: one case for each phase of a bracket.
 -- What belongs to a bracket stands where the masking state isn't Unmasked.
@@ -102,16 +106,16 @@ pub data Held : Part → List Frame → List ℕ → Type 0 where
   -- the exit, up to its release
   held_leave : {b : Core} {env : Env} {i : ℕ} {fs : List Frame} {o : List ℕ} → value_at (Added Instance) env ≡ Some (Inst i) → Fine b → IsMasked (mask_at fs) → Below fs o → Held (Do (bracket_exit b) env) fs (i ∷ o)
   held_leave_release : {b : Core} {env env' : Env} {i : ℕ} {fs : List Frame} {o : List ℕ} → value_at (Added Instance) env ≡ Some (Inst i) → Fine b → IsMasked (mask_at fs) → Below fs o →
-      Held (Do release env) (BindTo (Added Unread) (bracket_return b) env' ∷ fs) (i ∷ o)
+      Held (Do release env) (BindTo Unread (bracket_return b) env' ∷ fs) (i ∷ o)
   held_leave_op : {b : Core} {env' : Env} {i : ℕ} {fs : List Frame} {o : List ℕ} → Fine b → IsMasked (mask_at fs) → Below fs o →
-      Held (Performs (Calls Release (Inst i ∷ []))) (BindTo (Added Unread) (bracket_return b) env' ∷ fs) (i ∷ o)
+      Held (Performs (Calls Release (Inst i ∷ []))) (BindTo Unread (bracket_return b) env' ∷ fs) (i ∷ o)
   -- the handler, up to its release
   held_handle : {b b' : Core} {env env' : Env} {s : Mask} {i : ℕ} {fs : List Frame} {o : List ℕ} → value_at (Added Instance) env ≡ Some (Inst i) → Fine b → IsMasked s → IsMasked (mask_at fs) → Below fs o →
       Held (Do (bracket_handler b) env) (MaskIn s ∷ BindTo (Added BracketResult) (bracket_exit b') env' ∷ fs) (i ∷ o)
   held_handle_release : {b b' : Core} {env env1 env' : Env} {s : Mask} {i : ℕ} {fs : List Frame} {o : List ℕ} → value_at (Added Instance) env ≡ Some (Inst i) → Fine b → IsMasked s → IsMasked (mask_at fs) → Below fs o →
-      Held (Do release env) (BindTo (Added Unread) (bracket_rethrow b) env1 ∷ MaskIn s ∷ BindTo (Added BracketResult) (bracket_exit b') env' ∷ fs) (i ∷ o)
+      Held (Do release env) (BindTo Unread (bracket_rethrow b) env1 ∷ MaskIn s ∷ BindTo (Added BracketResult) (bracket_exit b') env' ∷ fs) (i ∷ o)
   held_handle_op : {b b' : Core} {env1 env' : Env} {s : Mask} {i : ℕ} {fs : List Frame} {o : List ℕ} → Fine b → IsMasked s → IsMasked (mask_at fs) → Below fs o →
-      Held (Performs (Calls Release (Inst i ∷ []))) (BindTo (Added Unread) (bracket_rethrow b) env1 ∷ MaskIn s ∷ BindTo (Added BracketResult) (bracket_exit b') env' ∷ fs) (i ∷ o)
+      Held (Performs (Calls Release (Inst i ∷ []))) (BindTo Unread (bracket_rethrow b) env1 ∷ MaskIn s ∷ BindTo (Added BracketResult) (bracket_exit b') env' ∷ fs) (i ∷ o)
   -- the handler after its release: its last action throws on
   held_then_throw : {b b' : Core} {env env' : Env} {s : Mask} {fs : List Frame} {o : List ℕ} → Fine b → IsMasked (mask_at fs) → Below fs o →
       Held (Do (bracket_rethrow b) env) (MaskIn s ∷ BindTo (Added BracketResult) (bracket_exit b') env' ∷ fs) o

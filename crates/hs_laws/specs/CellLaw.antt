@@ -7,7 +7,8 @@ use Rattle.hs_rules.specs.declared.entry.Entry.TheVariants as entry
 use Rattle.rules_trees.specs.Programs.{Fn}
 use Rattle.rules_meaning.specs.Values as val
 use Rattle.rules_meaning.specs.Values.{V, UnitValue, Truth, Nothing, Just}
-use Rattle.rules_expansion.specs.Core.{Primitive, NewMVar, NewEmptyMVar, TakeMVar, ReadMVar, PutMVar, TryTakeMVar, TryPutMVar}
+use Rattle.rules_expansion.specs.declared.primitive.Primitive.{Primitive}
+use Rattle.rules_expansion.specs.declared.primitive.Primitive.TheVariants.{NewMVar, NewEmptyMVar, TakeMVar, ReadMVar, PutMVar, TryTakeMVar, TryPutMVar}
 use Rattle.rules_meaning.specs.CoreMeaning.{Code, code_of}
 use Rattle.hs_rules.specs.Terms.{Operation, Calls, Part, Ret, Performs, term}
 use Rattle.rules_waiting.specs.OneCell.{Want, Place, Cell, Call, Make, Take, Read, Put, Try_take, Try_put, Leave, Answer, Made, Took, Saw, Gave, Tried_take, Tried_put, Reply, first_put, made, call}

@@ -3,7 +3,7 @@ use Rattle.std.specs.Prelude.{◌≡◌, ◌≢◌, ℕ, ◌<◌, ◌≤◌, Lis
 use Rattle.hs_rules.specs.declared.entry.Entry.{Entry}
 use Rattle.hs_rules.specs.declared.entry.Entry.TheVariants as entry
 use Rattle.rules_trees.specs.Programs.{Fn}
-use Rattle.rules_expansion.specs.Core.{ThreadDelay, ClockMicros}
+use Rattle.rules_expansion.specs.declared.primitive.Primitive.TheVariants.{ThreadDelay, ClockMicros}
 use Rattle.rules_meaning.specs.CoreMeaning.{Code, code_of}
 use Rattle.hs_rules.specs.Terms.{Operation, Calls}
 use Rattle.rules_waiting.specs.Waiting.{sleepers_of, sorted_sleepers, earliest}

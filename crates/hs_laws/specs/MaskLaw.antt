@@ -9,7 +9,7 @@ use Rattle.hs_rules.specs.declared.entry.Entry.TheVariants as entry
 use Rattle.rules_trees.specs.Programs.{Fn}
 use Rattle.rules_meaning.specs.Values.{V, Exception}
 use Rattle.rules_meaning.specs.Values as val
-use Rattle.rules_expansion.specs.Core.{ThrowTo}
+use Rattle.rules_expansion.specs.declared.primitive.Primitive.TheVariants.{ThrowTo}
 use Rattle.rules_meaning.specs.CoreMeaning.{Code, code_of}
 use Rattle.hs_rules.specs.Terms.{Calls, Throw, Performs, term, mask_at}
 use Rattle.rules_waiting.specs.Waiting.{Reason, Throwing, is_blocked, reason_of, at_cell, flight_of, flying_to, first_thrown}

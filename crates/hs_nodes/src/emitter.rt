@@ -1,5 +1,5 @@
 //! The nodes so far, and the names of the scope.
-use crate::names::{Bound, Hidden};
+use crate::names::Bound;
 use crate::places::Places;
 use hs_base::{NoMemory, Txt};
 use hs_items::Items;
@@ -15,7 +15,7 @@ impl Emitter {
     ghost use Rattle.std.specs.Prelude.{◌≡◌, ◌++◌, ◌∷◌, [], length, IfOk};
     ghost use Rattle.rules_code.specs.Slots.{slot_of};
     ghost use Rattle.rules_expansion.specs.Names.{Written, Added};
-    ghost use Rattle.hs_nodes.specs.Names.{scope_of, hidden_of};
+    ghost use Rattle.hs_nodes.specs.Names.{scope_of};
     ghost use Rattle.hs_nodes.specs.Emitting.{place_of};
 
     /// Adds a node, and answers its number.
@@ -42,7 +42,7 @@ impl Emitter {
 
     /// The slot of an added name.
     pub fn added_slot(&self, h: Hidden) -> Option<usize>
-        ensures { result ≡ slot_of (scope_of self.now.scope) (Added (hidden_of h)) }
+        ensures { result ≡ slot_of (scope_of self.now.scope) (Added h) }
     {
         let items = self.scope.as_slice();
         'back: for i in (0..items.len()).rev() {

@@ -14,7 +14,7 @@ use hs_base::{
 };
 use hs_items::{Boxed, Items};
 use rules_code::{ExprId, Node, NodeLink};
-use hs_base::tree::forms::{BinaryForm, EmptyForm, SideForm, UnaryForm};
+use hs_base::tree::forms::{BinaryForm, SideForm, UnaryForm};
 use std::alloc::Global;
 
 fn constant(constant: Constant) -> Node
@@ -106,7 +106,6 @@ impl Emitter {
                 let i = self.part(alloc, places, a)?;
                 self.conses(alloc, places, i, links)
             }
-            Expr::Negate(_, a) => self.single(alloc, places, UnaryForm::Negate, a),
             Expr::Sum(a, links) => {
                 let i = self.part(alloc, places, a)?;
                 self.sum_chain(alloc, places, i, links)
@@ -116,16 +115,9 @@ impl Emitter {
                 self.chain(alloc, places, i, BinaryForm::Times, links)
             }
             Expr::Call(x, es) => self.call(alloc, places, &x.text, es),
-            Expr::Just(_, a) => self.single(alloc, places, UnaryForm::Just, a),
-            Expr::Nothing(_, _) => self.add(Node::Empty(EmptyForm::Nothing)),
-            Expr::Left(_, _, _, a) => self.aside(alloc, places, SideForm::Left, a),
-            Expr::Right(_, _, _, a) => self.aside(alloc, places, SideForm::Right, a),
-            Expr::EmptyList(_, _) => self.add(Node::Empty(EmptyForm::EmptyList)),
-            Expr::ErrorCall(_, a) => self.single(alloc, places, UnaryForm::ErrorCall, a),
-            Expr::Not(_, a) => self.single(alloc, places, UnaryForm::Not, a),
-            Expr::Fst(_, a) => self.single(alloc, places, UnaryForm::Fst, a),
-            Expr::Snd(_, a) => self.single(alloc, places, UnaryForm::Snd, a),
-            Expr::Show(_, a) => self.single(alloc, places, UnaryForm::Show, a),
+            Expr::Unary(form, _, a) => self.single(alloc, places, *form, a),
+            Expr::Empty(form, _, _) => self.add(Node::Empty(*form)),
+            Expr::Side(form, _, _, _, a) => self.aside(alloc, places, *form, a),
             Expr::Div(_, a, b) => {
                 let i = self.part(alloc, places, a)?;
                 self.second(alloc, places, BinaryForm::Div, i, b)

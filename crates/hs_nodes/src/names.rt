@@ -1,68 +1,12 @@
 //! The names of a scope: those that a script writes, and those that expansions add.
 ghost use Rattle.std.specs.Prelude.{◌≡◌, ◌++◌, ◌∷◌, [], OnOk, List, bytes_eq};
-ghost use Rattle.rules_expansion.specs.Names.{Written, Added, same_name, hidden_number};
-ghost use Rattle.hs_nodes.specs.Names.{hidden_of, name_of};
+ghost use Rattle.rules_expansion.specs.Names.{Written, Added, same_name};
+ghost use Rattle.hs_nodes.specs.Names.{name_of};
 
 use hs_base::{NoMemory, Txt};
 use hs_items::Items;
+use rules_expansion::Hidden;
 use std::alloc::Global;
-
-/// A name that expansions add, by its role. No script can write one.
-#[derive(Clone, Copy, Debug, PartialEq, Eq)]
-pub enum Hidden {
-    /// the state that a form with a mask of its own restores
-    Restorer,
-    /// what the guarded action of a `finally` or a `modifyMVar_` gave
-    Given,
-    /// the exception that a form caught and throws on
-    Caught,
-    /// the cell of a `modifyMVar_`
-    TheCell,
-    /// the number of one use of `bracket`
-    Instance,
-    /// what the middle action of a `bracket` gave
-    BracketResult,
-    /// the exception that ended the middle action of a `bracket`
-    BracketFault,
-    /// the time that a `timeout` allows
-    Allowed,
-    /// what the action of a `timeout` gave
-    InTime,
-    /// the thread that a `timeout` runs in
-    Owner,
-    /// the exception that a `timeout` throws
-    Expiry,
-    /// the helper thread of a `timeout`
-    Helper,
-    /// the unmasked state of that helper
-    HelperRestorer,
-}
-
-impl Hidden {
-    ghost use Rattle.std.specs.Prelude.{◌≡◌};
-    ghost use Rattle.rules_expansion.specs.Names.{hidden_number};
-    ghost use Rattle.hs_nodes.specs.Names.{hidden_of};
-
-    fn number(self) -> u8
-        ensures { result ≡ hidden_number (hidden_of self) }
-    {
-        match self {
-            Hidden::Restorer => 1,
-            Hidden::Given => 2,
-            Hidden::Caught => 3,
-            Hidden::TheCell => 4,
-            Hidden::Instance => 5,
-            Hidden::BracketResult => 6,
-            Hidden::BracketFault => 7,
-            Hidden::Allowed => 8,
-            Hidden::InTime => 9,
-            Hidden::Owner => 10,
-            Hidden::Expiry => 11,
-            Hidden::Helper => 12,
-            Hidden::HelperRestorer => 13,
-        }
-    }
-}
 
 /// A name of a scope.
 #[derive(Debug, Drop)]
@@ -74,7 +18,7 @@ pub enum Bound {
 impl Bound {
     ghost use Rattle.std.specs.Prelude.{◌≡◌};
     ghost use Rattle.rules_expansion.specs.Names.{Written, Added, same_name};
-    ghost use Rattle.hs_nodes.specs.Names.{hidden_of, name_of};
+    ghost use Rattle.hs_nodes.specs.Names.{name_of};
 
     /// Whether it is this name of the script.
     pub fn is_written(&self, x: &Txt) -> bool
@@ -88,7 +32,7 @@ impl Bound {
 
     /// Whether it is this added name.
     pub fn is_added(&self, h: Hidden) -> bool
-        ensures { result ≡ same_name (Added (hidden_of h)) (name_of self.now) }
+        ensures { result ≡ same_name (Added h) (name_of self.now) }
     {
         match self {
             Bound::Written(_) => false,

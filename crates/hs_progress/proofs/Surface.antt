@@ -10,19 +10,22 @@ use Rattle.hs_base.specs.declared.tree.forms.BinaryAction.{BinaryAction}
 use Rattle.hs_base.specs.declared.tree.forms.BinaryAction.TheVariants as b
 use Rattle.hs_base.specs.declared.tree.forms.BlockAction.TheVariants as k
 use Rattle.hs_base.specs.declared.tree.forms.MaskingAction.TheVariants as m
-use Rattle.hs_base.specs.declared.tree.forms.GuardAction.TheVariants as g
+use Rattle.hs_base.specs.declared.tree.forms.GuardAction.TheVariants as guards
 use Rattle.rules_trees.specs.Trees.{T, unit, int, bool, text, thread, exn, pair, maybe, either, list, cell, Ex, Exs, none, more}
 use Rattle.rules_trees.specs.Programs as tree
 use Rattle.rules_trees.specs.Programs.{Act, Bl, ActArms}
 use Rattle.rules_expansion.specs.Names as names
-use Rattle.rules_expansion.specs.Names.{Written, Added, Unread, Restorer, Given, Caught, TheCell, Instance, BracketResult, BracketFault, Allowed, InTime, Owner, Expiry, Helper, HelperRestorer, Hidden, same_name}
+use Rattle.rules_expansion.specs.Names.{Written, Added, same_name, Unread}
+use Rattle.rules_expansion.specs.declared.hidden.Hidden.{Hidden}
+use Rattle.rules_expansion.specs.declared.hidden.Hidden.TheVariants.{Restorer, Given, Caught, TheCell, Instance, BracketResult, BracketFault, Allowed, InTime, Owner, Expiry, Helper, HelperRestorer}
 use Rattle.rules_typed.specs.Sorts.{Sort, a_value, a_masking_name, an_instance, sort_at, Bound}
 use Rattle.rules_typing.specs.Typing.{Need, is, AllMet, Sig, inner_of, first_of, second_of}
 use Rattle.rules_typing.specs.Typing as typing
 use Rattle.rules_typing.specs.TypingActions.{form_of_acts, type_of_bare, row_unary_act, row_binary_act, ActHas, BlHas, ActArmsHave}
 use Rattle.rules_typed.specs.TypedMeaning.{Well, WellAll}
-use Rattle.rules_expansion.specs.Core.{CoreEx, OfScript, Core, Call}
-use Rattle.rules_expansion.specs.Expansion.{bare_core, core, block_core, arms_core, on_exception, finally, bracket, modify_mvar, in_time, timeout, unary_core, binary_core}
+use Rattle.rules_expansion.specs.Core.{CoreEx, OfScript, JustRead, Core, Call, Return, Bind, MaskWith}
+use Rattle.rules_expansion.specs.declared.template.Derived.TheVariants as form
+use Rattle.rules_expansion.specs.Expansion.{bare_core, core, block_core, arms_core, bracket_masked, derived, on_bound, on_both, guard_core, unary_core, binary_core}
 use Rattle.hs_soundness.specs.CoreSorts.{seen_as, written_in, CoreHas}
 use Rattle.hs_soundness.specs.WellActions.{WellAct, WellBl, WellActArms}
 use Rattle.hs_progress.specs.CoreTyping.{Binds, with_bound, Tidy, Sees, asks_put_str, asks_put_str_ln, asks_h_put_str_ln, asks_new, asks_new_empty, asks_take, asks_put, asks_read, asks_try_take, asks_try_put, asks_my_thread, asks_masking, asks_clock, asks_delay, asks_throw_to, asks_new_timeout, asks_acquired, asks_release, no_more, one_more, Does, does_return, does_throw, does_let, does_bind, does_then, does_if, does_maybe, does_either, does_list, does_pair, does_call, does_perform, does_fork, does_fork_unmask, does_catch, does_mask, does_mask_hard, does_restore}
@@ -58,6 +61,7 @@ mask_cond y o r i false p h e = h e
 mask_step : (g : List Bound) (y : names.Name) (j : Sort) (x : List ℕ) → Binds y j → (typing.look (written_in g) x ≡ Some typing.masking_name → sort_at (Written x) g ≡ Some a_masking_name)
     → typing.look (written_in (record { name = y; sort = j } ∷ g)) x ≡ Some typing.masking_name → cond (same_name (Written x) y) (Some j) (sort_at (Written x) g) ≡ Some a_masking_name
 mask_step g (Added h) j x p r e = r e
+mask_step g Unread j x p r e = absurd p
 mask_step g (Written y) j x p r e =
     mask_cond y (typing.look (written_in g) x) (sort_at (Written x) g) j (bytes_eq x y) p r (subst (λ t. cond t (Some (seen_as j)) (typing.look (written_in g) x) ≡ Some typing.masking_name) (eq_sym y x) e)
 
@@ -119,10 +123,10 @@ module _ (c : typing.Ctx) where
   cast {s} {a} t v e h g w = subst (λ z. Does c g a (a_value z)) (sym e) (h g w)
 
   -- ---- what expansions write
-  on_exception_does : {s : List typing.Bound} {a d : Core} {j i : Sort} → AllIn s a j → AllIn s d i → AllIn s (on_exception a d) j
+  on_exception_does : {s : List typing.Bound} {a d : Core} {j i : Sort} → AllIn s a j → AllIn s d i → AllIn s (guard_core guards.OnException a d) j
   on_exception_does A B g w = does_catch tt (A g w) (does_then (B _ (hides Caught (a_value exn) tt w)) (does_throw (refl, refl)))
 
-  finally_does : {s : List typing.Bound} {a d : Core} {j i : Sort} → AllIn s a j → AllIn s d i → AllIn s (finally a d) j
+  finally_does : {s : List typing.Bound} {a d : Core} {j i : Sort} → AllIn s a j → AllIn s d i → AllIn s (guard_core guards.Finally a d) j
   finally_does {j} A B g w =
       let r = hides Restorer a_masking_name tt w in
       does_mask tt
@@ -135,7 +139,7 @@ module _ (c : typing.Ctx) where
       → Does c (with_bound (Added BracketFault) (a_value exn) (with_bound (Added Instance) an_instance (with_bound x j (with_bound (Added Restorer) a_masking_name g)))) d i
       → Does c (with_bound (Added BracketResult) l (with_bound (Added Instance) an_instance (with_bound x j (with_bound (Added Restorer) a_masking_name g)))) d i
       → Does c (with_bound (Added Instance) an_instance (with_bound x j (with_bound (Added Restorer) a_masking_name g))) f l
-      → Does c g (bracket a x d f) l
+      → Does c g (MaskWith (Added Restorer) (bracket_masked a x d f)) l
   bracket_does {g} {j} {l} p n A B B' C =
       does_mask tt
       (does_bind p A
@@ -147,7 +151,7 @@ module _ (c : typing.Ctx) where
 
   modify_does : {g : List Bound} {e : CoreEx} {d : Core} (x : List ℕ) (t : T) → CoreHas c g e (a_value (cell t))
       → Does c (with_bound (Written x) (a_value t) (with_bound (Added Restorer) a_masking_name (with_bound (Added TheCell) (a_value (cell t)) g))) d (a_value t)
-      → Does c g (modify_mvar e (Written x) d) (a_value unit)
+      → Does c g (derived form.ModifyMVar (on_bound e x d)) (a_value unit)
   modify_does {g} x t h B =
       does_let tt h
       (does_mask tt
@@ -159,10 +163,10 @@ module _ (c : typing.Ctx) where
       (does_throw {k = a_value t} (refl, refl))))
       (does_perform asks_put (one_more (refl, refl) (one_more (refl, refl) no_more))))))
 
-  in_time_does : {g : List Bound} {d : Core} (t : T) → Does c g d (a_value t) → Does c g (in_time d) (a_value (maybe t))
+  in_time_does : {g : List Bound} {d : Core} (t : T) → Does c g d (a_value t) → Does c g (Bind (Added InTime) d (Return (JustRead (Added InTime)))) (a_value (maybe t))
   in_time_does t B = does_bind tt B (does_return (t, (refl, refl), refl))
 
-  timeout_does : {s : List typing.Bound} {d : Core} (t : T) → AllIn s d (a_value t) → (g : List Bound) → Sees g s → (e : CoreEx) → CoreHas c g e (a_value int) → Does c g (timeout e d) (a_value (maybe t))
+  timeout_does : {s : List typing.Bound} {d : Core} (t : T) → AllIn s d (a_value t) → (g : List Bound) → Sees g s → (e : CoreEx) → CoreHas c g e (a_value int) → Does c g (derived form.Timeout (on_both e d)) (a_value (maybe t))
   timeout_does t B g w e h =
       let n = hides Allowed (a_value int) tt w in
       let y = hides Expiry (a_value exn) tt (hides Owner (a_value thread) tt n) in
@@ -248,8 +252,8 @@ module _ (c : typing.Ctx) where
         λ g q. does_restore (refl, mask_there g x.text q.tidy (ap (λ z. typing.look z x.text) q.same ∙ no_fault c x (typing.look s x.text) h.0)) (bl_does s a t w h.1 g q)
     act_does s (tree.catch p a x d) t w h =
         cast t h.0 h.4.1.1 (λ g q. does_catch tt (bl_does s a h.0 w.0 h.2 g q) (cast h.0 h.1 h.4.0.0 (bl_does (typing.bound x exn ∷ s) d h.1 w.1 h.3.1) _ (binds x exn q)))
-    act_does s (tree.guard g.OnException p a d) t w h = cast t h.0 h.4.1.1 (on_exception_does (bl_does s a h.0 w.0 h.2) (bl_does s d h.1 w.1 h.3))
-    act_does s (tree.guard g.Finally p a d) t w h = cast t h.0 h.4.1.1 (finally_does (bl_does s a h.0 w.0 h.2) (bl_does s d h.1 w.1 h.3))
+    act_does s (tree.guard guards.OnException p a d) t w h = cast t h.0 h.4.1.1 (on_exception_does (bl_does s a h.0 w.0 h.2) (bl_does s d h.1 w.1 h.3))
+    act_does s (tree.guard guards.Finally p a d) t w h = cast t h.0 h.4.1.1 (finally_does (bl_does s a h.0 w.0 h.2) (bl_does s d h.1 w.1 h.3))
     act_does s (tree.bracket p a x d f) t w h =
         let v = h.0 in let y = h.2.1.0 in let o = h.2.1.1 in
         cast t o h.2.1.4.1.1 (λ g q.

@@ -8,7 +8,9 @@ use Rattle.rules_expansion.specs.Names.{Name, Written, Added, Unread}
 use Rattle.rules_typed.specs.Sorts.{Sort, a_value, a_masking_name, an_instance, Bound}
 use Rattle.rules_typing.specs.Typing as typing
 use Rattle.rules_typed.specs.TypedMeaning.{WellAll}
-use Rattle.rules_expansion.specs.Core.{Primitive, PutStr, PutStrLn, HPutStrLn, NewMVar, NewEmptyMVar, TakeMVar, PutMVar, ReadMVar, TryTakeMVar, TryPutMVar, MyThreadId, GetMaskingState, ClockMicros, ThreadDelay, ThrowTo, NewTimeout, Acquired, Release, CoreEx, Core, Return, ThrowIo, Let, Bind, If, CaseMaybe, CaseEither, CaseList, CasePair, Call, Perform, Fork, ForkUnmask, Catch, MaskWith, MaskHard, Restore}
+use Rattle.rules_expansion.specs.Core.{CoreEx, Core, Return, ThrowIo, Let, Bind, If, CaseMaybe, CaseEither, CaseList, CasePair, Call, Perform, Fork, ForkUnmask, Catch, MaskWith, MaskHard, Restore}
+use Rattle.rules_expansion.specs.declared.primitive.Primitive.{Primitive}
+use Rattle.rules_expansion.specs.declared.primitive.Primitive.TheVariants.{PutStr, PutStrLn, HPutStrLn, NewMVar, NewEmptyMVar, TakeMVar, PutMVar, ReadMVar, TryTakeMVar, TryPutMVar, MyThreadId, GetMaskingState, ClockMicros, ThreadDelay, ThrowTo, NewTimeout, Acquired, Release}
 use Rattle.hs_soundness.specs.CoreSorts.{written_in, IsThere, CoreHas}
 
 -- ---- names
@@ -18,7 +20,7 @@ abbrev pub Binds : Name → Sort → Type 0
 Binds (Written x) (a_value t) = Unit {0}
 Binds (Written x) a_masking_name = Unit {0}
 Binds (Written x) an_instance = ⊥
-Binds (Added Unread) k = ⊥
+Binds Unread k = ⊥
 Binds (Added h) k = Unit {0}
 
 -- a scope with one name more
@@ -69,7 +71,7 @@ pub data Does (c : typing.Ctx) : List Bound → Core → Sort → Type 0 where
   does_throw : {g : List Bound} {e : CoreEx} {k : Sort} → CoreHas c g e (a_value exn) → Does c g (ThrowIo e) k
   does_let : {g : List Bound} {y : Name} {e : CoreEx} {a : Core} {j k : Sort} → Binds y j → CoreHas c g e j → Does c (with_bound y j g) a k → Does c g (Let y e a) k
   does_bind : {g : List Bound} {y : Name} {a b : Core} {j k : Sort} → Binds y j → Does c g a j → Does c (with_bound y j g) b k → Does c g (Bind y a b) k
-  does_then : {g : List Bound} {a b : Core} {j k : Sort} → Does c g a j → Does c g b k → Does c g (Bind (Added Unread) a b) k
+  does_then : {g : List Bound} {a b : Core} {j k : Sort} → Does c g a j → Does c g b k → Does c g (Bind Unread a b) k
   does_if : {g : List Bound} {e : CoreEx} {a b : Core} {k : Sort} → CoreHas c g e (a_value bool) → Does c g a k → Does c g b k → Does c g (If e a b) k
   does_maybe : {g : List Bound} {e : CoreEx} {x : Name} {a b : Core} {t : T} {k : Sort} → Binds x (a_value t) →
       CoreHas c g e (a_value (maybe t)) → Does c g a k → Does c (with_bound x (a_value t) g) b k → Does c g (CaseMaybe e a x b) k

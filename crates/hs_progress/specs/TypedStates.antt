@@ -16,7 +16,8 @@ use Rattle.rules_typed.specs.Sorts.{Sort, a_value, a_masking_name, Bound}
 use Rattle.rules_typing.specs.Typing as typing
 use Rattle.rules_typing.specs.TypingScripts.{sigs_from}
 use Rattle.rules_typed.specs.TypedMeaning.{HasV}
-use Rattle.rules_expansion.specs.Core.{Primitive, Core, ActionFunction, action_named}
+use Rattle.rules_expansion.specs.Core.{Core, ActionFunction, action_named}
+use Rattle.rules_expansion.specs.declared.primitive.Primitive.{Primitive}
 use Rattle.rules_expansion.specs.Expansion.{actions_of}
 use Rattle.hs_rules.specs.Terms.{Operation, Calls, Forks, ForksUnmask, Part, Ret, Throw, Do, Performs, Frame, BindTo, CatchBy, MaskIn, Term}
 use Rattle.hs_rules.specs.State.{Thread, State}
@@ -89,7 +90,7 @@ module _ (cells : ℕ → T → Type 0) where
     pub data FramesTyped : Sort → List Frame → Type 0 where
       no_frames : {k : Sort} → FramesTyped k []
       bind_typed : {x : Name} {b : Core} {env : Env} {k j : Sort} {fs : List Frame} → Awaits x k b env j → FramesTyped j fs → FramesTyped k (BindTo x b env ∷ fs)
-      then_typed : {b : Core} {env : Env} {k j : Sort} {fs : List Frame} → Runs b env j → FramesTyped j fs → FramesTyped k (BindTo (Added Unread) b env ∷ fs)
+      then_typed : {b : Core} {env : Env} {k j : Sort} {fs : List Frame} → Runs b env j → FramesTyped j fs → FramesTyped k (BindTo Unread b env ∷ fs)
       catch_typed : {x : Name} {b : Core} {env : Env} {k : Sort} {fs : List Frame} → Awaits x (a_value exn) b env k → FramesTyped k fs → FramesTyped k (CatchBy x b env ∷ fs)
       mask_typed : {m : Mask} {k : Sort} {fs : List Frame} → FramesTyped k fs → FramesTyped k (MaskIn m ∷ fs)
 

@@ -13,7 +13,8 @@ use Rattle.hs_base.specs.declared.exn.Exn.{Exn}
 use Rattle.hs_base.specs.declared.exn.Exn.TheVariants.{Timeout}
 use Rattle.rules_meaning.specs.Values.{V, UnitValue, Int, Truth, Text, Nothing, Just, Cell, Exception, Restore, Inst, with_name}
 use Rattle.rules_meaning.specs.Values as v
-use Rattle.rules_expansion.specs.Core.{Primitive, PutStr, PutStrLn, HPutStrLn, NewMVar, NewEmptyMVar, TakeMVar, PutMVar, ReadMVar, TryTakeMVar, TryPutMVar, MyThreadId, GetMaskingState, ClockMicros, ThreadDelay, ThrowTo, NewTimeout, Acquired, Release}
+use Rattle.rules_expansion.specs.declared.primitive.Primitive.{Primitive}
+use Rattle.rules_expansion.specs.declared.primitive.Primitive.TheVariants.{PutStr, PutStrLn, HPutStrLn, NewMVar, NewEmptyMVar, TakeMVar, PutMVar, ReadMVar, TryTakeMVar, TryPutMVar, MyThreadId, GetMaskingState, ClockMicros, ThreadDelay, ThrowTo, NewTimeout, Acquired, Release}
 use Rattle.hs_rules.specs.Terms.{Operation, Calls, Forks, ForksUnmask, Ret, Throw, Do, MaskIn, term}
 use Rattle.rules_waiting.specs.OneCell.{first_put, first_take, readers}
 use Rattle.rules_waiting.specs.Waiting.{Taking, Reading, Putting, Throwing, Sleeping, line_of}

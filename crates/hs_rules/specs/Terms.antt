@@ -8,7 +8,8 @@ use Rattle.hs_base.specs.declared.mask.Mask.TheVariants.{Unmasked}
 use Rattle.hs_base.specs.declared.exn.Exn.{Exn}
 use Rattle.rules_expansion.specs.Names.{Name}
 use Rattle.rules_meaning.specs.Values.{V, Env}
-use Rattle.rules_expansion.specs.Core.{Primitive, Core}
+use Rattle.rules_expansion.specs.Core.{Core}
+use Rattle.rules_expansion.specs.declared.primitive.Primitive.{Primitive}
 
 -- what only an Op performs: a primitive with its values, or a fork with its block and environment
 pub data Operation : Type 0 where

@@ -5,7 +5,7 @@ use Rattle.hs_base.specs.declared.tree.script.Script.{Script}
 use Rattle.hs_base.specs.declared.tree.forms.BinaryForm.TheVariants as b
 use Rattle.rules_trees.specs.Trees.{T, int, bool, exn, maybe}
 use Rattle.rules_trees.specs.Programs.{script_of}
-use Rattle.rules_expansion.specs.Names.{Name, Written, Added, same_name}
+use Rattle.rules_expansion.specs.Names.{Name, Written, Added, same_name, Unread}
 use Rattle.rules_meaning.specs.Values.{V, Int, Just, Exception, Restore, Env, value_at, Outcome, Gives, Throws, Stuck}
 use Rattle.rules_meaning.specs.Meaning.{Functions, binary_of, functions_of, value_of_ex}
 use Rattle.rules_expansion.specs.Core.{CoreEx, OfScript, Read, JustRead, NoValue, BelowZero, IsZero, SameExn, Killed}
@@ -43,6 +43,7 @@ seen_with : (g : List Bound) (x : List ℕ) (y : Name) (k : Sort) → typing.loo
     → typing.look (with_written y k (written_in g)) x ≡ seen_at (cond (same_name (Written x) y) (Some k) (sort_at (Written x) g))
 seen_with g x (Written z) k h = seen_if (bytes_eq z x) (bytes_eq x z) k (sort_at (Written x) g) (typing.look (written_in g) x) (bytes_eq_sym z x) h
 seen_with g x (Added z) k h = h
+seen_with g x Unread k h = h
 
 look_is : (g : List Bound) (x : List ℕ) → typing.look (written_in g) x ≡ seen_at (sort_at (Written x) g)
 look_is [] x = refl
@@ -76,6 +77,7 @@ module _ (cells : ℕ → T → Type 0) where
   one_at (Written x) a_masking_name (Some v) h = h
   one_at (Written x) an_instance (Some v) h = absurd h
   one_at (Added z) k (Some v) h = h
+  one_at Unread k (Some v) h = h
 
   there : (g : List Bound) (env : Env) (y : Name) (k : Sort) → FitsScope cells g env → IsThere g y k → HasOne k (value_at y env)
   there g env y k f h = one_at y k (value_at y env) (subst (λ o. FitsAt cells y o (value_at y env)) h.1 (f y))

@@ -3,7 +3,7 @@ use Rattle.std.proofs.Common.{◌≡◌, ℕ, zero, suc, List, [], ◌∷◌, �
 use Rattle.std.specs.Prelude.{slice_get}
 use Rattle.rules_trees.specs.Trees.{T, unit, int, bool, text, thread, exn, pair, maybe, either, list, cell}
 use Rattle.rules_meaning.specs.Values as val
-use Rattle.rules_expansion.specs.Names.{Name, Written, Added, Hidden, Unread, Restorer, Given, Caught, TheCell, Instance, BracketResult, BracketFault, Allowed, InTime, Owner, Expiry, Helper, HelperRestorer, same_name}
+use Rattle.rules_expansion.specs.Names.{Name, Written, Added, same_name, Unread}
 use Rattle.rules_meaning.specs.Values.{V, Pair, Nothing, Just, Left, Right, Nil, Cons, Env, with_name, value_at}
 use Rattle.rules_typed.specs.Sorts.{Sort, a_value, a_masking_name, an_instance, Bound, sort_at}
 use Rattle.rules_typed.specs.TypedMeaning.{of_pair, of_maybe, of_either, of_list, of_thread, of_cell, HasV, any_cell}
@@ -65,6 +65,9 @@ module _ (cells more : ℕ → T → Type 0) (grow : (m : ℕ) (t : T) → cells
   at_more (Added z) (Some (a_value t)) (Some v) h = has_more t v h
   at_more (Added z) (Some a_masking_name) (Some v) h = h
   at_more (Added z) (Some an_instance) (Some v) h = h
+  at_more Unread (Some (a_value t)) (Some v) h = has_more t v h
+  at_more Unread (Some a_masking_name) (Some v) h = h
+  at_more Unread (Some an_instance) (Some v) h = h
 
   pub scope_more : (g : List Bound) (env : Env) → FitsScope cells g env → FitsScope more g env
   scope_more g env f y = at_more y (sort_at y g) (value_at y env) (f y)
@@ -76,25 +79,10 @@ fits_any cells g env vs f = record { slots = f.slots; sorts = scope_more cells a
 -- ---- one name more
 
 -- a name that something reads is kept
-kept_hidden : (z : Hidden) (v : V) (env : Env) → is_unread (Added z) ≡ false → with_name (Added z) v env ≡ record { name = Added z; value = v } ∷ env
-kept_hidden Unread v env h = absurd (cc h)
-kept_hidden Restorer v env h = refl
-kept_hidden Given v env h = refl
-kept_hidden Caught v env h = refl
-kept_hidden TheCell v env h = refl
-kept_hidden Instance v env h = refl
-kept_hidden BracketResult v env h = refl
-kept_hidden BracketFault v env h = refl
-kept_hidden Allowed v env h = refl
-kept_hidden InTime v env h = refl
-kept_hidden Owner v env h = refl
-kept_hidden Expiry v env h = refl
-kept_hidden Helper v env h = refl
-kept_hidden HelperRestorer v env h = refl
-
 kept : (y : Name) (v : V) (env : Env) → is_unread y ≡ false → with_name y v env ≡ record { name = y; value = v } ∷ env
 kept (Written x) v env h = refl
-kept (Added z) v env h = kept_hidden z v env h
+kept (Added z) v env h = refl
+kept Unread v env h = absurd (cc h)
 
 get_left : (xs ys : List V) (k : ℕ) (v : V) → slice_get xs k ≡ Some v → slice_get (xs ++ ys) k ≡ Some v
 get_left [] ys k v h = let z : None ≡ Some v = h in absurd (cc z)
@@ -132,6 +120,11 @@ module _ (cells : ℕ → T → Type 0) where
   fits_same (Written x) (Added z) k v e h = absurd (cc e)
   fits_same (Added z) (Written y) k v e h = absurd (cc e)
   fits_same (Added z) (Added w) k v e h = h
+  fits_same (Written x) Unread k v e h = absurd (cc e)
+  fits_same (Added z) Unread k v e h = absurd (cc e)
+  fits_same Unread (Written y) k v e h = absurd (cc e)
+  fits_same Unread (Added w) k v e h = absurd (cc e)
+  fits_same Unread Unread k v e h = h
 
   sorts_with : (g : List Bound) (env : Env) (y : Name) (k : Sort) (v : V) → FitsScope cells g env → FitsAt cells y (Some k) (Some v) → FitsScope cells (record { name = y; sort = k } ∷ g) (record { name = y; value = v } ∷ env)
   sorts_with g env y k v f h x = by (same_name x y) refl

@@ -54,38 +54,20 @@ abbrev plain_block : Block-F WithAct WithActArms WithStmt WithBlock → Block-F 
 plain_block y = map-Block WithAct WithActArms WithStmt WithBlock Action BlockArms Stmt Block (λ e. e.0) (λ e. e.0) (λ e. e.0) (λ e. e.0) y
 
 act_well : (y : Action-F WithAct WithActArms WithStmt WithBlock) → WellAct (act_step (map-Action Action BlockArms Stmt Block Act ActArms (Bl → Bl) Bl act_of act_arms_of stmt_of bl_of (plain_act y)))
-act_well (Action-F.Return p e) = ex_well e
+act_well (Action-F.Bare o p) = tt
+act_well (Action-F.Unary o p e) = ex_well e
+act_well (Action-F.Binary o p e f) = (ex_well e, ex_well f)
 act_well (Action-F.ThrowIo p w e) = ex_well e
+act_well (Action-F.NewEmptyMVar p w) = tt
+act_well (Action-F.Call f es) = exs_well es
 act_well (Action-F.If p e a c) = (ex_well e, a.1, c.1)
 act_well (Action-F.Case p e r) = (ex_well e, r.1)
-act_well (Action-F.Call f es) = exs_well es
-act_well (Action-F.PutStr p e) = ex_well e
-act_well (Action-F.PutStrLn p e) = ex_well e
-act_well (Action-F.HPutStrLn p e) = ex_well e
-act_well (Action-F.NewMVar p e) = ex_well e
-act_well (Action-F.NewEmptyMVar p w) = tt
-act_well (Action-F.TakeMVar p e) = ex_well e
-act_well (Action-F.PutMVar p e f) = (ex_well e, ex_well f)
-act_well (Action-F.ReadMVar p e) = ex_well e
-act_well (Action-F.TryTakeMVar p e) = ex_well e
-act_well (Action-F.TryPutMVar p e f) = (ex_well e, ex_well f)
 act_well (Action-F.ModifyMVar p e x a) = (ex_well e, a.1)
-act_well (Action-F.ForkIo p a) = a.1
-act_well (Action-F.ForkIoWithUnmask p x a) = a.1
-act_well (Action-F.MyThreadId p) = tt
-act_well (Action-F.ThrowTo p e f) = (ex_well e, ex_well f)
-act_well (Action-F.KillThread p e) = ex_well e
-act_well (Action-F.ThreadDelay p e) = ex_well e
-act_well (Action-F.ClockMicros p) = tt
-act_well (Action-F.GetMaskingState p) = tt
-act_well (Action-F.Catch p a x c) = (a.1, c.1)
-act_well (Action-F.Mask p x a) = a.1
-act_well (Action-F.MaskOnly p a) = a.1
-act_well (Action-F.UninterruptibleMask p x a) = a.1
-act_well (Action-F.UninterruptibleMaskOnly p a) = a.1
+act_well (Action-F.Scoped o p a) = a.1
+act_well (Action-F.Masking o p x a) = a.1
 act_well (Action-F.Restore p x a) = a.1
-act_well (Action-F.OnException p a c) = (a.1, c.1)
-act_well (Action-F.Finally p a c) = (a.1, c.1)
+act_well (Action-F.Catch p a x c) = (a.1, c.1)
+act_well (Action-F.Guard o p a c) = (a.1, c.1)
 act_well (Action-F.Bracket p a x c e) = (a.1, c.1, e.1)
 act_well (Action-F.Timeout p e a) = (ex_well e, a.1)
 

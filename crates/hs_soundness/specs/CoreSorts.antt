@@ -5,7 +5,7 @@
 -- is of which type.
 use Rattle.std.specs.Prelude.{◌≡◌, ℕ, false, List, [], ◌∷◌, map, Option, Some, None}
 use Rattle.rules_trees.specs.Trees.{T, int, bool, exn, maybe}
-use Rattle.rules_expansion.specs.Names.{Name, Written, Added}
+use Rattle.rules_expansion.specs.Names.{Name, Written, Added, Unread}
 use Rattle.rules_meaning.specs.Values.{V, Restore, Inst, Env, value_at, Outcome, Gives, Throws, Stuck}
 use Rattle.rules_typed.specs.Sorts.{Sort, a_value, a_masking_name, an_instance, Bound, sort_at}
 use Rattle.rules_typing.specs.Typing as typing
@@ -30,6 +30,7 @@ seen_as an_instance = typing.masking_name
 abbrev pub with_written : Name → Sort → List typing.Bound → List typing.Bound
 with_written (Written x) k s = record { spelling = x; sort = seen_as k } ∷ s
 with_written (Added h) k s = s
+with_written Unread k s = s
 
 -- the names of the script in a scope
 abbrev pub written_in : List Bound → List typing.Bound
@@ -79,6 +80,7 @@ module _ (cells : ℕ → T → Type 0) where
   FitsAt (Written x) (Some (a_value t)) (Some v) = OfSort (a_value t) v
   FitsAt (Written x) (Some a_masking_name) (Some v) = OfSort a_masking_name v
   FitsAt (Added h) (Some k) (Some v) = OfSort k v
+  FitsAt Unread (Some k) (Some v) = OfSort k v
 
   abbrev pub FitsScope : List Bound → Env → Type 0
   FitsScope g env = (y : Name) → FitsAt y (sort_at y g) (value_at y env)

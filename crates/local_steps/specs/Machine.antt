@@ -3,7 +3,7 @@ use Rattle.std.specs.Prelude.{ℕ, List, [], ◌∷◌, Option, Some, None, take
 use Rattle.rules_meaning.specs.Values.{value_of, values_of}
 use Rattle.rules_code.specs.declared.act.ActId.{ActId}
 use Rattle.rules_code.specs.declared.code.Body.{Body}
-use Rattle.rules_code.specs.CodeTrees.{Sa, primitive_of, act_in, act_trees, act_tree_at, SlottedFunction, functions_at}
+use Rattle.rules_code.specs.CodeTrees.{Sa, act_in, act_trees, act_tree_at, SlottedFunction, functions_at}
 use Rattle.slot_laws.specs.SlotRules.{calls, forks, forks_unmask, SlotPart, ret, throw, doing, performs, SlotFrame, bind_to, then_to, catch_by, mask_in, SlotTerm, at}
 use Rattle.local_steps.specs.declared.active.Active.{Active}
 use Rattle.local_steps.specs.declared.active.Active.TheVariants as a
@@ -28,7 +28,7 @@ abbrev pub active_of : Body → Active → SlotPart
 active_of b (a.Doing i vs) = doing (act_of b i) (values_of vs)
 active_of b (a.Ret v) = ret (value_of v)
 active_of b (a.Throw e) = throw e
-active_of b (a.Asks p vs) = performs (calls (primitive_of p) (values_of vs))
+active_of b (a.Asks p vs) = performs (calls p (values_of vs))
 active_of b (a.Forks i vs) = performs (forks (act_of b i) (values_of vs))
 active_of b (a.ForksUnmask i vs) = performs (forks_unmask (act_of b i) (values_of vs))
 

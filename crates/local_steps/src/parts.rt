@@ -3,7 +3,6 @@ ghost use Rattle.std.specs.Prelude.{◌≡◌, ◌==◌, ◌++◌, ◌∷◌, []
 ghost use Rattle.rules_code.specs.declared.code.Body.{Body};
 ghost use Rattle.rules_meaning.specs.Values.{values_of};
 ghost use Rattle.rules_code.specs.Slots.{run, run_all, trees, tree_at, trees_in};
-ghost use Rattle.rules_code.specs.CodeTrees.{primitive_of};
 ghost use Rattle.hs_eval.specs.Evaluation.{outs_of};
 ghost use Rattle.local_steps.specs.Machine.{act_of, below_of, alone_of, funs_of};
 ghost use Rattle.slot_laws.specs.SlotRules as rules;
@@ -258,7 +257,7 @@ pub fn do_perform(
     ids: &Items<ExprId>,
     env: Env,
 ) -> Result<Next, NoMemory>
-    ensures { IfOk result (λ n. alone_of body.now n ≡ rules.on_values (run_all (trees_in (trees body.now.nodes) ids.now) (values_of env)) (λ us. just_part (performs (calls (primitive_of primitive) us)))) }
+    ensures { IfOk result (λ n. alone_of body.now n ≡ rules.on_values (run_all (trees_in (trees body.now.nodes) ids.now) (values_of env)) (λ us. just_part (performs (calls primitive us)))) }
 {
     let mut env = env;
     match eval_all(alloc, &body.nodes, ids, &mut env)? {

@@ -6,6 +6,7 @@ ghost use Rattle.parse_leaves.specs.Reads.{Reads};
 
 use crate::parts::{guarded, named_block, nested_block, two_blocks};
 use crate::plain::other_thread_action;
+use hs_base::tree::forms::{BinaryAction, BlockAction, GuardAction, MaskingAction, UnaryAction};
 use hs_base::{Action, Block};
 use parse_exprs::{arg, built_in, built_in_pair};
 use parse_leaves::{Cursor, Halt};
@@ -24,7 +25,7 @@ pub fn cell_action<'a, F: Fn(&mut Cursor<'a>, u32) -> Result<Block, Halt>>(
 {
     if cursor.at_word(word::NEW_MVAR) {
         let form = built_in(cursor, alloc, depth, word::NEW_MVAR)?;
-        return Ok(Action::NewMVar(form.0, form.1.into_inner()));
+        return Ok(Action::Unary(UnaryAction::NewMVar, form.0, form.1.into_inner()));
     }
     if cursor.at_word(word::NEW_EMPTY_MVAR) {
         let pos = cursor.word(word::NEW_EMPTY_MVAR)?;
@@ -34,23 +35,23 @@ pub fn cell_action<'a, F: Fn(&mut Cursor<'a>, u32) -> Result<Block, Halt>>(
     }
     if cursor.at_word(word::TAKE_MVAR) {
         let form = built_in(cursor, alloc, depth, word::TAKE_MVAR)?;
-        return Ok(Action::TakeMVar(form.0, form.1.into_inner()));
+        return Ok(Action::Unary(UnaryAction::TakeMVar, form.0, form.1.into_inner()));
     }
     if cursor.at_word(word::PUT_MVAR) {
         let form = built_in_pair(cursor, alloc, depth, word::PUT_MVAR)?;
-        return Ok(Action::PutMVar(form.0, form.1.into_inner(), form.2.into_inner()));
+        return Ok(Action::Binary(BinaryAction::PutMVar, form.0, form.1.into_inner(), form.2.into_inner()));
     }
     if cursor.at_word(word::READ_MVAR) {
         let form = built_in(cursor, alloc, depth, word::READ_MVAR)?;
-        return Ok(Action::ReadMVar(form.0, form.1.into_inner()));
+        return Ok(Action::Unary(UnaryAction::ReadMVar, form.0, form.1.into_inner()));
     }
     if cursor.at_word(word::TRY_TAKE_MVAR) {
         let form = built_in(cursor, alloc, depth, word::TRY_TAKE_MVAR)?;
-        return Ok(Action::TryTakeMVar(form.0, form.1.into_inner()));
+        return Ok(Action::Unary(UnaryAction::TryTakeMVar, form.0, form.1.into_inner()));
     }
     if cursor.at_word(word::TRY_PUT_MVAR) {
         let form = built_in_pair(cursor, alloc, depth, word::TRY_PUT_MVAR)?;
-        return Ok(Action::TryPutMVar(form.0, form.1.into_inner(), form.2.into_inner()));
+        return Ok(Action::Binary(BinaryAction::TryPutMVar, form.0, form.1.into_inner(), form.2.into_inner()));
     }
     modify_mvar(cursor, alloc, depth, inner)
 }
@@ -84,12 +85,12 @@ pub fn thread_action<'a, F: Fn(&mut Cursor<'a>, u32) -> Result<Block, Halt>>(
     if cursor.at_word(word::FORK_IO) {
         let pos = cursor.word(word::FORK_IO)?;
         let block = nested_block(cursor, depth, inner)?;
-        return Ok(Action::ForkIo(pos, block));
+        return Ok(Action::Scoped(BlockAction::ForkIo, pos, block));
     }
     if cursor.at_word(word::FORK_IO_WITH_UNMASK) {
         let pos = cursor.word(word::FORK_IO_WITH_UNMASK)?;
         let parts = named_block(cursor, alloc, depth, inner)?;
-        return Ok(Action::ForkIoWithUnmask(pos, parts.0, parts.1));
+        return Ok(Action::Masking(MaskingAction::ForkIoWithUnmask, pos, parts.0, parts.1));
     }
     other_thread_action(cursor, alloc, depth)
 }
@@ -107,22 +108,22 @@ pub fn mask_action<'a, F: Fn(&mut Cursor<'a>, u32) -> Result<Block, Halt>>(
     if cursor.at_word(word::MASK) {
         let pos = cursor.word(word::MASK)?;
         let parts = named_block(cursor, alloc, depth, inner)?;
-        return Ok(Action::Mask(pos, parts.0, parts.1));
+        return Ok(Action::Masking(MaskingAction::Mask, pos, parts.0, parts.1));
     }
     if cursor.at_word(word::MASK_BLOCK) {
         let pos = cursor.word(word::MASK_BLOCK)?;
         let block = nested_block(cursor, depth, inner)?;
-        return Ok(Action::MaskOnly(pos, block));
+        return Ok(Action::Scoped(BlockAction::MaskOnly, pos, block));
     }
     if cursor.at_word(word::UNINTERRUPTIBLE_MASK) {
         let pos = cursor.word(word::UNINTERRUPTIBLE_MASK)?;
         let parts = named_block(cursor, alloc, depth, inner)?;
-        return Ok(Action::UninterruptibleMask(pos, parts.0, parts.1));
+        return Ok(Action::Masking(MaskingAction::UninterruptibleMask, pos, parts.0, parts.1));
     }
     if cursor.at_word(word::UNINTERRUPTIBLE_MASK_BLOCK) {
         let pos = cursor.word(word::UNINTERRUPTIBLE_MASK_BLOCK)?;
         let block = nested_block(cursor, depth, inner)?;
-        return Ok(Action::UninterruptibleMaskOnly(pos, block));
+        return Ok(Action::Scoped(BlockAction::UninterruptibleMaskOnly, pos, block));
     }
     let pos = cursor.word(word::RESTORE)?;
     let parts = named_block(cursor, alloc, depth, inner)?;
@@ -147,12 +148,12 @@ pub fn guard_action<'a, F: Fn(&mut Cursor<'a>, u32) -> Result<Block, Halt>>(
     if cursor.at_word(word::ON_EXCEPTION) {
         let pos = cursor.word(word::ON_EXCEPTION)?;
         let blocks = two_blocks(cursor, depth, inner)?;
-        return Ok(Action::OnException(pos, blocks.0, blocks.1));
+        return Ok(Action::Guard(GuardAction::OnException, pos, blocks.0, blocks.1));
     }
     if cursor.at_word(word::FINALLY) {
         let pos = cursor.word(word::FINALLY)?;
         let blocks = two_blocks(cursor, depth, inner)?;
-        return Ok(Action::Finally(pos, blocks.0, blocks.1));
+        return Ok(Action::Guard(GuardAction::Finally, pos, blocks.0, blocks.1));
     }
     if cursor.at_word(word::BRACKET) {
         return bracket(cursor, alloc, depth, inner);

@@ -5,6 +5,7 @@ ghost use Rattle.parse_leaves.specs.Readers.{ReadsBelow};
 ghost use Rattle.parse_leaves.specs.Reads.{Reads};
 ghost use Rattle.parse_exprs.specs.Exprs.{compared};
 
+use hs_base::tree::forms::UnaryForm;
 use hs_base::{CompareOp, Expr, Link, ListLink, Pos, SumLink};
 use hs_items::{Boxed, Items};
 use parse_leaves::{Cursor, Halt, trees};
@@ -73,7 +74,7 @@ fn first_term<'a, F: Fn(&mut Cursor<'a>, u32) -> Result<Expr, Halt>>(
         let pos = cursor.symbol(symbol::MINUS)?;
         let operand = product(cursor, alloc, depth, inner)?;
         let operand = Boxed::new(alloc, operand)?;
-        return Ok(Expr::Negate(pos, operand));
+        return Ok(Expr::Unary(UnaryForm::Negate, pos, operand));
     }
     product(cursor, alloc, depth, inner)
 }

@@ -9,6 +9,7 @@ ghost use Rattle.parse_leaves.specs.Reads.{Reads};
 ghost use Rattle.parse_operands.specs.Items.{rest_of_items};
 
 use crate::inside::nested;
+use hs_base::tree::forms::EmptyForm;
 use hs_base::{Expr, Pos};
 use hs_items::Items;
 use parse_leaves::{Cursor, Halt, trees};
@@ -161,7 +162,7 @@ pub fn brackets<'a, F: Fn(&mut Cursor<'a>, u32) -> Result<Expr, Halt>>(
         cursor.symbol(symbol::CLOSE_BRACKET)?;
         cursor.symbol(symbol::AT)?;
         let ty = cursor.atype(alloc, depth)?;
-        return Ok(Expr::EmptyList(pos, ty));
+        return Ok(Expr::Empty(EmptyForm::EmptyList, pos, ty));
     }
     let items = items(cursor, alloc, depth - 1, inner)?;
     Ok(Expr::List(pos, items))

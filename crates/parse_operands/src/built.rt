@@ -7,6 +7,7 @@ ghost use Rattle.parse_leaves.specs.Readers.{ReadsBelow};
 ghost use Rattle.parse_leaves.specs.Reads.{Reads};
 
 use crate::operand::arg;
+use hs_base::tree::forms::{EmptyForm, SideForm, UnaryForm};
 use hs_base::{Expr, Pos};
 use hs_items::Boxed;
 use parse_leaves::{Cursor, Halt};
@@ -73,13 +74,13 @@ pub fn constructed<'a, F: Fn(&mut Cursor<'a>, u32) -> Result<Expr, Halt>>(
 {
     if cursor.at_word(word::JUST) {
         let form = built_in(cursor, alloc, depth, inner, word::JUST)?;
-        return Ok(Expr::Just(form.0, form.1));
+        return Ok(Expr::Unary(UnaryForm::Just, form.0, form.1));
     }
     if cursor.at_word(word::NOTHING) {
         let pos = cursor.word(word::NOTHING)?;
         cursor.symbol(symbol::AT)?;
         let ty = cursor.atype(alloc, depth)?;
-        return Ok(Expr::Nothing(pos, ty));
+        return Ok(Expr::Empty(EmptyForm::Nothing, pos, ty));
     }
     if cursor.at_word(word::LEFT) {
         return left(cursor, alloc, depth, inner);
@@ -94,13 +95,13 @@ fn left<'a, F: Fn(&mut Cursor<'a>, u32) -> Result<Expr, Halt>>(
     inner: &F,
 ) -> Result<Expr, Halt>
     requires { ReadsBelow F.Fn inner.now g.expr depth }
-    ensures reads { Reads (parser.read (parser.enter depth) (g.side_form Expr.Left k.Left) cursor.old) result cursor.new }
+    ensures reads { Reads (parser.read (parser.enter depth) (g.side_form (Expr.Side SideForm.Left) k.Left) cursor.old) result cursor.new }
     ensures shorter { OnOk result (length cursor.new < length cursor.old) }
 {
     let types = cursor.side_types(alloc, depth, word::LEFT)?;
     let arg = arg(cursor, alloc, depth, inner)?;
     let arg = Boxed::new(alloc, arg)?;
-    Ok(Expr::Left(types.0, types.1, types.2, arg))
+    Ok(Expr::Side(SideForm::Left, types.0, types.1, types.2, arg))
 }
 
 fn right<'a, F: Fn(&mut Cursor<'a>, u32) -> Result<Expr, Halt>>(
@@ -110,13 +111,13 @@ fn right<'a, F: Fn(&mut Cursor<'a>, u32) -> Result<Expr, Halt>>(
     inner: &F,
 ) -> Result<Expr, Halt>
     requires { ReadsBelow F.Fn inner.now g.expr depth }
-    ensures reads { Reads (parser.read (parser.enter depth) (g.side_form Expr.Right k.Right) cursor.old) result cursor.new }
+    ensures reads { Reads (parser.read (parser.enter depth) (g.side_form (Expr.Side SideForm.Right) k.Right) cursor.old) result cursor.new }
     ensures shorter { OnOk result (length cursor.new < length cursor.old) }
 {
     let types = cursor.side_types(alloc, depth, word::RIGHT)?;
     let arg = arg(cursor, alloc, depth, inner)?;
     let arg = Boxed::new(alloc, arg)?;
-    Ok(Expr::Right(types.0, types.1, types.2, arg))
+    Ok(Expr::Side(SideForm::Right, types.0, types.1, types.2, arg))
 }
 
 pub fn computed<'a, F: Fn(&mut Cursor<'a>, u32) -> Result<Expr, Halt>>(
@@ -131,23 +132,23 @@ pub fn computed<'a, F: Fn(&mut Cursor<'a>, u32) -> Result<Expr, Halt>>(
 {
     if cursor.at_word(word::ERROR_CALL) {
         let form = built_in(cursor, alloc, depth, inner, word::ERROR_CALL)?;
-        return Ok(Expr::ErrorCall(form.0, form.1));
+        return Ok(Expr::Unary(UnaryForm::ErrorCall, form.0, form.1));
     }
     if cursor.at_word(word::NOT) {
         let form = built_in(cursor, alloc, depth, inner, word::NOT)?;
-        return Ok(Expr::Not(form.0, form.1));
+        return Ok(Expr::Unary(UnaryForm::Not, form.0, form.1));
     }
     if cursor.at_word(word::FST) {
         let form = built_in(cursor, alloc, depth, inner, word::FST)?;
-        return Ok(Expr::Fst(form.0, form.1));
+        return Ok(Expr::Unary(UnaryForm::Fst, form.0, form.1));
     }
     if cursor.at_word(word::SND) {
         let form = built_in(cursor, alloc, depth, inner, word::SND)?;
-        return Ok(Expr::Snd(form.0, form.1));
+        return Ok(Expr::Unary(UnaryForm::Snd, form.0, form.1));
     }
     if cursor.at_word(word::SHOW) {
         let form = built_in(cursor, alloc, depth, inner, word::SHOW)?;
-        return Ok(Expr::Show(form.0, form.1));
+        return Ok(Expr::Unary(UnaryForm::Show, form.0, form.1));
     }
     if cursor.at_word(word::DIV) {
         let form = built_in_pair(cursor, alloc, depth, inner, word::DIV)?;

@@ -1,7 +1,7 @@
 -- Nodes that are read with the trees before them.
-use Rattle.std.proofs.Common.{◌≡◌, ℕ, zero, suc, ◌+◌, ◌-◌, ◌<◌, ◌≤◌, List, [], ◌∷◌, ◌++◌, length, take, drop, get_or, Option, Some, None, refl, ap, ◌∙◌, sym, arith, append_assoc, length-append, length-take, ⊎_elim}
-use Rattle.std.proofs.lemmas.List.{append-nil, take-append-le, get_or-take, get_or_append_left, get_or_past}
-use Rattle.std.proofs.Math.Seq.{drop-cons, get_or-append_seam, take-append_seam}
+use Rattle.std.proofs.Common.{◌≡◌, ℕ, zero, suc, ◌+◌, ◌<◌, ◌≤◌, List, [], ◌∷◌, ◌++◌, length, take, get_or, Some, None, refl, ap, ◌∙◌, sym, arith, append_assoc, length-append, length-take, ⊎_elim}
+use Rattle.std.proofs.lemmas.List.{append-nil, get_or-take, get_or_append_left, get_or_past}
+use Rattle.std.proofs.Math.Seq.{get_or-append_seam, take-append_seam}
 use Rattle.std.specs.Prelude.{slice_get}
 use Rattle.std.proofs.lemmas.Option.{slice_get_cases}
 use Rattle.rules_code.specs.declared.node.ExprId.{ExprId}

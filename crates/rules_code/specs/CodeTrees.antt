@@ -11,15 +11,14 @@ use Rattle.hs_base.specs.declared.tree.forms.BinaryForm.TheVariants as b
 use Rattle.hs_base.specs.declared.tree.forms.EmptyForm.TheVariants as n
 use Rattle.rules_code.specs.declared.node.Node.{Node}
 use Rattle.rules_code.specs.declared.act.ActId.{ActId}
-use Rattle.rules_code.specs.declared.act.Primitive.TheVariants as p
-use Rattle.rules_code.specs.declared.act.Primitive as named
 use Rattle.rules_code.specs.declared.act.Act.{Act}
 use Rattle.rules_code.specs.declared.act.Act.TheVariants as a
 use Rattle.rules_code.specs.declared.code.Fun.{Fun}
 use Rattle.rules_trees.specs.Trees.{number, exception}
 use Rattle.rules_trees.specs.Programs.{Fn, script_of}
-use Rattle.rules_expansion.specs.Names.{Name, Added, Unread, same_name}
-use Rattle.rules_expansion.specs.Core.{Primitive, PutStr, PutStrLn, HPutStrLn, NewMVar, NewEmptyMVar, TakeMVar, PutMVar, ReadMVar, TryTakeMVar, TryPutMVar, MyThreadId, GetMaskingState, ClockMicros, ThreadDelay, ThrowTo, NewTimeout, Acquired, Release, CoreEx, OfScript, Read, JustRead, NoValue, BelowZero, IsZero, SameExn, Killed, Core, Return, ThrowIo, Let, Bind, If, CaseMaybe, CaseEither, CaseList, CasePair, Call, Perform, Fork, ForkUnmask, Catch, MaskWith, MaskHard, Restore, ActionFunction}
+use Rattle.rules_expansion.specs.Names.{Name, Added, same_name, Unread}
+use Rattle.rules_expansion.specs.Core.{CoreEx, OfScript, Read, JustRead, NoValue, BelowZero, IsZero, SameExn, Killed, Core, Return, ThrowIo, Let, Bind, If, CaseMaybe, CaseEither, CaseList, CasePair, Call, Perform, Fork, ForkUnmask, Catch, MaskWith, MaskHard, Restore, ActionFunction}
+use Rattle.rules_expansion.specs.declared.primitive.Primitive.{Primitive}
 use Rattle.rules_expansion.specs.Expansion.{actions_of}
 use Rattle.rules_expansion.specs.Expansion.{main_of}
 use Rattle.rules_code.specs.Slots.{Sx, Sxs, s_literal, s_empty, s_slot, s_unary, s_binary, s_none, s_more, Scope, slot_of, Root, slotted, slotted_all, roots_of, tree_in, trees_in, trees}
@@ -64,12 +63,13 @@ pub data Sa : Type 0 where
   a_restore : ℕ → Sa → Sa
   -- what no node stands for
   a_bad : Sa
+  deriving IsSet as action_set
 
 -- ---- from names to slots
 
 -- whether this is the name that nothing reads
 abbrev pub is_unread : Name → Bool
-is_unread y = same_name y (Added Unread)
+is_unread y = same_name y Unread
 
 -- the scope with one more name
 abbrev pub with_slot : Name → Scope → Scope
@@ -156,27 +156,6 @@ main_tree script = tree_or_bad script (main_of script)
 
 -- ---- numbered nodes
 
--- the primitive that a code names
-abbrev pub primitive_of : named.Primitive → Primitive
-primitive_of p.PutStr = PutStr
-primitive_of p.PutStrLn = PutStrLn
-primitive_of p.HPutStrLn = HPutStrLn
-primitive_of p.NewMVar = NewMVar
-primitive_of p.NewEmptyMVar = NewEmptyMVar
-primitive_of p.TakeMVar = TakeMVar
-primitive_of p.PutMVar = PutMVar
-primitive_of p.ReadMVar = ReadMVar
-primitive_of p.TryTakeMVar = TryTakeMVar
-primitive_of p.TryPutMVar = TryPutMVar
-primitive_of p.MyThreadId = MyThreadId
-primitive_of p.GetMaskingState = GetMaskingState
-primitive_of p.ClockMicros = ClockMicros
-primitive_of p.ThreadDelay = ThreadDelay
-primitive_of p.ThrowTo = ThrowTo
-primitive_of p.NewTimeout = NewTimeout
-primitive_of p.Acquired = Acquired
-primitive_of p.Release = Release
-
 abbrev pub act_in : List Sa → ActId → Sa
 act_in us i = slice_index_or us i.0 a_bad
 
@@ -193,7 +172,7 @@ act_decode ts us (a.CaseEither e i j) = a_either (tree_in ts e) (act_in us i) (a
 act_decode ts us (a.CaseList e i j) = a_list (tree_in ts e) (act_in us i) (act_in us j)
 act_decode ts us (a.CasePair e i) = a_pair (tree_in ts e) (act_in us i)
 act_decode ts us (a.Call f es) = a_call f (trees_in ts es)
-act_decode ts us (a.Perform p es) = a_perform (primitive_of p) (trees_in ts es)
+act_decode ts us (a.Perform p es) = a_perform p (trees_in ts es)
 act_decode ts us (a.Fork i) = a_fork (act_in us i)
 act_decode ts us (a.ForkUnmask i) = a_fork_unmask (act_in us i)
 act_decode ts us (a.Catch i j) = a_catch (act_in us i) (act_in us j)

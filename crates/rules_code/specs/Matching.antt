@@ -1,7 +1,7 @@
 -- When the values of slots are those of the names of a scope (own).
 use Rattle.std.specs.Prelude.{◌≡◌, ℕ, ◌==◌, List, [], ◌∷◌, length, false, cond, Option, Some, None, slice_get}
 use Rattle.rules_expansion.specs.Names.{Name, Added, Unread, same_name}
-use Rattle.rules_meaning.specs.Values.{V, Env, value_at, Outcome}
+use Rattle.rules_meaning.specs.Values.{V, Env, value_at}
 use Rattle.rules_meaning.specs.Meaning.{Functions}
 use Rattle.rules_code.specs.Slots.{Scope, slot_of, Root, s_bad, run}
 
@@ -15,7 +15,7 @@ Seen (Some k) (Some v) vs = slice_get vs k ≡ Some v
 -- there is a slot for each name of the scope, and what nothing reads has none
 pub record Matches (s : Scope) (env : Env) (vs : List V) : Type 0 where
   pub size : length vs ≡ length s
-  pub seen : (y : Name) → same_name y (Added Unread) ≡ false → Seen (slot_of s y) (value_at y env) vs
+  pub seen : (y : Name) → same_name y Unread ≡ false → Seen (slot_of s y) (value_at y env) vs
 
 -- bodies that mean what functions answer, one for each
 abbrev pub Parallel : Functions → List Root → Type 0

@@ -2,7 +2,7 @@
 --
 -- The slot of a name is how many names stand before it in its scope. A node is read with the trees of the nodes before
 -- it, and a call holds the tree of its function's body, so that the meaning needs no table of functions.
-use Rattle.std.specs.Prelude.{◌≡◌, ℕ, ◌+◌, ◌<◌, ◌==◌, List, [], ◌∷◌, ◌++◌, length, Bool, true, false, cond, Option, Some, None, slice_get, slice_index_or, bytes_eq}
+use Rattle.std.specs.Prelude.{ℕ, ◌+◌, ◌==◌, List, [], ◌∷◌, ◌++◌, length, cond, Option, Some, None, slice_get, slice_index_or, bytes_eq}
 use Rattle.hs_base.specs.declared.tree.forms.UnaryForm.{UnaryForm}
 use Rattle.hs_base.specs.declared.tree.forms.BinaryForm.{BinaryForm}
 use Rattle.hs_base.specs.declared.tree.forms.EmptyForm.{EmptyForm}
@@ -12,9 +12,9 @@ use Rattle.rules_code.specs.declared.node.NodeLink.{NodeLink}
 use Rattle.rules_code.specs.declared.node.Node.{Node}
 use Rattle.rules_code.specs.declared.node.Node.TheVariants as n
 use Rattle.rules_trees.specs.Trees.{Ex, Exs, Links, Arms, Lit, number, letters, truth, nothing_more, exception, lit, name, unary, binary, chain, conses, choose, items, empty, side, given, case, none, more, end, link, maybe_arms, either_arms, list_arms, pair_arms}
-use Rattle.rules_trees.specs.Programs.{Bd, pure_body, io_body, Fn, Par}
+use Rattle.rules_trees.specs.Programs.{Bd, pure_body, io_body, Fn}
 use Rattle.rules_expansion.specs.Names.{Name, Written, same_name}
-use Rattle.rules_meaning.specs.Values.{V, list_of, Outcome, Gives, Throws, Stuck, Outcomes, AllGive, and_then}
+use Rattle.rules_meaning.specs.Values.{V, list_of, Outcome, Gives, Stuck, Outcomes, AllGive, and_then}
 use Rattle.rules_meaning.specs.Meaning.{then, then_all, literal, empty_of, side_of, unary_of, binary_of, linked, on_truth, on_maybe, on_either, on_list, on_pair, texts_of}
 
 mutual
@@ -37,14 +37,17 @@ mutual
     s_call : Sx → Sxs → Sx
     -- what no node stands for
     s_bad : Sx
+    deriving IsSet as ex_set
 
   pub data Sxs : Type 0 where
     s_none : Sxs
     s_more : Sx → Sxs → Sxs
+    deriving IsSet as exs_set
 
   pub data Slinks : Type 0 where
     s_end : Slinks
     s_link : BinaryForm → Sx → Slinks → Slinks
+    deriving IsSet as links_set
 
 -- ---- what they mean, with the values of the slots
 

@@ -2,33 +2,11 @@
 
 use crate::node::ExprId;
 use hs_items::Items;
+pub use rules_expansion::Primitive;
 
 /// The number of an action's node in its code.
 #[derive(Clone, Copy, Debug, PartialEq, Eq)]
 pub struct ActId(pub usize);
-
-/// What a thread asks the world for. No script can write the last three.
-#[derive(Clone, Copy, Debug, PartialEq, Eq)]
-pub enum Primitive {
-    PutStr,
-    PutStrLn,
-    HPutStrLn,
-    NewMVar,
-    NewEmptyMVar,
-    TakeMVar,
-    PutMVar,
-    ReadMVar,
-    TryTakeMVar,
-    TryPutMVar,
-    MyThreadId,
-    GetMaskingState,
-    ClockMicros,
-    ThreadDelay,
-    ThrowTo,
-    NewTimeout,
-    Acquired,
-    Release,
-}
 
 /// A core action, with the numbers of its parts. Those of actions are lower than its own. Slots stand in place of names,
 /// as in `Node`: where a form binds names, they take the next slots in that part.

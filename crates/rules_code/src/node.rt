@@ -1,8 +1,8 @@
 //! Expressions as numbered nodes.
 
+use hs_base::tree::forms::{BinaryForm, EmptyForm, SideForm, UnaryForm};
 use hs_base::{Exn, Txt};
 use hs_items::Items;
-use hs_base::tree::forms::{BinaryForm, EmptyForm, SideForm, UnaryForm};
 
 /// The number of an expression's node in its code.
 #[derive(Clone, Copy, Debug, PartialEq, Eq)]

@@ -1,31 +1,8 @@
 -- Core actions (own): what every action of a script expands to.
 use Rattle.std.specs.Prelude.{ℕ, cond, List, [], ◌∷◌, Option, Some, None, bytes_eq}
 use Rattle.rules_trees.specs.Trees.{Ex, Exs}
+use Rattle.rules_expansion.specs.declared.primitive.Primitive.{Primitive}
 use Rattle.rules_expansion.specs.Names.{Name}
-
--- the primitives; no script can write the last three
-pub data Primitive : Type 0 where
-  PutStr : Primitive
-  PutStrLn : Primitive
-  HPutStrLn : Primitive
-  NewMVar : Primitive
-  NewEmptyMVar : Primitive
-  TakeMVar : Primitive
-  PutMVar : Primitive
-  ReadMVar : Primitive
-  TryTakeMVar : Primitive
-  TryPutMVar : Primitive
-  MyThreadId : Primitive
-  GetMaskingState : Primitive
-  ClockMicros : Primitive
-  ThreadDelay : Primitive
-  ThrowTo : Primitive
-  -- a timeout exception that was never made before
-  NewTimeout : Primitive
-  -- one use of `bracket` has acquired
-  Acquired : Primitive
-  -- that use is about to release
-  Release : Primitive
 
 -- the expressions of core actions: the script's own, and the few that expansions write
 pub data CoreEx : Type 0 where

@@ -1,8 +1,5 @@
--- The expansion of actions to core actions.
---
--- What the forms do follows `Control.Exception`, `Control.Concurrent.MVar` and `System.Timeout`; the texts of their
--- expansions, the helper thread of `timeout` among them, are this project's own. A name that an expansion adds is a
--- constructor of `Names`, so no script can write or capture it. In the comments it is written with a `$`.
+-- The expansion of actions to core actions (own): what each form of a script comes to. Those that stand for others come to
+-- their template with their parts in it.
 use Rattle.std.specs.Prelude.{ℕ, List, [], ◌∷◌, Option, Some, None, codes}
 use Rattle.hs_base.specs.declared.tree.forms.BareAction.{BareAction}
 use Rattle.hs_base.specs.declared.tree.forms.BareAction.TheVariants as z
@@ -18,50 +15,49 @@ use Rattle.hs_base.specs.declared.tree.forms.GuardAction.{GuardAction}
 use Rattle.hs_base.specs.declared.tree.forms.GuardAction.TheVariants as g
 use Rattle.rules_trees.specs.Programs as tree
 use Rattle.rules_trees.specs.Programs.{Act, Bl, ActArms, Par, Bd, Fn}
-use Rattle.rules_expansion.specs.Names.{Name, Written, Added, Unread, Restorer, Given, Caught, TheCell, Instance, BracketResult, BracketFault, Allowed, InTime, Owner, Expiry, Helper, HelperRestorer}
-use Rattle.rules_expansion.specs.Core.{PutStr, PutStrLn, HPutStrLn, NewMVar, NewEmptyMVar, TakeMVar, PutMVar, ReadMVar, TryTakeMVar, TryPutMVar, MyThreadId, GetMaskingState, ClockMicros, ThreadDelay, ThrowTo, NewTimeout, Acquired, Release, CoreEx, OfScript, Read, JustRead, NoValue, BelowZero, IsZero, SameExn, Killed, Core, Return, ThrowIo, Let, Bind, If, CaseMaybe, CaseEither, CaseList, CasePair, Call, Perform, Fork, ForkUnmask, Catch, MaskWith, MaskHard, Restore, ActionFunction, action_named}
+use Rattle.rules_expansion.specs.declared.hidden.Hidden.TheVariants.{Restorer, Instance, BracketResult, BracketFault}
+use Rattle.rules_expansion.specs.declared.primitive.Primitive.TheVariants.{PutStr, PutStrLn, HPutStrLn, NewMVar, NewEmptyMVar, TakeMVar, PutMVar, ReadMVar, TryTakeMVar, TryPutMVar, MyThreadId, GetMaskingState, ClockMicros, ThreadDelay, ThrowTo, Acquired, Release}
+use Rattle.rules_expansion.specs.declared.template.Derived.{Derived}
+use Rattle.rules_expansion.specs.declared.template.Derived.TheVariants as d
+use Rattle.rules_expansion.specs.declared.template.Part.{Part}
+use Rattle.rules_expansion.specs.declared.template.Part.TheVariants as part
+use Rattle.rules_expansion.specs.Names.{Name, Written, Added, Unread}
+use Rattle.rules_expansion.specs.Core.{CoreEx, OfScript, Read, NoValue, Core, Return, ThrowIo, Let, Bind, If, CaseMaybe, CaseEither, CaseList, CasePair, Call, Perform, Fork, ForkUnmask, Catch, MaskWith, MaskHard, Restore, ActionFunction, action_named}
+use Rattle.rules_expansion.specs.Templates.{Filling, template, fill}
 
--- A; B
-abbrev pub then : Core → Core → Core
-then a b = Bind (Added Unread) a b
+-- ---- forms by their templates
 
--- ---- masking without a name
+-- the three blocks of a form, of which the others stand nowhere in its template
+abbrev pub of_three : {A : Type 0} → A → A → A → Part → A
+of_three a c e part.First = a
+of_three a c e part.Second = c
+of_three a c e part.Third = e
 
--- mask_ A: mask $r A
-abbrev pub mask_only : Core → Core
-mask_only a = MaskWith (Added Restorer) a
+abbrev pub no_block : Core
+no_block = Return NoValue
 
--- uninterruptibleMask_ A: uninterruptibleMask $r A
-abbrev pub mask_hard_only : Core → Core
-mask_hard_only a = MaskHard (Added Restorer) a
+abbrev pub on_expression : CoreEx → Filling
+on_expression e = record { subject = e; given = []; block = of_three no_block no_block no_block }
 
--- restore $r A
-abbrev pub restored : Core → Core
-restored a = Restore (Added Restorer) a
+abbrev pub on_block : Core → Filling
+on_block a = record { subject = NoValue; given = []; block = of_three a no_block no_block }
 
--- ---- killThread, onException, finally
+abbrev pub on_two : Core → Core → Filling
+on_two a c = record { subject = NoValue; given = []; block = of_three a c no_block }
 
--- killThread a: throwTo a ThreadKilled
-abbrev pub kill_thread : CoreEx → Core
-kill_thread a = Perform ThrowTo (a ∷ Killed ∷ [])
+abbrev pub on_three : Core → List ℕ → Core → Core → Filling
+on_three a x c e = record { subject = NoValue; given = x; block = of_three a c e }
 
--- B; throwIO $e
-abbrev pub then_throw : Core → Core
-then_throw b = then b (ThrowIo (Read (Added Caught)))
+abbrev pub on_bound : CoreEx → List ℕ → Core → Filling
+on_bound e x a = record { subject = e; given = x; block = of_three a no_block no_block }
 
--- onException A B: catch A $e { B; throwIO $e }
-abbrev pub on_exception : Core → Core → Core
-on_exception a b = Catch a (Added Caught) (then_throw b)
+abbrev pub on_both : CoreEx → Core → Filling
+on_both e a = record { subject = e; given = []; block = of_three a no_block no_block }
 
--- finally A B: mask $r { $y <- catch { restore $r A } $e { B; throwIO $e }; B; return $y }
-abbrev pub finally : Core → Core → Core
-finally a b =
-    mask_only
-    (Bind (Added Given) (Catch (restored a) (Added Caught) (then_throw b))
-    (then b
-    (Return (Read (Added Given)))))
+abbrev pub derived : Derived → Filling → Core
+derived o f = fill f (template o)
 
--- ---- bracket A x B C:
+-- ---- the parts of a bracket, of which laws speak:
 -- mask $r { x <- A; $i <- acquired; $y <- catch { restore $r C } $e { release $i; B; throwIO $e };
 --   release $i; B; return $y }
 
@@ -71,23 +67,23 @@ release = Perform Release (Read (Added Instance) ∷ [])
 
 -- B; return $y
 abbrev pub bracket_return : Core → Core
-bracket_return b = then b (Return (Read (Added BracketResult)))
+bracket_return b = Bind Unread b (Return (Read (Added BracketResult)))
 
 -- release $i; B; return $y
 abbrev pub bracket_exit : Core → Core
-bracket_exit b = then release (bracket_return b)
+bracket_exit b = Bind Unread release (bracket_return b)
 
 -- B; throwIO $e
 abbrev pub bracket_rethrow : Core → Core
-bracket_rethrow b = then b (ThrowIo (Read (Added BracketFault)))
+bracket_rethrow b = Bind Unread b (ThrowIo (Read (Added BracketFault)))
 
 -- release $i; B; throwIO $e
 abbrev pub bracket_handler : Core → Core
-bracket_handler b = then release (bracket_rethrow b)
+bracket_handler b = Bind Unread release (bracket_rethrow b)
 
 -- catch { restore $r C } $e { release $i; B; throwIO $e }
 abbrev pub bracket_guarded : Core → Core → Core
-bracket_guarded b c = Catch (restored c) (Added BracketFault) (bracket_handler b)
+bracket_guarded b c = Catch (Restore (Added Restorer) c) (Added BracketFault) (bracket_handler b)
 
 -- what follows `$i <- acquired`
 abbrev pub bracket_acquired : Core → Core → Core
@@ -103,61 +99,6 @@ bracket_marked b c = Bind (Added Instance) acquire (bracket_acquired b c)
 -- what is masked
 abbrev pub bracket_masked : Core → Name → Core → Core → Core
 bracket_masked a x b c = Bind x a (bracket_marked b c)
-
-abbrev pub bracket : Core → Name → Core → Core → Core
-bracket a x b c = mask_only (bracket_masked a x b c)
-
--- ---- cells
-
--- modifyMVar_ a x B: { let $m = a; mask $r { x <- takeMVar $m;
---   $y <- catch { restore $r B } $e { putMVar $m x; throwIO $e }; putMVar $m $y } }
-abbrev pub modify_mvar : CoreEx → Name → Core → Core
-modify_mvar a x b =
-    Let (Added TheCell) a
-    (mask_only
-    (Bind x (Perform TakeMVar (Read (Added TheCell) ∷ []))
-    (Bind (Added Given) (Catch (restored b) (Added Caught) (then_throw (Perform PutMVar (Read (Added TheCell) ∷ Read x ∷ []))))
-    (Perform PutMVar (Read (Added TheCell) ∷ Read (Added Given) ∷ [])))))
-
--- ---- timeout a B:
--- { let $n = a;
---   if $n < 0 then { $v <- B; return (Just $v) } else {
---   if $n == 0 then { return Nothing } else {
---     $t <- myThreadId; $u <- newTimeout;
---     catch {
---       bracket { forkIOWithUnmask $w { restore $w { threadDelay $n; throwTo $t $u } } }
---         $k { uninterruptibleMask_ { killThread $k } }
---         { $v <- B; return (Just $v) } }
---       $e { if $e == $u then { return Nothing } else { throwIO $e } } } } }
-
--- $v <- B; return (Just $v)
-abbrev pub in_time : Core → Core
-in_time b = Bind (Added InTime) b (Return (JustRead (Added InTime)))
-
--- the helper thread: it waits, and then throws at the thread of the `timeout`
-abbrev pub timeout_helper : Core
-timeout_helper =
-    ForkUnmask (Added HelperRestorer)
-    (Restore (Added HelperRestorer)
-    (then (Perform ThreadDelay (Read (Added Allowed) ∷ []))
-    (Perform ThrowTo (Read (Added Owner) ∷ Read (Added Expiry) ∷ []))))
-
-abbrev pub timeout_end : Core
-timeout_end = mask_hard_only (kill_thread (Read (Added Helper)))
-
-abbrev pub timed : Core → Core
-timed b =
-    Catch (bracket timeout_helper (Added Helper) timeout_end (in_time b)) (Added Caught)
-    (If (SameExn (Added Caught) (Added Expiry)) (Return NoValue) (ThrowIo (Read (Added Caught))))
-
-abbrev pub timeout : CoreEx → Core → Core
-timeout a b =
-    Let (Added Allowed) a
-    (If (BelowZero (Added Allowed)) (in_time b)
-    (If (IsZero (Added Allowed)) (Return NoValue)
-    (Bind (Added Owner) (Perform MyThreadId [])
-    (Bind (Added Expiry) (Perform NewTimeout [])
-    (timed b)))))
 
 -- ---- forms of one shape
 
@@ -175,7 +116,7 @@ unary_core u.NewMVar a = Perform NewMVar (a ∷ [])
 unary_core u.TakeMVar a = Perform TakeMVar (a ∷ [])
 unary_core u.ReadMVar a = Perform ReadMVar (a ∷ [])
 unary_core u.TryTakeMVar a = Perform TryTakeMVar (a ∷ [])
-unary_core u.KillThread a = kill_thread a
+unary_core u.KillThread a = derived d.KillThread (on_expression a)
 unary_core u.ThreadDelay a = Perform ThreadDelay (a ∷ [])
 
 abbrev pub binary_core : BinaryAction → CoreEx → CoreEx → Core
@@ -185,8 +126,8 @@ binary_core b.ThrowTo a c = Perform ThrowTo (a ∷ c ∷ [])
 
 abbrev pub scoped_core : BlockAction → Core → Core
 scoped_core k.ForkIo a = Fork a
-scoped_core k.MaskOnly a = mask_only a
-scoped_core k.UninterruptibleMaskOnly a = mask_hard_only a
+scoped_core k.MaskOnly a = derived d.MaskOnly (on_block a)
+scoped_core k.UninterruptibleMaskOnly a = derived d.UninterruptibleMaskOnly (on_block a)
 
 abbrev pub masking_core : MaskingAction → Name → Core → Core
 masking_core m.ForkIoWithUnmask r a = ForkUnmask r a
@@ -194,8 +135,8 @@ masking_core m.Mask r a = MaskWith r a
 masking_core m.UninterruptibleMask r a = MaskHard r a
 
 abbrev pub guard_core : GuardAction → Core → Core → Core
-guard_core g.OnException a c = on_exception a c
-guard_core g.Finally a c = finally a c
+guard_core g.OnException a c = derived d.OnException (on_two a c)
+guard_core g.Finally a c = derived d.Finally (on_two a c)
 
 -- ---- actions and blocks
 
@@ -209,19 +150,19 @@ abbrev mutual
   core (tree.call f es) = Call f.text es
   core (tree.choose_act p e a c) = If (OfScript e) (block_core a) (block_core c)
   core (tree.case_act p e arms) = arms_core (OfScript e) arms
-  core (tree.modify p e x a) = modify_mvar (OfScript e) (Written x.text) (block_core a)
+  core (tree.modify p e x a) = derived d.ModifyMVar (on_bound (OfScript e) x.text (block_core a))
   core (tree.scoped w p a) = scoped_core w (block_core a)
   core (tree.masking w p x a) = masking_core w (Written x.text) (block_core a)
   core (tree.restore p x a) = Restore (Written x.text) (block_core a)
   core (tree.catch p a x c) = Catch (block_core a) (Written x.text) (block_core c)
   core (tree.guard w p a c) = guard_core w (block_core a) (block_core c)
-  core (tree.bracket p a x c d) = bracket (block_core a) (Written x.text) (block_core c) (block_core d)
-  core (tree.timeout p e a) = timeout (OfScript e) (block_core a)
+  core (tree.bracket p a x c h) = derived d.Bracket (on_three (block_core a) x.text (block_core c) (block_core h))
+  core (tree.timeout p e a) = derived d.Timeout (on_both (OfScript e) (block_core a))
 
   -- a block is nested binds and lets
   pub block_core : Bl → Core
   block_core (tree.last a) = core a
-  block_core (tree.then a c) = then (core a) (block_core c)
+  block_core (tree.then a c) = Bind Unread (core a) (block_core c)
   block_core (tree.bind x a c) = Bind (Written x.text) (core a) (block_core c)
   block_core (tree.let_in x e c) = Let (Written x.text) (OfScript e) (block_core c)
 

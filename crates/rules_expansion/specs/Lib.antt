@@ -2,3 +2,4 @@ pub mod Core
 pub mod Expansion
 pub mod Names
 pub mod Sizes
+pub mod Templates

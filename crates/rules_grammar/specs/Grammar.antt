@@ -3,6 +3,7 @@
 --   `alt p q`              p | q
 --   `many p`               { p }
 --   `optional x p`         [ p ], with x for nothing
+--   `one_of rows last`     one of these tokens; its value is what stands with it, and its position
 --   `ended f g k l p`      { p k } p [ k ] l, where what is last gives a right value
 --   `within f k part`      an opener of the kind k, and what stands in it up to its end
 -- Productions that begin alike are joined, so that one token decides.
@@ -30,14 +31,22 @@ use Rattle.hs_base.specs.declared.tree.expr.Name.{Name}
 use Rattle.hs_base.specs.declared.tree.expr.SumLink.{SumLink}
 use Rattle.hs_base.specs.declared.tree.expr.SumOp.{SumOp}
 use Rattle.hs_base.specs.declared.tree.expr.SumOp.TheVariants as sum_op
+use Rattle.hs_base.specs.declared.tree.forms.UnaryForm.{UnaryForm}
 use Rattle.hs_base.specs.declared.tree.forms.UnaryForm.TheVariants as unary_form
 use Rattle.hs_base.specs.declared.tree.forms.EmptyForm.TheVariants as empty_form
+use Rattle.hs_base.specs.declared.tree.forms.SideForm.{SideForm}
 use Rattle.hs_base.specs.declared.tree.forms.SideForm.TheVariants as side
+use Rattle.hs_base.specs.declared.tree.forms.BareAction.{BareAction}
 use Rattle.hs_base.specs.declared.tree.forms.BareAction.TheVariants as bare
+use Rattle.hs_base.specs.declared.tree.forms.UnaryAction.{UnaryAction}
 use Rattle.hs_base.specs.declared.tree.forms.UnaryAction.TheVariants as unary
+use Rattle.hs_base.specs.declared.tree.forms.BinaryAction.{BinaryAction}
 use Rattle.hs_base.specs.declared.tree.forms.BinaryAction.TheVariants as binary
+use Rattle.hs_base.specs.declared.tree.forms.BlockAction.{BlockAction}
 use Rattle.hs_base.specs.declared.tree.forms.BlockAction.TheVariants as scoped
+use Rattle.hs_base.specs.declared.tree.forms.MaskingAction.{MaskingAction}
 use Rattle.hs_base.specs.declared.tree.forms.MaskingAction.TheVariants as masking
+use Rattle.hs_base.specs.declared.tree.forms.GuardAction.{GuardAction}
 use Rattle.hs_base.specs.declared.tree.forms.GuardAction.TheVariants as guard
 use Rattle.hs_base.specs.declared.tree.script.Body.{Body}
 use Rattle.hs_base.specs.declared.tree.script.Body.TheVariants as body
@@ -50,7 +59,7 @@ use Rattle.hs_base.specs.declared.tree.ty.Written.{Written}
 use Rattle.rules_tokens.specs.declared.token.Tok.{Tok}
 use Rattle.rules_tokens.specs.declared.token.Tok.TheVariants as tok
 use Rattle.rules_tokens.specs.declared.token.Token.{Token}
-use Rattle.rules_grammar.specs.GrammarForms.{Rule, give, one, alt, go_on, many as repeat, ended, within, ◌⊛◌, ◌◁◌, at, map, optional, Item, tokens_of, Spelling, Spelled}
+use Rattle.rules_grammar.specs.GrammarForms.{one_of, Rule, give, one, alt, go_on, many as repeat, ended, within, ◌⊛◌, ◌◁◌, at, map, optional, Item, tokens_of, Spelling, Spelled}
 use Rattle.rules_grammar.specs.GrammarKinds as k
 use Rattle.rules_grammar.specs.GrammarParts.{Kind, name as name_kind, int as int_kind, text as text_kind, Part, type_in_parens, type_in_brackets, param_in_parens, block_in_braces, block_if, block_case, block_arms, let_stmt, no_items, two_names, expr_if, expr_case, expr_arms, expr_let, expr_in_parens, items_in_brackets, items_or_none}
 
@@ -108,21 +117,19 @@ type_end =
 -- ---- atom   = INT | TEXT | "True" | "False" | "ThreadKilled" | "UserInterrupt" | "DivideByZero" | "Overflow"
 -- ----        | "(" ")" | "(" expr ")" | "(" expr "," expr ")" | "[" expr { "," expr } "]"
 -- ---- arg    = NAME | atom
-abbrev pub constant_word : Kind → Constant → Rule Expr
-constant_word w c = map (λ p. e.Constant p c) (at w)
+unfoldable pub constant_word : Rule (Constant × Pos)
+constant_word =
+    one_of
+    ((k.True, constant.True) ∷ (k.False, constant.False) ∷ (k.ThreadKilled, constant.ThreadKilled)
+    ∷ (k.UserInterrupt, constant.UserInterrupt) ∷ (k.DivideByZero, constant.DivideByZero) ∷ []) (k.Overflow, constant.Overflow)
 
 -- an atom that doesn't begin with a [
 unfoldable pub plain_atom : Rule Expr
 plain_atom =
     alt (one int_kind (λ t. e.Int t.pos (number_of t.tok)))
     (alt (one text_kind (λ t. e.Text t.pos (text_of t.tok)))
-    (alt (constant_word k.True constant.True)
-    (alt (constant_word k.False constant.False)
-    (alt (constant_word k.ThreadKilled constant.ThreadKilled)
-    (alt (constant_word k.UserInterrupt constant.UserInterrupt)
-    (alt (constant_word k.DivideByZero constant.DivideByZero)
-    (alt (constant_word k.Overflow constant.Overflow)
-    (within (λ p f. f p) k.open_paren expr_in_parens))))))))
+    (alt (map (λ c. e.Constant c.1 c.0) constant_word)
+    (within (λ p f. f p) k.open_paren expr_in_parens)))
 
 unfoldable pub atom : Rule Expr
 atom = alt (within e.List k.open_bracket items_in_brackets) plain_atom
@@ -130,13 +137,37 @@ atom = alt (within e.List k.open_bracket items_in_brackets) plain_atom
 unfoldable pub arg : Rule Expr
 arg = alt (map (λ x. e.Call x []) name) atom
 
--- ---- app    = NAME { arg } | "Just" arg | "Nothing" "@" atype | "Left" "@" atype "@" atype arg | "Right" "@" atype "@" atype arg
--- ----        | "[" "]" "@" atype | "ErrorCall" arg | "not" arg | "fst" arg | "snd" arg | "show" arg | "div" arg arg | "mod" arg arg | atom
-abbrev pub with_arg : {A : Type 0} → (Pos → Expr → A) → Kind → Rule A
-with_arg f w = give f ⊛ at w ⊛ arg
+-- ---- app    = NAME { arg } | unary arg | side "@" atype "@" atype arg | "[" "]" "@" atype | "Nothing" "@" atype | "div" arg arg | "mod" arg arg | atom
+-- ---- unary  = "Just" | "ErrorCall" | "not" | "fst" | "snd" | "show"        side = "Left" | "Right"
+unfoldable pub two_args : Rule (Expr × Expr)
+two_args = give (λ x y. (x, y)) ⊛ arg ⊛ arg
 
-abbrev pub with_args : {A : Type 0} → (Pos → Expr → Expr → A) → Kind → Rule A
-with_args f w = give f ⊛ at w ⊛ arg ⊛ arg
+unfoldable pub unary_word : Rule (UnaryForm × Pos)
+unary_word =
+    one_of
+    ((k.Just, unary_form.Just) ∷ (k.ErrorCall, unary_form.ErrorCall) ∷ (k.not, unary_form.Not)
+    ∷ (k.fst, unary_form.Fst) ∷ (k.snd, unary_form.Snd) ∷ []) (k.show, unary_form.Show)
+
+unfoldable pub unary_expr : Rule Expr
+unary_expr = give (λ w x. e.Unary w.0 w.1 x) ⊛ unary_word ⊛ arg
+
+unfoldable pub side_word : Rule (SideForm × Pos)
+side_word = one_of ((k.Left, side.Left) ∷ []) (k.Right, side.Right)
+
+unfoldable pub side_types : Rule (SideForm × Pos × Written × Written)
+side_types = give (λ w s t. (w.0, w.1, s, t)) ⊛ side_word ◁ k.at_sign ⊛ atype ◁ k.at_sign ⊛ atype
+
+unfoldable pub side_expr : Rule Expr
+side_expr = give (λ s x. e.Side s.0 s.1 s.2 s.3 x) ⊛ side_types ⊛ arg
+
+unfoldable pub nothing_form : Rule Expr
+nothing_form = give (e.Empty empty_form.Nothing) ⊛ at k.Nothing ◁ k.at_sign ⊛ atype
+
+unfoldable pub div_form : Rule Expr
+div_form = give (λ p x. e.Div p x.0 x.1) ⊛ at k.div ⊛ two_args
+
+unfoldable pub mod_form : Rule Expr
+mod_form = give (λ p x. e.Mod p x.0 x.1) ⊛ at k.mod' ⊛ two_args
 
 -- a list, or "[" "]" that waits for its type
 unfoldable pub list_or_empty : Rule (Pos ⊎ Expr)
@@ -145,40 +176,19 @@ list_or_empty = within (λ p xs. elim xs [ inl u ↦ inl p | inr as' ↦ inr (e.
 unfoldable pub call : Rule Expr
 call = give e.Call ⊛ name ⊛ many arg
 
--- `w @t @t`
-unfoldable pub side_types : Kind → Rule (Pos × Written × Written)
-side_types w = give (λ p s t. (p, s, t)) ⊛ at w ◁ k.at_sign ⊛ atype ◁ k.at_sign ⊛ atype
-
-abbrev pub side_form : {A : Type 0} → (Pos → Written → Written → Expr → A) → Kind → Rule A
-side_form f w = give (λ s x. f s.0 s.1 s.2 x) ⊛ side_types w ⊛ arg
-
-unfoldable pub constructed : Rule Expr
-constructed =
-    alt (with_arg (e.Unary unary_form.Just) k.Just)
-    (alt (give (e.Empty empty_form.Nothing) ⊛ at k.Nothing ◁ k.at_sign ⊛ atype)
-    (alt (side_form (e.Side side.Left) k.Left)
-    (side_form (e.Side side.Right) k.Right)))
-
 unfoldable pub list_form : Rule Expr
 list_form = go_on (e.Empty empty_form.EmptyList) list_or_empty (give (λ t. t) ◁ k.at_sign ⊛ atype)
-
-unfoldable pub computed : Rule Expr
-computed =
-    alt (with_arg (e.Unary unary_form.ErrorCall) k.ErrorCall)
-    (alt (with_arg (e.Unary unary_form.Not) k.not)
-    (alt (with_arg (e.Unary unary_form.Fst) k.fst)
-    (alt (with_arg (e.Unary unary_form.Snd) k.snd)
-    (alt (with_arg (e.Unary unary_form.Show) k.show)
-    (alt (with_args e.Div k.div)
-    (with_args e.Mod k.mod'))))))
 
 unfoldable pub app : Rule Expr
 app =
     alt call
-    (alt constructed
+    (alt unary_expr
+    (alt side_expr
     (alt list_form
-    (alt computed
-    plain_atom)))
+    (alt nothing_form
+    (alt div_form
+    (alt mod_form
+    plain_atom))))))
 
 -- a first operand alone is no chain
 abbrev pub or_tree : Expr → List Link → Expr
@@ -327,72 +337,112 @@ alts of_maybe of_either of_list of_pair x =
 unfoldable pub block : Rule Block
 block = within (λ p b. b) k.open_brace block_in_braces
 
--- ---- action: the forms that begin with a reserved word
-unfoldable pub value_action : Rule Action
-value_action =
-    alt (with_arg (a.Unary unary.Return) k.return)
-    (alt (give a.ThrowIo ⊛ at k.throwIO ◁ k.at_sign ⊛ atype ⊛ arg)
-    (alt (with_arg (a.Unary unary.PutStr) k.putStr)
-    (alt (with_arg (a.Unary unary.PutStrLn) k.putStrLn)
-    (give (a.Unary unary.HPutStrLn) ⊛ at k.hPutStrLn ◁ k.stderr ⊛ arg))))
+-- NAME block, block block, and block NAME block
+unfoldable pub named_block : Rule (Name × Block)
+named_block = give (λ x b. (x, b)) ⊛ name ⊛ block
 
-unfoldable pub modify_form : Rule Action
-modify_form = give a.ModifyMVar ⊛ at k.modifyMVar_ ⊛ arg ⊛ name ⊛ block
+unfoldable pub two_blocks : Rule (Block × Block)
+two_blocks = give (λ b c. (b, c)) ⊛ block ⊛ block
 
-unfoldable pub cell_action : Rule Action
-cell_action =
-    alt (with_arg (a.Unary unary.NewMVar) k.newMVar)
-    (alt (give a.NewEmptyMVar ⊛ at k.newEmptyMVar ◁ k.at_sign ⊛ atype)
-    (alt (with_arg (a.Unary unary.TakeMVar) k.takeMVar)
-    (alt (with_args (a.Binary binary.PutMVar) k.putMVar)
-    (alt (with_arg (a.Unary unary.ReadMVar) k.readMVar)
-    (alt (with_arg (a.Unary unary.TryTakeMVar) k.tryTakeMVar)
-    (alt (with_args (a.Binary binary.TryPutMVar) k.tryPutMVar)
-    modify_form))))))
+unfoldable pub guarded_block : Rule (Block × Name × Block)
+guarded_block = give (λ b c. (b, c.0, c.1)) ⊛ block ⊛ named_block
 
-unfoldable pub other_thread_action : Rule Action
-other_thread_action =
-    alt (map (a.Bare bare.MyThreadId) (at k.myThreadId))
-    (alt (with_args (a.Binary binary.ThrowTo) k.throwTo)
-    (alt (with_arg (a.Unary unary.KillThread) k.killThread)
-    (alt (with_arg (a.Unary unary.ThreadDelay) k.threadDelay)
-    (alt (map (a.Bare bare.ClockMicros) (at k.clockMicros))
-    (map (a.Bare bare.GetMaskingState) (at k.getMaskingState))))))
+-- ---- action: the forms that begin with a reserved word, by their shape
+-- bare | unary arg | binary arg arg | "hPutStrLn" "stderr" arg | "throwIO" "@" atype arg | "newEmptyMVar" "@" atype
+-- | scoped block | masking NAME block | guard block block | "modifyMVar_" arg NAME block | "restore" NAME block
+-- | "catch" block NAME block | "bracket" block NAME block block | "timeout" arg block
+unfoldable pub bare_action_word : Rule (BareAction × Pos)
+bare_action_word = one_of ((k.myThreadId, bare.MyThreadId) ∷ (k.clockMicros, bare.ClockMicros) ∷ []) (k.getMaskingState, bare.GetMaskingState)
 
-unfoldable pub thread_action : Rule Action
-thread_action =
-    alt (give (a.Scoped scoped.ForkIo) ⊛ at k.forkIO ⊛ block)
-    (alt (give (a.Masking masking.ForkIoWithUnmask) ⊛ at k.forkIOWithUnmask ⊛ name ⊛ block)
-    other_thread_action)
+unfoldable pub bare_action : Rule Action
+bare_action = map (λ w. a.Bare w.0 w.1) bare_action_word
 
-unfoldable pub mask_action : Rule Action
-mask_action =
-    alt (give (a.Masking masking.Mask) ⊛ at k.mask ⊛ name ⊛ block)
-    (alt (give (a.Scoped scoped.MaskOnly) ⊛ at k.mask_ ⊛ block)
-    (alt (give (a.Masking masking.UninterruptibleMask) ⊛ at k.uninterruptibleMask ⊛ name ⊛ block)
-    (alt (give (a.Scoped scoped.UninterruptibleMaskOnly) ⊛ at k.uninterruptibleMask_ ⊛ block)
-    (give a.Restore ⊛ at k.restore ⊛ name ⊛ block))))
+unfoldable pub unary_action_word : Rule (UnaryAction × Pos)
+unary_action_word =
+    one_of
+    ((k.return, unary.Return) ∷ (k.putStr, unary.PutStr) ∷ (k.putStrLn, unary.PutStrLn) ∷ (k.newMVar, unary.NewMVar) ∷ (k.takeMVar, unary.TakeMVar)
+    ∷ (k.readMVar, unary.ReadMVar) ∷ (k.tryTakeMVar, unary.TryTakeMVar) ∷ (k.killThread, unary.KillThread) ∷ []) (k.threadDelay, unary.ThreadDelay)
 
-unfoldable pub bracket_form : Rule Action
-bracket_form = give a.Bracket ⊛ at k.bracket ⊛ block ⊛ name ⊛ block ⊛ block
+unfoldable pub unary_action : Rule Action
+unary_action = give (λ w x. a.Unary w.0 w.1 x) ⊛ unary_action_word ⊛ arg
+
+unfoldable pub binary_action_word : Rule (BinaryAction × Pos)
+binary_action_word = one_of ((k.putMVar, binary.PutMVar) ∷ (k.tryPutMVar, binary.TryPutMVar) ∷ []) (k.throwTo, binary.ThrowTo)
+
+unfoldable pub binary_action : Rule Action
+binary_action = give (λ w x. a.Binary w.0 w.1 x.0 x.1) ⊛ binary_action_word ⊛ two_args
+
+unfoldable pub error_line : Rule Action
+error_line = give (a.Unary unary.HPutStrLn) ⊛ at k.hPutStrLn ◁ k.stderr ⊛ arg
+
+unfoldable pub throw_form : Rule Action
+throw_form = give a.ThrowIo ⊛ at k.throwIO ◁ k.at_sign ⊛ atype ⊛ arg
+
+unfoldable pub new_empty_form : Rule Action
+new_empty_form = give a.NewEmptyMVar ⊛ at k.newEmptyMVar ◁ k.at_sign ⊛ atype
+
+unfoldable pub scoped_action_word : Rule (BlockAction × Pos)
+scoped_action_word =
+    one_of ((k.forkIO, scoped.ForkIo) ∷ (k.mask_, scoped.MaskOnly) ∷ []) (k.uninterruptibleMask_, scoped.UninterruptibleMaskOnly)
+
+unfoldable pub scoped_action : Rule Action
+scoped_action = give (λ w b. a.Scoped w.0 w.1 b) ⊛ scoped_action_word ⊛ block
+
+unfoldable pub masking_action_word : Rule (MaskingAction × Pos)
+masking_action_word =
+    one_of ((k.forkIOWithUnmask, masking.ForkIoWithUnmask) ∷ (k.mask, masking.Mask) ∷ []) (k.uninterruptibleMask, masking.UninterruptibleMask)
+
+unfoldable pub masking_action : Rule Action
+masking_action = give (λ w b. a.Masking w.0 w.1 b.0 b.1) ⊛ masking_action_word ⊛ named_block
+
+unfoldable pub guard_action_word : Rule (GuardAction × Pos)
+guard_action_word = one_of ((k.onException, guard.OnException) ∷ []) (k.finally', guard.Finally)
 
 unfoldable pub guard_action : Rule Action
-guard_action =
-    alt (give a.Catch ⊛ at k.catch' ⊛ block ⊛ name ⊛ block)
-    (alt (give (a.Guard guard.OnException) ⊛ at k.onException ⊛ block ⊛ block)
-    (alt (give (a.Guard guard.Finally) ⊛ at k.finally' ⊛ block ⊛ block)
+guard_action = give (λ w b. a.Guard w.0 w.1 b.0 b.1) ⊛ guard_action_word ⊛ two_blocks
+
+unfoldable pub modify_form : Rule Action
+modify_form = give (λ p x b. a.ModifyMVar p x b.0 b.1) ⊛ at k.modifyMVar_ ⊛ arg ⊛ named_block
+
+unfoldable pub restore_form : Rule Action
+restore_form = give (λ p b. a.Restore p b.0 b.1) ⊛ at k.restore ⊛ named_block
+
+unfoldable pub catch_form : Rule Action
+catch_form = give (λ p b. a.Catch p b.0 b.1 b.2) ⊛ at k.catch' ⊛ guarded_block
+
+unfoldable pub bracket_form : Rule Action
+bracket_form = give (λ p b c. a.Bracket p b.0 b.1 b.2 c) ⊛ at k.bracket ⊛ guarded_block ⊛ block
+
+unfoldable pub timeout_form : Rule Action
+timeout_form = give a.Timeout ⊛ at k.timeout ⊛ arg ⊛ block
+
+-- the forms with no block
+unfoldable pub plain_action : Rule Action
+plain_action =
+    alt bare_action
+    (alt unary_action
+    (alt binary_action
+    (alt error_line
+    (alt throw_form
+    new_empty_form))))
+
+unfoldable pub word_action : Rule Action
+word_action =
+    alt scoped_action
+    (alt masking_action
+    (alt guard_action
+    (alt modify_form
+    (alt restore_form
+    (alt catch_form
     (alt bracket_form
-    (give a.Timeout ⊛ at k.timeout ⊛ arg ⊛ block))))
+    (alt timeout_form
+    plain_action)))))))
 
 unfoldable pub other_action : Rule Action
 other_action =
-    alt value_action
-    (alt (within (λ p x. a.If p x.0 x.1 x.2) k.if' block_if)
+    alt (within (λ p x. a.If p x.0 x.1 x.2) k.if' block_if)
     (alt (within (λ p x. a.Case p x.0 x.1) k.case' block_case)
-    (alt cell_action
-    (alt thread_action
-    (alt mask_action
-    guard_action)))))
+    word_action)
 
 -- ---- action = NAME { arg } | the others
 unfoldable pub action : Rule Action

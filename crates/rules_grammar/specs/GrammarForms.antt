@@ -47,6 +47,14 @@ map f p = seq (λ b u. f b) p (give (tt {0}))
 abbrev pub optional : {A : Type 0} → A → Rule A → Rule A
 optional a p = alt p (give a)
 
+-- one of these tokens, with what it stands for; the last of them is given by itself
+abbrev pub stands_for : {W : Type 0} → Kind × W → Rule (W × Pos)
+stands_for r = map (λ p. (r.1, p)) (at r.0)
+
+abbrev pub one_of : {W : Type 0} → List (Kind × W) → Kind × W → Rule (W × Pos)
+one_of [] last = stands_for last
+one_of (r ∷ rs) last = alt (stands_for r) (one_of rs last)
+
 -- ---- what a rule spells
 
 -- A token in a script. An opener has the number of openers that it stands in.

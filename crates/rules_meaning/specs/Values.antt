@@ -10,7 +10,7 @@ use Rattle.hs_base.specs.declared.value.Value.{Value}
 use Rattle.hs_base.specs.declared.value.ValueList.{ValueList}
 use Rattle.hs_base.specs.declared.value.Value.TheOpen.{Value-F, ValueList-F, Head-F}
 use Rattle.hs_base.specs.declared.value.Value.TheFolds.{fold-Value, fold-ValueList}
-use Rattle.rules_expansion.specs.Names.{Name, Written, Added, Unread, same_name}
+use Rattle.rules_expansion.specs.Names.{Name, Written, Added, same_name, Unread}
 
 -- ---- values
 
@@ -35,6 +35,7 @@ pub data V : Type 0 where
   Restore : Mask → V
   -- the number of one use of `bracket`
   Inst : ℕ → V
+  deriving IsSet as value_set
 
 -- the list of these
 abbrev pub list_of : List V → V
@@ -90,7 +91,7 @@ Env = List Binding
 -- a name bound to a value; what nothing reads isn't kept (own)
 abbrev pub with_name : Name → V → Env → Env
 with_name (Written x) v env = record { name = Written x; value = v } ∷ env
-with_name (Added Unread) v env = env
+with_name Unread v env = env
 with_name (Added h) v env = record { name = Added h; value = v } ∷ env
 
 -- the value of a name: the last bound

@@ -5,7 +5,8 @@ use Rattle.hs_base.specs.declared.tree.script.Script.{Script}
 use Rattle.hs_rules.specs.declared.entry.Entry.{Entry}
 use Rattle.rules_trees.specs.Trees.{T}
 use Rattle.rules_trees.specs.Programs.{Fn, script_of}
-use Rattle.rules_expansion.specs.Names.{Name, Written, Added, Hidden, hidden_number, same_name}
+use Rattle.rules_expansion.specs.Names.{Name, Written, Added, hidden_number, same_name, Unread}
+use Rattle.rules_expansion.specs.declared.hidden.Hidden.{Hidden}
 use Rattle.rules_expansion.specs.Core.{Core}
 use Rattle.rules_meaning.specs.Values.{V, UnitValue, Env, value_at}
 use Rattle.rules_typed.specs.Sorts.{Sort, Bound, sort_at}
@@ -34,6 +35,7 @@ same_both t u x y z e f = ap (λ b. cond b x y) e ∙ ap (cond u x) f
 hidden_same : (h k : Hidden) → hidden_number h ≡ hidden_number k → (n : Name) → same_name (Added h) n ≡ same_name (Added k) n
 hidden_same h k e (Written x) = refl
 hidden_same h k e (Added z) = ap (λ m. m == hidden_number z) e
+hidden_same h k e Unread = refl
 
 hidden_finds : (h k : Hidden) → hidden_number h ≡ hidden_number k → (env : Env) → value_at (Added h) env ≡ value_at (Added k) env
 hidden_finds h k e [] = refl
@@ -44,6 +46,11 @@ finds_same : (x y : Name) → same_name x y ≡ true → (env : Env) → value_a
 finds_same (Written x) (Written y) e env = ap (λ z. value_at (Written z) env) ((bytes_eq-Decides x y).0 e)
 finds_same (Written x) (Added h) e env = absurd (cc e)
 finds_same (Added h) (Written y) e env = absurd (cc e)
+finds_same (Written x) Unread e env = absurd (cc e)
+finds_same (Added h) Unread e env = absurd (cc e)
+finds_same Unread (Written y) e env = absurd (cc e)
+finds_same Unread (Added h) e env = absurd (cc e)
+finds_same Unread Unread e env = refl
 finds_same (Added h) (Added k) e env = hidden_finds h k (eqb-true (hidden_number h) (hidden_number k) e) env
 
 -- ---- values of slots

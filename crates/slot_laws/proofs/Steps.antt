@@ -35,7 +35,7 @@ use Rattle.hs_progress.specs.TypedStates.{ctx_of, AllOfSorts, no_values, one_val
 
 pub binds_read : (y : Name) (k : Sort) → Binds y k → is_unread y ≡ false
 binds_read (Written x) k h = refl
-binds_read (Added Unread) k h = absurd h
+binds_read Unread k h = absurd h
 binds_read (Added z) k h = refl
 
 module _ (cells : ℕ → T → Type 0) where
@@ -44,6 +44,7 @@ module _ (cells : ℕ → T → Type 0) where
   binds_fits (Written x) a_masking_name v b h = h
   binds_fits (Written x) an_instance v b h = absurd b
   binds_fits (Added z) k v b h = h
+  binds_fits Unread k v b h = absurd b
 
   pub more_fits : (g : List Bound) (env : Env) (vs : List V) (y : Name) (k : Sort) (v : V) → Binds y k → OfSort cells k v → SlotsFit cells g env vs → SlotsFit cells (with_bound y k g) (with_name y v env) (vs ++ v ∷ [])
   more_fits g env vs y k v b h f = fits_with cells g env vs y k v (binds_read y k b) (binds_fits y k v b h) f
@@ -67,6 +68,7 @@ module _ (cells : ℕ → T → Type 0) where
   pub mask_of : (y : Name) (v : V) → FitsAt cells y (Some a_masking_name) (Some v) → of_masking v
   mask_of (Written x) v h = h
   mask_of (Added z) v h = h
+  mask_of Unread v h = h
 
   -- ---- expressions of a primitive
 

@@ -11,7 +11,7 @@ use Rattle.hs_base.specs.declared.exn.Exn.{Exn}
 use Rattle.hs_base.specs.Masks.{join_of}
 use Rattle.rules_meaning.specs.Values as v
 use Rattle.rules_meaning.specs.Values.{V, Outcome, Gives, Throws, Stuck, Outcomes, AllGive, OneThrows, OneStuck}
-use Rattle.rules_expansion.specs.Core.{Primitive}
+use Rattle.rules_expansion.specs.declared.primitive.Primitive.{Primitive}
 use Rattle.rules_code.specs.Slots.{run, run_all}
 use Rattle.rules_code.specs.CodeTrees.{Sa, a_return, a_throw, a_let, a_bind, a_then, a_if, a_maybe, a_either, a_list, a_pair, a_call, a_perform, a_fork, a_fork_unmask, a_catch, a_mask, a_mask_hard, a_restore, a_bad, SlottedFunction}
 

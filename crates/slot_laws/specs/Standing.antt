@@ -11,7 +11,8 @@ use Rattle.rules_trees.specs.Programs.{Fn}
 use Rattle.rules_expansion.specs.Names.{Name, Added, Unread}
 use Rattle.rules_meaning.specs.Values.{V, Env}
 use Rattle.rules_typed.specs.Sorts.{Sort, a_value, a_masking_name, Bound}
-use Rattle.rules_expansion.specs.Core.{Primitive, Core}
+use Rattle.rules_expansion.specs.Core.{Core}
+use Rattle.rules_expansion.specs.declared.primitive.Primitive.{Primitive}
 use Rattle.rules_expansion.specs.Expansion.{actions_of}
 use Rattle.rules_code.specs.Slots.{roots_of}
 use Rattle.rules_code.specs.CodeTrees.{Sa, slotted_core}
@@ -69,7 +70,7 @@ module _ (cells : ℕ → T → Type 0) where
       bind_stands : {x : Name} {tree : Sa} {vs : List V} {b : Core} {env : Env} {k j : Sort} {ss : List SlotFrame} {fs : List named.Frame} →
           Awaits x k tree vs b env j → FramesStand j ss fs → FramesStand k (bind_to tree vs ∷ ss) (BindTo x b env ∷ fs)
       then_stands : {tree : Sa} {vs : List V} {b : Core} {env : Env} {k j : Sort} {ss : List SlotFrame} {fs : List named.Frame} →
-          Reads tree vs b env j → FramesStand j ss fs → FramesStand k (then_to tree vs ∷ ss) (BindTo (Added Unread) b env ∷ fs)
+          Reads tree vs b env j → FramesStand j ss fs → FramesStand k (then_to tree vs ∷ ss) (BindTo Unread b env ∷ fs)
       catch_stands : {x : Name} {tree : Sa} {vs : List V} {b : Core} {env : Env} {k : Sort} {ss : List SlotFrame} {fs : List named.Frame} →
           Awaits x (a_value exn) tree vs b env k → FramesStand k ss fs → FramesStand k (catch_by tree vs ∷ ss) (CatchBy x b env ∷ fs)
       mask_stands : {m : Mask} {k : Sort} {ss : List SlotFrame} {fs : List named.Frame} → FramesStand k ss fs → FramesStand k (mask_in m ∷ ss) (MaskIn m ∷ fs)

@@ -7,7 +7,7 @@ use Rattle.hs_rules.specs.declared.entry.Entry.TheVariants.{Op}
 use Rattle.rules_trees.specs.Programs.{script_of}
 use Rattle.rules_meaning.specs.Values as val
 use Rattle.rules_meaning.specs.Values.{V, UnitValue, Int, Exception}
-use Rattle.rules_expansion.specs.Core.{ThreadDelay, ThrowTo}
+use Rattle.rules_expansion.specs.declared.primitive.Primitive.TheVariants.{ThreadDelay, ThrowTo}
 use Rattle.rules_typing.specs.TypingScripts.{Accepted}
 use Rattle.rules_waiting.specs.Waiting.{Throwing, Sleeping, flight_of, sleepers_of, sorted_sleepers, sleeper_added}
 use Rattle.exn_flight.proofs.OneList.{flight_blocks, sleepers_block}

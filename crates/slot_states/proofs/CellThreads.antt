@@ -7,7 +7,7 @@ use Rattle.rules_trees.specs.Trees.{T}
 use Rattle.rules_typed.specs.Sorts.{Sort}
 use Rattle.rules_meaning.specs.Values as val
 use Rattle.rules_meaning.specs.Values.{V}
-use Rattle.rules_expansion.specs.Core.{TakeMVar, PutMVar, ReadMVar}
+use Rattle.rules_expansion.specs.declared.primitive.Primitive.TheVariants.{TakeMVar, PutMVar, ReadMVar}
 use Rattle.hs_rules.specs.Terms as named
 use Rattle.hs_rules.specs.Terms.{Ret, Throw, Do, Performs, Calls}
 use Rattle.hs_rules.specs.State.{State}

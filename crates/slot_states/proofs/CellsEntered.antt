@@ -10,7 +10,8 @@ use Rattle.rules_typing.specs.TypingScripts.{Accepted}
 use Rattle.rules_meaning.specs.Values as val
 use Rattle.rules_meaning.specs.Values.{V}
 use Rattle.rules_meaning.specs.CoreMeaning.{code_of}
-use Rattle.rules_expansion.specs.Core.{Primitive, NewMVar, NewEmptyMVar, TakeMVar, PutMVar, ReadMVar, TryTakeMVar, TryPutMVar}
+use Rattle.rules_expansion.specs.declared.primitive.Primitive.{Primitive}
+use Rattle.rules_expansion.specs.declared.primitive.Primitive.TheVariants.{NewMVar, NewEmptyMVar, TakeMVar, PutMVar, ReadMVar, TryTakeMVar, TryPutMVar}
 use Rattle.hs_rules.specs.Terms.{Operation, Calls, Ret}
 use Rattle.hs_rules.specs.Primitives.{operated, take, read, put, try_take, try_put}
 use Rattle.hs_rules.specs.Entries.{Leads}

@@ -8,7 +8,7 @@ use Rattle.hs_rules.specs.declared.entry.Entry.TheVariants.{Op}
 use Rattle.rules_trees.specs.Programs.{script_of}
 use Rattle.rules_meaning.specs.Values as val
 use Rattle.rules_meaning.specs.Values.{V, UnitValue, Int, Text, Exception, Inst}
-use Rattle.rules_expansion.specs.Core.{PutStr, PutStrLn, HPutStrLn, MyThreadId, GetMaskingState, ClockMicros, NewTimeout, Acquired, Release}
+use Rattle.rules_expansion.specs.declared.primitive.Primitive.TheVariants.{PutStr, PutStrLn, HPutStrLn, MyThreadId, GetMaskingState, ClockMicros, NewTimeout, Acquired, Release}
 use Rattle.rules_typing.specs.TypingScripts.{Accepted}
 use Rattle.hs_rules.specs.Terms.{Calls}
 use Rattle.hs_rules.specs.Primitives.{masking_text, line_feed}

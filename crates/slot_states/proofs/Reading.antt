@@ -9,7 +9,8 @@ use Rattle.hs_rules.specs.declared.entry.Entry.TheVariants.{Op}
 use Rattle.rules_trees.specs.Trees.{T}
 use Rattle.rules_trees.specs.Programs.{Fn}
 use Rattle.rules_expansion.specs.Names.{Name}
-use Rattle.rules_expansion.specs.Core.{Primitive, Core}
+use Rattle.rules_expansion.specs.Core.{Core}
+use Rattle.rules_expansion.specs.declared.primitive.Primitive.{Primitive}
 use Rattle.rules_meaning.specs.Values.{V, Env}
 use Rattle.rules_meaning.specs.CoreMeaning.{Code, code_of}
 use Rattle.rules_typed.specs.Sorts.{Sort}

@@ -6,7 +6,8 @@ use Rattle.hs_rules.specs.declared.entry.Entry.{Entry}
 use Rattle.rules_trees.specs.Programs.{Fn, script_of}
 use Rattle.rules_meaning.specs.Values as val
 use Rattle.rules_meaning.specs.Values.{V, Int, Exception}
-use Rattle.rules_expansion.specs.Core.{Primitive, ThreadDelay, ThrowTo}
+use Rattle.rules_expansion.specs.declared.primitive.Primitive.{Primitive}
+use Rattle.rules_expansion.specs.declared.primitive.Primitive.TheVariants.{ThreadDelay, ThrowTo}
 use Rattle.rules_typing.specs.TypingScripts.{Accepted}
 use Rattle.rules_waiting.specs.Waiting.{Reason, Taking, Reading, Putting, Throwing, Sleeping, Waiting, Sleeper, is_blocked, reason_of, flight_of, flying_to, first_thrown, Flying, Sleeper, has, without, leaves, is_throwing, sleepers_of, first_awake, is_sleeping, line_of}
 use Rattle.hs_rules.specs.Terms.{Calls, Performs}

@@ -4,7 +4,7 @@ use Rattle.hs_rules.specs.declared.entry.Entry.{Entry}
 use Rattle.hs_rules.specs.declared.entry.Entry.TheVariants as entry
 use Rattle.hs_rules.specs.declared.entry.LimitKind.{LimitKind}
 use Rattle.hs_rules.specs.declared.entry.LimitKind.TheVariants as limit
-use Rattle.rules_expansion.specs.Core.{NewMVar, NewEmptyMVar}
+use Rattle.rules_expansion.specs.declared.primitive.Primitive.TheVariants.{NewMVar, NewEmptyMVar}
 use Rattle.slot_laws.specs.SlotRules.{SlotOp, calls, forks, forks_unmask, SlotPart, ret, throw, doing, performs}
 use Rattle.slot_states.specs.SlotStates.{SlotThread, SlotState}
 use Rattle.slot_states.specs.Printing.{output_by, errors_by}

@@ -4,7 +4,7 @@ use Rattle.hs_rules.specs.declared.entry.Entry.{Entry}
 use Rattle.hs_rules.specs.declared.entry.Entry.TheVariants as entry
 use Rattle.rules_meaning.specs.Values as val
 use Rattle.rules_meaning.specs.Values.{V}
-use Rattle.rules_expansion.specs.Core.{PutStr, PutStrLn, HPutStrLn}
+use Rattle.rules_expansion.specs.declared.primitive.Primitive.TheVariants.{PutStr, PutStrLn, HPutStrLn}
 use Rattle.hs_rules.specs.Primitives.{line_feed}
 use Rattle.hs_rules.specs.Entries.{uncaught_line}
 use Rattle.slot_laws.specs.SlotRules.{SlotOp, calls, SlotPart, ret, throw, doing, performs}

@@ -7,7 +7,7 @@ use Rattle.hs_rules.specs.declared.entry.LimitKind.{LimitKind}
 use Rattle.hs_rules.specs.declared.entry.LimitKind.TheVariants as limit
 use Rattle.rules_meaning.specs.Values as val
 use Rattle.rules_meaning.specs.Values.{V}
-use Rattle.rules_expansion.specs.Core.{TakeMVar, PutMVar, ReadMVar}
+use Rattle.rules_expansion.specs.declared.primitive.Primitive.TheVariants.{TakeMVar, PutMVar, ReadMVar}
 use Rattle.rules_waiting.specs.Waiting.{flying_to, withdrawn, still_asleep, first_awake, Flying, Sleeper}
 use Rattle.rules_waiting.specs.OneCell.{Leave, call, stands_in}
 use Rattle.hs_rules.specs.Entries.{is_open}

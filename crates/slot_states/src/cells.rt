@@ -6,7 +6,7 @@ ghost use Rattle.hs_rules.specs.declared.entry.Entry.{Entry};
 ghost use Rattle.hs_rules.specs.declared.entry.Entry.TheVariants.{Op};
 ghost use Rattle.rules_trees.specs.Programs.{script_of};
 ghost use Rattle.rules_meaning.specs.Values.{V, Cell};
-ghost use Rattle.rules_expansion.specs.Core.{NewMVar, NewEmptyMVar, TakeMVar, PutMVar, ReadMVar, TryTakeMVar, TryPutMVar};
+ghost use Rattle.rules_expansion.specs.declared.primitive.Primitive.TheVariants.{NewMVar, NewEmptyMVar, TakeMVar, PutMVar, ReadMVar, TryTakeMVar, TryPutMVar};
 ghost use Rattle.rules_typing.specs.TypingScripts.{Accepted};
 ghost use Rattle.rules_waiting.specs.OneCell.{Take, Read, Put, Try_take, Try_put, stands_in};
 ghost use Rattle.hs_rules.specs.State.{State};

@@ -8,7 +8,7 @@ ghost use Rattle.hs_base.specs.declared.tree.script.Script.{Script};
 ghost use Rattle.hs_rules.specs.declared.entry.Entry.TheVariants.{Op};
 ghost use Rattle.rules_meaning.specs.Values as val;
 ghost use Rattle.rules_meaning.specs.Values.{V, UnitValue, Int, Text, Exception, Restore, Inst};
-ghost use Rattle.rules_expansion.specs.Core.{PutStr, PutStrLn, HPutStrLn, MyThreadId, GetMaskingState, ClockMicros, ThreadDelay, ThrowTo, NewTimeout, Acquired, Release};
+ghost use Rattle.rules_expansion.specs.declared.primitive.Primitive.TheVariants.{PutStr, PutStrLn, HPutStrLn, MyThreadId, GetMaskingState, ClockMicros, ThreadDelay, ThrowTo, NewTimeout, Acquired, Release};
 ghost use Rattle.rules_typing.specs.TypingScripts.{Accepted};
 ghost use Rattle.rules_code.specs.CodeTrees.{Sa};
 ghost use Rattle.hs_rules.specs.Primitives.{masking_text};

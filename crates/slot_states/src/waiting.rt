@@ -7,7 +7,7 @@ ghost use Rattle.hs_rules.specs.declared.entry.Entry.{Entry};
 ghost use Rattle.rules_trees.specs.Programs.{script_of};
 ghost use Rattle.rules_meaning.specs.Values as val;
 ghost use Rattle.rules_meaning.specs.Values.{Int, Exception};
-ghost use Rattle.rules_expansion.specs.Core.{ThreadDelay, ThrowTo};
+ghost use Rattle.rules_expansion.specs.declared.primitive.Primitive.TheVariants.{ThreadDelay, ThrowTo};
 ghost use Rattle.rules_typing.specs.TypingScripts.{Accepted};
 ghost use Rattle.rules_waiting.specs.Waiting.{flying_to, first_thrown, first_awake, is_throwing, is_sleeping};
 ghost use Rattle.hs_rules.specs.State.{State};

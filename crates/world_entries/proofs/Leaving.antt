@@ -14,7 +14,8 @@ use Rattle.hs_progress.specs.TypedStates.{has}
 use Rattle.rules_trees.specs.Programs.{Fn, script_of}
 use Rattle.rules_meaning.specs.Values as val
 use Rattle.rules_meaning.specs.Values.{V}
-use Rattle.rules_expansion.specs.Core.{Primitive, TakeMVar, PutMVar, ReadMVar, ThreadDelay, ThrowTo}
+use Rattle.rules_expansion.specs.declared.primitive.Primitive.{Primitive}
+use Rattle.rules_expansion.specs.declared.primitive.Primitive.TheVariants.{TakeMVar, PutMVar, ReadMVar, ThreadDelay, ThrowTo}
 use Rattle.rules_code.specs.declared.code.Body.{Body}
 use Rattle.rules_waiting.specs.OneCell.{Leave, call, stands_in}
 use Rattle.rules_waiting.specs.Waiting.{Reason, Taking, Reading, Putting, Throwing, Sleeping, flying_to, first_thrown, withdrawn, still_asleep}

@@ -10,7 +10,7 @@ use Rattle.hs_rules.specs.declared.entry.Entry.{Entry}
 use Rattle.hs_rules.specs.declared.entry.Entry.TheVariants as entry
 use Rattle.hs_rules.specs.Entries.{is_interruptible}
 use Rattle.hs_laws.proofs.Lists.{cond_false, equal_or, item_same, StandsIn}
-use Rattle.rules_expansion.specs.Core.{TakeMVar, PutMVar, ReadMVar}
+use Rattle.rules_expansion.specs.declared.primitive.Primitive.TheVariants.{TakeMVar, PutMVar, ReadMVar}
 use Rattle.rules_code.specs.declared.code.Body.{Body}
 use Rattle.rules_waiting.specs.OneCell.{Leave, stands_in, call}
 use Rattle.slot_laws.specs.SlotRules.{SlotPart, throw, performs, calls, mask_from}

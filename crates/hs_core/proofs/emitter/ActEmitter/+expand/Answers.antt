@@ -2,9 +2,11 @@ use Rattle.std.proofs.Common.{refl, ap, sym, ◌∙◌, ◌∷◌, length, get_o
 use Rattle.hs_base.specs.declared.tree.forms.GuardAction.TheVariants as g
 use Rattle.rules_code.specs.declared.act.Act.TheVariants as k
 use Rattle.rules_trees.specs.Trees.{ex_of}
-use Rattle.rules_expansion.specs.Names.{Written, Added, Restorer, Given, Caught, TheCell, Instance, BracketResult, BracketFault, Allowed, Owner, Expiry, Helper}
+use Rattle.rules_expansion.specs.Names.{Written, Added}
+use Rattle.rules_expansion.specs.declared.hidden.Hidden.TheVariants.{Restorer, Given, Caught, TheCell, Instance, BracketResult, BracketFault, Allowed, Owner, Expiry, Helper}
+use Rattle.rules_expansion.specs.Expansion.{block_core, scoped_core, masking_core}
 use Rattle.rules_trees.specs.Programs.{choose_act, case_act, modify, catch, guard, bracket, timeout, bind, let_in, then, maybe_acts, either_acts, list_acts, pair_acts, act_of, bl_of, stmt_of, act_arms_of}
-use Rattle.rules_trees.proofs.EquationsOfActions.{act-If, act-Case, act-ModifyMVar, act-Catch, act-OnException, act-Finally, act-Bracket, act-Timeout, stmt-Bind, stmt-Let, stmt-Do, acts-OfMaybe, acts-OfEither, acts-OfList, acts-OfPair}
+use Rattle.rules_trees.proofs.EquationsOfActions.{act-If, act-Case, act-ModifyMVar, act-Catch, act-Guard, act-Bracket, act-Timeout, stmt-Bind, stmt-Let, stmt-Do, acts-OfMaybe, acts-OfEither, acts-OfList, acts-OfPair}
 use Rattle.rules_code.specs.Slots.{slot_of, slotted}
 use Rattle.rules_code.specs.CodeTrees.{a_if, a_maybe, a_either, a_list, a_pair, a_bind, a_fork, a_fork_unmask, a_catch, a_mask, a_mask_hard, a_restore, slot_or_end}
 use Rattle.hs_nodes.specs.declared.names.Bound.TheVariants as w
@@ -13,7 +15,7 @@ use Rattle.hs_core.specs.Opening.{block_tree, arms_tree, added}
 use Rattle.hs_core.specs.Forms as form
 use Rattle.hs_core.proofs.Afterwards.{held_ex_one, held_ex_two, held_two, held_both, held_branch, all_as_action, act_then, ex_then, ex_act_then, acts_then}
 use Rattle.hs_core.proofs.Steps.{one, first, under, after1, after_one}
-use Rattle.hs_core.proofs.Openings.{opens_first, opens_step, opens_bind, opens_let, opens_then, block_is, under_names, within_names, after_known, as_action, as_case, arms_two, arms_one, as_arms}
+use Rattle.hs_core.proofs.Openings.{opens_first, opens_step, opens_bind, opens_let, opens_then, block_is, under_names, within_names, after_known, as_core, as_action, as_case, arms_two, arms_one, as_arms}
 use Rattle.hs_core.proofs.emitter.ActEmitter.+expand.Goals as goal
 
 pub under-returns : goal.under-returns
@@ -32,29 +34,29 @@ pub named_two-returns : goal.named_two-returns
 named_two-returns t c =
     under c.args.self.now c.named.new.self (w.Written c.args.x.now) c.in_ok-bind.ensures c.in_ok-id.ensures c.off.ensures
 
-pub fork-returns : goal.fork-returns
-fork-returns t c =
-    one k.Fork a_fork (λ ts us x. refl) c.in_ok-i.ensures (λ k. k) c.in_ok-id.ensures
+pub scoped-returns-in_ok-id-in-ForkIo : goal.scoped-returns-in_ok-id-in-ForkIo
+scoped-returns-in_ok-id-in-ForkIo t c =
+    as_core c.args.defs.now (ap (λ z. scoped_core z (block_core (bl_of c.args.b.now))) c.in-ForkIo.is) (one k.Fork a_fork (λ ts us x. refl) c.in_ok-i-in-ForkIo.ensures (λ k. k) c.in_ok-id-in-ForkIo.ensures)
 
-pub fork_unmask-returns : goal.fork_unmask-returns
-fork_unmask-returns t c =
-    one k.ForkUnmask a_fork_unmask (λ ts us x. refl) c.in_ok-i.ensures (λ k. k) c.in_ok-id.ensures
+pub scoped-returns-in_ok-id-in-MaskOnly : goal.scoped-returns-in_ok-id-in-MaskOnly
+scoped-returns-in_ok-id-in-MaskOnly t c =
+    as_core c.args.defs.now (ap (λ z. scoped_core z (block_core (bl_of c.args.b.now))) c.in-MaskOnly.is) (one k.Mask a_mask (λ ts us x. refl) c.in_ok-i-in-MaskOnly.ensures (λ k. k) c.in_ok-id-in-MaskOnly.ensures)
 
-pub mask-returns : goal.mask-returns
-mask-returns t c =
-    one k.Mask a_mask (λ ts us x. refl) c.in_ok-i.ensures (λ k. k) c.in_ok-id.ensures
+pub scoped-returns-in_ok-id-in-UninterruptibleMaskOnly : goal.scoped-returns-in_ok-id-in-UninterruptibleMaskOnly
+scoped-returns-in_ok-id-in-UninterruptibleMaskOnly t c =
+    as_core c.args.defs.now (ap (λ z. scoped_core z (block_core (bl_of c.args.b.now))) c.in-UninterruptibleMaskOnly.is) (one k.UninterruptibleMask a_mask_hard (λ ts us x. refl) c.in_ok-i-in-UninterruptibleMaskOnly.ensures (λ k. k) c.in_ok-id-in-UninterruptibleMaskOnly.ensures)
 
-pub mask_hard-returns : goal.mask_hard-returns
-mask_hard-returns t c =
-    one k.UninterruptibleMask a_mask_hard (λ ts us x. refl) c.in_ok-i.ensures (λ k. k) c.in_ok-id.ensures
+pub masking-returns-in_ok-id-in-ForkIoWithUnmask : goal.masking-returns-in_ok-id-in-ForkIoWithUnmask
+masking-returns-in_ok-id-in-ForkIoWithUnmask t c =
+    as_core c.args.defs.now (ap (λ z. masking_core z (Written c.args.x.now) (block_core (bl_of c.args.b.now))) c.in-ForkIoWithUnmask.is) (one k.ForkUnmask a_fork_unmask (λ ts us x. refl) c.in_ok-i.ensures (λ k. k) c.in_ok-id-in-ForkIoWithUnmask.ensures)
 
-pub mask_only-returns : goal.mask_only-returns
-mask_only-returns t c =
-    one k.Mask a_mask (λ ts us x. refl) c.in_ok-i.ensures (λ k. k) c.in_ok-id.ensures
+pub masking-returns-in_ok-id-in-Mask : goal.masking-returns-in_ok-id-in-Mask
+masking-returns-in_ok-id-in-Mask t c =
+    as_core c.args.defs.now (ap (λ z. masking_core z (Written c.args.x.now) (block_core (bl_of c.args.b.now))) c.in-Mask.is) (one k.Mask a_mask (λ ts us x. refl) c.in_ok-i.ensures (λ k. k) c.in_ok-id-in-Mask.ensures)
 
-pub mask_hard_only-returns : goal.mask_hard_only-returns
-mask_hard_only-returns t c =
-    one k.UninterruptibleMask a_mask_hard (λ ts us x. refl) c.in_ok-i.ensures (λ k. k) c.in_ok-id.ensures
+pub masking-returns-in_ok-id-in-UninterruptibleMask : goal.masking-returns-in_ok-id-in-UninterruptibleMask
+masking-returns-in_ok-id-in-UninterruptibleMask t c =
+    as_core c.args.defs.now (ap (λ z. masking_core z (Written c.args.x.now) (block_core (bl_of c.args.b.now))) c.in-UninterruptibleMask.is) (one k.UninterruptibleMask a_mask_hard (λ ts us x. refl) c.in_ok-i.ensures (λ k. k) c.in_ok-id-in-UninterruptibleMask.ensures)
 
 pub restore_form-returns : goal.restore_form-returns
 restore_form-returns t c =
@@ -122,13 +124,13 @@ action-returns-in_ok-i-in-Catch t c =
 
 pub action-returns-in_ok-i-in-OnException : goal.action-returns-in_ok-i-in-OnException
 action-returns-in_ok-i-in-OnException t c =
-    all_as_action c.on_exception_form.result c.args.self.now c.on_exception_form.new.self c.args.defs.now (guard g.OnException c.in-OnException.field-0 (bl_of c.in-OnException.b) (bl_of c.in-OnException.d)) (act_of c.args.a.now) (ap act_of c.in-OnException.is ∙ act-OnException c.in-OnException.field-0 c.in-OnException.b c.in-OnException.d)
-    (act_then c.on_exception_form.result c.args.self.now c.on_exception_form.new.self (λ s. block_tree c.args.defs.now s (bl_of c.in-OnException.b)) c.args.defs.now (λ s u. a_catch u (form.handler s (block_tree c.args.defs.now (Added Caught ∷ s) (bl_of c.in-OnException.d)))) c.in_ok-i-in-OnException.ensures c.on_exception_form.ensures)
+    all_as_action c.on_exception_form.result c.args.self.now c.on_exception_form.new.self c.args.defs.now (guard g.OnException c.in-Guard.field-1 (bl_of c.in-Guard.b) (bl_of c.in-Guard.d)) (act_of c.args.a.now) (ap act_of c.in-Guard.is ∙ (act-Guard c.in-Guard.word c.in-Guard.field-1 c.in-Guard.b c.in-Guard.d ∙ ap (λ z. guard z c.in-Guard.field-1 (bl_of c.in-Guard.b) (bl_of c.in-Guard.d)) c.in-OnException.is))
+    (act_then c.on_exception_form.result c.args.self.now c.on_exception_form.new.self (λ s. block_tree c.args.defs.now s (bl_of c.in-Guard.b)) c.args.defs.now (λ s u. a_catch u (form.handler s (block_tree c.args.defs.now (Added Caught ∷ s) (bl_of c.in-Guard.d)))) c.in_ok-i-in-OnException.ensures c.on_exception_form.ensures)
 
 pub action-returns-in_ok-i-in-Finally : goal.action-returns-in_ok-i-in-Finally
 action-returns-in_ok-i-in-Finally t c =
-    all_as_action c.finally_form.result c.args.self.now c.finally_form.new.self c.args.defs.now (guard g.Finally c.in-Finally.field-0 (bl_of c.in-Finally.b) (bl_of c.in-Finally.d)) (act_of c.args.a.now) (ap act_of c.in-Finally.is ∙ act-Finally c.in-Finally.field-0 c.in-Finally.b c.in-Finally.d)
-    (act_then c.finally_form.result c.args.self.now c.finally_form.new.self (λ s. block_tree c.args.defs.now (Added Restorer ∷ s) (bl_of c.in-Finally.b)) c.args.defs.now (λ s u. form.finally s u (block_tree c.args.defs.now (Added Caught ∷ Added Restorer ∷ s) (bl_of c.in-Finally.d)) (block_tree c.args.defs.now (Added Given ∷ Added Restorer ∷ s) (bl_of c.in-Finally.d))) c.in_ok-i-in-Finally.ensures c.finally_form.ensures)
+    all_as_action c.finally_form.result c.args.self.now c.finally_form.new.self c.args.defs.now (guard g.Finally c.in-Guard.field-1 (bl_of c.in-Guard.b) (bl_of c.in-Guard.d)) (act_of c.args.a.now) (ap act_of c.in-Guard.is ∙ (act-Guard c.in-Guard.word c.in-Guard.field-1 c.in-Guard.b c.in-Guard.d ∙ ap (λ z. guard z c.in-Guard.field-1 (bl_of c.in-Guard.b) (bl_of c.in-Guard.d)) c.in-Finally.is))
+    (act_then c.finally_form.result c.args.self.now c.finally_form.new.self (λ s. block_tree c.args.defs.now (Added Restorer ∷ s) (bl_of c.in-Guard.b)) c.args.defs.now (λ s u. form.finally s u (block_tree c.args.defs.now (Added Caught ∷ Added Restorer ∷ s) (bl_of c.in-Guard.d)) (block_tree c.args.defs.now (Added Given ∷ Added Restorer ∷ s) (bl_of c.in-Guard.d))) c.in_ok-i-in-Finally.ensures c.finally_form.ensures)
 
 pub action-returns-in_ok-j-in-Bracket : goal.action-returns-in_ok-j-in-Bracket
 action-returns-in_ok-j-in-Bracket t c =

@@ -1,4 +1,4 @@
-use Rattle.hs_nodes.specs.declared.names.Hidden.TheVariants as h
+use Rattle.rules_expansion.specs.declared.hidden.Hidden.TheVariants as h
 use Rattle.hs_nodes.specs.declared.names.Bound.TheVariants as w
 use Rattle.hs_core.proofs.Steps.{under}
 use Rattle.hs_core.proofs.emitter.ActEmitter.handler.Goals as goal

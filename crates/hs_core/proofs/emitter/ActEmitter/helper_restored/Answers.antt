@@ -1,4 +1,4 @@
-use Rattle.rules_expansion.specs.Names.{HelperRestorer}
+use Rattle.rules_expansion.specs.declared.hidden.Hidden.TheVariants.{HelperRestorer}
 use Rattle.hs_core.specs.Forms as form
 use Rattle.hs_core.proofs.Steps.{after1}
 use Rattle.hs_core.proofs.emitter.ActEmitter.helper_restored.Goals as goal

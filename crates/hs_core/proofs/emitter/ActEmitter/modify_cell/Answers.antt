@@ -1,6 +1,6 @@
 use Rattle.std.proofs.Common.{refl}
 use Rattle.rules_code.specs.declared.act.Act.TheVariants as k
-use Rattle.hs_nodes.specs.declared.names.Hidden.TheVariants as h
+use Rattle.rules_expansion.specs.declared.hidden.Hidden.TheVariants as h
 use Rattle.hs_nodes.specs.declared.names.Bound.TheVariants as w
 use Rattle.rules_code.specs.CodeTrees.{a_mask}
 use Rattle.hs_core.proofs.Steps.{one, under}

@@ -1,9 +1,9 @@
-use Rattle.rules_code.specs.declared.act.Primitive.TheVariants as p
+use Rattle.rules_expansion.specs.declared.primitive.Primitive.TheVariants as p
 use Rattle.rules_code.specs.Slots.{s_none, s_more}
-use Rattle.rules_code.specs.CodeTrees.{a_perform, primitive_of}
+use Rattle.rules_code.specs.CodeTrees.{a_perform}
 use Rattle.hs_core.proofs.Steps.{after_ex2}
 use Rattle.hs_core.proofs.emitter.ActEmitter.put.Goals as goal
 
 pub returns : goal.returns
 returns c =
-    after_ex2 (λ u v. a_perform (primitive_of p.PutMVar) (s_more u (s_more v s_none))) c.in_ok-e.ensures (λ k. k) c.in_ok-f.ensures (λ k. k) c.in_ok-id.ensures
+    after_ex2 (λ u v. a_perform p.PutMVar (s_more u (s_more v s_none))) c.in_ok-e.ensures (λ k. k) c.in_ok-f.ensures (λ k. k) c.in_ok-id.ensures

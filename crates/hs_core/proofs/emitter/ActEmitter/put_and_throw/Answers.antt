@@ -1,4 +1,4 @@
-use Rattle.rules_expansion.specs.Names.{Caught}
+use Rattle.rules_expansion.specs.declared.hidden.Hidden.TheVariants.{Caught}
 use Rattle.hs_core.specs.Forms as form
 use Rattle.hs_core.proofs.Steps.{after1}
 use Rattle.hs_core.proofs.emitter.ActEmitter.put_and_throw.Goals as goal

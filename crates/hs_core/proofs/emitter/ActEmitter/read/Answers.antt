@@ -3,9 +3,8 @@ use Rattle.rules_code.specs.declared.node.Node.TheVariants as n
 use Rattle.rules_code.specs.Slots.{s_slot}
 use Rattle.rules_expansion.specs.Names.{Added}
 use Rattle.rules_code.specs.CodeTrees.{slot_read}
-use Rattle.hs_nodes.specs.Names.{hidden_of}
 use Rattle.hs_core.proofs.Steps.{leaf}
 use Rattle.hs_core.proofs.emitter.ActEmitter.read.Goals as goal
 
 pub returns : goal.returns
-returns c = leaf c.args.self.now c.add.new.self c.in_ok-id.id (n.Slot c.slot-slot.result) (λ s. slot_read s (Added (hidden_of c.args.h))) c.in_ok-id.ensures (λ k. ap s_slot c.slot-slot.ensures)
+returns c = leaf c.args.self.now c.add.new.self c.in_ok-id.id (n.Slot c.slot-slot.result) (λ s. slot_read s (Added c.args.h)) c.in_ok-id.ensures (λ k. ap s_slot c.slot-slot.ensures)

@@ -1,4 +1,4 @@
-use Rattle.hs_nodes.specs.declared.names.Hidden.TheVariants as h
+use Rattle.rules_expansion.specs.declared.hidden.Hidden.TheVariants as h
 use Rattle.hs_nodes.specs.declared.names.Bound.TheVariants as w
 use Rattle.rules_code.specs.CodeTrees.{a_mask, a_bind}
 use Rattle.hs_core.proofs.Steps.{under, goes, kept, after2}

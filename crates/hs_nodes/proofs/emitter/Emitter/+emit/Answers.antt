@@ -1,12 +1,9 @@
 -- What each function answers, step by step: the nodes of its parts, and then its own.
 use Rattle.std.proofs.Common.{ap, ◌∙◌, sym, subst, refl, ◌∷◌, ◌++◌, ◌+◌, length, drop, get_or, arith}
 use Rattle.std.specs.Prelude.{IfOk}
-use Rattle.hs_base.specs.declared.tree.forms.UnaryForm.TheVariants as u
 use Rattle.hs_base.specs.declared.tree.forms.BinaryForm.TheVariants as b
-use Rattle.hs_base.specs.declared.tree.forms.EmptyForm.TheVariants as e
-use Rattle.hs_base.specs.declared.tree.forms.SideForm.TheVariants as d
 use Rattle.rules_trees.specs.Trees.{ex_of, exs_of, wr_of, arms_of, links_of, sum_links_of, list_links_of, compare_form, sum_form, cons_form, nothing_more, lit, name, unary, binary, chain, conses, choose, items, empty, side, given, case, maybe_arms, either_arms, list_arms, pair_arms}
-use Rattle.rules_trees.proofs.Equations.{ex-If, ex-Case, ex-Let, ex-Or, ex-And, ex-Product, ex-Sum, ex-Cons, ex-Compare, ex-Call, ex-Negate, ex-Just, ex-ErrorCall, ex-Not, ex-Fst, ex-Snd, ex-Show, ex-Nothing, ex-EmptyList, ex-Left, ex-Right, ex-Div, ex-Mod, ex-Pair, ex-Unit, ex-List, arms-OfMaybe, arms-OfEither, arms-OfList, arms-OfPair}
+use Rattle.rules_trees.proofs.Equations.{ex-If, ex-Case, ex-Let, ex-Or, ex-And, ex-Product, ex-Sum, ex-Cons, ex-Compare, ex-Call, ex-Unary, ex-Empty, ex-Side, ex-Div, ex-Mod, ex-Pair, ex-Unit, ex-List, arms-OfMaybe, arms-OfEither, arms-OfList, arms-OfPair}
 use Rattle.rules_expansion.specs.Names.{Written}
 use Rattle.rules_code.specs.declared.node.Node.TheVariants as n
 use Rattle.hs_nodes.specs.declared.names.Bound.TheVariants as w
@@ -15,50 +12,20 @@ use Rattle.hs_nodes.specs.Emitting.{own1, own2, nodes_of, all_nodes, ids_of, lin
 use Rattle.hs_nodes.proofs.Steps.{IsAdded, alone, all_ended, owned, following_by, behind, two, three, under, as_form, as_arms, all_step, link_step, links-drop, sum_links-drop, list_links-drop}
 use Rattle.hs_nodes.proofs.emitter.Emitter.+emit.Goals as goal
 
-pub expr-returns-in-Negate : goal.expr-returns-in-Negate
-expr-returns-in-Negate t c =
-    as_form c.single.result c.args.self.now _ c.args.places.now.all (ex_of c.args.e.now) (unary u.Negate c.in-Negate.field-0 (ex_of c.in-Negate.a)) (ap ex_of c.in-Negate.is ∙ ex-Negate c.in-Negate.field-0 c.in-Negate.a)
+pub expr-returns-in-Unary : goal.expr-returns-in-Unary
+expr-returns-in-Unary t c =
+    as_form c.single.result c.args.self.now _ c.args.places.now.all (ex_of c.args.e.now) (unary c.in-Unary.form c.in-Unary.field-1 (ex_of c.in-Unary.a)) (ap ex_of c.in-Unary.is ∙ ex-Unary c.in-Unary.form c.in-Unary.field-1 c.in-Unary.a)
     (c.single.ensures)
 
-pub expr-returns-in-Just : goal.expr-returns-in-Just
-expr-returns-in-Just t c =
-    as_form c.single-in-Just.result c.args.self.now _ c.args.places.now.all (ex_of c.args.e.now) (unary u.Just c.in-Just.field-0 (ex_of c.in-Just.a)) (ap ex_of c.in-Just.is ∙ ex-Just c.in-Just.field-0 c.in-Just.a)
-    (c.single-in-Just.ensures)
-
-pub expr-returns-in-ErrorCall : goal.expr-returns-in-ErrorCall
-expr-returns-in-ErrorCall t c =
-    as_form c.single-in-ErrorCall.result c.args.self.now _ c.args.places.now.all (ex_of c.args.e.now) (unary u.ErrorCall c.in-ErrorCall.field-0 (ex_of c.in-ErrorCall.a)) (ap ex_of c.in-ErrorCall.is ∙ ex-ErrorCall c.in-ErrorCall.field-0 c.in-ErrorCall.a)
-    (c.single-in-ErrorCall.ensures)
-
-pub expr-returns-in-Not : goal.expr-returns-in-Not
-expr-returns-in-Not t c =
-    as_form c.single-in-Not.result c.args.self.now _ c.args.places.now.all (ex_of c.args.e.now) (unary u.Not c.in-Not.field-0 (ex_of c.in-Not.a)) (ap ex_of c.in-Not.is ∙ ex-Not c.in-Not.field-0 c.in-Not.a)
-    (c.single-in-Not.ensures)
-
-pub expr-returns-in-Fst : goal.expr-returns-in-Fst
-expr-returns-in-Fst t c =
-    as_form c.single-in-Fst.result c.args.self.now _ c.args.places.now.all (ex_of c.args.e.now) (unary u.Fst c.in-Fst.field-0 (ex_of c.in-Fst.a)) (ap ex_of c.in-Fst.is ∙ ex-Fst c.in-Fst.field-0 c.in-Fst.a)
-    (c.single-in-Fst.ensures)
-
-pub expr-returns-in-Snd : goal.expr-returns-in-Snd
-expr-returns-in-Snd t c =
-    as_form c.single-in-Snd.result c.args.self.now _ c.args.places.now.all (ex_of c.args.e.now) (unary u.Snd c.in-Snd.field-0 (ex_of c.in-Snd.a)) (ap ex_of c.in-Snd.is ∙ ex-Snd c.in-Snd.field-0 c.in-Snd.a)
-    (c.single-in-Snd.ensures)
-
-pub expr-returns-in-Show : goal.expr-returns-in-Show
-expr-returns-in-Show t c =
-    as_form c.single-in-Show.result c.args.self.now _ c.args.places.now.all (ex_of c.args.e.now) (unary u.Show c.in-Show.field-0 (ex_of c.in-Show.a)) (ap ex_of c.in-Show.is ∙ ex-Show c.in-Show.field-0 c.in-Show.a)
-    (c.single-in-Show.ensures)
-
-pub expr-returns-in-Left : goal.expr-returns-in-Left
-expr-returns-in-Left t c =
-    as_form c.aside.result c.args.self.now _ c.args.places.now.all (ex_of c.args.e.now) (side d.Left c.in-Left.field-0 (wr_of c.in-Left.field-1) (wr_of c.in-Left.field-2) (ex_of c.in-Left.a)) (ap ex_of c.in-Left.is ∙ ex-Left c.in-Left.field-0 c.in-Left.field-1 c.in-Left.field-2 c.in-Left.a)
+pub expr-returns-in-Side : goal.expr-returns-in-Side
+expr-returns-in-Side t c =
+    as_form c.aside.result c.args.self.now _ c.args.places.now.all (ex_of c.args.e.now) (side c.in-Side.form c.in-Side.field-1 (wr_of c.in-Side.field-2) (wr_of c.in-Side.field-3) (ex_of c.in-Side.a)) (ap ex_of c.in-Side.is ∙ ex-Side c.in-Side.form c.in-Side.field-1 c.in-Side.field-2 c.in-Side.field-3 c.in-Side.a)
     (c.aside.ensures)
 
-pub expr-returns-in-Right : goal.expr-returns-in-Right
-expr-returns-in-Right t c =
-    as_form c.aside-in-Right.result c.args.self.now _ c.args.places.now.all (ex_of c.args.e.now) (side d.Right c.in-Right.field-0 (wr_of c.in-Right.field-1) (wr_of c.in-Right.field-2) (ex_of c.in-Right.a)) (ap ex_of c.in-Right.is ∙ ex-Right c.in-Right.field-0 c.in-Right.field-1 c.in-Right.field-2 c.in-Right.a)
-    (c.aside-in-Right.ensures)
+pub expr-returns-in-Empty : goal.expr-returns-in-Empty
+expr-returns-in-Empty t c =
+    as_form c.add.result c.args.self.now _ c.args.places.now.all (ex_of c.args.e.now) (empty c.in-Empty.form c.in-Empty.field-1 (wr_of c.in-Empty.field-2)) (ap ex_of c.in-Empty.is ∙ ex-Empty c.in-Empty.form c.in-Empty.field-1 c.in-Empty.field-2)
+    (alone c.add.result c.args.self.now c.add.new.self (n.Empty c.in-Empty.form) c.add.ensures)
 
 pub expr-returns-in-Call : goal.expr-returns-in-Call
 expr-returns-in-Call t c =
@@ -69,16 +36,6 @@ pub expr-returns-in-List : goal.expr-returns-in-List
 expr-returns-in-List t c =
     as_form c.items.result c.args.self.now _ c.args.places.now.all (ex_of c.args.e.now) (items c.in-List.field-0 (exs_of c.in-List.es)) (ap ex_of c.in-List.is ∙ ex-List c.in-List.field-0 c.in-List.es)
     (c.items.ensures)
-
-pub expr-returns-in-Nothing : goal.expr-returns-in-Nothing
-expr-returns-in-Nothing t c =
-    as_form c.add.result c.args.self.now _ c.args.places.now.all (ex_of c.args.e.now) (empty e.Nothing c.in-Nothing.field-0 (wr_of c.in-Nothing.field-1)) (ap ex_of c.in-Nothing.is ∙ ex-Nothing c.in-Nothing.field-0 c.in-Nothing.field-1)
-    (alone c.add.result c.args.self.now c.add.new.self (n.Empty e.Nothing) c.add.ensures)
-
-pub expr-returns-in-EmptyList : goal.expr-returns-in-EmptyList
-expr-returns-in-EmptyList t c =
-    as_form c.add-in-EmptyList.result c.args.self.now _ c.args.places.now.all (ex_of c.args.e.now) (empty e.EmptyList c.in-EmptyList.field-0 (wr_of c.in-EmptyList.field-1)) (ap ex_of c.in-EmptyList.is ∙ ex-EmptyList c.in-EmptyList.field-0 c.in-EmptyList.field-1)
-    (alone c.add-in-EmptyList.result c.args.self.now c.add-in-EmptyList.new.self (n.Empty e.EmptyList) c.add-in-EmptyList.ensures)
 
 pub expr-returns-in-Unit : goal.expr-returns-in-Unit
 expr-returns-in-Unit t c =

@@ -1,0 +1,98 @@
+//! What the steps of a template are made of.
+
+use crate::hidden::Hidden;
+use crate::primitive::Primitive;
+
+/// An action that stands for other actions.
+#[derive(Clone, Copy)]
+pub enum Derived {
+    KillThread,
+    MaskOnly,
+    UninterruptibleMaskOnly,
+    OnException,
+    Finally,
+    Bracket,
+    ModifyMVar,
+    Timeout,
+}
+
+/// A block of a form, in the order in which they are written.
+#[derive(Clone, Copy)]
+pub enum Part {
+    First,
+    Second,
+    Third,
+}
+
+/// A name of a template.
+#[derive(Clone, Copy)]
+pub enum Binder {
+    /// one that the expansion adds
+    Own(Hidden),
+    /// the one that the form itself binds, as `bracket A x B C` binds `x`
+    Given,
+}
+
+/// An expression of a template.
+#[derive(Clone, Copy)]
+pub enum Operand {
+    /// the expression of the form itself
+    Subject,
+    /// `x`
+    Read(Binder),
+    /// `Just x`
+    JustRead(Binder),
+    /// `Nothing`
+    NoValue,
+    /// `x < 0`
+    BelowZero(Binder),
+    /// `x == 0`
+    IsZero(Binder),
+    /// `x == y`, of exceptions
+    SameExn(Binder, Binder),
+    /// `ThreadKilled`
+    Killed,
+}
+
+/// A step of making a template's nodes, parts before wholes: expressions and actions wait on a stack each, and the names
+/// that are bound stand in a scope. A step takes its operand or its parts off, the last one first, and puts its own node
+/// on.
+#[derive(Clone, Copy)]
+pub enum Step {
+    /// the nodes of a block of the form
+    Hole(Part),
+    /// a name enters the scope
+    Under(Binder),
+    /// the last name leaves it
+    Off,
+    /// an expression
+    Push(Operand),
+    /// `return e`
+    Return,
+    /// `throwIO e`
+    Throw,
+    /// `let x = e; A`
+    Let,
+    /// `x <- A; B`
+    Bind,
+    /// `A; B`
+    Then,
+    /// `if e then A else B`
+    If,
+    /// a primitive without operands
+    Perform(Primitive),
+    /// a primitive with one operand
+    PerformOne(Primitive),
+    /// a primitive with two operands
+    PerformTwo(Primitive),
+    /// `forkIOWithUnmask r A`
+    ForkUnmask,
+    /// `catch A x B`
+    Catch,
+    /// `mask r A`
+    Mask,
+    /// `uninterruptibleMask r A`
+    MaskHard,
+    /// `restore r A`
+    Restore(Binder),
+}
