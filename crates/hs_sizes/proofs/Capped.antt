@@ -1,5 +1,5 @@
 -- Counts of parts up to the greatest, in a sum up to it.
-use Rattle.std.proofs.Common.{◌≡◌, ℕ, ◌+◌, min, arith}
+use Rattle.std.proofs.Common.{◌≡◌, ℕ, min, arith}
 use Rattle.hs_base.specs.declared.tree.forms.GuardAction.{GuardAction}
 use Rattle.hs_base.specs.declared.tree.forms.GuardAction.TheVariants as g
 use Rattle.hs_judging.specs.Closed.{guard_nodes}

@@ -25,14 +25,14 @@ use Rattle.rules_trees.proofs.Equations.{arms-OfMaybe, arms-OfEither, arms-OfLis
 use Rattle.rules_trees.proofs.EquationsOfActions as eq
 use Rattle.rules_grammar.specs.Grammar as g
 use Rattle.rules_grammar.specs.Grammar.{many, alts, arms, rule_of, SpelledIn, SpelledBy}
-use Rattle.rules_grammar.specs.GrammarForms.{Rule, give, ◌⊛◌, at, map as map_rule, Item, Spelling}
+use Rattle.rules_grammar.specs.GrammarForms.{Rule, Item, Spelling}
 use Rattle.rules_grammar.specs.GrammarKinds as k
 use Rattle.rules_grammar.specs.GrammarParts.{Kind, Part, type_in_parens, type_in_brackets, param_in_parens, block_in_braces, block_if, block_case, block_arms, let_stmt, no_items, two_names, expr_if, expr_case, expr_arms, expr_let, expr_in_parens, items_in_brackets, items_or_none}
 use Rattle.typing_laws.specs.Positions.{has_node, ex_positions, act_positions, bl_positions, act_arm_positions, par_positions, body_positions, fn_positions, positions_of}
 use Rattle.typing_laws.proofs.Counts.{here, times, times-append}
-use Rattle.typing_laws.proofs.Fits.{Weighing, Weighs, Free, seen, made, Heavy, Fits, fit_give, fit_part, fit_skip, fit_alt, fit_map, fit_many, fit_within, fit_inside, fit_ended}
+use Rattle.typing_laws.proofs.Fits.{Weighing, Weighs, Free, seen, made, Heavy, Fits, fit_give, fit_word, fit_part, fit_skip, fit_alt, fit_map, fit_many, fit_within, fit_inside, fit_ended}
 use Rattle.typing_laws.proofs.Weights.{expr_weight, exprs_weight, arms_weight, action_weight, block_weight, block_arms_weight, Stated, AllStated, BlockItem, param_weight, params_weight, body_weight, def_weight, defs_weight, weigh_arms, weigh_act, weigh_act_arms, weigh_stmt, part_weighing}
-use Rattle.typing_laws.proofs.FitExprs.{unit_weighs, fit_at, fit_end, fit_name, fit_exprs, fit_atype, fit_type, part_type, fit_type_end, fit_arg, fit_with_arg, fit_with_args, fit_expr, fit_expr_end, fit_items}
+use Rattle.typing_laws.proofs.FitExprs.{unit_weighs, fit_at, fit_end, fit_name, fit_exprs, fit_atype, fit_type, part_type, fit_type_end, fit_arg, fit_two_args, fit_expr, fit_expr_end, fit_items}
 
 -- ---- what the constructors weigh
 module _ (q : Pos) where
@@ -187,103 +187,125 @@ module _ (q : Pos) (inner : (B : Type 0) → Part B → Spelling B) (parts : (B 
   unfolding g.block
   fit_block = fit_inside refl (parts _ block_in_braces) (λ p c n h. h)
 
+  fit_named_block : Fit g.named_block (Weighs (λ x. here q x.0.pos + block_weight q x.1))
+  unfolding g.named_block
+  fit_named_block = fit_part fit_block (fit_part (fit_name q inner) (fit_give (λ x m h c n i. omega (arith, h, i))))
+
+  fit_two_blocks : Fit g.two_blocks (Weighs (λ x. block_weight q x.0 + block_weight q x.1))
+  unfolding g.two_blocks
+  fit_two_blocks = fit_part fit_block (fit_part fit_block (fit_give (λ c m h d n i. omega (arith, h, i))))
+
+  fit_guarded_block : Fit g.guarded_block (Weighs (λ x. block_weight q x.0 + here q x.1.pos + block_weight q x.2))
+  unfolding g.guarded_block
+  fit_guarded_block = fit_part fit_named_block (fit_part fit_block (fit_give (λ c m h d n i. omega (arith, h, i))))
+
   -- the forms of one shape, whatever their word
-  fit_unary : {o : UnaryAction} {l : Kind} → FitsAction (g.with_arg (a.Unary o) l)
-  fit_unary = fit_with_arg q inner parts (unary_weighs q _)
+  fit_bare_word : Fit g.bare_action_word (Weighs (λ w. here q w.1))
+  unfolding g.bare_action_word
+  fit_bare_word = search (fit_alt, fit_word) depth 12
 
-  fit_binary : {o : BinaryAction} {l : Kind} → FitsAction (g.with_args (a.Binary o) l)
-  fit_binary = fit_with_args q inner parts (binary_weighs q _)
+  fit_bare_action : FitsAction g.bare_action
+  unfolding g.bare_action
+  fit_bare_action = fit_map fit_bare_word (λ w n h. bare_weighs q w.0 w.1 n h)
 
-  fit_bare : {o : BareAction} {l : Kind} → FitsAction (map_rule (a.Bare o) (at l))
-  fit_bare = fit_map (fit_at q inner) (bare_weighs q _)
+  fit_unary_word : Fit g.unary_action_word (Weighs (λ w. here q w.1))
+  unfolding g.unary_action_word
+  fit_unary_word = search (fit_alt, fit_word) depth 12
 
-  fit_scoped : {o : BlockAction} {l : Kind} → FitsAction (give (a.Scoped o) ⊛ at l ⊛ g.block)
-  fit_scoped = fit_part fit_block (fit_part (fit_at q inner) (fit_give (λ p m h c n j. scoped_weighs q _ p c (0 + m + n) (omega (arith, h, j)))))
+  fit_unary_action : FitsAction g.unary_action
+  unfolding g.unary_action
+  fit_unary_action = fit_part (fit_arg q inner parts) (fit_part fit_unary_word (fit_give (λ w m h x n i. unary_weighs q w.0 w.1 x (0 + m + n) (omega (arith, h, i)))))
 
-  fit_masking : {o : MaskingAction} {l : Kind} → FitsAction (give (a.Masking o) ⊛ at l ⊛ g.name ⊛ g.block)
-  fit_masking = fit_part fit_block (fit_part (fit_name q inner) (fit_part (fit_at q inner) (fit_give (λ p m h x n j c e r. masking_weighs q _ p x c (0 + m + n + e) (omega (arith, h, j, r))))))
+  fit_binary_word : Fit g.binary_action_word (Weighs (λ w. here q w.1))
+  unfolding g.binary_action_word
+  fit_binary_word = search (fit_alt, fit_word) depth 12
 
-  fit_guard : {o : GuardAction} {l : Kind} → FitsAction (give (a.Guard o) ⊛ at l ⊛ g.block ⊛ g.block)
-  fit_guard = fit_part fit_block (fit_part fit_block (fit_part (fit_at q inner) (fit_give (λ p m h c n j d e r. guard_weighs q _ p c d (0 + m + n + e) (omega (arith, h, j, r))))))
+  fit_binary_action : FitsAction g.binary_action
+  unfolding g.binary_action
+  fit_binary_action = fit_part (fit_two_args q inner parts) (fit_part fit_binary_word (fit_give (λ w m h x n i. binary_weighs q w.0 w.1 x.0 x.1 (0 + m + n) (omega (arith, h, i)))))
 
-  fit_value_action : FitsAction g.value_action
-  unfolding g.value_action
-  fit_value_action =
-      fit_alt fit_unary
-      (fit_alt (fit_part (fit_arg q inner parts) (fit_part (fit_atype q inner parts) (fit_skip refl (fit_part (fit_at q inner) (fit_give (λ p m h w n i y l j. weigh_act q (a.ThrowIo p w y) (throw_io p (wr_of w) (ex_of y)) (0 + m + n + l) (eq.act-ThrowIo p w y) (omega (arith, h, i, j))))))))
-      (fit_alt fit_unary
-      (fit_alt fit_unary
-      (fit_part (fit_arg q inner parts) (fit_skip refl (fit_part (fit_at q inner) (fit_give (λ p m h y n i. unary_weighs q _ p y (0 + m + n) (omega (arith, h, i))))))))))
+  fit_scoped_word : Fit g.scoped_action_word (Weighs (λ w. here q w.1))
+  unfolding g.scoped_action_word
+  fit_scoped_word = search (fit_alt, fit_word) depth 12
 
-  fit_modify_form : FitsAction g.modify_form
-  unfolding g.modify_form
-  fit_modify_form =
-      fit_part fit_block
-      (fit_part (fit_name q inner) (fit_part (fit_arg q inner parts) (fit_part (fit_at q inner) (fit_give (λ p m h x n i y l j c o r. modify_weighs q p x y c (0 + m + n + l + o) (omega (arith, h, i, j, r)))))))
+  fit_scoped_action : FitsAction g.scoped_action
+  unfolding g.scoped_action
+  fit_scoped_action = fit_part fit_block (fit_part fit_scoped_word (fit_give (λ w m h c n i. scoped_weighs q w.0 w.1 c (0 + m + n) (omega (arith, h, i)))))
 
-  fit_cell_action : FitsAction g.cell_action
-  unfolding g.cell_action
-  fit_cell_action =
-      fit_alt fit_unary
-      (fit_alt (fit_part (fit_atype q inner parts) (fit_skip refl (fit_part (fit_at q inner) (fit_give (λ p m h w n i. weigh_act q (a.NewEmptyMVar p w) (new_empty p (wr_of w)) (0 + m + n) (eq.act-NewEmptyMVar p w) (omega (arith, h, i)))))))
-      (fit_alt fit_unary
-      (fit_alt fit_binary
-      (fit_alt fit_unary
-      (fit_alt fit_unary
-      (fit_alt fit_binary
-      fit_modify_form))))))
+  fit_masking_word : Fit g.masking_action_word (Weighs (λ w. here q w.1))
+  unfolding g.masking_action_word
+  fit_masking_word = search (fit_alt, fit_word) depth 12
 
-  fit_other_thread_action : FitsAction g.other_thread_action
-  unfolding g.other_thread_action
-  fit_other_thread_action =
-      fit_alt fit_bare
-      (fit_alt fit_binary
-      (fit_alt fit_unary
-      (fit_alt fit_unary
-      (fit_alt fit_bare
-      fit_bare))))
+  fit_masking_action : FitsAction g.masking_action
+  unfolding g.masking_action
+  fit_masking_action = fit_part fit_named_block (fit_part fit_masking_word (fit_give (λ w m h c n i. masking_weighs q w.0 w.1 c.0 c.1 (0 + m + n) (omega (arith, h, i)))))
 
-  fit_thread_action : FitsAction g.thread_action
-  unfolding g.thread_action
-  fit_thread_action = fit_alt fit_scoped (fit_alt fit_masking fit_other_thread_action)
-
-  fit_mask_action : FitsAction g.mask_action
-  unfolding g.mask_action
-  fit_mask_action =
-      fit_alt fit_masking
-      (fit_alt fit_scoped
-      (fit_alt fit_masking
-      (fit_alt fit_scoped
-      (fit_part fit_block
-      (fit_part (fit_name q inner) (fit_part (fit_at q inner) (fit_give (λ p m h x n j c e r. weigh_act q (a.Restore p x c) (restore p x (bl_of c)) (0 + m + n + e) (eq.act-Restore p x c) (omega (arith, h, j, r))))))))))
-
-  fit_bracket_form : FitsAction g.bracket_form
-  unfolding g.bracket_form
-  fit_bracket_form =
-      fit_part fit_block
-      (fit_part fit_block
-      (fit_part (fit_name q inner)
-      (fit_part fit_block (fit_part (fit_at q inner) (fit_give (λ p m h c n i y l j d o r f e t. bracket_weighs q p c y d f (0 + m + n + l + o + e) (omega (arith, h, i, j, r, t))))))))
+  fit_guard_word : Fit g.guard_action_word (Weighs (λ w. here q w.1))
+  unfolding g.guard_action_word
+  fit_guard_word = search (fit_alt, fit_word) depth 12
 
   fit_guard_action : FitsAction g.guard_action
   unfolding g.guard_action
-  fit_guard_action =
-      fit_alt (fit_part fit_block (fit_part (fit_name q inner) (fit_part fit_block (fit_part (fit_at q inner) (fit_give (λ p m h c n i y l j d o r. catch_weighs q p c y d (0 + m + n + l + o) (omega (arith, h, i, j, r))))))))
-      (fit_alt fit_guard
-      (fit_alt fit_guard
+  fit_guard_action = fit_part fit_two_blocks (fit_part fit_guard_word (fit_give (λ w m h c n i. guard_weighs q w.0 w.1 c.0 c.1 (0 + m + n) (omega (arith, h, i)))))
+
+  -- the forms that are a shape of their own
+  fit_error_line : FitsAction g.error_line
+  unfolding g.error_line
+  fit_error_line = fit_part (fit_arg q inner parts) (fit_skip refl (fit_part (fit_at q inner) (fit_give (λ p m h y n i. unary_weighs q _ p y (0 + m + n) (omega (arith, h, i))))))
+
+  fit_throw_form : FitsAction g.throw_form
+  unfolding g.throw_form
+  fit_throw_form =
+      fit_part (fit_arg q inner parts)
+      (fit_part (fit_atype q inner parts) (fit_skip refl (fit_part (fit_at q inner) (fit_give (λ p m h w n i y l j. weigh_act q (a.ThrowIo p w y) (throw_io p (wr_of w) (ex_of y)) (0 + m + n + l) (eq.act-ThrowIo p w y) (omega (arith, h, i, j)))))))
+
+  fit_new_empty_form : FitsAction g.new_empty_form
+  unfolding g.new_empty_form
+  fit_new_empty_form = fit_part (fit_atype q inner parts) (fit_skip refl (fit_part (fit_at q inner) (fit_give (λ p m h w n i. weigh_act q (a.NewEmptyMVar p w) (new_empty p (wr_of w)) (0 + m + n) (eq.act-NewEmptyMVar p w) (omega (arith, h, i))))))
+
+  fit_modify_form : FitsAction g.modify_form
+  unfolding g.modify_form
+  fit_modify_form = fit_part fit_named_block (fit_part (fit_arg q inner parts) (fit_part (fit_at q inner) (fit_give (λ p m h x n i c l j. modify_weighs q p x c.0 c.1 (0 + m + n + l) (omega (arith, h, i, j))))))
+
+  fit_restore_form : FitsAction g.restore_form
+  unfolding g.restore_form
+  fit_restore_form = fit_part fit_named_block (fit_part (fit_at q inner) (fit_give (λ p m h c n i. weigh_act q (a.Restore p c.0 c.1) (restore p c.0 (bl_of c.1)) (0 + m + n) (eq.act-Restore p c.0 c.1) (omega (arith, h, i)))))
+
+  fit_catch_form : FitsAction g.catch_form
+  unfolding g.catch_form
+  fit_catch_form = fit_part fit_guarded_block (fit_part (fit_at q inner) (fit_give (λ p m h c n i. catch_weighs q p c.0 c.1 c.2 (0 + m + n) (omega (arith, h, i)))))
+
+  fit_bracket_form : FitsAction g.bracket_form
+  unfolding g.bracket_form
+  fit_bracket_form = fit_part fit_block (fit_part fit_guarded_block (fit_part (fit_at q inner) (fit_give (λ p m h c n i d l j. bracket_weighs q p c.0 c.1 c.2 d (0 + m + n + l) (omega (arith, h, i, j))))))
+
+  fit_timeout_form : FitsAction g.timeout_form
+  unfolding g.timeout_form
+  fit_timeout_form = fit_part fit_block (fit_part (fit_arg q inner parts) (fit_part (fit_at q inner) (fit_give (λ p m h x n i c l j. timeout_weighs q p x c (0 + m + n + l) (omega (arith, h, i, j))))))
+
+  fit_plain_action : FitsAction g.plain_action
+  unfolding g.plain_action
+  fit_plain_action = fit_alt fit_bare_action (fit_alt fit_unary_action (fit_alt fit_binary_action (fit_alt fit_error_line (fit_alt fit_throw_form fit_new_empty_form))))
+
+  fit_word_action : FitsAction g.word_action
+  unfolding g.word_action
+  fit_word_action =
+      fit_alt fit_scoped_action
+      (fit_alt fit_masking_action
+      (fit_alt fit_guard_action
+      (fit_alt fit_modify_form
+      (fit_alt fit_restore_form
+      (fit_alt fit_catch_form
       (fit_alt fit_bracket_form
-      (fit_part fit_block (fit_part (fit_arg q inner parts) (fit_part (fit_at q inner) (fit_give (λ p m h x n i c l j. timeout_weighs q p x c (0 + m + n + l) (omega (arith, h, i, j))))))))))
+      (fit_alt fit_timeout_form
+      fit_plain_action)))))))
 
   fit_other_action : FitsAction g.other_action
   unfolding g.other_action
   fit_other_action =
-      fit_alt fit_value_action
-      (fit_alt (fit_within (parts _ block_if) (λ p x n h. if_weighs q p x.0 x.1 x.2 n h))
+      fit_alt (fit_within (parts _ block_if) (λ p x n h. if_weighs q p x.0 x.1 x.2 n h))
       (fit_alt (fit_within (parts _ block_case) (λ p x n h. case_weighs q p x.0 x.1 n h))
-      (fit_alt fit_cell_action
-      (fit_alt fit_thread_action
-      (fit_alt fit_mask_action
-      fit_guard_action)))))
+      fit_word_action)
 
   fit_args : Fit (many g.arg) (Weighs (exprs_weight q))
   fit_args = fit_exprs q inner (fit_arg q inner parts)

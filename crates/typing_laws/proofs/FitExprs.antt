@@ -2,7 +2,6 @@
 use Rattle.std.proofs.Common.{◌≡◌, ℕ, ◌+◌, ◌≤◌, false, List, [], ◌∷◌, ◌++◌, Option, Some, None, refl, arith, ◌⊎◌, inl, inr}
 use Rattle.hs_base.specs.declared.pos.Pos.{Pos}
 use Rattle.hs_base.specs.declared.tree.expr.CompareOp.{CompareOp}
-use Rattle.hs_base.specs.declared.tree.expr.Constant.{Constant}
 use Rattle.hs_base.specs.declared.tree.expr.Expr.{Expr}
 use Rattle.hs_base.specs.declared.tree.expr.Expr.TheVariants as e
 use Rattle.hs_base.specs.declared.tree.expr.ExprArms.{ExprArms}
@@ -20,12 +19,12 @@ use Rattle.hs_base.specs.declared.tree.forms.EmptyForm.{EmptyForm}
 use Rattle.rules_trees.specs.Trees.{lit, Lit, number, letters, nothing_more, constant_of, name, unary, binary, chain, conses, choose, items, empty, side, given, case, compare_form, wr_of, ex_of, arms_of, exs_of, links_of, list_links_of, sum_links_of}
 use Rattle.rules_trees.proofs.Equations.{ex-If, ex-Case, ex-Let, ex-Or, ex-And, ex-Product, ex-Sum, ex-Cons, ex-Compare, ex-Call, ex-Unary, ex-Empty, ex-Side, ex-Div, ex-Mod, ex-Pair, ex-Int, ex-Text, ex-Constant, ex-Unit, ex-List}
 use Rattle.rules_grammar.specs.Grammar as g
-use Rattle.rules_grammar.specs.Grammar.{number_of, text_of, type_word, constant_word, with_arg, with_args, side_form, side_types, many, or_tree, and_tree, cons_tree, sum_tree, product_tree, compare_tree, link}
+use Rattle.rules_grammar.specs.Grammar.{number_of, text_of, type_word, many, or_tree, and_tree, cons_tree, sum_tree, product_tree, compare_tree, link}
 use Rattle.rules_grammar.specs.GrammarForms.{Rule, at, Spelling}
 use Rattle.rules_grammar.specs.GrammarParts.{Kind, Part, type_in_parens, type_in_brackets, expr_if, expr_case, expr_let, expr_in_parens, items_in_brackets, items_or_none}
 use Rattle.typing_laws.specs.Positions.{has_node, ex_positions, exs_positions, link_positions, arm_positions}
 use Rattle.typing_laws.proofs.Counts.{here, times-append}
-use Rattle.typing_laws.proofs.Fits.{Weighing, Weighs, Free, Sum, Heavy, Fits, fit_give, fit_one, fit_part, fit_skip, fit_alt, fit_map, fit_go_on, fit_many, fit_within, fit_aside, fit_inside, fit_either}
+use Rattle.typing_laws.proofs.Fits.{Weighing, Weighs, Free, Sum, Heavy, Fits, fit_give, fit_one, fit_word, fit_part, fit_skip, fit_alt, fit_map, fit_go_on, fit_many, fit_within, fit_aside, fit_inside, fit_either}
 use Rattle.typing_laws.proofs.Weights.{name_weight, written_weight, expr_weight, exprs_weight, arms_weight, links_weight, list_links_weight, sum_links_weight, compared_weight, weigh_ex, links_are, list_links_are, sum_links_are, part_weighing}
 
 -- ---- what the constructors weigh
@@ -173,21 +172,17 @@ module _ (q : Pos) (inner : (B : Type 0) → Part B → Spelling B) where
     fit_type_end = fit_alt (fit_map (fit_end refl) (λ p n h. h)) (fit_skip refl (fit_part part_type (fit_skip refl (fit_give (λ t n w. omega (arith, w))))))
 
     -- ---- atoms and arguments
-    fit_constant : {w : Kind} {c : Constant} → FitsExpr (constant_word w c)
-    fit_constant {c = c} = fit_map fit_at (λ p n h. lit_weighs q (e.Constant p c) p (constant_of c) n (ex-Constant p c) h)
+    fit_constant_word : Fit g.constant_word (Weighs (λ w. here q w.1))
+    unfolding g.constant_word
+    fit_constant_word = search (fit_alt, fit_word) depth 12
 
     pub fit_plain_atom : FitsExpr g.plain_atom
     unfolding g.plain_atom
     fit_plain_atom =
         fit_alt (fit_one (λ t. lit_weighs q (e.Int t.pos (number_of t.tok)) t.pos (number (number_of t.tok)) (here q t.pos) (ex-Int t.pos (number_of t.tok)) refl))
         (fit_alt (fit_one (λ t. lit_weighs q (e.Text t.pos (text_of t.tok)) t.pos (letters (text_of t.tok)) (here q t.pos) (ex-Text t.pos (text_of t.tok)) refl))
-        (fit_alt fit_constant
-        (fit_alt fit_constant
-        (fit_alt fit_constant
-        (fit_alt fit_constant
-        (fit_alt fit_constant
-        (fit_alt fit_constant
-        (fit_either refl (parts _ expr_in_parens) (λ p f n h. (expr_weight q (f p), refl, (h p).0, (h p).1))))))))))
+        (fit_alt (fit_map fit_constant_word (λ w n h. lit_weighs q (e.Constant w.1 w.0) w.1 (constant_of w.0) n (ex-Constant w.1 w.0) h))
+        (fit_either refl (parts _ expr_in_parens) (λ p f n h. (expr_weight q (f p), refl, (h p).0, (h p).1)))))
 
     fit_atom : FitsExpr g.atom
     unfolding g.atom
@@ -197,11 +192,9 @@ module _ (q : Pos) (inner : (B : Type 0) → Part B → Spelling B) where
     unfolding g.arg
     fit_arg = fit_alt (fit_map fit_name (λ x n h. call_weighs q x [] n (omega (arith, h)))) fit_atom
 
-    pub fit_with_arg : {A : Type 0} {W : Weighing A} {f : Pos → Expr → A} {w : Kind} → ((p : Pos) (x : Expr) (n : ℕ) → here q p + expr_weight q x ≡ n → W (f p x) n) → Fit (with_arg f w) W
-    fit_with_arg i = fit_part fit_arg (fit_part fit_at (fit_give (λ p m h x n v. i p x (0 + m + n) (omega (arith, h, v)))))
-
-    pub fit_with_args : {A : Type 0} {W : Weighing A} {f : Pos → Expr → Expr → A} {w : Kind} → ((p : Pos) (x y : Expr) (n : ℕ) → here q p + expr_weight q x + expr_weight q y ≡ n → W (f p x y) n) → Fit (with_args f w) W
-    fit_with_args i = fit_part fit_arg (fit_part fit_arg (fit_part fit_at (fit_give (λ p m h x n v y l w. i p x y (0 + m + n + l) (omega (arith, h, v, w))))))
+    pub fit_two_args : Fit g.two_args (Weighs (λ x. expr_weight q x.0 + expr_weight q x.1))
+    unfolding g.two_args
+    fit_two_args = fit_part fit_arg (fit_part fit_arg (fit_give (λ x m h y n v. omega (arith, h, v))))
 
     -- ---- applications
     fit_list_or_empty : Fit g.list_or_empty (Sum (Weighs (here q)) (Weighs (expr_weight q)))
@@ -212,24 +205,37 @@ module _ (q : Pos) (inner : (B : Type 0) → Part B → Spelling B) where
     unfolding g.call
     fit_call = fit_part (fit_exprs fit_arg) (fit_part fit_name (fit_give (λ x m h es n v. call_weighs q x es (0 + m + n) (omega (arith, h, v)))))
 
-    fit_side_types : (w : Kind) → Fit (side_types w) (Weighs (λ s. here q s.0 + here q s.1.pos + here q s.2.pos))
-    unfolding side_types
-    fit_side_types w = fit_part fit_atype (fit_skip refl (fit_part fit_atype (fit_skip refl (fit_part fit_at (fit_give (λ p m h s n v t l w. omega (arith, h, v, w)))))))
+    fit_unary_word : Fit g.unary_word (Weighs (λ w. here q w.1))
+    unfolding g.unary_word
+    fit_unary_word = search (fit_alt, fit_word) depth 12
 
-    -- the forms of one shape, whatever their word
-    fit_side : {o : SideForm} (w : Kind) → FitsExpr (side_form (e.Side o) w)
-    fit_side w = fit_part fit_arg (fit_part (fit_side_types w) (fit_give (λ s m h x n v. side_weighs q _ s.0 s.1 s.2 x (0 + m + n) (omega (arith, h, v)))))
+    fit_unary_expr : FitsExpr g.unary_expr
+    unfolding g.unary_expr
+    fit_unary_expr = fit_part fit_arg (fit_part fit_unary_word (fit_give (λ w m h x n v. unary_weighs q w.0 w.1 x (0 + m + n) (omega (arith, h, v)))))
 
-    fit_unary : {o : UnaryForm} {w : Kind} → FitsExpr (with_arg (e.Unary o) w)
-    fit_unary = fit_with_arg (unary_weighs q _)
+    fit_side_word : Fit g.side_word (Weighs (λ w. here q w.1))
+    unfolding g.side_word
+    fit_side_word = search (fit_alt, fit_word) depth 12
 
-    fit_constructed : FitsExpr g.constructed
-    unfolding g.constructed
-    fit_constructed =
-        fit_alt fit_unary
-        (fit_alt (fit_part fit_atype (fit_skip refl (fit_part fit_at (fit_give (λ p m h w n v. empty_weighs q _ p w (0 + m + n) (omega (arith, h, v)))))))
-        (fit_alt (fit_side _)
-        (fit_side _)))
+    fit_side_types : Fit g.side_types (Weighs (λ s. here q s.1 + here q s.2.pos + here q s.3.pos))
+    unfolding g.side_types
+    fit_side_types = fit_part fit_atype (fit_skip refl (fit_part fit_atype (fit_skip refl (fit_part fit_side_word (fit_give (λ p m h s n v t l w. omega (arith, h, v, w)))))))
+
+    fit_side_expr : FitsExpr g.side_expr
+    unfolding g.side_expr
+    fit_side_expr = fit_part fit_arg (fit_part fit_side_types (fit_give (λ s m h x n v. side_weighs q s.0 s.1 s.2 s.3 x (0 + m + n) (omega (arith, h, v)))))
+
+    fit_nothing_form : FitsExpr g.nothing_form
+    unfolding g.nothing_form
+    fit_nothing_form = fit_part fit_atype (fit_skip refl (fit_part fit_at (fit_give (λ p m h w n v. empty_weighs q _ p w (0 + m + n) (omega (arith, h, v))))))
+
+    fit_div_form : FitsExpr g.div_form
+    unfolding g.div_form
+    fit_div_form = fit_part fit_two_args (fit_part fit_at (fit_give (λ p m h x n v. binary_weighs q e.Div b.Div ex-Div p x.0 x.1 (0 + m + n) (omega (arith, h, v)))))
+
+    fit_mod_form : FitsExpr g.mod_form
+    unfolding g.mod_form
+    fit_mod_form = fit_part fit_two_args (fit_part fit_at (fit_give (λ p m h x n v. binary_weighs q e.Mod b.Mod ex-Mod p x.0 x.1 (0 + m + n) (omega (arith, h, v)))))
 
     fit_list_form : FitsExpr g.list_form
     unfolding g.list_form
@@ -237,20 +243,9 @@ module _ (q : Pos) (inner : (B : Type 0) → Part B → Spelling B) where
         fit_go_on {U = Weighs (written_weight q)} fit_list_or_empty (fit_part fit_atype (fit_skip refl (fit_give (λ t n v. omega (arith, v)))))
         (λ p w m n h v. empty_weighs q _ p w (m + n) (omega (arith, h, v)))
 
-    fit_computed : FitsExpr g.computed
-    unfolding g.computed
-    fit_computed =
-        fit_alt fit_unary
-        (fit_alt fit_unary
-        (fit_alt fit_unary
-        (fit_alt fit_unary
-        (fit_alt fit_unary
-        (fit_alt (fit_with_args (binary_weighs q e.Div b.Div ex-Div))
-        (fit_with_args (binary_weighs q e.Mod b.Mod ex-Mod)))))))
-
     fit_app : FitsExpr g.app
     unfolding g.app
-    fit_app = fit_alt fit_call (fit_alt fit_constructed (fit_alt fit_list_form (fit_alt fit_computed fit_plain_atom)))
+    fit_app = fit_alt fit_call (fit_alt fit_unary_expr (fit_alt fit_side_expr (fit_alt fit_list_form (fit_alt fit_nothing_form (fit_alt fit_div_form (fit_alt fit_mod_form fit_plain_atom))))))
 
     -- ---- chains
     fit_link : {w : Kind} {p : Rule Expr} → FitsExpr p → Fit (link w p) (Weighs (λ l. here q l.pos + expr_weight q l.operand))
@@ -273,7 +268,7 @@ module _ (q : Pos) (inner : (B : Type 0) → Part B → Spelling B) where
 
     fit_sum_operator : Fit g.sum_operator (Weighs (λ o. here q o.1))
     unfolding g.sum_operator
-    fit_sum_operator = fit_alt (fit_map fit_at (λ p n h. h)) (fit_map fit_at (λ p n h. h))
+    fit_sum_operator = search (fit_alt, fit_word)
 
     fit_sum_link : Fit g.sum_link (Weighs (λ l. here q l.pos + expr_weight q l.operand))
     unfolding g.sum_link
@@ -287,7 +282,7 @@ module _ (q : Pos) (inner : (B : Type 0) → Part B → Spelling B) where
 
     fit_cons_operator : Fit g.cons_operator (Weighs (λ o. here q o.1))
     unfolding g.cons_operator
-    fit_cons_operator = fit_alt (fit_map fit_at (λ p n h. h)) (fit_map fit_at (λ p n h. h))
+    fit_cons_operator = search (fit_alt, fit_word)
 
     fit_cons_link : Fit g.cons_link (Weighs (λ l. here q l.pos + expr_weight q l.operand))
     unfolding g.cons_link
@@ -301,13 +296,7 @@ module _ (q : Pos) (inner : (B : Type 0) → Part B → Spelling B) where
 
     fit_compare_operator : Fit g.compare_operator (Weighs (λ o. here q o.1))
     unfolding g.compare_operator
-    fit_compare_operator =
-        fit_alt (fit_map fit_at (λ p n h. h))
-        (fit_alt (fit_map fit_at (λ p n h. h))
-        (fit_alt (fit_map fit_at (λ p n h. h))
-        (fit_alt (fit_map fit_at (λ p n h. h))
-        (fit_alt (fit_map fit_at (λ p n h. h))
-        (fit_map fit_at (λ p n h. h))))))
+    fit_compare_operator = search (fit_alt, fit_word) depth 12
 
     fit_compare_end : Fit g.compare_end (Weighs (compared_weight q))
     unfolding g.compare_end

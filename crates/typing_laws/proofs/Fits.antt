@@ -3,7 +3,7 @@
 use Rattle.std.proofs.Common.{◌≡◌, ℕ, ◌+◌, ◌≤◌, Bool, true, false, cond, refl, List, [], ◌∷◌, None, ap, ◌∙◌, subst, arith, ◌⊎◌, inl, inr, ⊎_elim}
 use Rattle.hs_base.specs.declared.pos.Pos.{Pos}
 use Rattle.rules_tokens.specs.declared.token.Token.{Token}
-use Rattle.rules_grammar.specs.GrammarForms.{Rule, give, one, seq, alt, go_on, many, ended, within, ◌⊛◌, ◌◁◌, map, Item, Spelling, Empty, Single, Made, Then, Either, Each, OnLeft, Passed, Last, Spelled}
+use Rattle.rules_grammar.specs.GrammarForms.{Rule, give, one, seq, alt, go_on, many, ended, within, ◌⊛◌, ◌◁◌, at, map, Item, Spelling, Empty, Single, Made, Then, Either, Each, OnLeft, Passed, Last, Spelled}
 use Rattle.rules_grammar.specs.GrammarParts.{Kind, kind_of, Part}
 use Rattle.typing_laws.specs.Positions.{has_node}
 use Rattle.typing_laws.proofs.Counts.{here}
@@ -111,6 +111,10 @@ module _ {q : Pos} {inner : (B : Type 0) → Part B → Spelling B} where
         let x = hp.holds j h.0 from h.1 h.2 in
         (x.0, subst (λ z. W z x.0) h.3.1 (g h.0 x.0 x.1), omega (arith, x.2, ap (seen q) h.3.2.1), omega (arith, x.3, ap (made q) h.3.2.1));
   }
+
+  -- a word that counts
+  pub fit_word : {A : Type 0} {k : Kind} {x : A} → Fits q inner {A = A × Pos} (map (λ p. (x, p)) (at k)) (Weighs (λ w. here q w.1))
+  fit_word = fit_map {V = Weighs (here q)} (fit_one (λ t. refl)) (λ p n h. h)
 
   pub fit_go_on : {A B C : Type 0} {V : Weighing B} {U : Weighing C} {W : Weighing A} {f : B → C → A} {p : Rule (B ⊎ A)} {r : Rule C}
       → Fits q inner p (Sum V W) → Fits q inner r U → ((b : B) (c : C) (m n : ℕ) → V b m → U c n → W (f b c) (m + n)) → Fits q inner (go_on f p r) W
