@@ -18,7 +18,7 @@ use Rattle.rules_code.specs.Slots.{tree_at}
 use Rattle.rules_expansion.specs.Core.{OfScript}
 use Rattle.rules_code.specs.CodeTrees.{code_trees, main_tree, StandsFor}
 use Rattle.rules_trees.proofs.Equations.{ty-Unit, ex-Unit}
-use Rattle.rules_trees.proofs.EquationsOfActions.{bl_is, act-Return}
+use Rattle.rules_trees.proofs.EquationsOfActions.{bl_is, act-Unary}
 use Rattle.hs_judging.proofs.Scripts.{script_breaks}
 use Rattle.hs_soundness.proofs.Growing.{fits_none}
 use Rattle.hs_eval.specs.Readings.{Reading}
@@ -27,15 +27,15 @@ use Rattle.eval_tests.specs.SmallestCode.{smallest_script, smallest_nodes, small
 abbrev returns_unit : Pos → Bl
 returns_unit p = last (unary_act u.Return p (lit p nothing_more))
 
-block_is : (p : Pos) → bl_of (record { stmts = []; last = a.Return p (e.Unit p) }) ≡ returns_unit p
-block_is p = bl_is _ ∙ ap last (act-Return p (e.Unit p) ∙ ap (unary_act u.Return p) (ex-Unit p))
+block_is : (p : Pos) → bl_of (record { stmts = []; last = a.Unary u.Return p (e.Unit p) }) ≡ returns_unit p
+block_is p = bl_is _ ∙ ap last (act-Unary u.Return p (e.Unit p) ∙ ap (unary_act u.Return p) (ex-Unit p))
 
 -- the head is main's, whatever the type and the block are
 abbrev with_parts : Pos → T → Bl → List Fn
 with_parts p t c = record { name = record { text = codes "main"; pos = p }; params = []; body = io_body (record { ty = t; pos = p }) c } ∷ []
 
 script_is : (p : Pos) → script_of (smallest_script p) ≡ with_parts p unit (returns_unit p)
-script_is p = ap (λ z. with_parts p z (bl_of (record { stmts = []; last = a.Return p (e.Unit p) }))) ty-Unit ∙ ap (with_parts p unit) (block_is p)
+script_is p = ap (λ z. with_parts p z (bl_of (record { stmts = []; last = a.Unary u.Return p (e.Unit p) }))) ty-Unit ∙ ap (with_parts p unit) (block_is p)
 
 pub smallest_accepted : (p : Pos) → Accepted (smallest_script p)
 smallest_accepted p = (

@@ -4,6 +4,7 @@ use Rattle.std.specs.Prelude.{List, [], ◌∷◌, codes}
 use Rattle.hs_base.specs.declared.pos.Pos.{Pos}
 use Rattle.hs_base.specs.declared.tree.action.Action.TheVariants as a
 use Rattle.hs_base.specs.declared.tree.expr.Expr.TheVariants as e
+use Rattle.hs_base.specs.declared.tree.forms.UnaryAction.TheVariants as u
 use Rattle.hs_base.specs.declared.tree.ty.Ty.TheVariants as t
 use Rattle.hs_base.specs.declared.tree.script.Body.TheVariants as y
 use Rattle.hs_base.specs.declared.tree.script.Script.{Script}
@@ -18,7 +19,7 @@ smallest_script p = record {
   defs = record {
     name = record { text = codes "main"; pos = p };
     params = [];
-    body = y.Action (record { ty = t.Unit; pos = p }) (record { stmts = []; last = a.Return p (e.Unit p) });
+    body = y.Action (record { ty = t.Unit; pos = p }) (record { stmts = []; last = a.Unary u.Return p (e.Unit p) });
   } ∷ [];
 }
 

@@ -5,6 +5,7 @@ ghost use Rattle.hs_base.specs.declared.tree.expr.Expr.TheVariants as e;
 ghost use Rattle.rules_code.specs.Codes.{body_of};
 ghost use Rattle.eval_tests.specs.SmallestCode.{smallest_script, smallest_nodes};
 
+use hs_base::tree::forms::UnaryAction;
 use hs_base::tree::{Action, Block, Body as DefBody, Def, Expr, Name, Script, Ty, Written};
 use hs_base::{NoMemory, Pos, Txt, Value};
 use hs_eval::{Outcome, eval};
@@ -25,9 +26,9 @@ fn only<T: Drop>(alloc: Global, item: T) -> Result<Items<T>, NoMemory>
 
 /// `{ return () }`
 fn main_block(alloc: Global, pos: Pos) -> Result<Block, NoMemory>
-    ensures { IfOk result (λ b. b ≡ record { stmts = []; last = a.Return pos (e.Unit pos) }) }
+    ensures { IfOk result (λ b. b ≡ record { stmts = []; last = a.Unary UnaryAction.Return pos (e.Unit pos) }) }
 {
-    let last = Boxed::new(alloc, Action::Return(pos, Expr::Unit(pos)))?;
+    let last = Boxed::new(alloc, Action::Unary(UnaryAction::Return, pos, Expr::Unit(pos)))?;
     Ok(Block {
         stmts: Items::new(alloc),
         last,

@@ -16,55 +16,50 @@ use Rattle.hs_base.specs.declared.tree.script.Script.{Script}
 use Rattle.hs_base.specs.declared.tree.forms.UnaryAction.{UnaryAction}
 use Rattle.hs_base.specs.declared.tree.forms.UnaryAction.TheVariants as u
 use Rattle.hs_base.specs.declared.tree.forms.BinaryAction.{BinaryAction}
-use Rattle.hs_base.specs.declared.tree.forms.BinaryAction.TheVariants as b
 use Rattle.hs_base.specs.declared.tree.forms.BareAction.{BareAction}
-use Rattle.hs_base.specs.declared.tree.forms.BareAction.TheVariants as z
 use Rattle.hs_base.specs.declared.tree.forms.BlockAction.{BlockAction}
-use Rattle.hs_base.specs.declared.tree.forms.BlockAction.TheVariants as scope
 use Rattle.hs_base.specs.declared.tree.forms.MaskingAction.{MaskingAction}
-use Rattle.hs_base.specs.declared.tree.forms.MaskingAction.TheVariants as mask
 use Rattle.hs_base.specs.declared.tree.forms.GuardAction.{GuardAction}
-use Rattle.hs_base.specs.declared.tree.forms.GuardAction.TheVariants as guarded
 use Rattle.rules_trees.specs.Trees.{wr_of, ex_of, exs_of, maybe_arms, either_arms, list_arms, pair_arms}
 use Rattle.rules_trees.specs.Programs.{Fn, before, stmt_of, bare, unary_act, binary_act, throw_io, new_empty, call, choose_act, case_act, modify, scoped, masking, restore, catch, guard, bracket, timeout, last, then, bind, let_in, maybe_acts, either_acts, list_acts, pair_acts, act_of, bl_of, act_arms_of, fn_of}
 use Rattle.rules_trees.proofs.Equations.{arms-OfMaybe, arms-OfEither, arms-OfList, arms-OfPair}
 use Rattle.rules_trees.proofs.EquationsOfActions as eq
 use Rattle.rules_grammar.specs.Grammar as g
 use Rattle.rules_grammar.specs.Grammar.{many, alts, arms, rule_of, SpelledIn, SpelledBy}
-use Rattle.rules_grammar.specs.GrammarForms.{Rule, give, ◌⊛◌, at, Item, Spelling}
+use Rattle.rules_grammar.specs.GrammarForms.{Rule, Item, Spelling}
 use Rattle.rules_grammar.specs.GrammarKinds as k
 use Rattle.rules_grammar.specs.GrammarParts.{Kind, Part, type_in_parens, type_in_brackets, param_in_parens, block_in_braces, block_if, block_case, block_arms, let_stmt, no_items, two_names, expr_if, expr_case, expr_arms, expr_let, expr_in_parens, items_in_brackets, items_or_none}
 use Rattle.typing_laws.specs.Positions.{has_node, ex_positions, act_positions, bl_positions, act_arm_positions, par_positions, body_positions, fn_positions, positions_of}
 use Rattle.typing_laws.proofs.Counts.{here, times, times-append}
 use Rattle.typing_laws.proofs.Fits.{Weighing, Weighs, Free, seen, made, Heavy, Fits, fit_give, fit_part, fit_skip, fit_alt, fit_map, fit_many, fit_within, fit_inside, fit_ended}
 use Rattle.typing_laws.proofs.Weights.{expr_weight, exprs_weight, arms_weight, action_weight, block_weight, block_arms_weight, Stated, AllStated, BlockItem, param_weight, params_weight, body_weight, def_weight, defs_weight, weigh_arms, weigh_act, weigh_act_arms, weigh_stmt, part_weighing}
-use Rattle.typing_laws.proofs.FitExprs.{unit_weighs, fit_at, fit_end, fit_name, fit_exprs, fit_atype, fit_type, part_type, fit_type_end, fit_arg, fit_with_arg, fit_with_args, fit_expr, fit_expr_end, fit_items}
+use Rattle.typing_laws.proofs.FitExprs.{unit_weighs, fit_at, fit_one_of, fit_end, fit_name, fit_exprs, fit_atype, fit_type, part_type, fit_type_end, fit_arg, fit_two_args, fit_expr, fit_expr_end, fit_items}
 
 -- ---- what the constructors weigh
 module _ (q : Pos) where
-  unary_weighs : (f : Pos → Expr → Action) (o : UnaryAction) → ((p : Pos) (x : Expr) → act_of (f p x) ≡ unary_act o p (ex_of x)) → (p : Pos) (x : Expr) (n : ℕ) → here q p + expr_weight q x ≡ n → action_weight q (f p x) ≡ n
-  unary_weighs f o i p x n h = weigh_act q (f p x) (unary_act o p (ex_of x)) n (i p x) (omega (arith, h))
+  unary_weighs : (o : UnaryAction) (p : Pos) (x : Expr) (n : ℕ) → here q p + expr_weight q x ≡ n → action_weight q (a.Unary o p x) ≡ n
+  unary_weighs o p x n h = weigh_act q (a.Unary o p x) (unary_act o p (ex_of x)) n (eq.act-Unary o p x) (omega (arith, h))
 
-  binary_weighs : (f : Pos → Expr → Expr → Action) (o : BinaryAction) → ((p : Pos) (x y : Expr) → act_of (f p x y) ≡ binary_act o p (ex_of x) (ex_of y))
-      → (p : Pos) (x y : Expr) (n : ℕ) → here q p + expr_weight q x + expr_weight q y ≡ n → action_weight q (f p x y) ≡ n
-  binary_weighs f o i p x y n h = weigh_act q (f p x y) (binary_act o p (ex_of x) (ex_of y)) n (i p x y) (omega (arith, h, times-append q (ex_positions (ex_of x)) (ex_positions (ex_of y))))
+  binary_weighs : (o : BinaryAction) (p : Pos) (x y : Expr) (n : ℕ) → here q p + expr_weight q x + expr_weight q y ≡ n → action_weight q (a.Binary o p x y) ≡ n
+  binary_weighs o p x y n h = weigh_act q (a.Binary o p x y) (binary_act o p (ex_of x) (ex_of y)) n (eq.act-Binary o p x y) (omega (arith, h, times-append q (ex_positions (ex_of x)) (ex_positions (ex_of y))))
 
-  bare_weighs : (f : Pos → Action) (o : BareAction) → ((p : Pos) → act_of (f p) ≡ bare o p) → (p : Pos) (n : ℕ) → here q p ≡ n → action_weight q (f p) ≡ n
-  bare_weighs f o i p n h = weigh_act q (f p) (bare o p) n (i p) (omega (arith, h))
+  bare_weighs : (o : BareAction) (p : Pos) (n : ℕ) → here q p ≡ n → action_weight q (a.Bare o p) ≡ n
+  bare_weighs o p n h = weigh_act q (a.Bare o p) (bare o p) n (eq.act-Bare o p) (omega (arith, h))
 
   call_weighs : (x : Name) (es : List Expr) (n : ℕ) → here q x.pos + exprs_weight q es ≡ n → action_weight q (a.Call x es) ≡ n
   call_weighs x es n h = weigh_act q (a.Call x es) (call x (exs_of es)) n (eq.act-Call x es) (omega (arith, h))
 
-  scoped_weighs : (f : Pos → Block → Action) (o : BlockAction) → ((p : Pos) (c : Block) → act_of (f p c) ≡ scoped o p (bl_of c)) → (p : Pos) (c : Block) (n : ℕ) → here q p + block_weight q c ≡ n → action_weight q (f p c) ≡ n
-  scoped_weighs f o i p c n h = weigh_act q (f p c) (scoped o p (bl_of c)) n (i p c) (omega (arith, h))
+  scoped_weighs : (o : BlockAction) (p : Pos) (c : Block) (n : ℕ) → here q p + block_weight q c ≡ n → action_weight q (a.Scoped o p c) ≡ n
+  scoped_weighs o p c n h = weigh_act q (a.Scoped o p c) (scoped o p (bl_of c)) n (eq.act-Scoped o p c) (omega (arith, h))
 
-  masking_weighs : (f : Pos → Name → Block → Action) (o : MaskingAction) → ((p : Pos) (x : Name) (c : Block) → act_of (f p x c) ≡ masking o p x (bl_of c))
-      → (p : Pos) (x : Name) (c : Block) (n : ℕ) → here q p + here q x.pos + block_weight q c ≡ n → action_weight q (f p x c) ≡ n
-  masking_weighs f o i p x c n h = weigh_act q (f p x c) (masking o p x (bl_of c)) n (i p x c) (omega (arith, h))
+  masking_weighs : (o : MaskingAction) (p : Pos) (x : Name) (c : Block) (n : ℕ) → here q p + here q x.pos + block_weight q c ≡ n → action_weight q (a.Masking o p x c) ≡ n
+  masking_weighs o p x c n h = weigh_act q (a.Masking o p x c) (masking o p x (bl_of c)) n (eq.act-Masking o p x c) (omega (arith, h))
 
-  guard_weighs : (f : Pos → Block → Block → Action) (o : GuardAction) → ((p : Pos) (c d : Block) → act_of (f p c d) ≡ guard o p (bl_of c) (bl_of d))
-      → (p : Pos) (c d : Block) (n : ℕ) → here q p + block_weight q c + block_weight q d ≡ n → action_weight q (f p c d) ≡ n
-  guard_weighs f o i p c d n h = weigh_act q (f p c d) (guard o p (bl_of c) (bl_of d)) n (i p c d) (omega (arith, h, times-append q (bl_positions (bl_of c)) (bl_positions (bl_of d))))
+  guard_weighs : (o : GuardAction) (p : Pos) (c d : Block) (n : ℕ) → here q p + block_weight q c + block_weight q d ≡ n → action_weight q (a.Guard o p c d) ≡ n
+  guard_weighs o p c d n h = weigh_act q (a.Guard o p c d) (guard o p (bl_of c) (bl_of d)) n (eq.act-Guard o p c d) (omega (arith, h, times-append q (bl_positions (bl_of c)) (bl_positions (bl_of d))))
+
+  restore_weighs : (p : Pos) (x : Name) (c : Block) (n : ℕ) → here q p + here q x.pos + block_weight q c ≡ n → action_weight q (a.Restore p x c) ≡ n
+  restore_weighs p x c n h = weigh_act q (a.Restore p x c) (restore p x (bl_of c)) n (eq.act-Restore p x c) (omega (arith, h))
 
   if_weighs : (p : Pos) (x : Expr) (c d : Block) (n : ℕ) → expr_weight q x + block_weight q c + block_weight q d ≡ n → action_weight q (a.If p x c d) ≡ here q p + n
   if_weighs p x c d n h =
@@ -196,94 +191,136 @@ module _ (q : Pos) (inner : (B : Type 0) → Part B → Spelling B) (parts : (B 
   unfolding g.block
   fit_block = fit_inside refl (parts _ block_in_braces) (λ p c n h. h)
 
-  fit_value_action : FitsAction g.value_action
-  unfolding g.value_action
-  fit_value_action =
-      fit_alt (fit_with_arg q inner parts (unary_weighs q a.Return u.Return eq.act-Return))
-      (fit_alt (fit_part (fit_arg q inner parts) (fit_part (fit_atype q inner parts) (fit_skip refl (fit_part (fit_at q inner) (fit_give (λ p m h w n i y l j. weigh_act q (a.ThrowIo p w y) (throw_io p (wr_of w) (ex_of y)) (0 + m + n + l) (eq.act-ThrowIo p w y) (omega (arith, h, i, j))))))))
-      (fit_alt (fit_with_arg q inner parts (unary_weighs q a.PutStr u.PutStr eq.act-PutStr))
-      (fit_alt (fit_with_arg q inner parts (unary_weighs q a.PutStrLn u.PutStrLn eq.act-PutStrLn))
-      (fit_part (fit_arg q inner parts) (fit_skip refl (fit_part (fit_at q inner) (fit_give (λ p m h y n i. unary_weighs q a.HPutStrLn u.HPutStrLn eq.act-HPutStrLn p y (0 + m + n) (omega (arith, h, i))))))))))
+  fit_named_block : Fit g.named_block (Weighs (λ b. here q b.0.pos + block_weight q b.1))
+  unfolding g.named_block
+  fit_named_block = fit_part fit_block (fit_part (fit_name q inner) (fit_give (λ x m h c n i. omega (arith, h, i))))
+
+  fit_two_blocks : Fit g.two_blocks (Weighs (λ b. block_weight q b.0 + block_weight q b.1))
+  unfolding g.two_blocks
+  fit_two_blocks = fit_part fit_block (fit_part fit_block (fit_give (λ c m h d n i. omega (arith, h, i))))
+
+  fit_guarded_block : Fit g.guarded_block (Weighs (λ b. block_weight q b.0 + here q b.1.pos + block_weight q b.2))
+  unfolding g.guarded_block
+  fit_guarded_block = fit_part fit_named_block (fit_part fit_block (fit_give (λ c m h b n i. omega (arith, h, i))))
+
+  -- the words of each shape, and its forms
+  fit_bare_action_word : Fit g.bare_action_word (Weighs (λ w. here q w.1))
+  unfolding g.bare_action_word
+  fit_bare_action_word = search fit_one_of
+
+  fit_bare_action : FitsAction g.bare_action
+  unfolding g.bare_action
+  fit_bare_action = fit_map fit_bare_action_word (λ w n h. bare_weighs q w.0 w.1 n h)
+
+  fit_unary_action_word : Fit g.unary_action_word (Weighs (λ w. here q w.1))
+  unfolding g.unary_action_word
+  fit_unary_action_word = search fit_one_of
+
+  fit_unary_action : FitsAction g.unary_action
+  unfolding g.unary_action
+  fit_unary_action = fit_part (fit_arg q inner parts) (fit_part fit_unary_action_word (fit_give (λ w m h x n i. unary_weighs q w.0 w.1 x (0 + m + n) (omega (arith, h, i)))))
+
+  fit_binary_action_word : Fit g.binary_action_word (Weighs (λ w. here q w.1))
+  unfolding g.binary_action_word
+  fit_binary_action_word = search fit_one_of
+
+  fit_binary_action : FitsAction g.binary_action
+  unfolding g.binary_action
+  fit_binary_action = fit_part (fit_two_args q inner parts) (fit_part fit_binary_action_word (fit_give (λ w m h x n i. binary_weighs q w.0 w.1 x.0 x.1 (0 + m + n) (omega (arith, h, i)))))
+
+  fit_error_line : FitsAction g.error_line
+  unfolding g.error_line
+  fit_error_line = fit_part (fit_arg q inner parts) (fit_skip refl (fit_part (fit_at q inner) (fit_give (λ p m h x n i. unary_weighs q u.HPutStrLn p x (0 + m + n) (omega (arith, h, i))))))
+
+  fit_throw_form : FitsAction g.throw_form
+  unfolding g.throw_form
+  fit_throw_form =
+      fit_part (fit_arg q inner parts)
+      (fit_part (fit_atype q inner parts) (fit_skip refl (fit_part (fit_at q inner) (fit_give (λ p m h w n i y l j. weigh_act q (a.ThrowIo p w y) (throw_io p (wr_of w) (ex_of y)) (0 + m + n + l) (eq.act-ThrowIo p w y) (omega (arith, h, i, j)))))))
+
+  fit_new_empty_form : FitsAction g.new_empty_form
+  unfolding g.new_empty_form
+  fit_new_empty_form = fit_part (fit_atype q inner parts) (fit_skip refl (fit_part (fit_at q inner) (fit_give (λ p m h w n i. weigh_act q (a.NewEmptyMVar p w) (new_empty p (wr_of w)) (0 + m + n) (eq.act-NewEmptyMVar p w) (omega (arith, h, i))))))
+
+  fit_scoped_action_word : Fit g.scoped_action_word (Weighs (λ w. here q w.1))
+  unfolding g.scoped_action_word
+  fit_scoped_action_word = search fit_one_of
+
+  fit_scoped_action : FitsAction g.scoped_action
+  unfolding g.scoped_action
+  fit_scoped_action = fit_part fit_block (fit_part fit_scoped_action_word (fit_give (λ w m h c n i. scoped_weighs q w.0 w.1 c (0 + m + n) (omega (arith, h, i)))))
+
+  fit_masking_action_word : Fit g.masking_action_word (Weighs (λ w. here q w.1))
+  unfolding g.masking_action_word
+  fit_masking_action_word = search fit_one_of
+
+  fit_masking_action : FitsAction g.masking_action
+  unfolding g.masking_action
+  fit_masking_action = fit_part fit_named_block (fit_part fit_masking_action_word (fit_give (λ w m h b n i. masking_weighs q w.0 w.1 b.0 b.1 (0 + m + n) (omega (arith, h, i)))))
+
+  fit_guard_action_word : Fit g.guard_action_word (Weighs (λ w. here q w.1))
+  unfolding g.guard_action_word
+  fit_guard_action_word = search fit_one_of
+
+  fit_guard_action : FitsAction g.guard_action
+  unfolding g.guard_action
+  fit_guard_action = fit_part fit_two_blocks (fit_part fit_guard_action_word (fit_give (λ w m h b n i. guard_weighs q w.0 w.1 b.0 b.1 (0 + m + n) (omega (arith, h, i)))))
 
   fit_modify_form : FitsAction g.modify_form
   unfolding g.modify_form
   fit_modify_form =
-      fit_part fit_block
-      (fit_part (fit_name q inner) (fit_part (fit_arg q inner parts) (fit_part (fit_at q inner) (fit_give (λ p m h x n i y l j c o r. modify_weighs q p x y c (0 + m + n + l + o) (omega (arith, h, i, j, r)))))))
+      fit_part fit_named_block
+      (fit_part (fit_arg q inner parts) (fit_part (fit_at q inner) (fit_give (λ p m h x n i b l j. modify_weighs q p x b.0 b.1 (0 + m + n + l) (omega (arith, h, i, j))))))
 
-  fit_cell_action : FitsAction g.cell_action
-  unfolding g.cell_action
-  fit_cell_action =
-      fit_alt (fit_with_arg q inner parts (unary_weighs q a.NewMVar u.NewMVar eq.act-NewMVar))
-      (fit_alt (fit_part (fit_atype q inner parts) (fit_skip refl (fit_part (fit_at q inner) (fit_give (λ p m h w n i. weigh_act q (a.NewEmptyMVar p w) (new_empty p (wr_of w)) (0 + m + n) (eq.act-NewEmptyMVar p w) (omega (arith, h, i)))))))
-      (fit_alt (fit_with_arg q inner parts (unary_weighs q a.TakeMVar u.TakeMVar eq.act-TakeMVar))
-      (fit_alt (fit_with_args q inner parts (binary_weighs q a.PutMVar b.PutMVar eq.act-PutMVar))
-      (fit_alt (fit_with_arg q inner parts (unary_weighs q a.ReadMVar u.ReadMVar eq.act-ReadMVar))
-      (fit_alt (fit_with_arg q inner parts (unary_weighs q a.TryTakeMVar u.TryTakeMVar eq.act-TryTakeMVar))
-      (fit_alt (fit_with_args q inner parts (binary_weighs q a.TryPutMVar b.TryPutMVar eq.act-TryPutMVar))
-      fit_modify_form))))))
+  fit_restore_form : FitsAction g.restore_form
+  unfolding g.restore_form
+  fit_restore_form = fit_part fit_named_block (fit_part (fit_at q inner) (fit_give (λ p m h b n i. restore_weighs q p b.0 b.1 (0 + m + n) (omega (arith, h, i)))))
 
-  fit_other_thread_action : FitsAction g.other_thread_action
-  unfolding g.other_thread_action
-  fit_other_thread_action =
-      fit_alt (fit_map (fit_at q inner) (bare_weighs q a.MyThreadId z.MyThreadId eq.act-MyThreadId))
-      (fit_alt (fit_with_args q inner parts (binary_weighs q a.ThrowTo b.ThrowTo eq.act-ThrowTo))
-      (fit_alt (fit_with_arg q inner parts (unary_weighs q a.KillThread u.KillThread eq.act-KillThread))
-      (fit_alt (fit_with_arg q inner parts (unary_weighs q a.ThreadDelay u.ThreadDelay eq.act-ThreadDelay))
-      (fit_alt (fit_map (fit_at q inner) (bare_weighs q a.ClockMicros z.ClockMicros eq.act-ClockMicros))
-      (fit_map (fit_at q inner) (bare_weighs q a.GetMaskingState z.GetMaskingState eq.act-GetMaskingState))))))
-
-  -- a word and a block, a word, a name and a block, and a word and two blocks
-  fit_scoped : (f : Pos → Block → Action) (o : BlockAction) (l : Kind) → ((p : Pos) (c : Block) → act_of (f p c) ≡ scoped o p (bl_of c)) → FitsAction (give f ⊛ at l ⊛ g.block)
-  fit_scoped f o l i = fit_part fit_block (fit_part (fit_at q inner) (fit_give (λ p m h c n j. scoped_weighs q f o i p c (0 + m + n) (omega (arith, h, j)))))
-
-  fit_masking : (f : Pos → Name → Block → Action) (o : MaskingAction) (l : Kind) → ((p : Pos) (x : Name) (c : Block) → act_of (f p x c) ≡ masking o p x (bl_of c)) → FitsAction (give f ⊛ at l ⊛ g.name ⊛ g.block)
-  fit_masking f o l i = fit_part fit_block (fit_part (fit_name q inner) (fit_part (fit_at q inner) (fit_give (λ p m h x n j c e r. masking_weighs q f o i p x c (0 + m + n + e) (omega (arith, h, j, r))))))
-
-  fit_guard : (f : Pos → Block → Block → Action) (o : GuardAction) (l : Kind) → ((p : Pos) (c d : Block) → act_of (f p c d) ≡ guard o p (bl_of c) (bl_of d)) → FitsAction (give f ⊛ at l ⊛ g.block ⊛ g.block)
-  fit_guard f o l i = fit_part fit_block (fit_part fit_block (fit_part (fit_at q inner) (fit_give (λ p m h c n j d e r. guard_weighs q f o i p c d (0 + m + n + e) (omega (arith, h, j, r))))))
-
-  fit_thread_action : FitsAction g.thread_action
-  unfolding g.thread_action
-  fit_thread_action = fit_alt (fit_scoped a.ForkIo scope.ForkIo k.forkIO eq.act-ForkIo) (fit_alt (fit_masking a.ForkIoWithUnmask mask.ForkIoWithUnmask k.forkIOWithUnmask eq.act-ForkIoWithUnmask) fit_other_thread_action)
-
-  fit_mask_action : FitsAction g.mask_action
-  unfolding g.mask_action
-  fit_mask_action =
-      fit_alt (fit_masking a.Mask mask.Mask k.mask eq.act-Mask)
-      (fit_alt (fit_scoped a.MaskOnly scope.MaskOnly k.mask_ eq.act-MaskOnly)
-      (fit_alt (fit_masking a.UninterruptibleMask mask.UninterruptibleMask k.uninterruptibleMask eq.act-UninterruptibleMask)
-      (fit_alt (fit_scoped a.UninterruptibleMaskOnly scope.UninterruptibleMaskOnly k.uninterruptibleMask_ eq.act-UninterruptibleMaskOnly)
-      (fit_part fit_block
-      (fit_part (fit_name q inner) (fit_part (fit_at q inner) (fit_give (λ p m h x n j c e r. weigh_act q (a.Restore p x c) (restore p x (bl_of c)) (0 + m + n + e) (eq.act-Restore p x c) (omega (arith, h, j, r))))))))))
+  fit_catch_form : FitsAction g.catch_form
+  unfolding g.catch_form
+  fit_catch_form = fit_part fit_guarded_block (fit_part (fit_at q inner) (fit_give (λ p m h b n i. catch_weighs q p b.0 b.1 b.2 (0 + m + n) (omega (arith, h, i)))))
 
   fit_bracket_form : FitsAction g.bracket_form
   unfolding g.bracket_form
   fit_bracket_form =
       fit_part fit_block
-      (fit_part fit_block
-      (fit_part (fit_name q inner)
-      (fit_part fit_block (fit_part (fit_at q inner) (fit_give (λ p m h c n i y l j d o r f e t. bracket_weighs q p c y d f (0 + m + n + l + o + e) (omega (arith, h, i, j, r, t))))))))
+      (fit_part fit_guarded_block (fit_part (fit_at q inner) (fit_give (λ p m h b n i c l j. bracket_weighs q p b.0 b.1 b.2 c (0 + m + n + l) (omega (arith, h, i, j))))))
 
-  fit_guard_action : FitsAction g.guard_action
-  unfolding g.guard_action
-  fit_guard_action =
-      fit_alt (fit_part fit_block (fit_part (fit_name q inner) (fit_part fit_block (fit_part (fit_at q inner) (fit_give (λ p m h c n i y l j d o r. catch_weighs q p c y d (0 + m + n + l + o) (omega (arith, h, i, j, r))))))))
-      (fit_alt (fit_guard a.OnException guarded.OnException k.onException eq.act-OnException)
-      (fit_alt (fit_guard a.Finally guarded.Finally k.finally' eq.act-Finally)
+  fit_timeout_form : FitsAction g.timeout_form
+  unfolding g.timeout_form
+  fit_timeout_form =
+      fit_part fit_block
+      (fit_part (fit_arg q inner parts) (fit_part (fit_at q inner) (fit_give (λ p m h x n i c l j. timeout_weighs q p x c (0 + m + n + l) (omega (arith, h, i, j))))))
+
+  fit_plain_action : FitsAction g.plain_action
+  unfolding g.plain_action
+  fit_plain_action =
+      fit_alt fit_bare_action
+      (fit_alt fit_unary_action
+      (fit_alt fit_binary_action
+      (fit_alt fit_error_line
+      (fit_alt fit_throw_form
+      fit_new_empty_form))))
+
+  fit_word_action : FitsAction g.word_action
+  unfolding g.word_action
+  fit_word_action =
+      fit_alt fit_scoped_action
+      (fit_alt fit_masking_action
+      (fit_alt fit_guard_action
+      (fit_alt fit_modify_form
+      (fit_alt fit_restore_form
+      (fit_alt fit_catch_form
       (fit_alt fit_bracket_form
-      (fit_part fit_block (fit_part (fit_arg q inner parts) (fit_part (fit_at q inner) (fit_give (λ p m h x n i c l j. timeout_weighs q p x c (0 + m + n + l) (omega (arith, h, i, j))))))))))
+      (fit_alt fit_timeout_form
+      fit_plain_action)))))))
 
   fit_other_action : FitsAction g.other_action
   unfolding g.other_action
   fit_other_action =
-      fit_alt fit_value_action
-      (fit_alt (fit_within (parts _ block_if) (λ p x n h. if_weighs q p x.0 x.1 x.2 n h))
+      fit_alt (fit_within (parts _ block_if) (λ p x n h. if_weighs q p x.0 x.1 x.2 n h))
       (fit_alt (fit_within (parts _ block_case) (λ p x n h. case_weighs q p x.0 x.1 n h))
-      (fit_alt fit_cell_action
-      (fit_alt fit_thread_action
-      (fit_alt fit_mask_action
-      fit_guard_action)))))
+      fit_word_action)
 
   fit_args : Fit (many g.arg) (Weighs (exprs_weight q))
   fit_args = fit_exprs q inner (fit_arg q inner parts)

@@ -2,7 +2,6 @@
 use Rattle.std.proofs.Common.{◌≡◌, ℕ, ◌+◌, ◌≤◌, false, List, [], ◌∷◌, ◌++◌, Option, Some, None, refl, arith, ◌⊎◌, inl, inr}
 use Rattle.hs_base.specs.declared.pos.Pos.{Pos}
 use Rattle.hs_base.specs.declared.tree.expr.CompareOp.{CompareOp}
-use Rattle.hs_base.specs.declared.tree.expr.Constant.{Constant}
 use Rattle.hs_base.specs.declared.tree.expr.Expr.{Expr}
 use Rattle.hs_base.specs.declared.tree.expr.Expr.TheVariants as e
 use Rattle.hs_base.specs.declared.tree.expr.ExprArms.{ExprArms}
@@ -17,14 +16,12 @@ use Rattle.hs_base.specs.declared.tree.forms.UnaryForm.TheVariants as u
 use Rattle.hs_base.specs.declared.tree.forms.BinaryForm.{BinaryForm}
 use Rattle.hs_base.specs.declared.tree.forms.BinaryForm.TheVariants as b
 use Rattle.hs_base.specs.declared.tree.forms.SideForm.{SideForm}
-use Rattle.hs_base.specs.declared.tree.forms.SideForm.TheVariants as d
 use Rattle.hs_base.specs.declared.tree.forms.EmptyForm.TheVariants as blank
 use Rattle.rules_trees.specs.Trees.{lit, Lit, number, letters, nothing_more, constant_of, name, unary, binary, chain, conses, choose, items, empty, side, given, case, compare_form, wr_of, ex_of, arms_of, exs_of, links_of, list_links_of, sum_links_of}
-use Rattle.rules_trees.proofs.Equations.{ex-If, ex-Case, ex-Let, ex-Or, ex-And, ex-Product, ex-Sum, ex-Cons, ex-Compare, ex-Call, ex-Negate, ex-Just, ex-ErrorCall, ex-Not, ex-Fst, ex-Snd, ex-Show, ex-Nothing, ex-EmptyList, ex-Left, ex-Right, ex-Div, ex-Mod, ex-Pair, ex-Int, ex-Text, ex-Constant, ex-Unit, ex-List}
+use Rattle.rules_trees.proofs.Equations.{ex-If, ex-Case, ex-Let, ex-Or, ex-And, ex-Product, ex-Sum, ex-Cons, ex-Compare, ex-Call, ex-Unary, ex-Empty, ex-Side, ex-Div, ex-Mod, ex-Pair, ex-Int, ex-Text, ex-Constant, ex-Unit, ex-List}
 use Rattle.rules_grammar.specs.Grammar as g
-use Rattle.rules_grammar.specs.Grammar.{number_of, text_of, type_word, constant_word, with_arg, with_args, side_form, side_types, many, or_tree, and_tree, cons_tree, sum_tree, product_tree, compare_tree, link}
-use Rattle.rules_grammar.specs.GrammarForms.{Rule, at, Spelling}
-use Rattle.rules_grammar.specs.GrammarKinds as k
+use Rattle.rules_grammar.specs.Grammar.{number_of, text_of, type_word, many, or_tree, and_tree, cons_tree, sum_tree, product_tree, compare_tree, link}
+use Rattle.rules_grammar.specs.GrammarForms.{Rule, at, one_of, Spelling}
 use Rattle.rules_grammar.specs.GrammarParts.{Kind, Part, type_in_parens, type_in_brackets, expr_if, expr_case, expr_let, expr_in_parens, items_in_brackets, items_or_none}
 use Rattle.typing_laws.specs.Positions.{has_node, ex_positions, exs_positions, link_positions, arm_positions}
 use Rattle.typing_laws.proofs.Counts.{here, times-append}
@@ -33,8 +30,8 @@ use Rattle.typing_laws.proofs.Weights.{name_weight, written_weight, expr_weight,
 
 -- ---- what the constructors weigh
 module _ (q : Pos) where
-  unary_weighs : (f : Pos → Expr → Expr) (o : UnaryForm) → ((p : Pos) (x : Expr) → ex_of (f p x) ≡ unary o p (ex_of x)) → (p : Pos) (x : Expr) (n : ℕ) → here q p + expr_weight q x ≡ n → expr_weight q (f p x) ≡ n
-  unary_weighs f o i p x n h = weigh_ex q (f p x) (unary o p (ex_of x)) n (i p x) (omega (arith, h))
+  unary_weighs : (o : UnaryForm) (p : Pos) (x : Expr) (n : ℕ) → here q p + expr_weight q x ≡ n → expr_weight q (e.Unary o p x) ≡ n
+  unary_weighs o p x n h = weigh_ex q (e.Unary o p x) (unary o p (ex_of x)) n (ex-Unary o p x) (omega (arith, h))
 
   binary_weighs : (f : Pos → Expr → Expr → Expr) (o : BinaryForm) → ((p : Pos) (x y : Expr) → ex_of (f p x y) ≡ binary o p (ex_of x) (ex_of y))
       → (p : Pos) (x y : Expr) (n : ℕ) → here q p + expr_weight q x + expr_weight q y ≡ n → expr_weight q (f p x y) ≡ n
@@ -52,9 +49,8 @@ module _ (q : Pos) where
   list_weighs : (p : Pos) (es : List Expr) (n : ℕ) → here q p + exprs_weight q es ≡ n → expr_weight q (e.List p es) ≡ n
   list_weighs p es n h = weigh_ex q (e.List p es) (items p (exs_of es)) n (ex-List p es) (omega (arith, h))
 
-  side_weighs : (f : Pos → Written → Written → Expr → Expr) (o : SideForm) → ((p : Pos) (w v : Written) (x : Expr) → ex_of (f p w v x) ≡ side o p (wr_of w) (wr_of v) (ex_of x))
-      → (p : Pos) (w v : Written) (x : Expr) (n : ℕ) → (here q p + here q w.pos + here q v.pos) + expr_weight q x ≡ n → expr_weight q (f p w v x) ≡ n
-  side_weighs f o i p w v x n h = weigh_ex q (f p w v x) (side o p (wr_of w) (wr_of v) (ex_of x)) n (i p w v x) (omega (arith, h))
+  side_weighs : (o : SideForm) (p : Pos) (w v : Written) (x : Expr) (n : ℕ) → here q p + here q w.pos + here q v.pos + expr_weight q x ≡ n → expr_weight q (e.Side o p w v x) ≡ n
+  side_weighs o p w v x n h = weigh_ex q (e.Side o p w v x) (side o p (wr_of w) (wr_of v) (ex_of x)) n (ex-Side o p w v x) (omega (arith, h))
 
   if_weighs : (p : Pos) (x y z : Expr) (n : ℕ) → expr_weight q x + expr_weight q y + expr_weight q z ≡ n → expr_weight q (e.If p x y z) ≡ here q p + n
   if_weighs p x y z n h =
@@ -113,6 +109,10 @@ module _ (q : Pos) (inner : (B : Type 0) → Part B → Spelling B) where
 
   pub fit_at : {w : Kind} → Fit (at w) (Weighs (here q))
   fit_at = fit_one (λ t. refl)
+
+  pub fit_one_of : {W : Type 0} (rows : List (Kind × W)) (last : Kind × W) → Fit (one_of rows last) (Weighs (λ w. here q w.1))
+  fit_one_of [] last = fit_map fit_at (λ p n h. h)
+  fit_one_of (r ∷ rs) last = fit_alt (fit_map fit_at (λ p n h. h)) (fit_one_of rs last)
 
   pub fit_end : {w : Kind} → has_node w ≡ false → Fit (at w) Free
   fit_end aside = fit_aside aside
@@ -174,21 +174,17 @@ module _ (q : Pos) (inner : (B : Type 0) → Part B → Spelling B) where
     fit_type_end = fit_alt (fit_map (fit_end refl) (λ p n h. h)) (fit_skip refl (fit_part part_type (fit_skip refl (fit_give (λ t n w. omega (arith, w))))))
 
     -- ---- atoms and arguments
-    fit_constant : {w : Kind} {c : Constant} → FitsExpr (constant_word w c)
-    fit_constant {c = c} = fit_map fit_at (λ p n h. lit_weighs q (e.Constant p c) p (constant_of c) n (ex-Constant p c) h)
+    fit_constant_word : Fit g.constant_word (Weighs (λ c. here q c.1))
+    unfolding g.constant_word
+    fit_constant_word = search fit_one_of
 
     pub fit_plain_atom : FitsExpr g.plain_atom
     unfolding g.plain_atom
     fit_plain_atom =
         fit_alt (fit_one (λ t. lit_weighs q (e.Int t.pos (number_of t.tok)) t.pos (number (number_of t.tok)) (here q t.pos) (ex-Int t.pos (number_of t.tok)) refl))
         (fit_alt (fit_one (λ t. lit_weighs q (e.Text t.pos (text_of t.tok)) t.pos (letters (text_of t.tok)) (here q t.pos) (ex-Text t.pos (text_of t.tok)) refl))
-        (fit_alt fit_constant
-        (fit_alt fit_constant
-        (fit_alt fit_constant
-        (fit_alt fit_constant
-        (fit_alt fit_constant
-        (fit_alt fit_constant
-        (fit_either refl (parts _ expr_in_parens) (λ p f n h. (expr_weight q (f p), refl, (h p).0, (h p).1))))))))))
+        (fit_alt (fit_map fit_constant_word (λ c n h. lit_weighs q (e.Constant c.1 c.0) c.1 (constant_of c.0) n (ex-Constant c.1 c.0) h))
+        (fit_either refl (parts _ expr_in_parens) (λ p f n h. (expr_weight q (f p), refl, (h p).0, (h p).1)))))
 
     fit_atom : FitsExpr g.atom
     unfolding g.atom
@@ -198,11 +194,9 @@ module _ (q : Pos) (inner : (B : Type 0) → Part B → Spelling B) where
     unfolding g.arg
     fit_arg = fit_alt (fit_map fit_name (λ x n h. call_weighs q x [] n (omega (arith, h)))) fit_atom
 
-    pub fit_with_arg : {A : Type 0} {W : Weighing A} {f : Pos → Expr → A} {w : Kind} → ((p : Pos) (x : Expr) (n : ℕ) → here q p + expr_weight q x ≡ n → W (f p x) n) → Fit (with_arg f w) W
-    fit_with_arg i = fit_part fit_arg (fit_part fit_at (fit_give (λ p m h x n v. i p x (0 + m + n) (omega (arith, h, v)))))
-
-    pub fit_with_args : {A : Type 0} {W : Weighing A} {f : Pos → Expr → Expr → A} {w : Kind} → ((p : Pos) (x y : Expr) (n : ℕ) → here q p + expr_weight q x + expr_weight q y ≡ n → W (f p x y) n) → Fit (with_args f w) W
-    fit_with_args i = fit_part fit_arg (fit_part fit_arg (fit_part fit_at (fit_give (λ p m h x n v y l w. i p x y (0 + m + n + l) (omega (arith, h, v, w))))))
+    pub fit_two_args : Fit g.two_args (Weighs (λ x. expr_weight q x.0 + expr_weight q x.1))
+    unfolding g.two_args
+    fit_two_args = fit_part fit_arg (fit_part fit_arg (fit_give (λ x m h y n v. omega (arith, h, v))))
 
     -- ---- applications
     fit_list_or_empty : Fit g.list_or_empty (Sum (Weighs (here q)) (Weighs (expr_weight q)))
@@ -213,41 +207,55 @@ module _ (q : Pos) (inner : (B : Type 0) → Part B → Spelling B) where
     unfolding g.call
     fit_call = fit_part (fit_exprs fit_arg) (fit_part fit_name (fit_give (λ x m h es n v. call_weighs q x es (0 + m + n) (omega (arith, h, v)))))
 
-    fit_side_types : (w : Kind) → Fit (side_types w) (Weighs (λ s. here q s.0 + here q s.1.pos + here q s.2.pos))
-    unfolding side_types
-    fit_side_types w = fit_part fit_atype (fit_skip refl (fit_part fit_atype (fit_skip refl (fit_part fit_at (fit_give (λ p m h s n v t l w. omega (arith, h, v, w)))))))
+    fit_unary_word : Fit g.unary_word (Weighs (λ w. here q w.1))
+    unfolding g.unary_word
+    fit_unary_word = search fit_one_of
 
-    fit_side : (f : Pos → Written → Written → Expr → Expr) (w : Kind) → ((p : Pos) (s t : Written) (x : Expr) (n : ℕ) → (here q p + here q s.pos + here q t.pos) + expr_weight q x ≡ n → expr_weight q (f p s t x) ≡ n) → FitsExpr (side_form f w)
-    fit_side f w i = fit_part fit_arg (fit_part (fit_side_types w) (fit_give (λ s m h x n v. i s.0 s.1 s.2 x (0 + m + n) (omega (arith, h, v)))))
+    fit_unary_expr : FitsExpr g.unary_expr
+    unfolding g.unary_expr
+    fit_unary_expr = fit_part fit_arg (fit_part fit_unary_word (fit_give (λ w m h x n v. unary_weighs q w.0 w.1 x (0 + m + n) (omega (arith, h, v)))))
 
-    fit_constructed : FitsExpr g.constructed
-    unfolding g.constructed
-    fit_constructed =
-        fit_alt (fit_with_arg (unary_weighs q e.Just u.Just ex-Just))
-        (fit_alt (fit_part fit_atype (fit_skip refl (fit_part fit_at (fit_give (λ p m h w n v. weigh_ex q (e.Nothing p w) (empty blank.Nothing p (wr_of w)) (0 + m + n) (ex-Nothing p w) (omega (arith, h, v)))))))
-        (fit_alt (fit_side e.Left k.Left (side_weighs q e.Left d.Left ex-Left))
-        (fit_side e.Right k.Right (side_weighs q e.Right d.Right ex-Right))))
+    fit_side_word : Fit g.side_word (Weighs (λ w. here q w.1))
+    unfolding g.side_word
+    fit_side_word = search fit_one_of
+
+    fit_side_types : Fit g.side_types (Weighs (λ s. here q s.1 + here q s.2.pos + here q s.3.pos))
+    unfolding g.side_types
+    fit_side_types = fit_part fit_atype (fit_skip refl (fit_part fit_atype (fit_skip refl (fit_part fit_side_word (fit_give (λ o m h s n v t l w. omega (arith, h, v, w)))))))
+
+    fit_side_expr : FitsExpr g.side_expr
+    unfolding g.side_expr
+    fit_side_expr = fit_part fit_arg (fit_part fit_side_types (fit_give (λ s m h x n v. side_weighs q s.0 s.1 s.2 s.3 x (0 + m + n) (omega (arith, h, v)))))
+
+    fit_nothing_form : FitsExpr g.nothing_form
+    unfolding g.nothing_form
+    fit_nothing_form = fit_part fit_atype (fit_skip refl (fit_part fit_at (fit_give (λ p m h w n v. weigh_ex q (e.Empty blank.Nothing p w) (empty blank.Nothing p (wr_of w)) (0 + m + n) (ex-Empty blank.Nothing p w) (omega (arith, h, v))))))
+
+    fit_div_form : FitsExpr g.div_form
+    unfolding g.div_form
+    fit_div_form = fit_part fit_two_args (fit_part fit_at (fit_give (λ p m h x n v. binary_weighs q e.Div b.Div ex-Div p x.0 x.1 (0 + m + n) (omega (arith, h, v)))))
+
+    fit_mod_form : FitsExpr g.mod_form
+    unfolding g.mod_form
+    fit_mod_form = fit_part fit_two_args (fit_part fit_at (fit_give (λ p m h x n v. binary_weighs q e.Mod b.Mod ex-Mod p x.0 x.1 (0 + m + n) (omega (arith, h, v)))))
 
     fit_list_form : FitsExpr g.list_form
     unfolding g.list_form
     fit_list_form =
         fit_go_on {U = Weighs (written_weight q)} fit_list_or_empty (fit_part fit_atype (fit_skip refl (fit_give (λ t n v. omega (arith, v)))))
-        (λ p w m n h v. weigh_ex q (e.EmptyList p w) (empty blank.EmptyList p (wr_of w)) (m + n) (ex-EmptyList p w) (omega (arith, h, v)))
-
-    fit_computed : FitsExpr g.computed
-    unfolding g.computed
-    fit_computed =
-        fit_alt (fit_with_arg (unary_weighs q e.ErrorCall u.ErrorCall ex-ErrorCall))
-        (fit_alt (fit_with_arg (unary_weighs q e.Not u.Not ex-Not))
-        (fit_alt (fit_with_arg (unary_weighs q e.Fst u.Fst ex-Fst))
-        (fit_alt (fit_with_arg (unary_weighs q e.Snd u.Snd ex-Snd))
-        (fit_alt (fit_with_arg (unary_weighs q e.Show u.Show ex-Show))
-        (fit_alt (fit_with_args (binary_weighs q e.Div b.Div ex-Div))
-        (fit_with_args (binary_weighs q e.Mod b.Mod ex-Mod)))))))
+        (λ p w m n h v. weigh_ex q (e.Empty blank.EmptyList p w) (empty blank.EmptyList p (wr_of w)) (m + n) (ex-Empty blank.EmptyList p w) (omega (arith, h, v)))
 
     fit_app : FitsExpr g.app
     unfolding g.app
-    fit_app = fit_alt fit_call (fit_alt fit_constructed (fit_alt fit_list_form (fit_alt fit_computed fit_plain_atom)))
+    fit_app =
+        fit_alt fit_call
+        (fit_alt fit_unary_expr
+        (fit_alt fit_side_expr
+        (fit_alt fit_list_form
+        (fit_alt fit_nothing_form
+        (fit_alt fit_div_form
+        (fit_alt fit_mod_form
+        fit_plain_atom))))))
 
     -- ---- chains
     fit_link : {w : Kind} {p : Rule Expr} → FitsExpr p → Fit (link w p) (Weighs (λ l. here q l.pos + expr_weight q l.operand))
@@ -266,7 +274,7 @@ module _ (q : Pos) (inner : (B : Type 0) → Part B → Spelling B) where
 
     fit_first_term : FitsExpr g.first_term
     unfolding g.first_term
-    fit_first_term = fit_alt (fit_part fit_product (fit_part fit_at (fit_give (λ p m h x n v. unary_weighs q e.Negate u.Negate ex-Negate p x (0 + m + n) (omega (arith, h, v)))))) fit_product
+    fit_first_term = fit_alt (fit_part fit_product (fit_part fit_at (fit_give (λ p m h x n v. unary_weighs q u.Negate p x (0 + m + n) (omega (arith, h, v)))))) fit_product
 
     fit_sum_operator : Fit g.sum_operator (Weighs (λ o. here q o.1))
     unfolding g.sum_operator
