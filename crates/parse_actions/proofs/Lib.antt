@@ -1,3 +1,0 @@
-pub mod ActionForms
-pub mod ActionSteps
-pub mod PartSteps

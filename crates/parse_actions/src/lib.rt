@@ -9,6 +9,5 @@ mod forms;
 mod parts;
 mod plain;
 
-pub use forms::{cell_action, guard_action, mask_action, thread_action};
+pub use forms::word_action;
 pub use parts::nested_block;
-pub use plain::value_action;

@@ -3,7 +3,6 @@ ghost use Rattle.rules_grammar.specs.Grammar as g;
 ghost use Rattle.hs_grammar.specs.Parser as parser;
 ghost use Rattle.parse_leaves.specs.Readers.{ReadsBelow};
 ghost use Rattle.parse_leaves.specs.Reads.{Reads};
-ghost use Rattle.parse_actions.specs.Parts.{two_blocks, guarded, named_block};
 
 use hs_base::{Block, Name};
 use parse_leaves::{Cursor, Halt};
@@ -29,7 +28,7 @@ pub fn two_blocks<'a, F: Fn(&mut Cursor<'a>, u32) -> Result<Block, Halt>>(
     inner: &F,
 ) -> Result<(Block, Block), Halt>
     requires { ReadsBelow F.Fn inner.now g.block (depth + 1) }
-    ensures reads { Reads (parser.read (parser.enter depth) two_blocks cursor.old) result cursor.new }
+    ensures reads { Reads (parser.read (parser.enter depth) g.two_blocks cursor.old) result cursor.new }
     ensures shorter { OnOk result (length cursor.new < length cursor.old) }
 {
     let first = nested_block(cursor, depth, inner)?;
@@ -38,14 +37,14 @@ pub fn two_blocks<'a, F: Fn(&mut Cursor<'a>, u32) -> Result<Block, Halt>>(
 }
 
 /// Two blocks with a name between them.
-pub fn guarded<'a, F: Fn(&mut Cursor<'a>, u32) -> Result<Block, Halt>>(
+pub fn guarded_block<'a, F: Fn(&mut Cursor<'a>, u32) -> Result<Block, Halt>>(
     cursor: &mut Cursor<'a>,
     alloc: Global,
     depth: u32,
     inner: &F,
 ) -> Result<(Block, Name, Block), Halt>
     requires { ReadsBelow F.Fn inner.now g.block (depth + 1) }
-    ensures reads { Reads (parser.read (parser.enter depth) guarded cursor.old) result cursor.new }
+    ensures reads { Reads (parser.read (parser.enter depth) g.guarded_block cursor.old) result cursor.new }
     ensures shorter { OnOk result (length cursor.new < length cursor.old) }
 {
     let body = nested_block(cursor, depth, inner)?;
@@ -61,7 +60,7 @@ pub fn named_block<'a, F: Fn(&mut Cursor<'a>, u32) -> Result<Block, Halt>>(
     inner: &F,
 ) -> Result<(Name, Block), Halt>
     requires { ReadsBelow F.Fn inner.now g.block (depth + 1) }
-    ensures reads { Reads (parser.read (parser.enter depth) named_block cursor.old) result cursor.new }
+    ensures reads { Reads (parser.read (parser.enter depth) g.named_block cursor.old) result cursor.new }
     ensures shorter { OnOk result (length cursor.new < length cursor.old) }
 {
     let name = cursor.name(alloc)?;

@@ -3,66 +3,89 @@ ghost use Rattle.rules_grammar.specs.Grammar as g;
 ghost use Rattle.hs_grammar.specs.Parser as parser;
 ghost use Rattle.parse_leaves.specs.Reads.{Reads};
 
-use hs_base::tree::forms::{BareAction, BinaryAction, UnaryAction};
 use hs_base::Action;
-use parse_exprs::{arg, built_in, built_in_pair};
+use hs_base::tree::forms::UnaryAction;
+use parse_exprs::{arg, two_args};
 use parse_leaves::{Cursor, Halt};
 use rules_tokens::{symbol, word};
 use std::alloc::Global;
 
-pub fn value_action(cursor: &mut Cursor, alloc: Global, depth: u32) -> Result<Action, Halt>
-    ensures reads { Reads (parser.read (parser.enter depth) g.value_action cursor.old) result cursor.new }
+/// An action with no block.
+pub fn plain_action(cursor: &mut Cursor, alloc: Global, depth: u32) -> Result<Action, Halt>
+    ensures reads { Reads (parser.read (parser.enter depth) g.plain_action cursor.old) result cursor.new }
     ensures shorter { OnOk result (length cursor.new < length cursor.old) }
 {
-    if cursor.at_word(word::RETURN) {
-        let form = built_in(cursor, alloc, depth, word::RETURN)?;
-        return Ok(Action::Unary(UnaryAction::Return, form.0, form.1.into_inner()));
+    if cursor.at_bare_action() {
+        return bare(cursor, depth);
+    }
+    if cursor.at_unary_action() {
+        return unary(cursor, alloc, depth);
+    }
+    if cursor.at_binary_action() {
+        return binary(cursor, alloc, depth);
+    }
+    if cursor.at_word(word::H_PUT_STR_LN) {
+        return error_line(cursor, alloc, depth);
     }
     if cursor.at_word(word::THROW_IO) {
-        let pos = cursor.word(word::THROW_IO)?;
-        cursor.symbol(symbol::AT)?;
-        let ty = cursor.atype(alloc, depth)?;
-        let arg = arg(cursor, alloc, depth)?;
-        return Ok(Action::ThrowIo(pos, ty, arg));
+        return throw_io(cursor, alloc, depth);
     }
-    if cursor.at_word(word::PUT_STR) {
-        let form = built_in(cursor, alloc, depth, word::PUT_STR)?;
-        return Ok(Action::Unary(UnaryAction::PutStr, form.0, form.1.into_inner()));
-    }
-    if cursor.at_word(word::PUT_STR_LN) {
-        let form = built_in(cursor, alloc, depth, word::PUT_STR_LN)?;
-        return Ok(Action::Unary(UnaryAction::PutStrLn, form.0, form.1.into_inner()));
-    }
+    new_empty_mvar(cursor, alloc, depth)
+}
+
+fn bare(cursor: &mut Cursor, depth: u32) -> Result<Action, Halt>
+    ensures reads { Reads (parser.read (parser.enter depth) g.bare_action cursor.old) result cursor.new }
+    ensures shorter { OnOk result (length cursor.new < length cursor.old) }
+{
+    let word = cursor.bare_action_word(depth)?;
+    Ok(Action::Bare(word.0, word.1))
+}
+
+fn unary(cursor: &mut Cursor, alloc: Global, depth: u32) -> Result<Action, Halt>
+    ensures reads { Reads (parser.read (parser.enter depth) g.unary_action cursor.old) result cursor.new }
+    ensures shorter { OnOk result (length cursor.new < length cursor.old) }
+{
+    let word = cursor.unary_action_word(depth)?;
+    let arg = arg(cursor, alloc, depth)?;
+    Ok(Action::Unary(word.0, word.1, arg))
+}
+
+fn binary(cursor: &mut Cursor, alloc: Global, depth: u32) -> Result<Action, Halt>
+    ensures reads { Reads (parser.read (parser.enter depth) g.binary_action cursor.old) result cursor.new }
+    ensures shorter { OnOk result (length cursor.new < length cursor.old) }
+{
+    let word = cursor.binary_action_word(depth)?;
+    let args = two_args(cursor, alloc, depth)?;
+    Ok(Action::Binary(word.0, word.1, args.0, args.1))
+}
+
+fn error_line(cursor: &mut Cursor, alloc: Global, depth: u32) -> Result<Action, Halt>
+    ensures reads { Reads (parser.read (parser.enter depth) g.error_line cursor.old) result cursor.new }
+    ensures shorter { OnOk result (length cursor.new < length cursor.old) }
+{
     let pos = cursor.word(word::H_PUT_STR_LN)?;
     cursor.word(word::STDERR)?;
     let arg = arg(cursor, alloc, depth)?;
     Ok(Action::Unary(UnaryAction::HPutStrLn, pos, arg))
 }
 
-pub fn other_thread_action(cursor: &mut Cursor, alloc: Global, depth: u32) -> Result<Action, Halt>
-    ensures reads { Reads (parser.read (parser.enter depth) g.other_thread_action cursor.old) result cursor.new }
+fn throw_io(cursor: &mut Cursor, alloc: Global, depth: u32) -> Result<Action, Halt>
+    ensures reads { Reads (parser.read (parser.enter depth) g.throw_form cursor.old) result cursor.new }
     ensures shorter { OnOk result (length cursor.new < length cursor.old) }
 {
-    if cursor.at_word(word::MY_THREAD_ID) {
-        let pos = cursor.word(word::MY_THREAD_ID)?;
-        return Ok(Action::Bare(BareAction::MyThreadId, pos));
-    }
-    if cursor.at_word(word::THROW_TO) {
-        let form = built_in_pair(cursor, alloc, depth, word::THROW_TO)?;
-        return Ok(Action::Binary(BinaryAction::ThrowTo, form.0, form.1.into_inner(), form.2.into_inner()));
-    }
-    if cursor.at_word(word::KILL_THREAD) {
-        let form = built_in(cursor, alloc, depth, word::KILL_THREAD)?;
-        return Ok(Action::Unary(UnaryAction::KillThread, form.0, form.1.into_inner()));
-    }
-    if cursor.at_word(word::THREAD_DELAY) {
-        let form = built_in(cursor, alloc, depth, word::THREAD_DELAY)?;
-        return Ok(Action::Unary(UnaryAction::ThreadDelay, form.0, form.1.into_inner()));
-    }
-    if cursor.at_word(word::CLOCK_MICROS) {
-        let pos = cursor.word(word::CLOCK_MICROS)?;
-        return Ok(Action::Bare(BareAction::ClockMicros, pos));
-    }
-    let pos = cursor.word(word::GET_MASKING_STATE)?;
-    Ok(Action::Bare(BareAction::GetMaskingState, pos))
+    let pos = cursor.word(word::THROW_IO)?;
+    cursor.symbol(symbol::AT)?;
+    let ty = cursor.atype(alloc, depth)?;
+    let arg = arg(cursor, alloc, depth)?;
+    Ok(Action::ThrowIo(pos, ty, arg))
+}
+
+fn new_empty_mvar(cursor: &mut Cursor, alloc: Global, depth: u32) -> Result<Action, Halt>
+    ensures reads { Reads (parser.read (parser.enter depth) g.new_empty_form cursor.old) result cursor.new }
+    ensures shorter { OnOk result (length cursor.new < length cursor.old) }
+{
+    let pos = cursor.word(word::NEW_EMPTY_MVAR)?;
+    cursor.symbol(symbol::AT)?;
+    let ty = cursor.atype(alloc, depth)?;
+    Ok(Action::NewEmptyMVar(pos, ty))
 }

@@ -11,12 +11,22 @@ use Rattle.rules_grammar.specs.GrammarParts.{block_if, block_case, block_arms}
 use Rattle.hs_grammar.specs.Parser.{Done, Parser, done, take, read, read_then, enter}
 use Rattle.parse_leaves.specs.declared.halt.Halt.{Halt}
 use Rattle.parse_leaves.specs.Reads.{Reads}
-use Rattle.parse_leaves.proofs.Steps.{take_ok, call_ok, call_err}
+use Rattle.parse_leaves.proofs.Steps.{take_ok, call_ok, call_err, reads_done}
 use Rattle.hs_base.specs.declared.tree.action.Action.TheVariants as a
 use Rattle.rules_grammar.specs.Grammar as g
 use Rattle.rules_grammar.specs.GrammarKinds as k
-use Rattle.parse_actions.proofs.ActionSteps.{both_ok, both_err}
 use Rattle.parse_blocks.specs.Blocks.{branches, arms_behind_of}
+
+-- one part, and another behind it
+module _ {A B C : Type 0} (n : ℕ) (p : Rule B) (q : Rule C) (f : B → C → A) where
+  abbrev both_of : Parser A
+  both_of = read_then (enter n) p (λ b. read_then (enter n) q (λ c. done (f b c)))
+
+  both_ok : (ts mid new : List Token) (b : B) (c : C) (r : Result A Halt) → Reads (read (enter n) p ts) (Ok b) mid → Reads (read (enter n) q mid) (Ok c) new → Reads (Done (f b c) []) r [] → Reads (both_of ts) r new
+  both_ok ts mid new b c r h i d = call_ok (enter n) p (λ b. read_then (enter n) q (λ c. done (f b c))) ts mid new b r h (call_ok (enter n) q (λ c. done (f b c)) mid new new c r i (reads_done (f b c) r new d))
+
+  both_err : (ts mid o new : List Token) (b : B) (e : Halt) → Reads (read (enter n) p ts) (Ok b) mid → Reads {A = C} (read (enter n) q mid) (Err e) o → Reads (both_of ts) (Err e) new
+  both_err ts mid o new b e h i = call_ok (enter n) p (λ b. read_then (enter n) q (λ c. done (f b c))) ts mid new b (Err e) h (call_err {A = C} (enter n) q (λ c. done (f b c)) mid o new e i)
 
 pub if_all : (n : ℕ) (ts mid new : List Token) (b : Expr) (c : Block × Block) (r : Result (Expr × Block × Block) Halt) → Reads (read (enter n) g.expr ts) (Ok b) mid → Reads (read (enter n) branches mid) (Ok c) new → Reads {A = Expr × Block × Block} (Done (b, c.0, c.1) []) r [] → Reads (read (enter n) (rule_of block_if) ts) r new
 unfolding read_then rule_of

@@ -12,7 +12,7 @@ use crate::conditions::{action_case, action_if};
 use crate::step::Step;
 use hs_base::{Action, Block, Expr, Name, Stmt};
 use hs_items::{Boxed, Items};
-use parse_actions::{cell_action, guard_action, mask_action, thread_action, value_action};
+use parse_actions::word_action;
 use parse_exprs::{args, expr};
 use parse_leaves::{Cursor, Halt};
 use rules_tokens::{symbol, word};
@@ -28,25 +28,13 @@ fn other_action<'a, F: Fn(&mut Cursor<'a>, u32) -> Result<Block, Halt>>(
     ensures reads { Reads (parser.read (parser.enter depth) g.other_action cursor.old) result cursor.new }
     ensures shorter { OnOk result (length cursor.new < length cursor.old) }
 {
-    if cursor.at_value_action() {
-        return value_action(cursor, alloc, depth);
-    }
     if cursor.at_word(word::IF) {
         return action_if(cursor, alloc, depth, inner);
     }
     if cursor.at_word(word::CASE) {
         return action_case(cursor, alloc, depth, inner);
     }
-    if cursor.at_cell_action() {
-        return cell_action(cursor, alloc, depth, inner);
-    }
-    if cursor.at_thread_action() {
-        return thread_action(cursor, alloc, depth, inner);
-    }
-    if cursor.at_mask_action() {
-        return mask_action(cursor, alloc, depth, inner);
-    }
-    guard_action(cursor, alloc, depth, inner)
+    word_action(cursor, alloc, depth, inner)
 }
 
 fn action<'a, F: Fn(&mut Cursor<'a>, u32) -> Result<Block, Halt>>(

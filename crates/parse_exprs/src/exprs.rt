@@ -1,12 +1,11 @@
 ghost use Rattle.std.specs.Prelude.{◌≡◌, ◌<◌, ◌≤◌, length, OnOk};
 ghost use Rattle.rules_grammar.specs.Grammar as g;
-ghost use Rattle.rules_grammar.specs.GrammarParts.{Kind};
 ghost use Rattle.hs_grammar.specs.Parser as parser;
 ghost use Rattle.parse_leaves.specs.Reads.{Reads};
 
 use crate::forms::expr_with;
-use hs_base::{Expr, Pos};
-use hs_items::{Boxed, Items};
+use hs_base::Expr;
+use hs_items::Items;
 use parse_leaves::{Cursor, Halt};
 use parse_operands as operands;
 use std::alloc::Global;
@@ -48,34 +47,17 @@ pub fn args<'a>(cursor: &mut Cursor<'a>, alloc: Global, depth: u32) -> Result<It
     operands::args(cursor, alloc, depth, &inner)
 }
 
-/// A word and its argument.
-pub fn built_in<'a>(
+/// Two arguments.
+pub fn two_args<'a>(
     cursor: &mut Cursor<'a>,
     alloc: Global,
     depth: u32,
-    word: u8,
-) -> Result<(Pos, Boxed<Expr>), Halt>
-    ensures reads { Reads (parser.read (parser.enter depth) (g.with_arg (λ p x. (p, x)) (Kind.word word)) cursor.old) result cursor.new }
+) -> Result<(Expr, Expr), Halt>
+    ensures reads { Reads (parser.read (parser.enter depth) g.two_args cursor.old) result cursor.new }
     ensures shorter { OnOk result (length cursor.new < length cursor.old) }
 {
     let inner = |c: &mut Cursor, d: u32| -> Result<Expr, Halt>
         ensures { Reads (parser.read (parser.enter d) g.expr c.old) result c.new × OnOk result (length c.new < length c.old) }
     { expr(c, alloc, d) };
-    operands::built_in(cursor, alloc, depth, &inner, word)
-}
-
-/// A word and its two arguments.
-pub fn built_in_pair<'a>(
-    cursor: &mut Cursor<'a>,
-    alloc: Global,
-    depth: u32,
-    word: u8,
-) -> Result<(Pos, Boxed<Expr>, Boxed<Expr>), Halt>
-    ensures reads { Reads (parser.read (parser.enter depth) (g.with_args (λ p x y. (p, x, y)) (Kind.word word)) cursor.old) result cursor.new }
-    ensures shorter { OnOk result (length cursor.new < length cursor.old) }
-{
-    let inner = |c: &mut Cursor, d: u32| -> Result<Expr, Halt>
-        ensures { Reads (parser.read (parser.enter d) g.expr c.old) result c.new × OnOk result (length c.new < length c.old) }
-    { expr(c, alloc, d) };
-    operands::built_in_pair(cursor, alloc, depth, &inner, word)
+    operands::two_args(cursor, alloc, depth, &inner)
 }

@@ -10,4 +10,4 @@ mod chains;
 mod exprs;
 mod forms;
 
-pub use exprs::{arg, args, built_in, built_in_pair, expr};
+pub use exprs::{arg, args, expr, two_args};

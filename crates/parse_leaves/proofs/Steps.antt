@@ -210,23 +210,6 @@ pub item-def : IsItem g.def
 unfolding opened
 item-def = (refl, refl, refl)
 
--- ---- built-in forms
-pub form_ok : {R : Type 0} (n : ℕ) (k : Kind) (κ : Pos → Expr → Parser R) (ts mid new : List Token) (a : Pos × Expr) (r : Result R Halt) → Reads (read (enter n) (g.with_arg (λ p x. (p, x)) k) ts) (Ok a) mid → Reads (κ a.0 a.1 mid) r new → Reads (take k (λ t. read_then (enter n) g.arg (λ x. κ t.pos x)) ts) r new
-unfolding read_then
-form_ok n k κ ts mid new a r h j = call_ok (enter n) (g.with_arg (λ p x. (p, x)) k) (λ a. κ a.0 a.1) ts mid new a r h j
-
-pub form_err : {R : Type 0} (n : ℕ) (k : Kind) (κ : Pos → Expr → Parser R) (ts mid new : List Token) (e : Halt) → Reads {A = Pos × Expr} (read (enter n) (g.with_arg (λ p x. (p, x)) k) ts) (Err e) mid → Reads (take k (λ t. read_then (enter n) g.arg (λ x. κ t.pos x)) ts) (Err e) new
-unfolding read_then
-form_err n k κ ts mid new e h = call_err {A = Pos × Expr} (enter n) (g.with_arg (λ p x. (p, x)) k) (λ a. κ a.0 a.1) ts mid new e h
-
-pub pair_ok : {R : Type 0} (n : ℕ) (k : Kind) (κ : Pos → Expr → Expr → Parser R) (ts mid new : List Token) (a : Pos × Expr × Expr) (r : Result R Halt) → Reads (read (enter n) (g.with_args (λ p x y. (p, x, y)) k) ts) (Ok a) mid → Reads (κ a.0 a.1 a.2 mid) r new → Reads (take k (λ t. read_then (enter n) g.arg (λ x. read_then (enter n) g.arg (λ y. κ t.pos x y))) ts) r new
-unfolding read_then
-pair_ok n k κ ts mid new a r h j = call_ok (enter n) (g.with_args (λ p x y. (p, x, y)) k) (λ a. κ a.0 a.1 a.2) ts mid new a r h j
-
-pub pair_err : {R : Type 0} (n : ℕ) (k : Kind) (κ : Pos → Expr → Expr → Parser R) (ts mid new : List Token) (e : Halt) → Reads {A = Pos × Expr × Expr} (read (enter n) (g.with_args (λ p x y. (p, x, y)) k) ts) (Err e) mid → Reads (take k (λ t. read_then (enter n) g.arg (λ x. read_then (enter n) g.arg (λ y. κ t.pos x y))) ts) (Err e) new
-unfolding read_then
-pair_err n k κ ts mid new e h = call_err {A = Pos × Expr × Expr} (enter n) (g.with_args (λ p x y. (p, x, y)) k) (λ a. κ a.0 a.1 a.2) ts mid new e h
-
 -- a name
 pub name_ok : {R : Type 0} (κ : Name → Parser R) (ts mid new : List Token) (a : Name) (r : Result R Halt) → Reads (take name (λ t. done (record { text = g.text_of t.tok; pos = t.pos })) ts) (Ok a) mid → Reads (κ a mid) r new → Reads (take name (λ t. κ (record { text = g.text_of t.tok; pos = t.pos })) ts) r new
 unfolding read_then
@@ -237,7 +220,7 @@ unfolding read_then
 name_err κ ts mid new e h = call_err {A = Name} (λ B part t us. Stop unexpected us) g.name κ ts mid new e h
 
 -- the steps of a chain of calls
-pub ruleset steps = (choose_yes, choose_no, call_ok, call_err, form_ok, form_err, pair_ok, pair_err, name_ok, name_err, take_ok, take_err, within_ok, within_err, open_err, within_then, reads_done)
+pub ruleset steps = (choose_yes, choose_no, call_ok, call_err, name_ok, name_err, take_ok, take_err, within_ok, within_err, open_err, within_then, reads_done)
 
 -- ---- looks at the next token
 pub begins_both : (ks ls : List Kind) (ts : List Token) → begins (ks ++ ls) ts ≡ either (begins ks ts) (begins ls ts)

@@ -8,8 +8,8 @@ ghost use Rattle.parse_leaves.specs.Reads.{Reads};
 
 use crate::cursor::Cursor;
 use crate::halt::Halt;
-use hs_base::{CompareOp, ConsOp, Constant, Expr, Name, Pos, SumOp};
-use rules_tokens::{Tok, Token, symbol, word};
+use hs_base::{CompareOp, ConsOp, Expr, Name, Pos, SumOp};
+use rules_tokens::{Tok, Token, symbol};
 use std::alloc::Global;
 
 impl<'a> Cursor<'a> {
@@ -40,34 +40,12 @@ impl<'a> Cursor<'a> {
         Err(self.unexpected())
     }
 
-    pub fn constant(&mut self, word: u8, constant: Constant) -> Result<Expr, Halt>
-        ensures reads { Reads (parser.take (Kind.word word) (λ t. parser.done (Expr.Constant t.pos constant)) self.old) result self.new }
+    pub fn constant(&mut self, depth: u32) -> Result<Expr, Halt>
+        ensures reads { Reads (parser.read_then (parser.enter depth) g.constant_word (λ c. parser.done (Expr.Constant c.1 c.0)) self.old) result self.new }
         ensures shorter { OnOk result (length self.new < length self.old) }
     {
-        let pos = self.word(word)?;
-        Ok(Expr::Constant(pos, constant))
-    }
-
-    /// Whether the next token begins one.
-    pub fn at_constructed(&self) -> bool
-        ensures { result ≡ parser.begins (parser.firsts g.constructed) self.now }
-    {
-        self.at_any_word(&[word::JUST, word::NOTHING, word::LEFT, word::RIGHT])
-    }
-
-    /// Whether the next token begins one.
-    pub fn at_computed(&self) -> bool
-        ensures { result ≡ parser.begins (parser.firsts g.computed) self.now }
-    {
-        self.at_any_word(&[
-            word::ERROR_CALL,
-            word::NOT,
-            word::FST,
-            word::SND,
-            word::SHOW,
-            word::DIV,
-            word::MOD,
-        ])
+        let word = self.constant_word(depth)?;
+        Ok(Expr::Constant(word.1, word.0))
     }
 
     /// Whether the next token begins one.
@@ -98,18 +76,6 @@ impl<'a> Cursor<'a> {
         ])
     }
 
-    /// Whether the next token is one of these reserved words.
-    pub fn at_any_word(&self, words: &[u8]) -> bool
-        ensures { result ≡ parser.begins (list_map Kind.word words.now) self.now }
-    {
-        'words: for word in words {
-            if self.at_word(*word) {
-                return true;
-            }
-        }
-        false
-    }
-
     /// Whether the next token is one of these symbols.
     pub fn at_any_symbol(&self, symbols: &[u8]) -> bool
         ensures { result ≡ parser.begins (list_map Kind.symbol symbols.now) self.now }
@@ -138,75 +104,10 @@ impl<'a> Cursor<'a> {
         if self.at_text() {
             return true;
         }
-        if self.at_any_word(&[
-            word::TRUE,
-            word::FALSE,
-            word::THREAD_KILLED,
-            word::USER_INTERRUPT,
-            word::DIVIDE_BY_ZERO,
-            word::OVERFLOW,
-        ]) {
+        if self.at_constant() {
             return true;
         }
         self.at_symbol(symbol::OPEN_PAREN)
-    }
-
-    /// Whether the next token begins one.
-    pub fn at_value_action(&self) -> bool
-        ensures { result ≡ parser.begins (parser.firsts g.value_action) self.now }
-    {
-        self.at_any_word(&[
-            word::RETURN,
-            word::THROW_IO,
-            word::PUT_STR,
-            word::PUT_STR_LN,
-            word::H_PUT_STR_LN,
-        ])
-    }
-
-    /// Whether the next token begins one.
-    pub fn at_cell_action(&self) -> bool
-        ensures { result ≡ parser.begins (parser.firsts g.cell_action) self.now }
-    {
-        self.at_any_word(&[
-            word::NEW_MVAR,
-            word::NEW_EMPTY_MVAR,
-            word::TAKE_MVAR,
-            word::PUT_MVAR,
-            word::READ_MVAR,
-            word::TRY_TAKE_MVAR,
-            word::TRY_PUT_MVAR,
-            word::MODIFY_MVAR,
-        ])
-    }
-
-    /// Whether the next token begins one.
-    pub fn at_thread_action(&self) -> bool
-        ensures { result ≡ parser.begins (parser.firsts g.thread_action) self.now }
-    {
-        self.at_any_word(&[
-            word::FORK_IO,
-            word::FORK_IO_WITH_UNMASK,
-            word::MY_THREAD_ID,
-            word::THROW_TO,
-            word::KILL_THREAD,
-            word::THREAD_DELAY,
-            word::CLOCK_MICROS,
-            word::GET_MASKING_STATE,
-        ])
-    }
-
-    /// Whether the next token begins one.
-    pub fn at_mask_action(&self) -> bool
-        ensures { result ≡ parser.begins (parser.firsts g.mask_action) self.now }
-    {
-        self.at_any_word(&[
-            word::MASK,
-            word::MASK_BLOCK,
-            word::UNINTERRUPTIBLE_MASK,
-            word::UNINTERRUPTIBLE_MASK_BLOCK,
-            word::RESTORE,
-        ])
     }
 
     /// An operator and its position.

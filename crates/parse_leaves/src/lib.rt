@@ -12,6 +12,7 @@ mod leaf;
 mod params;
 pub mod trees;
 mod types;
+mod words;
 
 pub use cursor::Cursor;
 pub use halt::Halt;

@@ -8,6 +8,7 @@ ghost use Rattle.parse_leaves.specs.Reads.{Reads};
 
 use crate::cursor::Cursor;
 use crate::halt::Halt;
+use hs_base::tree::forms::SideForm;
 use hs_base::{Pos, Ty, Written};
 use hs_items::Boxed;
 use rules_tokens::{symbol, word};
@@ -138,16 +139,15 @@ impl<'a> Cursor<'a> {
         &mut self,
         alloc: Global,
         depth: u32,
-        word: u8,
-    ) -> Result<(Pos, Written, Written), Halt>
-        ensures reads { Reads (parser.read (parser.enter depth) (g.side_types (Kind.word word)) self.old) result self.new }
+    ) -> Result<(SideForm, Pos, Written, Written), Halt>
+        ensures reads { Reads (parser.read (parser.enter depth) g.side_types self.old) result self.new }
         ensures shorter { OnOk result (length self.new < length self.old) }
     {
-        let pos = self.word(word)?;
+        let word = self.side_word(depth)?;
         self.symbol(symbol::AT)?;
         let left = self.atype(alloc, depth)?;
         self.symbol(symbol::AT)?;
         let right = self.atype(alloc, depth)?;
-        Ok((pos, left, right))
+        Ok((word.0, word.1, left, right))
     }
 }

@@ -10,6 +10,6 @@ mod built;
 mod inside;
 mod operand;
 
-pub use built::{built_in, built_in_pair};
+pub use built::two_args;
 pub use inside::nested;
 pub use operand::{app, arg, args};

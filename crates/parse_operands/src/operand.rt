@@ -5,8 +5,8 @@ ghost use Rattle.parse_leaves.specs.Readers.{ReadsBelow};
 ghost use Rattle.parse_leaves.specs.Reads.{Reads};
 
 use crate::bracketed::{brackets, list, parens};
-use crate::built::{computed, constructed};
-use hs_base::{Constant, Expr};
+use crate::built::{div, modulus, nothing, side, unary};
+use hs_base::Expr;
 use hs_items::Items;
 use parse_leaves::{Cursor, Halt};
 use rules_tokens::{symbol, word};
@@ -28,23 +28,8 @@ fn plain_atom<'a, F: Fn(&mut Cursor<'a>, u32) -> Result<Expr, Halt>>(
     if cursor.at_text() {
         return cursor.text(alloc);
     }
-    if cursor.at_word(word::TRUE) {
-        return cursor.constant(word::TRUE, Constant::True);
-    }
-    if cursor.at_word(word::FALSE) {
-        return cursor.constant(word::FALSE, Constant::False);
-    }
-    if cursor.at_word(word::THREAD_KILLED) {
-        return cursor.constant(word::THREAD_KILLED, Constant::ThreadKilled);
-    }
-    if cursor.at_word(word::USER_INTERRUPT) {
-        return cursor.constant(word::USER_INTERRUPT, Constant::UserInterrupt);
-    }
-    if cursor.at_word(word::DIVIDE_BY_ZERO) {
-        return cursor.constant(word::DIVIDE_BY_ZERO, Constant::DivideByZero);
-    }
-    if cursor.at_word(word::OVERFLOW) {
-        return cursor.constant(word::OVERFLOW, Constant::Overflow);
+    if cursor.at_constant() {
+        return cursor.constant(depth);
     }
     parens(cursor, alloc, depth, inner)
 }
@@ -127,14 +112,23 @@ pub fn app<'a, F: Fn(&mut Cursor<'a>, u32) -> Result<Expr, Halt>>(
     if cursor.at_name() {
         return call(cursor, alloc, depth, inner);
     }
-    if cursor.at_constructed() {
-        return constructed(cursor, alloc, depth, inner);
+    if cursor.at_unary_expr() {
+        return unary(cursor, alloc, depth, inner);
+    }
+    if cursor.at_side_expr() {
+        return side(cursor, alloc, depth, inner);
     }
     if cursor.at_symbol(symbol::OPEN_BRACKET) {
         return brackets(cursor, alloc, depth, inner);
     }
-    if cursor.at_computed() {
-        return computed(cursor, alloc, depth, inner);
+    if cursor.at_word(word::NOTHING) {
+        return nothing(cursor, alloc, depth);
+    }
+    if cursor.at_word(word::DIV) {
+        return div(cursor, alloc, depth, inner);
+    }
+    if cursor.at_word(word::MOD) {
+        return modulus(cursor, alloc, depth, inner);
     }
     plain_atom(cursor, alloc, depth, inner)
 }

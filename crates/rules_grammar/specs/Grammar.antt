@@ -348,15 +348,17 @@ unfoldable pub guarded_block : Rule (Block × Name × Block)
 guarded_block = give (λ b c. (b, c.0, c.1)) ⊛ block ⊛ named_block
 
 -- ---- action: the forms that begin with a reserved word, by their shape
--- bare | unary arg | binary arg arg | "hPutStrLn" "stderr" arg | "throwIO" "@" atype arg | "newEmptyMVar" "@" atype
--- | scoped block | masking NAME block | guard block block | "modifyMVar_" arg NAME block | "restore" NAME block
--- | "catch" block NAME block | "bracket" block NAME block block | "timeout" arg block
+-- ----          bare | unary arg | binary arg arg | "hPutStrLn" "stderr" arg | "throwIO" "@" atype arg | "newEmptyMVar" "@" atype
+-- ----          | scoped block | masking NAME block | guard block block | "modifyMVar_" arg NAME block | "restore" NAME block
+-- ----          | "catch" block NAME block | "bracket" block NAME block block | "timeout" arg block
+-- ---- bare     = "myThreadId" | "clockMicros" | "getMaskingState"
 unfoldable pub bare_action_word : Rule (BareAction × Pos)
 bare_action_word = one_of ((k.myThreadId, bare.MyThreadId) ∷ (k.clockMicros, bare.ClockMicros) ∷ []) (k.getMaskingState, bare.GetMaskingState)
 
 unfoldable pub bare_action : Rule Action
 bare_action = map (λ w. a.Bare w.0 w.1) bare_action_word
 
+-- ---- unary    = "return" | "putStr" | "putStrLn" | "newMVar" | "takeMVar" | "readMVar" | "tryTakeMVar" | "killThread" | "threadDelay"
 unfoldable pub unary_action_word : Rule (UnaryAction × Pos)
 unary_action_word =
     one_of
@@ -366,6 +368,7 @@ unary_action_word =
 unfoldable pub unary_action : Rule Action
 unary_action = give (λ w x. a.Unary w.0 w.1 x) ⊛ unary_action_word ⊛ arg
 
+-- ---- binary   = "putMVar" | "tryPutMVar" | "throwTo"
 unfoldable pub binary_action_word : Rule (BinaryAction × Pos)
 binary_action_word = one_of ((k.putMVar, binary.PutMVar) ∷ (k.tryPutMVar, binary.TryPutMVar) ∷ []) (k.throwTo, binary.ThrowTo)
 
@@ -381,6 +384,7 @@ throw_form = give a.ThrowIo ⊛ at k.throwIO ◁ k.at_sign ⊛ atype ⊛ arg
 unfoldable pub new_empty_form : Rule Action
 new_empty_form = give a.NewEmptyMVar ⊛ at k.newEmptyMVar ◁ k.at_sign ⊛ atype
 
+-- ---- scoped   = "forkIO" | "mask_" | "uninterruptibleMask_"
 unfoldable pub scoped_action_word : Rule (BlockAction × Pos)
 scoped_action_word =
     one_of ((k.forkIO, scoped.ForkIo) ∷ (k.mask_, scoped.MaskOnly) ∷ []) (k.uninterruptibleMask_, scoped.UninterruptibleMaskOnly)
@@ -388,6 +392,7 @@ scoped_action_word =
 unfoldable pub scoped_action : Rule Action
 scoped_action = give (λ w b. a.Scoped w.0 w.1 b) ⊛ scoped_action_word ⊛ block
 
+-- ---- masking  = "forkIOWithUnmask" | "mask" | "uninterruptibleMask"
 unfoldable pub masking_action_word : Rule (MaskingAction × Pos)
 masking_action_word =
     one_of ((k.forkIOWithUnmask, masking.ForkIoWithUnmask) ∷ (k.mask, masking.Mask) ∷ []) (k.uninterruptibleMask, masking.UninterruptibleMask)
@@ -395,6 +400,7 @@ masking_action_word =
 unfoldable pub masking_action : Rule Action
 masking_action = give (λ w b. a.Masking w.0 w.1 b.0 b.1) ⊛ masking_action_word ⊛ named_block
 
+-- ---- guard    = "onException" | "finally"
 unfoldable pub guard_action_word : Rule (GuardAction × Pos)
 guard_action_word = one_of ((k.onException, guard.OnException) ∷ []) (k.finally', guard.Finally)
 
@@ -416,7 +422,7 @@ bracket_form = give (λ p b c. a.Bracket p b.0 b.1 b.2 c) ⊛ at k.bracket ⊛ g
 unfoldable pub timeout_form : Rule Action
 timeout_form = give a.Timeout ⊛ at k.timeout ⊛ arg ⊛ block
 
--- the forms with no block
+-- the forms with no block, and all that begin with a reserved word but `if` and `case`
 unfoldable pub plain_action : Rule Action
 plain_action =
     alt bare_action

@@ -2,19 +2,20 @@ use Rattle.std.proofs.Common.{rules}
 use Rattle.hs_grammar.specs.Parser.{firsts, may_be_empty, read_then}
 use Rattle.rules_grammar.specs.Grammar.{bracket_form}
 use Rattle.parse_leaves.proofs.Steps.{steps}
-use Rattle.parse_actions.proofs.ActionSteps.{bracket_ok, bracket_body, bracket_parts}
-use Rattle.parse_actions.proofs.PartSteps.{block_steps}
 use Rattle.parse_actions.proofs.forms.bracket.Goals as goal
 
 pub returns-in_err-pos-clause-reads : goal.returns-in_err-pos-clause-reads
 unfolding firsts may_be_empty read_then bracket_form
-returns-in_err-pos-clause-reads b c = search (rules, steps, block_steps)
+returns-in_err-pos-clause-reads b c = search (rules, steps)
 
 pub returns-in_err-parts-clause-reads : goal.returns-in_err-parts-clause-reads
-returns-in_err-parts-clause-reads b c = search (rules, bracket_parts)
+unfolding firsts may_be_empty read_then bracket_form
+returns-in_err-parts-clause-reads b c = search (rules, steps)
 
 pub returns-in_err-body-clause-reads : goal.returns-in_err-body-clause-reads
-returns-in_err-body-clause-reads b c = search (rules, bracket_body)
+unfolding firsts may_be_empty read_then bracket_form
+returns-in_err-body-clause-reads b c = search (rules, steps)
 
 pub returns-clause-reads : goal.returns-clause-reads
-returns-clause-reads b c = search (rules, bracket_ok)
+unfolding firsts may_be_empty read_then bracket_form
+returns-clause-reads b c = search (rules, steps)

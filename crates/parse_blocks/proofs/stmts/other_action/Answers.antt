@@ -4,10 +4,6 @@ use Rattle.rules_grammar.specs.Grammar.{other_action}
 use Rattle.parse_leaves.proofs.Steps.{steps}
 use Rattle.parse_blocks.proofs.stmts.other_action.Goals as goal
 
-pub returns-then-at_value_action-clause-reads : goal.returns-then-at_value_action-clause-reads
-unfolding firsts may_be_empty read_then other_action
-returns-then-at_value_action-clause-reads b c = search (rules, steps)
-
 pub returns-then-at_word-clause-reads : goal.returns-then-at_word-clause-reads
 unfolding firsts may_be_empty read_then other_action
 returns-then-at_word-clause-reads b c = search (rules, steps)
@@ -15,18 +11,6 @@ returns-then-at_word-clause-reads b c = search (rules, steps)
 pub returns-then-at_word-2-clause-reads : goal.returns-then-at_word-2-clause-reads
 unfolding firsts may_be_empty read_then other_action
 returns-then-at_word-2-clause-reads b c = search (rules, steps)
-
-pub returns-then-at_cell_action-clause-reads : goal.returns-then-at_cell_action-clause-reads
-unfolding firsts may_be_empty read_then other_action
-returns-then-at_cell_action-clause-reads b c = search (rules, steps)
-
-pub returns-then-at_thread_action-clause-reads : goal.returns-then-at_thread_action-clause-reads
-unfolding firsts may_be_empty read_then other_action
-returns-then-at_thread_action-clause-reads b c = search (rules, steps)
-
-pub returns-then-at_mask_action-clause-reads : goal.returns-then-at_mask_action-clause-reads
-unfolding firsts may_be_empty read_then other_action
-returns-then-at_mask_action-clause-reads b c = search (rules, steps)
 
 pub returns-clause-reads : goal.returns-clause-reads
 unfolding firsts may_be_empty read_then other_action

@@ -1,41 +1,21 @@
 use Rattle.std.proofs.Common.{rules}
 use Rattle.hs_grammar.specs.Parser.{firsts, may_be_empty, read_then}
 use Rattle.rules_grammar.specs.Grammar.{plain_atom}
-use Rattle.parse_leaves.proofs.Steps.{choose_yes, choose_no}
+use Rattle.parse_leaves.proofs.Steps.{steps}
 use Rattle.parse_operands.proofs.operand.plain_atom.Goals as goal
 
 pub returns-then-at_int-clause-reads : goal.returns-then-at_int-clause-reads
 unfolding firsts may_be_empty read_then plain_atom
-returns-then-at_int-clause-reads b c = search (rules, choose_yes, choose_no) depth 14 fits 4000
+returns-then-at_int-clause-reads b c = search (rules, steps)
 
 pub returns-then-at_text-clause-reads : goal.returns-then-at_text-clause-reads
 unfolding firsts may_be_empty read_then plain_atom
-returns-then-at_text-clause-reads b c = search (rules, choose_yes, choose_no) depth 14 fits 4000
+returns-then-at_text-clause-reads b c = search (rules, steps)
 
-pub returns-then-at_word-clause-reads : goal.returns-then-at_word-clause-reads
+pub returns-then-at_constant-clause-reads : goal.returns-then-at_constant-clause-reads
 unfolding firsts may_be_empty read_then plain_atom
-returns-then-at_word-clause-reads b c = search (rules, choose_yes, choose_no) depth 14 fits 4000
-
-pub returns-then-at_word-2-clause-reads : goal.returns-then-at_word-2-clause-reads
-unfolding firsts may_be_empty read_then plain_atom
-returns-then-at_word-2-clause-reads b c = search (rules, choose_yes, choose_no) depth 14 fits 4000
-
-pub returns-then-at_word-3-clause-reads : goal.returns-then-at_word-3-clause-reads
-unfolding firsts may_be_empty read_then plain_atom
-returns-then-at_word-3-clause-reads b c = search (rules, choose_yes, choose_no) depth 14 fits 4000
-
-pub returns-then-at_word-4-clause-reads : goal.returns-then-at_word-4-clause-reads
-unfolding firsts may_be_empty read_then plain_atom
-returns-then-at_word-4-clause-reads b c = search (rules, choose_yes, choose_no) depth 14 fits 4000
-
-pub returns-then-at_word-5-clause-reads : goal.returns-then-at_word-5-clause-reads
-unfolding firsts may_be_empty read_then plain_atom
-returns-then-at_word-5-clause-reads b c = search (rules, choose_yes, choose_no) depth 14 fits 4000
-
-pub returns-then-at_word-6-clause-reads : goal.returns-then-at_word-6-clause-reads
-unfolding firsts may_be_empty read_then plain_atom
-returns-then-at_word-6-clause-reads b c = search (rules, choose_yes, choose_no) depth 14 fits 4000
+returns-then-at_constant-clause-reads b c = search (rules, steps)
 
 pub returns-clause-reads : goal.returns-clause-reads
 unfolding firsts may_be_empty read_then plain_atom
-returns-clause-reads b c = search (rules, choose_yes, choose_no) depth 14 fits 4000
+returns-clause-reads b c = search (rules, steps)

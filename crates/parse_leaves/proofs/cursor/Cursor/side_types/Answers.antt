@@ -4,9 +4,9 @@ use Rattle.rules_grammar.specs.Grammar.{side_types}
 use Rattle.parse_leaves.proofs.Steps.{steps}
 use Rattle.parse_leaves.proofs.cursor.Cursor.side_types.Goals as goal
 
-pub returns-in_err-pos-clause-reads : goal.returns-in_err-pos-clause-reads
+pub returns-in_err-word-clause-reads : goal.returns-in_err-word-clause-reads
 unfolding firsts may_be_empty read_then side_types
-returns-in_err-pos-clause-reads c = search (rules, steps)
+returns-in_err-word-clause-reads c = search (rules, steps)
 
 pub returns-in_err-symbol-clause-reads : goal.returns-in_err-symbol-clause-reads
 unfolding firsts may_be_empty read_then side_types
