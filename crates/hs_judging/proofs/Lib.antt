@@ -3,6 +3,5 @@ pub mod Chains
 pub mod Expressions
 pub mod Actions
 pub mod Scripts
-pub mod Closed
 pub mod Least
 pub mod Capped

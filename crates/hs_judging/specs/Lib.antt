@@ -1,5 +1,4 @@
 pub mod Judging
 pub mod JudgingActions
 pub mod JudgingScripts
-pub mod Closed
 pub mod Least

@@ -1,1 +1,1 @@
-pub mod Capped
+pub mod Templates

@@ -5,6 +5,7 @@
 #![tactic(auto)]
 
 mod count;
+mod derived;
 mod nodes;
 
 pub use count::{add, greater};

@@ -1,15 +1,18 @@
 ghost use Rattle.std.specs.Prelude.{◌≡◌, ◌+◌, min};
 ghost use Rattle.rules_trees.specs.Trees.{ex_of, exs_of, arms_of, links_of, sum_links_of, list_links_of};
 ghost use Rattle.rules_trees.specs.Programs.{Bl, act_of, bl_of, stmt_of, act_arms_of, bd_of};
-ghost use Rattle.rules_expansion.specs.Sizes.{ex_size, exs_size, links_size, arms_size, body_size};
-ghost use Rattle.hs_judging.specs.Closed.{act_nodes, bl_nodes, act_arm_nodes, guard_nodes, unary_nodes};
+ghost use Rattle.rules_expansion.specs.Core.{CoreEx, Core};
+ghost use Rattle.rules_expansion.specs.Expansion.{unary_core, scoped_core, guard_core, core, block_core, arms_core};
+ghost use Rattle.rules_expansion.specs.Sizes.{ex_size, exs_size, links_size, arms_size, core_ex_size, core_size, body_size};
 
 use crate::count::add;
-use hs_base::tree::forms::{BinaryForm, GuardAction, UnaryAction};
+use crate::derived::{NO_BLOCK, NO_EXPRESSION, derived_nodes};
+use hs_base::tree::forms::{BinaryForm, BlockAction, GuardAction, UnaryAction};
 use hs_base::tree::{
     Action, Block, BlockArms, Body, Expr, ExprArms, Link, ListLink, Stmt, SumLink,
 };
 use hs_items::Items;
+use rules_expansion::Derived;
 
 /// The nodes of an expression.
 #[cycle(nodes)]
@@ -117,69 +120,112 @@ fn arm_nodes(arms: &ExprArms) -> u32
 
 /// The nodes of an action's expansion.
 #[cycle(actions)]
-#[tactic(auto, using(rules_trees::proofs::EquationsOfActions::act_rules, crate::proofs::Capped::guard_capped))]
+#[tactic(auto, using(rules_trees::proofs::EquationsOfActions::act_rules))]
 fn act_nodes(a: &Action) -> u32
-    ensures { result ≡ min (act_nodes (act_of a.now)) 1000001 }
+    ensures { result ≡ min (core_size (core (act_of a.now))) 1000001 }
 {
     match a {
         Action::Bare(_, _) => 1,
-        Action::Unary(w, _, e) => add(unary_nodes(*w), ex_nodes(e)),
+        Action::Unary(w, _, e) => unary_nodes(*w, ex_nodes(e)),
         Action::Binary(_, _, e, f) => over_two(f, ex_nodes(e)),
         Action::ThrowIo(_, _, e) => over(e),
         Action::NewEmptyMVar(_, _) => 1,
         Action::Call(_, es) => add(1, exs_nodes(es)),
         Action::If(_, e, b, d) => add(1, add(ex_nodes(e), add(bl_nodes(b), bl_nodes(d)))),
         Action::Case(_, e, arms) => add(1, add(ex_nodes(e), act_arm_nodes(arms.get()))),
-        Action::ModifyMVar(_, e, _, b) => add(17, add(ex_nodes(e), bl_nodes(b))),
-        Action::Scoped(_, _, b) => over_block(b),
+        Action::ModifyMVar(_, e, _, b) => {
+            derived_nodes(
+                Derived::ModifyMVar,
+                ex_nodes(e),
+                bl_nodes(b),
+                NO_BLOCK,
+                NO_BLOCK,
+            )
+        }
+        Action::Scoped(w, _, b) => scoped_nodes(*w, bl_nodes(b)),
         Action::Masking(_, _, _, b) => over_block(b),
         Action::Restore(_, _, b) => over_block(b),
         Action::Catch(_, b, _, d) => add(1, add(bl_nodes(b), bl_nodes(d))),
         Action::Guard(w, _, b, d) => guard_nodes(*w, bl_nodes(b), bl_nodes(d)),
         Action::Bracket(_, b, _, d, h) => {
-            let n = bl_nodes(d);
-            add(19, add(bl_nodes(b), add(add(n, n), bl_nodes(h))))
+            derived_nodes(
+                Derived::Bracket,
+                NO_EXPRESSION,
+                bl_nodes(b),
+                bl_nodes(d),
+                bl_nodes(h),
+            )
         }
         Action::Timeout(_, e, b) => {
-            let n = bl_nodes(b);
-            add(67, add(ex_nodes(e), add(n, n)))
+            derived_nodes(
+                Derived::Timeout,
+                ex_nodes(e),
+                bl_nodes(b),
+                NO_BLOCK,
+                NO_BLOCK,
+            )
         }
     }
 }
 
-/// What a word adds to the nodes of its expression.
-fn unary_nodes(o: UnaryAction) -> u32
-    ensures { result ≡ unary_nodes o }
+/// A word over an expression of `n` nodes.
+fn unary_nodes(w: UnaryAction, n: u32) -> u32
+    ensures { (e : CoreEx) → n ≡ min (core_ex_size e) 1000001 → result ≡ min (core_size (unary_core w e)) 1000001 }
 {
-    match o {
-        // `throwTo` with the exception `ThreadKilled`
-        UnaryAction::KillThread => 2,
-        _ => 1,
+    match w {
+        UnaryAction::KillThread => {
+            derived_nodes(Derived::KillThread, n, NO_BLOCK, NO_BLOCK, NO_BLOCK)
+        }
+        _ => add(1, n),
     }
 }
 
-/// The nodes of a block and of what is run after it, by the word between them.
-fn guard_nodes(o: GuardAction, m: u32, n: u32) -> u32
-    ensures { result ≡ min (guard_nodes o m n) 1000001 }
+/// A word over a block of `n` nodes.
+fn scoped_nodes(w: BlockAction, n: u32) -> u32
+    ensures { (a : Core) → n ≡ min (core_size a) 1000001 → result ≡ min (core_size (scoped_core w a)) 1000001 }
 {
-    match o {
-        GuardAction::OnException => add(4, add(m, n)),
-        GuardAction::Finally => add(10, add(m, add(n, n))),
+    match w {
+        BlockAction::ForkIo => add(1, n),
+        BlockAction::MaskOnly => {
+            derived_nodes(Derived::MaskOnly, NO_EXPRESSION, n, NO_BLOCK, NO_BLOCK)
+        }
+        BlockAction::UninterruptibleMaskOnly => {
+            derived_nodes(
+                Derived::UninterruptibleMaskOnly,
+                NO_EXPRESSION,
+                n,
+                NO_BLOCK,
+                NO_BLOCK,
+            )
+        }
+    }
+}
+
+/// A word over a block of `m` nodes and what is run after it, of `n`.
+fn guard_nodes(w: GuardAction, m: u32, n: u32) -> u32
+    ensures { (a c : Core) → m ≡ min (core_size a) 1000001 → n ≡ min (core_size c) 1000001 → result ≡ min (core_size (guard_core w a c)) 1000001 }
+{
+    match w {
+        GuardAction::OnException => {
+            derived_nodes(Derived::OnException, NO_EXPRESSION, m, n, NO_BLOCK)
+        }
+        GuardAction::Finally => derived_nodes(Derived::Finally, NO_EXPRESSION, m, n, NO_BLOCK),
     }
 }
 
 /// A node over a block.
 #[cycle(actions)]
 fn over_block(b: &Block) -> u32
-    ensures { result ≡ min (1 + bl_nodes (bl_of b.now)) 1000001 }
+    ensures { result ≡ min (1 + core_size (block_core (bl_of b.now))) 1000001 }
 {
     add(1, bl_nodes(b))
 }
 
+/// What the arms add to a `case` of an expression.
 #[cycle(actions)]
 #[tactic(auto, using(rules_trees::proofs::EquationsOfActions::act_arms_rules))]
 fn act_arm_nodes(arms: &BlockArms) -> u32
-    ensures { result ≡ min (act_arm_nodes (act_arms_of arms.now)) 1000001 }
+    ensures { (e : CoreEx) → min (core_size (arms_core e (act_arms_of arms.now))) 1000001 ≡ min (1 + core_ex_size e + result) 1000001 }
 {
     match arms {
         BlockArms::OfMaybe(a, _, b) => add(bl_nodes(a), bl_nodes(b)),
@@ -193,7 +239,7 @@ fn act_arm_nodes(arms: &BlockArms) -> u32
 #[cycle(actions)]
 #[tactic(auto, using(rules_trees::proofs::EquationsOfActions::stmt_rules))]
 fn stmt_nodes(st: &Stmt) -> u32
-    ensures { (rest : Bl) → min (bl_nodes (stmt_of st.now rest)) 1000001 ≡ min (result + bl_nodes rest) 1000001 }
+    ensures { (rest : Bl) → min (core_size (block_core (stmt_of st.now rest))) 1000001 ≡ min (result + core_size (block_core rest)) 1000001 }
 {
     match st {
         Stmt::Do(a) => add(1, act_nodes(a)),
@@ -205,7 +251,7 @@ fn stmt_nodes(st: &Stmt) -> u32
 #[cycle(actions)]
 #[tactic(auto, using(rules_trees::proofs::EquationsOfActions::bl_is))]
 fn bl_nodes(b: &Block) -> u32
-    ensures { result ≡ min (bl_nodes (bl_of b.now)) 1000001 }
+    ensures { result ≡ min (core_size (block_core (bl_of b.now))) 1000001 }
 {
     let mut n = 0;
     'stmts: for st in b.stmts.as_slice() {
@@ -215,7 +261,6 @@ fn bl_nodes(b: &Block) -> u32
 }
 
 /// The expanded size of a body.
-#[tactic(auto, using(hs_judging::proofs::Closed::body_is))]
 pub fn body_nodes(b: &Body) -> u32
     ensures { result ≡ min (body_size (bd_of b.now)) 1000001 }
 {

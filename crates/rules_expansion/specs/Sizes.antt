@@ -5,6 +5,11 @@ use Rattle.std.specs.Prelude.{ℕ, ◌+◌, List, [], ◌∷◌}
 use Rattle.rules_trees.specs.Trees.{Ex, Exs, Links, Arms, lit, name, unary, binary, chain, conses, choose, items, empty, side, given, case, none, more, end, link, maybe_arms, either_arms, list_arms, pair_arms}
 use Rattle.rules_expansion.specs.Core.{CoreEx, OfScript, Read, JustRead, NoValue, BelowZero, IsZero, SameExn, Killed, Core, Return, ThrowIo, Let, Bind, If, CaseMaybe, CaseEither, CaseList, CasePair, Call, Perform, Fork, ForkUnmask, Catch, MaskWith, MaskHard, Restore}
 use Rattle.rules_trees.specs.Programs.{Bd, pure_body, io_body}
+use Rattle.rules_expansion.specs.declared.template.Operand.{Operand}
+use Rattle.rules_expansion.specs.declared.template.Operand.TheVariants as x
+use Rattle.rules_expansion.specs.declared.template.Part.{Part}
+use Rattle.rules_expansion.specs.declared.template.Step.{Step}
+use Rattle.rules_expansion.specs.declared.template.Step.TheVariants as s
 use Rattle.rules_expansion.specs.Expansion.{block_core}
 
 -- the nodes of an expression: each operator of a chain is one
@@ -75,3 +80,41 @@ core_size (Restore r a) = 1 + core_size a
 abbrev pub body_size : Bd → ℕ
 body_size (pure_body w e) = ex_size e
 body_size (io_body w a) = core_size (block_core a)
+
+-- ---- the steps of a template, where the form's expression has m nodes and its blocks have n
+
+-- the expression that stands for an operand
+abbrev pub operand_size : ℕ → Operand → ℕ
+operand_size m x.Subject = m
+operand_size m (x.Read y) = 1
+operand_size m (x.JustRead y) = 2
+operand_size m x.NoValue = 1
+operand_size m (x.BelowZero y) = 3
+operand_size m (x.IsZero y) = 3
+operand_size m (x.SameExn y z) = 3
+operand_size m x.Killed = 1
+
+-- what a step puts on: a name that enters the scope or leaves it is no node
+abbrev pub step_size : ℕ → (Part → ℕ) → Step → ℕ
+step_size m n (s.Hole i) = n i
+step_size m n (s.Under y) = 0
+step_size m n s.Off = 0
+step_size m n (s.Push e) = operand_size m e
+step_size m n s.Return = 1
+step_size m n s.Throw = 1
+step_size m n s.Let = 1
+step_size m n s.Bind = 1
+step_size m n s.Then = 1
+step_size m n s.If = 1
+step_size m n (s.Perform q) = 1
+step_size m n (s.PerformOne q) = 1
+step_size m n (s.PerformTwo q) = 1
+step_size m n s.ForkUnmask = 1
+step_size m n s.Catch = 1
+step_size m n s.Mask = 1
+step_size m n s.MaskHard = 1
+step_size m n (s.Restore y) = 1
+
+abbrev pub steps_size : ℕ → (Part → ℕ) → List Step → ℕ
+steps_size m n [] = 0
+steps_size m n (k ∷ ks) = step_size m n k + steps_size m n ks
