@@ -1,5 +1,5 @@
 -- Forms whose first parts stand already, and the rest of a form after its first parts.
-use Rattle.std.proofs.Common.{◌≡◌, sym, subst}
+use Rattle.std.proofs.Common.{◌≡◌, ℕ, Option, ap, ◌∙◌, sym, subst}
 use Rattle.std.proofs.lemmas.Result.{IfOk-weaker}
 use Rattle.std.specs.Prelude.{List, Result, IfOk}
 use Rattle.rules_code.specs.declared.node.ExprId.{ExprId}
@@ -13,7 +13,11 @@ use Rattle.hs_core.specs.declared.defs.Defs.{Defs}
 use Rattle.hs_core.specs.declared.emitter.ActEmitter.{ActEmitter}
 use Rattle.hs_core.specs.Defining.{Knows}
 use Rattle.hs_core.specs.Emits.{DoneIn, StandsIn, Emits, EmitsEx, Pushed}
-use Rattle.hs_core.specs.Opening.{action_tree}
+use Rattle.hs_core.specs.Opening.{core_tree, action_tree}
+use Rattle.hs_core.specs.Making.{filling_of}
+use Rattle.hs_base.specs.declared.tree.expr.Expr.{Expr}
+use Rattle.rules_expansion.specs.declared.template.Derived.{Derived}
+use Rattle.rules_expansion.specs.Expansion.{core, derived}
 use Rattle.hs_core.proofs.ActArena.{knows_on}
 use Rattle.hs_core.proofs.Steps.{goes, goes_ex, goes_on, kept, kept_ex, at, emits, follow, done_ex2}
 
@@ -59,6 +63,12 @@ held_branch d t r mk mt dec f p = emits (goes f) p (λ k. done_ex2 mk mt dec p (
 
 pub all_as_action : {E : Type 0} (r : Result ActId E) (a n : ActEmitter) (d : Defs) (p q : Action) → q ≡ p → IfOk r (λ id. Emits (Knows a.emitter.nodes d) a n id (λ s. action_tree d s p)) → IfOk r (λ id. Emits (Knows a.emitter.nodes d) a n id (λ s. action_tree d s q))
 all_as_action r a n d p q e h = subst (λ z. IfOk r (λ id. Emits (Knows a.emitter.nodes d) a n id (λ s. action_tree d s z))) (sym e) h
+
+-- an action that stands for others, with its own parts in its template
+pub as_filled : {E : Type 0} (r : Result ActId E) (a n : ActEmitter) (d : Defs) (o : Derived) (e : Option Expr) (x : Option (List ℕ)) (p q : Action) → q ≡ p → core p ≡ derived o (filling_of e x p)
+    → IfOk r (λ id. Emits (Knows a.emitter.nodes d) a n id (λ s. core_tree d s (derived o (filling_of e x q)))) → IfOk r (λ id. Emits (Knows a.emitter.nodes d) a n id (λ s. action_tree d s q))
+as_filled r a n d o e x p q is same h =
+    subst (λ z. IfOk r (λ id. Emits (Knows a.emitter.nodes d) a n id (λ s. core_tree d s z))) (sym (ap core is ∙ (same ∙ ap (λ z. derived o (filling_of e x z)) (sym is)))) h
 
 pub act_then : {E : Type 0} {b : ActEmitter} {i : ActId} (r : Result ActId E) (a n : ActEmitter) (t : Scope → Sa) (d : Defs) (mt : Scope → Sa → Sa) → Emits (Knows a.emitter.nodes d) a b i t
     → ((x : Sa) → IfOk r (λ id. Emits (Knows b.emitter.nodes d × DoneIn b i x) b n id (λ s. mt s x))) → IfOk r (λ id. Emits (Knows a.emitter.nodes d) a n id (λ s. mt s (t s)))

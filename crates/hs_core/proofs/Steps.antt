@@ -92,13 +92,13 @@ pushed {a = o} {b = n} {id = j} {k = l} p h = record {
   is = (λ more. ap (λ z. act_tree_at (z.nodes ++ more) n.acts j) p.emitter ∙ (ap (λ z. act_tree_at (o.emitter.nodes ++ more) z j) p.acts ∙ (act_tree_at-last (o.emitter.nodes ++ more) o.acts l j p.id_is ∙ h more)));
 }
 
-read_at : (a : ActEmitter) {i : ExprId} {t : Sx} → StandsIn a i t → (more : List Node) → tree_in (trees (a.emitter.nodes ++ more)) i ≡ t
+pub read_at : (a : ActEmitter) {i : ExprId} {t : Sx} → StandsIn a i t → (more : List Node) → tree_in (trees (a.emitter.nodes ++ more)) i ≡ t
 read_at o {i = j} h more = tree_at-more o.emitter.nodes more j h.below ∙ h.is
 
 pub emits : {K : Type 0} {a b d : ActEmitter} {id : ActId} {k : Act} {t : Scope → Sa} → Goes a b → Pushed b d id k → (K → DoneIn d id (t (scope_of a.emitter.scope))) → Emits K a d id t
 emits g p h = let w = goes_on g (goes_push p) in record { nodes = w.nodes; acts = w.acts; scope = w.scope; is = h }
 
-stays : {a : ActEmitter} → Goes a a
+pub stays : {a : ActEmitter} → Goes a a
 stays = record { nodes = grows_same refl; acts = grows_same refl; scope = refl }
 
 -- where what is given can't be
