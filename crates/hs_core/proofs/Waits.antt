@@ -1,6 +1,7 @@
 -- Numbers that wait, and the steps that take them off.
 use Rattle.std.proofs.Common.{◌≡◌, ℕ, ◌+◌, ◌<◌, ◌≤◌, List, [], ◌∷◌, ◌++◌, length, get_or, drop, zero, suc, refl, ap, ◌∙◌, sym, subst, arith, length-append}
 use Rattle.std.specs.Prelude.{Result, OnOk}
+use Rattle.std.proofs.Math.Seq.{drop-cons}
 use Rattle.hs_base.specs.declared.tree.forms.EmptyForm.TheVariants as n
 use Rattle.rules_code.specs.declared.node.Node.{Node}
 use Rattle.rules_code.specs.declared.node.ExprId.{ExprId}
@@ -292,7 +293,7 @@ gone_none {a = o} d f form b e g l = record {
   rest = ap (λ z. run (roots d) (functions d) (scope_of o.emitter.scope) f z nothing_waits) l;
 }
 
-pub gone_step : {a b n : ActEmitter} {m l : Making} {left rest : List Step} (d : Defs) (f : Filling) (form : Derived) (x : Step) → left ≡ x ∷ rest → Gone d f form a b m left
+gone_step : {a b n : ActEmitter} {m l : Making} {left rest : List Step} (d : Defs) (f : Filling) (form : Derived) (x : Step) → left ≡ x ∷ rest → Gone d f form a b m left
     → Moves d b n m l (λ s. after (roots d) (functions d) s f x) → Gone d f form a n l rest
 gone_step {a = o} d f form x e h g =
     let s = o.emitter.scope in
@@ -305,6 +306,16 @@ gone_step {a = o} d f form x e h g =
       is = (λ k. z.is (h.is k));
       rest = ap (λ y. run (roots d) (functions d) (scope_of s) f y h.trees) (sym e) ∙ h.rest;
     }
+
+pub gone_at : {a b n : ActEmitter} {m l : Making} (d : Defs) (f : Filling) (form : Derived) (all : List Step) (i : ℕ) (x : Step) → all ≡ steps form → i < length all → Gone d f form a b m (drop i (steps form))
+    → Moves d b n m l (λ s. after (roots d) (functions d) s f (get_or all i x)) → Gone d f form a n l (drop (i + 1) (steps form))
+gone_at d f form all i x e lt h g =
+    let k : length all ≡ length (steps form) = ap length e in
+    let y : i + 1 ≡ suc i = omega arith in
+    gone_step d f form (get_or all i x) (drop-cons (steps form) i x (omega (arith, lt, k)) ∙ (ap (λ z. get_or z i x ∷ drop (suc i) (steps form)) (sym e) ∙ ap (λ j. get_or all i x ∷ drop j (steps form)) (sym y))) h g
+
+pub gone_as : {d : Defs} {f : Filling} {form : Derived} {a b n : ActEmitter} {m l : Making} {left : List Step} → b ≡ n → m ≡ l → Gone d f form a n l left → Gone d f form a b m left
+gone_as {d = d'} {f = f'} {form = o} {a = a'} {b = b'} {l = l'} {left = xs} e g h = subst (λ z. Gone d' f' o a' b' z xs) (sym g) (subst (λ z. Gone d' f' o a' z l' xs) (sym e) h)
 
 pub gone_all : {a b : ActEmitter} {m : Making} {ids : List ActId} {id : ActId} {left : List Step} (d : Defs) (f : Filling) (form : Derived) → left ≡ [] → Gone d f form a b m left → ((us : List Sa) → ActOff b m.acts ids id us)
     → Emits (Knows a.emitter.nodes d) a b id (λ s. core_tree d s (derived form f))

@@ -9,14 +9,17 @@ use Rattle.rules_code.specs.Slots.{slot_of, slotted}
 use Rattle.rules_code.specs.CodeTrees.{a_if, a_maybe, a_either, a_list, a_pair, a_fork, a_fork_unmask, a_catch, a_mask, a_mask_hard, a_restore, slot_or_end}
 use Rattle.hs_nodes.specs.declared.names.Bound.TheVariants as w
 use Rattle.hs_core.specs.Defining.{roots}
-use Rattle.hs_core.specs.Opening.{block_tree, arms_tree}
+use Rattle.hs_core.specs.Opening.{core_tree, block_tree, arms_tree}
 use Rattle.hs_core.proofs.Afterwards.{held_branch, all_as_action, act_then, ex_act_then}
 use Rattle.hs_core.proofs.Steps.{one, first, under, after1}
 use Rattle.hs_core.proofs.Openings.{opens_first, opens_step, opens_bind, opens_let, opens_then, block_is, after_known, as_core, as_action, as_case, arms_two, arms_one, as_arms}
 use Rattle.std.specs.Option.{option_copied}
+use Rattle.rules_expansion.specs.declared.template.Part.TheVariants as part
+use Rattle.rules_expansion.specs.declared.template.Step.TheVariants as p
 use Rattle.rules_expansion.specs.Templates.{steps}
 use Rattle.hs_core.specs.Making.{filling_of}
-use Rattle.hs_core.proofs.Waits.{gone_none, gone_step, gone_all, moves_block, as_moves, drop_past}
+use Rattle.hs_core.proofs.Waits.{gone_none, gone_at, gone_as, gone_all, moves_block, as_moves, drop_past}
+use Rattle.hs_core.proofs.emitter.ActEmitter.+expand.Goals.{derived-in-Hole+in_ok-i-in-Hole+in_ok-add-in-Hole, derived-in_default+in_ok-step-in_default}
 use Rattle.hs_core.proofs.emitter.ActEmitter.+expand.Goals as goal
 
 pub named-returns : goal.named-returns
@@ -115,8 +118,20 @@ derived-steps-init t c =
     gone_none c.args.defs.now (filling_of (option_copied c.args.subject) (option_copied c.args.name) (act_of c.args.a.now)) c.args.form c.len.ensures c.new.ensures c.new-2.ensures refl
 
 pub derived-steps-preserved : goal.derived-steps-preserved
-derived-steps-preserved t c = let h = c.steps in let i = c.match-step in ?
+derived-steps-preserved t c =
+    let d = c.args.defs.now in
+    let f = filling_of (option_copied c.args.subject) (option_copied c.args.name) (act_of c.args.a.now) in
+    let all = c.steps-step-items.result.now in
+    let x = get_or all c.steps.step-index (p.Hole part.First) in
+    elim c.match-step.branch
+      [ derived-in-Hole+in_ok-i-in-Hole+in_ok-add-in-Hole w ↦
+          gone_as w.self-is w.making-is (gone_at d f c.args.form all c.steps.step-index (p.Hole part.First) c.steps-step-items.ensures c.steps-test.true c.steps.invariant
+          (as_moves d f x (p.Hole w.in-Hole.part) w.in-Hole.is (moves_block d (λ s. core_tree d s (f.block w.in-Hole.part)) w.in_ok-i-in-Hole.ensures w.in_ok-add-in-Hole.ensures.ok)))
+      | derived-in_default+in_ok-step-in_default w ↦
+          gone_as w.self-is w.making-is (gone_at d f c.args.form all c.steps.step-index (p.Hole part.First) c.steps-step-items.ensures c.steps-test.true c.steps.invariant
+          (w.in_ok-step-in_default.ensures f refl (sym c.in_ok-given.ensures) w.in_default.not-Hole))
+      ]
 
 pub derived-returns : goal.derived-returns
 derived-returns t c =
-    gone_all c.args.defs.now (filling_of (option_copied c.args.subject) (option_copied c.args.name) (act_of c.args.a.now)) c.args.form (drop_past (steps c.args.form) c.steps.step-index (let l = ap length c.steps-items.ensures in let e = c.steps-test.false in omega (arith, l, e))) c.steps.invariant c.act_off-id.ensures
+    gone_all c.args.defs.now (filling_of (option_copied c.args.subject) (option_copied c.args.name) (act_of c.args.a.now)) c.args.form (drop_past (steps c.args.form) c.steps.step-index (let l = ap length c.steps-step-items.ensures in let e = c.steps-test.false in omega (arith, l, e))) c.steps.invariant c.act_off-id.ensures
