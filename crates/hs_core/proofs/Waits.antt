@@ -213,9 +213,6 @@ moves_scope {a = o} {m = v} {scope = z} d t ns h e = record {
   is = (λ q. record { known = q.known; operands = operands_on o (at_scope o z) v.operands t.operands (grows_same refl) q.operands; acts = acts_on o (at_scope o z) v.acts t.acts (grows_same refl) (grows_same refl) q.acts });
 }
 
-pub moves_under : {a : ActEmitter} {m : Making} {scope : List Bound} (d : Defs) (x : Bound) → scope ≡ a.emitter.scope ++ x ∷ [] → Moves d a (at_scope a scope) m m (λ s. under x)
-moves_under d x e = λ start t h. moves_scope d t (x ∷ t.names) h (e ∙ ap (λ z. z ++ x ∷ []) h.scope)
-
 pub moves_off : {a : ActEmitter} {m : Making} {scope : List Bound} (d : Defs) → m.base < length a.emitter.scope → ((xs : List Bound) (x : Bound) → a.emitter.scope ≡ xs ++ x ∷ [] → scope ≡ xs) → Moves d a (at_scope a scope) m m (λ s. leaving)
 moves_off {a = o} {scope = w} d l f = λ start t h. let b = h.base in moves_scope d t (behind t.names) h (left_scope start o.emitter.scope w t.names (omega (arith, l, b)) h.scope f)
 
@@ -272,7 +269,6 @@ drop_past [] zero l = refl
 drop_past [] (suc n) l = refl
 drop_past (x ∷ xs) zero l = absurd (omega arith)
 drop_past (x ∷ xs) (suc n) l = drop_past xs n (omega arith)
-
 
 -- how far the steps of a template are gone through
 pub record Gone (d : Defs) (f : Filling) (form : Derived) (first now : ActEmitter) (m : Making) (left : List Step) : Type 0 where

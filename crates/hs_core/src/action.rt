@@ -51,7 +51,14 @@ impl ActEmitter {
             }
             Action::Scoped(word, _, b) => match *word {
                 BlockAction::ForkIo => self.fork_form(alloc, defs, b),
-                BlockAction::MaskOnly => self.derived(alloc, defs, Derived::MaskOnly, None, None, a),
+                BlockAction::MaskOnly => self.derived(
+                    alloc,
+                    defs,
+                    Derived::MaskOnly,
+                    None,
+                    None,
+                    a,
+                ),
                 BlockAction::UninterruptibleMaskOnly => {
                     self.derived(alloc, defs, Derived::UninterruptibleMaskOnly, None, None, a)
                 }

@@ -1,11 +1,11 @@
 //! The nodes of a code so far, and the single steps that add to them.
 use crate::defs::Defs;
+use hs_base::tree::forms::{BinaryForm, EmptyForm, UnaryForm};
 use hs_base::{Exn, Expr, NoMemory, Txt};
 use hs_items::Items;
 use hs_nodes::Emitter;
-use rules_expansion::Hidden;
 use rules_code::{Act, ActId, ExprId, Node, Primitive};
-use hs_base::tree::forms::{BinaryForm, EmptyForm, UnaryForm};
+use rules_expansion::Hidden;
 use std::alloc::Global;
 
 /// The nodes of expressions with the names of the scope, and the nodes of actions.

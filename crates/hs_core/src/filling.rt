@@ -74,12 +74,7 @@ impl ActEmitter {
     }
 
     /// A name, compared with 0.
-    fn against_zero(
-        &mut self,
-        op: BinaryForm,
-        x: Binder,
-        given: &Txt,
-    ) -> Result<ExprId, NoMemory>
+    fn against_zero(&mut self, op: BinaryForm, x: Binder, given: &Txt) -> Result<ExprId, NoMemory>
         ensures { IfOk result (λ id. EmitsEx Nothing_given self.old self.new id (λ s. s_binary op (slot_read s (named given.now x)) (s_literal (number (pos 0))))) }
     {
         let e = self.read_bound(x, given)?;

@@ -20,12 +20,7 @@ impl ActEmitter {
     ghost use Rattle.hs_core.specs.Opening.{core_tree};
 
     /// A word alone.
-    pub fn bare(
-        &mut self,
-        alloc: Global,
-        defs: &Defs,
-        word: BareAction,
-    ) -> Result<ActId, NoMemory>
+    pub fn bare(&mut self, alloc: Global, defs: &Defs, word: BareAction) -> Result<ActId, NoMemory>
         ensures { IfOk result (λ id. Emits (Knows self.old.emitter.nodes defs.now) self.old self.new id (λ s. core_tree defs.now s (bare_core word))) }
     {
         match word {
@@ -72,7 +67,13 @@ impl ActEmitter {
     {
         match word {
             BinaryAction::PutMVar => self.primitive_two(alloc, defs, Primitive::PutMVar, e, f),
-            BinaryAction::TryPutMVar => self.primitive_two(alloc, defs, Primitive::TryPutMVar, e, f),
+            BinaryAction::TryPutMVar => self.primitive_two(
+                alloc,
+                defs,
+                Primitive::TryPutMVar,
+                e,
+                f,
+            ),
             BinaryAction::ThrowTo => self.primitive_two(alloc, defs, Primitive::ThrowTo, e, f),
         }
     }

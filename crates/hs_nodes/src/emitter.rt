@@ -3,8 +3,8 @@ use crate::names::Bound;
 use crate::places::Places;
 use hs_base::{NoMemory, Txt};
 use hs_items::Items;
-use rules_expansion::Hidden;
 use rules_code::{ExprId, Node};
+use rules_expansion::Hidden;
 
 #[derive(Drop)]
 pub struct Emitter {

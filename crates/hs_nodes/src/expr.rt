@@ -9,12 +9,12 @@ ghost use Rattle.hs_nodes.specs.Names.{scope_of};
 use crate::emitter::Emitter;
 use crate::names::{bind, off};
 use crate::places::Places;
+use hs_base::tree::forms::{BinaryForm, SideForm, UnaryForm};
 use hs_base::{
     CompareOp, ConsOp, Constant, Exn, Expr, ExprArms, Link, ListLink, NoMemory, SumLink, SumOp, Txt,
 };
 use hs_items::{Boxed, Items};
 use rules_code::{ExprId, Node, NodeLink};
-use hs_base::tree::forms::{BinaryForm, SideForm, UnaryForm};
 use std::alloc::Global;
 
 fn constant(constant: Constant) -> Node

@@ -123,14 +123,14 @@ derived-steps-preserved t c =
     let f = filling_of (option_copied c.args.subject) (option_copied c.args.name) (act_of c.args.a.now) in
     let all = c.steps-step-items.result.now in
     let x = get_or all c.steps.step-index (p.Hole part.First) in
-    elim c.match-step.branch
-      [ derived-in-Hole+in_ok-i-in-Hole+in_ok-add-in-Hole w ↦
+    elim c.match-step.branch [
+      | derived-in-Hole+in_ok-i-in-Hole+in_ok-add-in-Hole w ↦
           gone_as w.self-is w.making-is (gone_at d f c.args.form all c.steps.step-index (p.Hole part.First) c.steps-step-items.ensures c.steps-test.true c.steps.invariant
           (as_moves d f x (p.Hole w.in-Hole.part) w.in-Hole.is (moves_block d (λ s. core_tree d s (f.block w.in-Hole.part)) w.in_ok-i-in-Hole.ensures w.in_ok-add-in-Hole.ensures.ok)))
       | derived-in_default+in_ok-step-in_default w ↦
           gone_as w.self-is w.making-is (gone_at d f c.args.form all c.steps.step-index (p.Hole part.First) c.steps-step-items.ensures c.steps-test.true c.steps.invariant
           (w.in_ok-step-in_default.ensures f refl (sym c.in_ok-given.ensures) w.in_default.not-Hole))
-      ]
+    ]
 
 pub derived-returns : goal.derived-returns
 derived-returns t c =
