@@ -1,5 +1,5 @@
 -- Forms whose first parts stand already, and the rest of a form after its first parts.
-use Rattle.std.proofs.Common.{◌≡◌, sym, subst}
+use Rattle.std.proofs.Common.{◌≡◌, ℕ, Option, ap, ◌∙◌, sym, subst}
 use Rattle.std.proofs.lemmas.Result.{IfOk-weaker}
 use Rattle.std.specs.Prelude.{List, Result, IfOk}
 use Rattle.rules_code.specs.declared.node.ExprId.{ExprId}
@@ -13,42 +13,15 @@ use Rattle.hs_core.specs.declared.defs.Defs.{Defs}
 use Rattle.hs_core.specs.declared.emitter.ActEmitter.{ActEmitter}
 use Rattle.hs_core.specs.Defining.{Knows}
 use Rattle.hs_core.specs.Emits.{DoneIn, StandsIn, Emits, EmitsEx, Pushed}
-use Rattle.hs_core.specs.Opening.{action_tree}
+use Rattle.hs_core.specs.Opening.{core_tree, action_tree}
+use Rattle.hs_core.specs.Making.{filling_of}
+use Rattle.hs_base.specs.declared.tree.expr.Expr.{Expr}
+use Rattle.rules_expansion.specs.declared.template.Derived.{Derived}
+use Rattle.rules_expansion.specs.Expansion.{core, derived}
 use Rattle.hs_core.proofs.ActArena.{knows_on}
 use Rattle.hs_core.proofs.Steps.{goes, goes_ex, goes_on, kept, kept_ex, at, emits, follow, done_ex2}
 
 -- ---- what stood before, and blocks after it
-
-pub held_ex_one : {a m n : ActEmitter} {e : ExprId} {i id : ActId} {u : Scope → Sa} (d : Defs) (t : Sx) (mt : Scope → Sx → Sa → Sa) → Emits (Knows a.emitter.nodes d) a m i u
-    → ((x : Sx) (y : Sa) → Emits (StandsIn m e x × DoneIn m i y) m n id (λ s. mt s x y)) → Emits (Knows a.emitter.nodes d × StandsIn a e t) a n id (λ s. mt s t (u s))
-held_ex_one {a = o} {u = u'} d t mt f q =
-    let s = scope_of o.emitter.scope in
-    let z = q t (u' s) in
-    follow (goes f) (goes z) (λ k. at {t = λ x. mt x t (u' s)} (goes f) z (kept_ex (goes f) k.1, f.is k.0))
-
-pub held_ex_two : {a b m n : ActEmitter} {e : ExprId} {i j id : ActId} {u v : Scope → Sa} (d : Defs) (t : Sx) (mt : Scope → Sx → Sa → Sa → Sa) → Emits (Knows a.emitter.nodes d) a b i u → Emits (Knows b.emitter.nodes d) b m j v
-    → ((x : Sx) (y z : Sa) → Emits (StandsIn m e x × DoneIn m i y × DoneIn m j z) m n id (λ s. mt s x y z)) → Emits (Knows a.emitter.nodes d × StandsIn a e t) a n id (λ s. mt s t (u s) (v s))
-held_ex_two {a = o} {u = u'} {v = v'} d t mt e f q =
-    let s = scope_of o.emitter.scope in
-    let z = q t (u' s) (v' s) in
-    let w = goes_on (goes e) (goes f) in
-    follow w (goes z) (λ k. at {t = λ x. mt x t (u' s) (v' s)} w z (kept_ex w k.1, kept (goes f) (e.is k.0), at (goes e) f (knows_on e.nodes k.0)))
-
-pub held_two : {a b m n : ActEmitter} {h i j id : ActId} {u v : Scope → Sa} (d : Defs) (t : Sa) (mt : Scope → Sa → Sa → Sa → Sa) → Emits (Knows a.emitter.nodes d) a b i u → Emits (Knows b.emitter.nodes d) b m j v
-    → ((x y z : Sa) → Emits (DoneIn m h x × DoneIn m i y × DoneIn m j z) m n id (λ s. mt s x y z)) → Emits (Knows a.emitter.nodes d × DoneIn a h t) a n id (λ s. mt s t (u s) (v s))
-held_two {a = o} {u = u'} {v = v'} d t mt e f q =
-    let s = scope_of o.emitter.scope in
-    let z = q t (u' s) (v' s) in
-    let w = goes_on (goes e) (goes f) in
-    follow w (goes z) (λ k. at {t = λ x. mt x t (u' s) (v' s)} w z (kept w k.1, kept (goes f) (e.is k.0), at (goes e) f (knows_on e.nodes k.0)))
-
-pub held_both : {a b m n : ActEmitter} {g h i j id : ActId} {u v : Scope → Sa} (d : Defs) (r t : Sa) (mt : Scope → Sa → Sa → Sa → Sa → Sa) → Emits (Knows a.emitter.nodes d) a b i u → Emits (Knows b.emitter.nodes d) b m j v
-    → ((w x y z : Sa) → Emits (DoneIn m g w × DoneIn m h x × DoneIn m i y × DoneIn m j z) m n id (λ s. mt s w x y z)) → Emits (Knows a.emitter.nodes d × DoneIn a g r × DoneIn a h t) a n id (λ s. mt s r t (u s) (v s))
-held_both {a = o} {u = u'} {v = v'} d r t mt e f q =
-    let s = scope_of o.emitter.scope in
-    let z = q r t (u' s) (v' s) in
-    let w = goes_on (goes e) (goes f) in
-    follow w (goes z) (λ k. at {t = λ x. mt x r t (u' s) (v' s)} w z (kept w k.1, kept w k.2, kept (goes f) (e.is k.0), at (goes e) f (knows_on e.nodes k.0)))
 
 pub held_branch : {a m n : ActEmitter} {e : ExprId} {i j id : ActId} {v : Scope → Sa} (d : Defs) (t : Sx) (r : Sa) (mk : ExprId → ActId → ActId → Act) (mt : Sx → Sa → Sa → Sa)
     → ((ts : List Sx) (us : List Sa) (x : ExprId) (y z : ActId) → act_decode ts us (mk x y z) ≡ mt (tree_in ts x) (act_in us y) (act_in us z))
@@ -67,13 +40,6 @@ act_then {b = m} {i = j} r a n t d mt e h =
     IfOk-weaker r (λ id. Emits (Knows m.emitter.nodes d × DoneIn m j u) m n id (λ s. mt s u)) (λ id. Emits (Knows a.emitter.nodes d) a n id (λ s. mt s (t s)))
     (λ id z. follow (goes e) (goes z) (λ k. at {t = λ s. mt s u} (goes e) z (knows_on e.nodes k, e.is k))) (h u)
 
-pub ex_then : {E : Type 0} {b : ActEmitter} {e : ExprId} (r : Result ActId E) (a n : ActEmitter) (t : Scope → Sx) (d : Defs) (mt : Scope → Sx → Sa) → EmitsEx (Knows a.emitter.nodes d) a b e t
-    → ((x : Sx) → IfOk r (λ id. Emits (Knows b.emitter.nodes d × StandsIn b e x) b n id (λ s. mt s x))) → IfOk r (λ id. Emits (Knows a.emitter.nodes d) a n id (λ s. mt s (t s)))
-ex_then {b = m} {e = j} r a n t d mt e h =
-    let u : Sx = t (scope_of a.emitter.scope) in
-    IfOk-weaker r (λ id. Emits (Knows m.emitter.nodes d × StandsIn m j u) m n id (λ s. mt s u)) (λ id. Emits (Knows a.emitter.nodes d) a n id (λ s. mt s (t s)))
-    (λ id z. follow (goes_ex e) (goes z) (λ k. at {t = λ s. mt s u} (goes_ex e) z (knows_on e.nodes k, e.is k))) (h u)
-
 pub ex_act_then : {E : Type 0} {b m : ActEmitter} {e : ExprId} {i : ActId} (r : Result ActId E) (a n : ActEmitter) (t : Scope → Sx) (v : Scope → Sa) (d : Defs) (mt : Scope → Sx → Sa → Sa) → EmitsEx (Knows a.emitter.nodes d) a b e t → Emits (Knows b.emitter.nodes d) b m i v
     → ((x : Sx) (y : Sa) → IfOk r (λ id. Emits (Knows m.emitter.nodes d × StandsIn m e x × DoneIn m i y) m n id (λ s. mt s x y))) → IfOk r (λ id. Emits (Knows a.emitter.nodes d) a n id (λ s. mt s (t s) (v s)))
 ex_act_then {m = l} {e = g} {i = j} r a n t v d mt e f h =
@@ -82,12 +48,3 @@ ex_act_then {m = l} {e = g} {i = j} r a n t v d mt e f h =
     let w = goes_on (goes_ex e) (goes f) in
     IfOk-weaker r (λ id. Emits (Knows l.emitter.nodes d × StandsIn l g u × DoneIn l j y) l n id (λ s. mt s u y)) (λ id. Emits (Knows a.emitter.nodes d) a n id (λ s. mt s (t s) (v s)))
     (λ id z. follow w (goes z) (λ k. at {t = λ s. mt s u y} w z (knows_on f.nodes (knows_on e.nodes k), kept_ex (goes f) (e.is k), at (goes_ex e) f (knows_on e.nodes k)))) (h u y)
-
-pub acts_then : {E : Type 0} {b m : ActEmitter} {i j : ActId} (r : Result ActId E) (a n : ActEmitter) (t v : Scope → Sa) (d : Defs) (mt : Scope → Sa → Sa → Sa) → Emits (Knows a.emitter.nodes d) a b i t → Emits (Knows b.emitter.nodes d) b m j v
-    → ((x y : Sa) → IfOk r (λ id. Emits (Knows m.emitter.nodes d × DoneIn m i x × DoneIn m j y) m n id (λ s. mt s x y))) → IfOk r (λ id. Emits (Knows a.emitter.nodes d) a n id (λ s. mt s (t s) (v s)))
-acts_then {m = l} {i = g} {j = p} r a n t v d mt e f h =
-    let u : Sa = t (scope_of a.emitter.scope) in
-    let y : Sa = v (scope_of a.emitter.scope) in
-    let w = goes_on (goes e) (goes f) in
-    IfOk-weaker r (λ id. Emits (Knows l.emitter.nodes d × DoneIn l g u × DoneIn l p y) l n id (λ s. mt s u y)) (λ id. Emits (Knows a.emitter.nodes d) a n id (λ s. mt s (t s) (v s)))
-    (λ id z. follow w (goes z) (λ k. at {t = λ s. mt s u y} w z (knows_on f.nodes (knows_on e.nodes k), kept (goes f) (e.is k), at (goes e) f (knows_on e.nodes k)))) (h u y)

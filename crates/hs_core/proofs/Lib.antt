@@ -1,6 +1,8 @@
-pub mod Numbering
 pub mod ActArena
-pub mod Steps
+pub mod Afterwards
+pub mod Made
+pub mod Numbering
 pub mod Openings
 pub mod Placings
-pub mod Afterwards
+pub mod Steps
+pub mod Waits

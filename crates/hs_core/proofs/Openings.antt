@@ -265,20 +265,6 @@ under_names {id = j} {t = u} old mid more n eq e is f = record {
   is = (λ k. subst (λ z. DoneIn mid j (u z)) (ap scope_of eq ∙ added_more [] old.emitter.scope more) (e.is k));
 }
 
-pub within_names : {K : Type 0} {id : ActId} {t : Scope → Sa} {first second wide narrow : List Bound} (old mid : ActEmitter) (xs : List Bound) (x : Bound) (ys : List Bound) (n : ℕ)
-    → first ≡ old.emitter.scope ++ xs → second ≡ first ++ x ∷ [] → wide ≡ second ++ ys
-    → Emits K (at_scope old wide) mid id t → n ≡ length old.emitter.scope → ((xs ys : List Bound) → mid.emitter.scope ≡ xs ++ ys → length xs ≡ n → narrow ≡ xs)
-    → Emits K old (at_scope mid narrow) id (λ s. t (scope_after (name_of x ∷ scope_after s xs) ys))
-within_names {id = j} {t = u} old mid xs x ys n e1 e2 e3 e is f =
-    let w = old.emitter.scope in
-    let eq = e3 ∙ (ap (λ z. z ++ ys) (e2 ∙ ap (λ z. z ++ x ∷ []) e1) ∙ (append_assoc (w ++ xs) (x ∷ []) ys ∙ append_assoc w xs (x ∷ ys))) in
-    record {
-      nodes = e.nodes;
-      acts = e.acts;
-      scope = f w (xs ++ x ∷ ys) (e.scope ∙ eq) (sym is);
-      is = (λ k. subst (λ z. DoneIn mid j (u z)) (ap scope_of eq ∙ (added_more [] w (xs ++ x ∷ ys) ∙ added_more (scope_of w) xs (x ∷ ys))) (e.is k));
-    }
-
 -- ---- forms of the script
 
 pub after_known : {a b n : ActEmitter} {e : ExprId} {id : ActId} {t : Scope → Sx} (d : Defs) (mt : Scope → Sx → Sa) → EmitsEx (Knows a.emitter.nodes d) a b e t
@@ -287,31 +273,6 @@ after_known {a = o} {t = t'} d mt e h =
     let u = t' (scope_of o.emitter.scope) in
     let z = h u in
     follow (goes_ex e) (goes z) (λ k. at {t = λ s. mt s u} (goes_ex e) z (knows_on e.nodes k, e.is k))
-
-pub after_ex_act : {a b m n : ActEmitter} {e : ExprId} {i id : ActId} {t : Scope → Sx} {v : Scope → Sa} (d : Defs) (mt : Scope → Sx → Sa → Sa) → EmitsEx (Knows a.emitter.nodes d) a b e t → Emits (Knows b.emitter.nodes d) b m i v
-    → ((x : Sx) (y : Sa) → Emits (StandsIn m e x × DoneIn m i y) m n id (λ s. mt s x y)) → Emits (Knows a.emitter.nodes d) a n id (λ s. mt s (t s) (v s))
-after_ex_act {a = o} {t = t'} {v = v'} d mt e f q =
-    let s = scope_of o.emitter.scope in
-    let z = q (t' s) (v' s) in
-    let w = goes_on (goes_ex e) (goes f) in
-    follow w (goes z) (λ k. at {t = λ x. mt x (t' s) (v' s)} w z (kept_ex (goes f) (e.is k), at (goes_ex e) f (knows_on e.nodes k)))
-
-pub after_ex_two : {a b l m n : ActEmitter} {e : ExprId} {i j id : ActId} {t : Scope → Sx} {u v : Scope → Sa} (d : Defs) (mt : Scope → Sx → Sa → Sa → Sa) → EmitsEx (Knows a.emitter.nodes d) a b e t → Emits (Knows b.emitter.nodes d) b l i u → Emits (Knows l.emitter.nodes d) l m j v
-    → ((x : Sx) (y z : Sa) → Emits (StandsIn m e x × DoneIn m i y × DoneIn m j z) m n id (λ s. mt s x y z)) → Emits (Knows a.emitter.nodes d) a n id (λ s. mt s (t s) (u s) (v s))
-after_ex_two {a = o} {t = t'} {u = u'} {v = v'} d mt e f g q =
-    let s = scope_of o.emitter.scope in
-    let z = q (t' s) (u' s) (v' s) in
-    let w = goes_on (goes_ex e) (goes_on (goes f) (goes g)) in
-    follow w (goes z) (λ k. at {t = λ x. mt x (t' s) (u' s) (v' s)} w z (kept_ex (goes_on (goes f) (goes g)) (e.is k), kept (goes g) (at (goes_ex e) f (knows_on e.nodes k)), at (goes_on (goes_ex e) (goes f)) g (knows_on f.nodes (knows_on e.nodes k))))
-
--- actions one after another, each with what is known of the script
-pub acts_two : {a b m n : ActEmitter} {i j id : ActId} {u v : Scope → Sa} (d : Defs) (mt : Scope → Sa → Sa → Sa) → Emits (Knows a.emitter.nodes d) a b i u → Emits (Knows b.emitter.nodes d) b m j v
-    → ((x y : Sa) → Emits (DoneIn m i x × DoneIn m j y) m n id (λ s. mt s x y)) → Emits (Knows a.emitter.nodes d) a n id (λ s. mt s (u s) (v s))
-acts_two d mt e f q = after2 mt e (λ k. k) f (λ k. knows_on e.nodes k) q
-
-pub acts_three : {a b l m n : ActEmitter} {i j h id : ActId} {u v w : Scope → Sa} (d : Defs) (mt : Scope → Sa → Sa → Sa → Sa) → Emits (Knows a.emitter.nodes d) a b i u → Emits (Knows b.emitter.nodes d) b l j v → Emits (Knows l.emitter.nodes d) l m h w
-    → ((x y z : Sa) → Emits (DoneIn m i x × DoneIn m j y × DoneIn m h z) m n id (λ s. mt s x y z)) → Emits (Knows a.emitter.nodes d) a n id (λ s. mt s (u s) (v s) (w s))
-acts_three d mt e f g q = after3 mt e (λ k. k) f (λ k. knows_on e.nodes k) g (λ k. knows_on f.nodes (knows_on e.nodes k)) q
 
 -- arms, after what they look at
 pub arms_two : {a b m n : ActEmitter} {e : ExprId} {i j id : ActId} {t : Sx} {u v : Scope → Sa} (d : Defs) (mk : ExprId → ActId → ActId → Act) (mt : Sx → Sa → Sa → Sa)
@@ -339,19 +300,6 @@ as_core {L = l} {a = o} {n = m} {id = i} d e h = subst (λ z. Emits l o m i (λ 
 
 pub as_action : {L : Type 0} {a n : ActEmitter} {id : ActId} (d : Defs) (r q : Action) → q ≡ r → Emits L a n id (λ s. action_tree d s r) → Emits L a n id (λ s. action_tree d s q)
 as_action d r q e h = as_core d (ap core e) h
-
--- the parts of a bracket, with what is known of the script
-pub acts_four : {a b l m o n : ActEmitter} {i j h g id : ActId} {t u v w : Scope → Sa} (d : Defs) (mt : Scope → Sa → Sa → Sa → Sa → Sa) → Emits (Knows a.emitter.nodes d) a b i t → Emits (Knows b.emitter.nodes d) b l j u
-    → Emits (Knows l.emitter.nodes d) l m h v → Emits (Knows m.emitter.nodes d) m o g w
-    → ((x y z r : Sa) → Emits (DoneIn o i x × DoneIn o j y × DoneIn o h z × DoneIn o g r) o n id (λ s. mt s x y z r)) → Emits (Knows a.emitter.nodes d) a n id (λ s. mt s (t s) (u s) (v s) (w s))
-acts_four {a = k'} {t = t'} {u = u'} {v = v'} {w = w'} d mt e f p q r =
-    let s = scope_of k'.emitter.scope in
-    let z = r (t' s) (u' s) (v' s) (w' s) in
-    let ef = goes_on (goes e) (goes f) in
-    let efp = goes_on ef (goes p) in
-    let all = goes_on efp (goes q) in
-    follow all (goes z) (λ k. let k1 = knows_on e.nodes k in let k2 = knows_on f.nodes k1 in let k3 = knows_on p.nodes k2 in
-    at {t = λ x. mt x (t' s) (u' s) (v' s) (w' s)} all z (kept (goes_on (goes f) (goes_on (goes p) (goes q))) (e.is k), kept (goes_on (goes p) (goes q)) (at (goes e) f k1), kept (goes q) (at ef p k2), at efp q k3))
 
 pub as_case : {L : Type 0} {a n : ActEmitter} {id : ActId} (d : Defs) (p : Pos) (e : Ex) (q : ActArms) → Emits L a n id (λ s. arms_tree d s (slotted (roots d) s e) q) → Emits L a n id (λ s. action_tree d s (case_act p e q))
 as_case d p e (maybe_acts a x b) h = h

@@ -54,9 +54,6 @@ kept g h = done_on g.nodes g.acts h
 pub kept_ex : {a b : ActEmitter} {i : ExprId} {t : Sx} → Goes a b → StandsIn a i t → StandsIn b i t
 kept_ex g h = stands_on g.nodes h
 
-pub kept_all : {a b : ActEmitter} (is : List ExprId) (ts : Sxs) → Goes a b → AllStandIn a is ts → AllStandIn b is ts
-kept_all is ts g h = all_stand_on is ts g.nodes h
-
 -- a later step's tree, in the scope of an earlier state
 pub at : {K : Type 0} {a b d : ActEmitter} {i : ActId} {t : Scope → Sa} → Goes a b → Emits K b d i t → K → DoneIn d i (t (scope_of a.emitter.scope))
 at {d = n} {i = j} {t = u} g e k = subst (λ z. DoneIn n j (u (scope_of z))) g.scope (e.is k)
@@ -92,13 +89,13 @@ pushed {a = o} {b = n} {id = j} {k = l} p h = record {
   is = (λ more. ap (λ z. act_tree_at (z.nodes ++ more) n.acts j) p.emitter ∙ (ap (λ z. act_tree_at (o.emitter.nodes ++ more) z j) p.acts ∙ (act_tree_at-last (o.emitter.nodes ++ more) o.acts l j p.id_is ∙ h more)));
 }
 
-read_at : (a : ActEmitter) {i : ExprId} {t : Sx} → StandsIn a i t → (more : List Node) → tree_in (trees (a.emitter.nodes ++ more)) i ≡ t
+pub read_at : (a : ActEmitter) {i : ExprId} {t : Sx} → StandsIn a i t → (more : List Node) → tree_in (trees (a.emitter.nodes ++ more)) i ≡ t
 read_at o {i = j} h more = tree_at-more o.emitter.nodes more j h.below ∙ h.is
 
 pub emits : {K : Type 0} {a b d : ActEmitter} {id : ActId} {k : Act} {t : Scope → Sa} → Goes a b → Pushed b d id k → (K → DoneIn d id (t (scope_of a.emitter.scope))) → Emits K a d id t
 emits g p h = let w = goes_on g (goes_push p) in record { nodes = w.nodes; acts = w.acts; scope = w.scope; is = h }
 
-stays : {a : ActEmitter} → Goes a a
+pub stays : {a : ActEmitter} → Goes a a
 stays = record { nodes = grows_same refl; acts = grows_same refl; scope = refl }
 
 -- where what is given can't be
@@ -138,10 +135,6 @@ pub one : {K L : Type 0} {a b d : ActEmitter} {id i : ActId} {t : Scope → Sa} 
     → Emits K a b i t → (L → K) → Pushed b d id (mk i) → Emits L a d id (λ s. mt (t s))
 one mk mt dec e f p = emits (goes e) p (λ k. done1 mk mt dec p (e.is (f k)))
 
-pub given1 : {L : Type 0} {a b : ActEmitter} {id i : ActId} {t : Sa} (mk : ActId → Act) (mt : Sa → Sa) → ((ts : List Sx) (us : List Sa) (x : ActId) → act_decode ts us (mk x) ≡ mt (act_in us x))
-    → Pushed a b id (mk i) → (L → DoneIn a i t) → Emits L a b id (λ s. mt t)
-given1 mk mt dec p f = emits stays p (λ k. done1 mk mt dec p (f k))
-
 -- two parts
 pub two : {K L M : Type 0} {a b d n : ActEmitter} {id i j : ActId} {t u : Scope → Sa} (mk : ActId → ActId → Act) (mt : Sa → Sa → Sa) → ((ts : List Sx) (us : List Sa) (x y : ActId) → act_decode ts us (mk x y) ≡ mt (act_in us x) (act_in us y))
     → Emits K a b i t → (L → K) → Emits M b d j u → (L → M) → Pushed d n id (mk i j) → Emits L a n id (λ s. mt (t s) (u s))
@@ -161,10 +154,6 @@ pub of_ex : {K L : Type 0} {a b d : ActEmitter} {id : ActId} {i : ExprId} {t : S
     → EmitsEx K a b i t → (L → K) → Pushed b d id (mk i) → Emits L a d id (λ s. mt (t s))
 of_ex mk mt dec e f p = emits (goes_ex e) p (λ k. done_ex mk mt dec p (e.is (f k)))
 
-pub given_ex : {L : Type 0} {a d : ActEmitter} {id : ActId} {i : ExprId} {t : Sx} (mk : ExprId → Act) (mt : Sx → Sa) → ((ts : List Sx) (us : List Sa) (x : ExprId) → act_decode ts us (mk x) ≡ mt (tree_in ts x))
-    → (L → StandsIn a i t) → Pushed a d id (mk i) → Emits L a d id (λ s. mt t)
-given_ex mk mt dec f p = emits stays p (λ k. done_ex mk mt dec p (f k))
-
 -- an expression that stood before, and an action
 pub with_ex : {L M : Type 0} {a d n : ActEmitter} {id j : ActId} {i : ExprId} {t : Sx} {u : Scope → Sa} (mk : ExprId → ActId → Act) (mt : Sx → Sa → Sa) → ((ts : List Sx) (us : List Sa) (x : ExprId) (y : ActId) → act_decode ts us (mk x y) ≡ mt (tree_in ts x) (act_in us y))
     → (L → StandsIn a i t) → Emits M a d j u → (L → M) → Pushed d n id (mk i j) → Emits L a n id (λ s. mt t (u s))
@@ -173,11 +162,6 @@ with_ex mk mt dec f g h p = emits (goes g) p (λ k. done_ex1 mk mt dec p (kept_e
 pub given_ex1 : {L : Type 0} {a n : ActEmitter} {id j : ActId} {i : ExprId} {t : Sx} {u : Sa} (mk : ExprId → ActId → Act) (mt : Sx → Sa → Sa) → ((ts : List Sx) (us : List Sa) (x : ExprId) (y : ActId) → act_decode ts us (mk x y) ≡ mt (tree_in ts x) (act_in us y))
     → (L → StandsIn a i t) → (L → DoneIn a j u) → Pushed a n id (mk i j) → Emits L a n id (λ s. mt t u)
 given_ex1 mk mt dec f g p = emits stays p (λ k. done_ex1 mk mt dec p (f k) (g k))
-
-pub given_ex2 : {L : Type 0} {a n : ActEmitter} {id i j : ActId} {e : ExprId} {t : Sx} {u v : Sa} (mk : ExprId → ActId → ActId → Act) (mt : Sx → Sa → Sa → Sa)
-    → ((ts : List Sx) (us : List Sa) (x : ExprId) (y z : ActId) → act_decode ts us (mk x y z) ≡ mt (tree_in ts x) (act_in us y) (act_in us z))
-    → (L → StandsIn a e t) → (L → DoneIn a i u) → (L → DoneIn a j v) → Pushed a n id (mk e i j) → Emits L a n id (λ s. mt t u v)
-given_ex2 mk mt dec f g h p = emits stays p (λ k. done_ex2 mk mt dec p (f k) (g k) (h k))
 
 -- a test and two branches
 pub branches : {K L M N : Type 0} {a b d m n : ActEmitter} {id i j : ActId} {e : ExprId} {t : Scope → Sx} {u v : Scope → Sa} (mk : ExprId → ActId → ActId → Act) (mt : Sx → Sa → Sa → Sa)
@@ -265,22 +249,6 @@ pub after1 : {K L : Type 0} {a b n : ActEmitter} {i id : ActId} {t : Scope → S
     → ((u : Sa) → Emits (DoneIn b i u) b n id (λ s. mt s u)) → Emits L a n id (λ s. mt s (t s))
 after1 {a = o} {t = t'} mt e g h = let u = t' (scope_of o.emitter.scope) in let z = h u in follow (goes e) (goes z) (λ k. at {t = λ s. mt s u} (goes e) z (e.is (g k)))
 
-pub after2 : {K L M : Type 0} {a b d n : ActEmitter} {i j id : ActId} {t u : Scope → Sa} (mt : Scope → Sa → Sa → Sa) → Emits K a b i t → (L → K) → Emits M b d j u → (L → M)
-    → ((v w : Sa) → Emits (DoneIn d i v × DoneIn d j w) d n id (λ s. mt s v w)) → Emits L a n id (λ s. mt s (t s) (u s))
-after2 {a = o} {t = t'} {u = u'} mt e g f h q =
-    let s = scope_of o.emitter.scope in
-    let z = q (t' s) (u' s) in
-    let w = goes_on (goes e) (goes f) in
-    follow w (goes z) (λ k. at {t = λ x. mt x (t' s) (u' s)} w z (kept (goes f) (e.is (g k)), at (goes e) f (h k)))
-
-pub after3 : {K L M N : Type 0} {a b d m n : ActEmitter} {i j l id : ActId} {t u v : Scope → Sa} (mt : Scope → Sa → Sa → Sa → Sa) → Emits K a b i t → (L → K) → Emits M b d j u → (L → M) → Emits N d m l v → (L → N)
-    → ((x y z : Sa) → Emits (DoneIn m i x × DoneIn m j y × DoneIn m l z) m n id (λ s. mt s x y z)) → Emits L a n id (λ s. mt s (t s) (u s) (v s))
-after3 {a = o} {t = t'} {u = u'} {v = v'} mt e g f h r p q =
-    let s = scope_of o.emitter.scope in
-    let z = q (t' s) (u' s) (v' s) in
-    let w = goes_on (goes e) (goes_on (goes f) (goes r)) in
-    follow w (goes z) (λ k. at {t = λ x. mt x (t' s) (u' s) (v' s)} w z (kept (goes_on (goes f) (goes r)) (e.is (g k)), kept (goes r) (at (goes e) f (h k)), at (goes_on (goes e) (goes f)) r (p k)))
-
 -- restore, with a slot that was looked up
 pub restores : {a b : ActEmitter} {id i : ActId} (k : ℕ) (sl : Scope → ℕ) (t : Sa) → k ≡ sl (scope_of a.emitter.scope) → Pushed a b id (c.Restore k i) → Emits (DoneIn a i t) a b id (λ s. a_restore (sl s) t)
 restores {a = o} {b = n} {id = j} k sl t e p = emits stays p (λ h. subst (λ z. DoneIn n j (a_restore z t)) e (done1 (c.Restore k) (a_restore k) (λ ts us x. refl) p h))
@@ -289,10 +257,6 @@ restores {a = o} {b = n} {id = j} k sl t e p = emits stays p (λ h. subst (λ z.
 pub with_killed : {K : Type 0} {a b n : ActEmitter} {e f : ExprId} {id : ActId} {t : Sx} {u : Scope → Sx} (mt : Sx → Sx → Sa) → EmitsEx K a b f u → K
     → ((v w : Sx) → Emits (StandsIn b e v × StandsIn b f w) b n id (λ s. mt v w)) → Emits (StandsIn a e t) a n id (λ s. mt t (u s))
 with_killed {a = o} {t = t'} {u = u'} mt g k h = let z = h t' (u' (scope_of o.emitter.scope)) in follow (goes_ex g) (goes z) (λ q. z.is (kept_ex (goes_ex g) q, g.is k))
-
-pub after_in : {K L : Type 0} {a b n : ActEmitter} {e : ExprId} {id : ActId} {t : Scope → Sx} (mt : Scope → Sx → Sa) → EmitsEx K a b e t → (L → K)
-    → ((u : Sx) → Emits (StandsIn b e u) b n id (λ s. mt s u)) → Emits L a n id (λ s. mt s (t s))
-after_in {a = o} {t = t'} mt e g h = let u = t' (scope_of o.emitter.scope) in let z = h u in follow (goes_ex e) (goes z) (λ k. at {t = λ s. mt s u} (goes_ex e) z (e.is (g k)))
 
 pub of_exprs : (old : ActEmitter) (mid : Emitter) (ids : List ExprId) (d : Defs) (es : Exs)
     → (mid.nodes ≡ old.emitter.nodes ++ all_nodes d.places.all (scope_of old.emitter.scope) (length old.emitter.nodes) es) × (mid.scope ≡ old.emitter.scope) × (ids ≡ ids_of d.places.all (scope_of old.emitter.scope) (length old.emitter.nodes) es)
@@ -320,11 +284,3 @@ calls {a = o} {b = m} {ids = is} {t = t'} d f k e eq p =
     let s = scope_of o.emitter.scope in
     emits (goes_all e) p (λ w. pushed p (λ more. ap (λ z. a_call z (trees_in (trees (m.emitter.nodes ++ more)) is)) (eq ∙ (ap (λ z. index_among z f) w.names ∙ index_is (functions d) f))
     ∙ ap (a_call (place_among (functions d) f)) (all_trees (m.emitter.nodes ++ more) is (t' s) (all_stand_on is (t' s) (grows_by more refl) (e.is w)))))
-
--- where the first part stood before
-pub after_one : {L M : Type 0} {a b n : ActEmitter} {i j id : ActId} {u : Scope → Sa} (t : Sa) (mt : Scope → Sa → Sa → Sa) → (L → DoneIn a i t) → Emits M a b j u → (L → M)
-    → ((v w : Sa) → Emits (DoneIn b i v × DoneIn b j w) b n id (λ s. mt s v w)) → Emits L a n id (λ s. mt s t (u s))
-after_one {a = o} {u = u'} t mt f e g h =
-    let v = u' (scope_of o.emitter.scope) in
-    let z = h t v in
-    follow (goes e) (goes z) (λ k. at {t = λ s. mt s t v} (goes e) z (kept (goes e) (f k), e.is (g k)))

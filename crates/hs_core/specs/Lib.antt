@@ -1,6 +1,7 @@
 pub mod Defining
 pub mod Emits
-pub mod Forms
+pub mod Making
 pub mod Numbering
 pub mod Opening
 pub mod Placing
+pub mod Waiting

@@ -12,8 +12,6 @@ use Rattle.rules_expansion.specs.Expansion.{core, block_core}
 use Rattle.rules_code.specs.Slots.{Sx, Scope}
 use Rattle.rules_code.specs.CodeTrees.{Sa, a_let, a_bind, a_then, a_maybe, a_either, a_list, a_pair, slotted_core}
 use Rattle.hs_nodes.specs.declared.names.Bound.{Bound}
-use Rattle.hs_nodes.specs.declared.names.Bound.TheVariants as w
-use Rattle.rules_expansion.specs.declared.hidden.Hidden as code
 use Rattle.hs_nodes.specs.Names.{scope_of}
 use Rattle.hs_core.specs.declared.defs.Defs.{Defs}
 use Rattle.hs_core.specs.declared.emitter.ActEmitter.{ActEmitter}
@@ -38,11 +36,6 @@ arms_tree d s t (maybe_acts a x b) = a_maybe t (block_tree d s a) (block_tree d 
 arms_tree d s t (either_acts x a y b) = a_either t (block_tree d (Written x.text ∷ s) a) (block_tree d (Written y.text ∷ s) b)
 arms_tree d s t (list_acts a x y b) = a_list t (block_tree d s a) (block_tree d (Written y.text ∷ Written x.text ∷ s) b)
 arms_tree d s t (pair_acts x y a) = a_pair t (block_tree d (Written y.text ∷ Written x.text ∷ s) a)
-
--- the entries of added names
-abbrev pub added : List code.Hidden → List Bound
-added [] = []
-added (h ∷ hs) = w.Added h ∷ added hs
 
 pub data Opened : Type 0 where
   o_bind : Sa → Opened

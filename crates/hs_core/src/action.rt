@@ -1,51 +1,27 @@
 //! Actions, blocks and arms.
 use crate::defs::Defs;
 use crate::emitter::ActEmitter;
-use crate::pending::{Pending, back_to, bind_all};
+use crate::pending::{Pending, back_to};
 use hs_base::tree::forms::{BlockAction, GuardAction, MaskingAction};
 use hs_base::{Action, Block, BlockArms, Expr, NoMemory, Stmt, Txt};
 use hs_items::Items;
 use hs_nodes::names::{bind, off};
 use rules_code::{Act, ActId, ExprId, Primitive};
-use rules_expansion::Hidden;
+use rules_expansion::Derived;
 use std::alloc::Global;
-
-/// The names of a form with a mask of its own round its blocks.
-const MASKED: [Hidden; 1] = [Hidden::Restorer];
-
-/// The names of a `modifyMVar_` round its block, but for the one that the script gives.
-const MODIFIED: [Hidden; 2] = [Hidden::TheCell, Hidden::Restorer];
-
-/// The names of a `bracket` round its releasing block, in the handler and at the exit.
-const FAULT: [Hidden; 2] = [Hidden::Instance, Hidden::BracketFault];
-
-const EXIT: [Hidden; 2] = [Hidden::Instance, Hidden::BracketResult];
-
-/// The names of a `timeout` round its block.
-const TIMED: [Hidden; 6] = [
-    Hidden::Allowed,
-    Hidden::Owner,
-    Hidden::Expiry,
-    Hidden::Restorer,
-    Hidden::Helper,
-    Hidden::Instance,
-];
 
 #[tactic(auto, using(rules_trees::proofs::EquationsOfActions::act_rules))]
 impl ActEmitter {
     ghost use Rattle.std.specs.Prelude.{IfOk, ◌∷◌, []};
     ghost use Rattle.rules_trees.specs.Trees.{ex_of};
-    ghost use Rattle.rules_expansion.specs.Names.{Written, Added};
-    ghost use Rattle.rules_expansion.specs.declared.hidden.Hidden.TheVariants.{Restorer, Given, Caught, TheCell, Instance, BracketResult, BracketFault, Allowed, Owner, Expiry, Helper};
-    ghost use Rattle.rules_expansion.specs.Expansion.{block_core, scoped_core, masking_core};
+    ghost use Rattle.rules_expansion.specs.Names.{Written};
+    ghost use Rattle.rules_expansion.specs.Expansion.{block_core, masking_core};
     ghost use Rattle.rules_trees.specs.Programs.{act_of, bl_of, act_arms_of};
     ghost use Rattle.rules_code.specs.Slots.{Sx, slotted, slot_of};
-    ghost use Rattle.rules_code.specs.CodeTrees.{Sa, a_if, a_bind, a_mask, a_catch, a_restore, slot_or_end};
-    ghost use Rattle.hs_nodes.specs.Names.{scope_after};
+    ghost use Rattle.rules_code.specs.CodeTrees.{Sa, a_if, a_fork, a_catch, a_restore, slot_or_end};
     ghost use Rattle.hs_core.specs.Defining.{Knows, roots};
     ghost use Rattle.hs_core.specs.Emits.{Emits, DoneIn, StandsIn};
-    ghost use Rattle.hs_core.specs.Opening.{core_tree, action_tree, block_tree, arms_tree, added, Opens, OpensAll};
-    ghost use Rattle.hs_core.specs.Forms as form;
+    ghost use Rattle.hs_core.specs.Opening.{core_tree, action_tree, block_tree, arms_tree, Opens, OpensAll};
 
     /// Adds the nodes of an action, and answers the number of its last.
     #[cycle(expand)]
@@ -70,35 +46,40 @@ impl ActEmitter {
                 let id = self.arms(alloc, defs, t, two)?;
                 Ok(id)
             }
-            Action::ModifyMVar(_, e, x, b) => {
-                let t = self.expr(alloc, defs, e)?;
-                self.modify_form(alloc, defs, t, &x.text, b)
+            Action::ModifyMVar(_, e, x, _) => {
+                self.derived(alloc, defs, Derived::ModifyMVar, Some(e), Some(&x.text), a)
             }
-            Action::Scoped(word, _, b) => self.scoped(alloc, defs, *word, b),
+            Action::Scoped(word, _, b) => match *word {
+                BlockAction::ForkIo => self.fork_form(alloc, defs, b),
+                BlockAction::MaskOnly => self.derived(
+                    alloc,
+                    defs,
+                    Derived::MaskOnly,
+                    None,
+                    None,
+                    a,
+                ),
+                BlockAction::UninterruptibleMaskOnly => {
+                    self.derived(alloc, defs, Derived::UninterruptibleMaskOnly, None, None, a)
+                }
+            },
             Action::Masking(word, _, x, b) => self.masking(alloc, defs, *word, &x.text, b),
             Action::Restore(_, x, b) => self.restore_form(alloc, defs, &x.text, b),
             Action::Catch(_, b, x, d) => {
                 let i = self.block(alloc, defs, b)?;
                 self.catch_form(alloc, defs, i, &x.text, d)
             }
-            Action::Guard(word, _, b, d) => match *word {
+            Action::Guard(word, _, _, _) => match *word {
                 GuardAction::OnException => {
-                    let i = self.block(alloc, defs, b)?;
-                    self.on_exception_form(alloc, defs, i, d)
+                    self.derived(alloc, defs, Derived::OnException, None, None, a)
                 }
-                GuardAction::Finally => {
-                    let i = self.under(alloc, defs, &MASKED, b)?;
-                    self.finally_form(alloc, defs, i, d)
-                }
+                GuardAction::Finally => self.derived(alloc, defs, Derived::Finally, None, None, a),
             },
-            Action::Bracket(_, b, x, d, u) => {
-                let i = self.under(alloc, defs, &MASKED, b)?;
-                let j = self.within(alloc, defs, &MASKED, &x.text, &[Hidden::Instance], u)?;
-                self.bracket_form(alloc, defs, i, j, &x.text, d)
+            Action::Bracket(_, _, x, _, _) => {
+                self.derived(alloc, defs, Derived::Bracket, None, Some(&x.text), a)
             }
-            Action::Timeout(_, e, b) => {
-                let t = self.expr(alloc, defs, e)?;
-                self.timeout_form(alloc, defs, t, b)
+            Action::Timeout(_, e, _) => {
+                self.derived(alloc, defs, Derived::Timeout, Some(e), None, a)
             }
         }
     }
@@ -120,23 +101,6 @@ impl ActEmitter {
         Ok(id)
     }
 
-    /// `modifyMVar_`, after its cell.
-    #[cycle(expand)]
-    fn modify_form(
-        &mut self,
-        alloc: Global,
-        defs: &Defs,
-        t: ExprId,
-        x: &Txt,
-        b: &Block,
-    ) -> Result<ActId, NoMemory>
-        ensures { (u : Sx) → IfOk result (λ id. Emits (Knows self.old.emitter.nodes defs.now × StandsIn self.old t u) self.old self.new id (λ s. form.modify s u (Written x.now) (block_tree defs.now (Written x.now ∷ Added Restorer ∷ Added TheCell ∷ s) (bl_of b.now)))) }
-    {
-        let i = self.within(alloc, defs, &MODIFIED, x, &[], b)?;
-        let id = self.modify(alloc, t, x, i)?;
-        Ok(id)
-    }
-
     /// `catch`, after what it guards.
     #[cycle(expand)]
     fn catch_form(
@@ -151,75 +115,6 @@ impl ActEmitter {
     {
         let j = self.named(alloc, defs, x, d)?;
         let id = self.act(Act::Catch(i, j))?;
-        Ok(id)
-    }
-
-    /// `onException`, after what it guards.
-    #[cycle(expand)]
-    fn on_exception_form(
-        &mut self,
-        alloc: Global,
-        defs: &Defs,
-        i: ActId,
-        d: &Block,
-    ) -> Result<ActId, NoMemory>
-        ensures { (A : Sa) → IfOk result (λ id. Emits (Knows self.old.emitter.nodes defs.now × DoneIn self.old i A) self.old self.new id (λ s. a_catch A (form.handler s (block_tree defs.now (Added Caught ∷ s) (bl_of d.now))))) }
-    {
-        let j = self.under(alloc, defs, &[Hidden::Caught], d)?;
-        let id = self.on_exception(i, j)?;
-        Ok(id)
-    }
-
-    /// `finally`, after what it guards.
-    #[cycle(expand)]
-    fn finally_form(
-        &mut self,
-        alloc: Global,
-        defs: &Defs,
-        i: ActId,
-        d: &Block,
-    ) -> Result<ActId, NoMemory>
-        ensures { (A : Sa) → IfOk result (λ id. Emits (Knows self.old.emitter.nodes defs.now × DoneIn self.old i A) self.old self.new id (λ s. form.finally s A (block_tree defs.now (Added Caught ∷ Added Restorer ∷ s) (bl_of d.now)) (block_tree defs.now (Added Given ∷ Added Restorer ∷ s) (bl_of d.now)))) }
-    {
-        let j = self.under(alloc, defs, &[Hidden::Restorer, Hidden::Caught], d)?;
-        let k = self.under(alloc, defs, &[Hidden::Restorer, Hidden::Given], d)?;
-        let id = self.finally(i, j, k)?;
-        Ok(id)
-    }
-
-    /// `bracket`, after what acquires and what uses.
-    #[cycle(expand)]
-    fn bracket_form(
-        &mut self,
-        alloc: Global,
-        defs: &Defs,
-        i: ActId,
-        j: ActId,
-        x: &Txt,
-        d: &Block,
-    ) -> Result<ActId, NoMemory>
-        ensures { (A B : Sa) → IfOk result (λ id. Emits (Knows self.old.emitter.nodes defs.now × DoneIn self.old i A × DoneIn self.old j B) self.old self.new id (λ s. a_mask (a_bind A (form.bracket_marked (Written x.now ∷ Added Restorer ∷ s) B (block_tree defs.now (Added BracketFault ∷ Added Instance ∷ Written x.now ∷ Added Restorer ∷ s) (bl_of d.now)) (block_tree defs.now (Added BracketResult ∷ Added Instance ∷ Written x.now ∷ Added Restorer ∷ s) (bl_of d.now)))))) }
-    {
-        let k = self.within(alloc, defs, &MASKED, x, &FAULT, d)?;
-        let l = self.within(alloc, defs, &MASKED, x, &EXIT, d)?;
-        let id = self.bracket_whole(alloc, x, i, j, k, l)?;
-        Ok(id)
-    }
-
-    /// `timeout`, after the time that it allows.
-    #[cycle(expand)]
-    fn timeout_form(
-        &mut self,
-        alloc: Global,
-        defs: &Defs,
-        t: ExprId,
-        b: &Block,
-    ) -> Result<ActId, NoMemory>
-        ensures { (u : Sx) → IfOk result (λ id. Emits (Knows self.old.emitter.nodes defs.now × StandsIn self.old t u) self.old self.new id (λ s. form.timeout s u (block_tree defs.now (Added Allowed ∷ s) (bl_of b.now)) (block_tree defs.now (Added Instance ∷ Added Helper ∷ Added Restorer ∷ Added Expiry ∷ Added Owner ∷ Added Allowed ∷ s) (bl_of b.now)))) }
-    {
-        let i = self.under(alloc, defs, &[Hidden::Allowed], b)?;
-        let j = self.under(alloc, defs, &TIMED, b)?;
-        let id = self.timeout(alloc, t, i, j)?;
         Ok(id)
     }
 
@@ -276,46 +171,6 @@ impl ActEmitter {
                 Ok(Pending::Then(i))
             }
         }
-    }
-
-    /// A block under added names.
-    #[cycle(expand)]
-    fn under(
-        &mut self,
-        alloc: Global,
-        defs: &Defs,
-        hs: &[Hidden],
-        b: &Block,
-    ) -> Result<ActId, NoMemory>
-        ensures { IfOk result (λ id. Emits (Knows self.old.emitter.nodes defs.now) self.old self.new id (λ s. block_tree defs.now (scope_after s (added hs.now)) (bl_of b.now))) }
-    {
-        let count = self.emitter.scope.len();
-        bind_all(&mut self.emitter.scope, hs)?;
-        let id = self.block(alloc, defs, b)?;
-        back_to(&mut self.emitter.scope, count);
-        Ok(id)
-    }
-
-    /// A block under added names, one of the script, and added ones again.
-    #[cycle(expand)]
-    fn within(
-        &mut self,
-        alloc: Global,
-        defs: &Defs,
-        hs: &[Hidden],
-        x: &Txt,
-        is: &[Hidden],
-        b: &Block,
-    ) -> Result<ActId, NoMemory>
-        ensures { IfOk result (λ id. Emits (Knows self.old.emitter.nodes defs.now) self.old self.new id (λ s. block_tree defs.now (scope_after (Written x.now ∷ scope_after s (added hs.now)) (added is.now)) (bl_of b.now))) }
-    {
-        let count = self.emitter.scope.len();
-        bind_all(&mut self.emitter.scope, hs)?;
-        bind(&mut self.emitter.scope, alloc, x)?;
-        bind_all(&mut self.emitter.scope, is)?;
-        let id = self.block(alloc, defs, b)?;
-        back_to(&mut self.emitter.scope, count);
-        Ok(id)
     }
 
     /// A block under a name of the script.
@@ -385,34 +240,14 @@ impl ActEmitter {
         }
     }
 
-    /// A word and a block.
+    /// `forkIO`
     #[cycle(expand)]
-    fn scoped(
-        &mut self,
-        alloc: Global,
-        defs: &Defs,
-        word: BlockAction,
-        b: &Block,
-    ) -> Result<ActId, NoMemory>
-        ensures { IfOk result (λ id. Emits (Knows self.old.emitter.nodes defs.now) self.old self.new id (λ s. core_tree defs.now s (scoped_core word (block_core (bl_of b.now))))) }
+    fn fork_form(&mut self, alloc: Global, defs: &Defs, b: &Block) -> Result<ActId, NoMemory>
+        ensures { IfOk result (λ id. Emits (Knows self.old.emitter.nodes defs.now) self.old self.new id (λ s. a_fork (block_tree defs.now s (bl_of b.now)))) }
     {
-        match word {
-            BlockAction::ForkIo => {
-                let i = self.block(alloc, defs, b)?;
-                let id = self.act(Act::Fork(i))?;
-                Ok(id)
-            }
-            BlockAction::MaskOnly => {
-                let i = self.under(alloc, defs, &MASKED, b)?;
-                let id = self.act(Act::Mask(i))?;
-                Ok(id)
-            }
-            BlockAction::UninterruptibleMaskOnly => {
-                let i = self.under(alloc, defs, &MASKED, b)?;
-                let id = self.act(Act::UninterruptibleMask(i))?;
-                Ok(id)
-            }
-        }
+        let i = self.block(alloc, defs, b)?;
+        let id = self.act(Act::Fork(i))?;
+        Ok(id)
     }
 
     /// A word, a masking name and the block in which it stands.

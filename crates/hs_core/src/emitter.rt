@@ -4,8 +4,8 @@ use hs_base::tree::forms::{BinaryForm, EmptyForm, UnaryForm};
 use hs_base::{Exn, Expr, NoMemory, Txt};
 use hs_items::Items;
 use hs_nodes::Emitter;
-use rules_expansion::Hidden;
 use rules_code::{Act, ActId, ExprId, Node, Primitive};
+use rules_expansion::Hidden;
 use std::alloc::Global;
 
 /// The nodes of expressions with the names of the scope, and the nodes of actions.
@@ -23,11 +23,13 @@ impl ActEmitter {
     ghost use Rattle.hs_base.specs.declared.tree.forms.EmptyForm.TheVariants as n;
     ghost use Rattle.rules_trees.specs.Trees.{ex_of, number, exception};
     ghost use Rattle.rules_expansion.specs.Names.{Written, Added};
+    ghost use Rattle.rules_expansion.specs.Core.{Killed};
+    ghost use Rattle.rules_expansion.specs.declared.primitive.Primitive.TheVariants.{ThrowTo};
     ghost use Rattle.rules_code.specs.Slots.{Sx, Sxs, slotted, slot_of, s_literal, s_empty, s_unary, s_binary, s_none, s_more};
-    ghost use Rattle.rules_code.specs.CodeTrees.{Sa, slot_or_end, slot_read, a_return, a_throw, a_perform};
+    ghost use Rattle.rules_code.specs.CodeTrees.{Sa, slot_or_end, a_perform, a_restore, slotted_core_ex};
     ghost use Rattle.hs_nodes.specs.Names.{scope_of};
     ghost use Rattle.hs_core.specs.Defining.{Knows, roots};
-    ghost use Rattle.hs_core.specs.Emits.{Emits, EmitsEx, Pushed, StandsIn, AllStandIn, Nothing_given};
+    ghost use Rattle.hs_core.specs.Emits.{Emits, EmitsEx, Pushed, StandsIn, DoneIn, AllStandIn, Nothing_given};
 
     /// Adds an action's node.
     pub fn act(&mut self, act: Act) -> Result<ActId, NoMemory>
@@ -64,24 +66,6 @@ impl ActEmitter {
             Some(k) => k,
             None => self.emitter.scope.len(),
         }
-    }
-
-    /// Reads an added name.
-    pub fn read(&mut self, h: Hidden) -> Result<ExprId, NoMemory>
-        ensures { IfOk result (λ id. EmitsEx Nothing_given self.old self.new id (λ s. slot_read s (Added h))) }
-    {
-        let slot = self.slot(h);
-        let id = self.emitter.add(Node::Slot(slot))?;
-        Ok(id)
-    }
-
-    /// Reads a name of the script.
-    pub fn read_written(&mut self, x: &Txt) -> Result<ExprId, NoMemory>
-        ensures { IfOk result (λ id. EmitsEx Nothing_given self.old self.new id (λ s. slot_read s (Written x.now))) }
-    {
-        let slot = self.written_slot(x);
-        let id = self.emitter.add(Node::Slot(slot))?;
-        Ok(id)
     }
 
     /// `ThreadKilled`
@@ -129,6 +113,61 @@ impl ActEmitter {
         ensures { (ts : Sxs) → IfOk result (λ id. Emits (AllStandIn self.old es ts) self.old self.new id (λ s. a_perform primitive ts)) }
     {
         let id = self.act(Act::Perform(primitive, es))?;
+        Ok(id)
+    }
+
+    /// A primitive of nothing.
+    pub fn perform_none(&mut self, alloc: Global, primitive: Primitive) -> Result<ActId, NoMemory>
+        ensures { IfOk result (λ id. Emits Nothing_given self.old self.new id (λ s. a_perform primitive s_none)) }
+    {
+        let id = self.perform(primitive, Items::new(alloc))?;
+        Ok(id)
+    }
+
+    /// A primitive of one expression.
+    pub fn perform_one(
+        &mut self,
+        alloc: Global,
+        primitive: Primitive,
+        e: ExprId,
+    ) -> Result<ActId, NoMemory>
+        ensures { (t : Sx) → IfOk result (λ id. Emits (StandsIn self.old e t) self.old self.new id (λ s. a_perform primitive (s_more t s_none))) }
+    {
+        let es = Items::from_slice(alloc, &[e])?;
+        let id = self.perform(primitive, es)?;
+        Ok(id)
+    }
+
+    /// A primitive of two expressions.
+    pub fn perform_two(
+        &mut self,
+        alloc: Global,
+        primitive: Primitive,
+        e: ExprId,
+        f: ExprId,
+    ) -> Result<ActId, NoMemory>
+        ensures { (t w : Sx) → IfOk result (λ id. Emits (StandsIn self.old e t × StandsIn self.old f w) self.old self.new id (λ s. a_perform primitive (s_more t (s_more w s_none)))) }
+    {
+        let es = Items::from_slice(alloc, &[e, f])?;
+        let id = self.perform(primitive, es)?;
+        Ok(id)
+    }
+
+    /// `throwTo e ThreadKilled`
+    pub fn kill(&mut self, alloc: Global, e: ExprId) -> Result<ActId, NoMemory>
+        ensures { (t : Sx) → IfOk result (λ id. Emits (StandsIn self.old e t) self.old self.new id (λ s. a_perform ThrowTo (s_more t (s_more (slotted_core_ex [] s Killed) s_none)))) }
+    {
+        let killed = self.killed()?;
+        let id = self.perform_two(alloc, Primitive::ThrowTo, e, killed)?;
+        Ok(id)
+    }
+
+    /// `restore x A`
+    pub fn restore(&mut self, x: &Txt, a: ActId) -> Result<ActId, NoMemory>
+        ensures { (A : Sa) → IfOk result (λ id. Emits (DoneIn self.old a A) self.old self.new id (λ s. a_restore (slot_or_end (slot_of s (Written x.now)) s) A)) }
+    {
+        let slot = self.written_slot(x);
+        let id = self.act(Act::Restore(slot, a))?;
         Ok(id)
     }
 }

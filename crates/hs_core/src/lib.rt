@@ -2,21 +2,20 @@
 //!
 //! To a contract an `ActEmitter` is the lists of its nodes and the names of its scope. Each step promises the same
 //! (`specs/Emits`): the lists grow at their ends, the scope is as it was, and the number that is answered stands for a
-//! tree, whatever nodes come after. The tree is that of the form's expansion in the step's scope (`specs/Forms`,
-//! `specs/Opening`). A block that an expansion writes twice has its nodes twice. The names that expansions add are
-//! entries of the scope, so no script can capture them. Running a code is left to the machine.
+//! tree, whatever nodes come after. The tree is that of the form's expansion in the step's scope (`specs/Opening`). An
+//! action that stands for others is made by one loop over the steps of its template (`specs/Making`), so a block that an
+//! expansion writes twice has its nodes twice. The names that expansions add are entries of the scope, so no script can
+//! capture them. Running a code is left to the machine.
 #![tactic(auto)]
 
 mod action;
-mod brackets;
-mod cells;
 mod defs;
 mod emitter;
 mod expanding;
-mod guards;
+mod filling;
 mod leaves;
+mod making;
 mod pending;
-mod timeouts;
 
 pub use defs::Defs;
 pub use emitter::ActEmitter;

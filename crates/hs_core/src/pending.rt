@@ -1,12 +1,10 @@
 //! Statements whose blocks go on.
-ghost use Rattle.std.specs.Prelude.{◌≡◌, ◌++◌, OnOk, List, length, ◌<◌, slice_get, Some};
-ghost use Rattle.hs_core.specs.Opening.{added};
+ghost use Rattle.std.specs.Prelude.{◌≡◌, ◌++◌, List, length, ◌<◌, slice_get, Some};
 
 use crate::emitter::ActEmitter;
 use hs_base::NoMemory;
 use hs_items::Items;
-use hs_nodes::names::{Bound, bind_added, off};
-use rules_expansion::Hidden;
+use hs_nodes::names::{Bound, off};
 use rules_code::{Act, ActId, ExprId};
 
 /// A statement that has its nodes, before what follows it in its block.
@@ -71,16 +69,6 @@ fn item(items: &[Pending], at: usize) -> Pending
     ensures { slice_get items.now at ≡ Some result }
 {
     items[at]
-}
-
-/// Puts added names on.
-pub fn bind_all(scope: &mut Items<Bound>, hs: &[Hidden]) -> Result<(), NoMemory>
-    ensures { OnOk result (scope.new ≡ scope.old ++ added hs.now) }
-{
-    'names: for h in hs {
-        bind_added(scope, *h)?;
-    }
-    Ok(())
 }
 
 /// Takes off the names that came after the first ones.

@@ -4,6 +4,7 @@ use crate::places::Places;
 use hs_base::{NoMemory, Txt};
 use hs_items::Items;
 use rules_code::{ExprId, Node};
+use rules_expansion::Hidden;
 
 #[derive(Drop)]
 pub struct Emitter {

@@ -22,37 +22,36 @@ use Rattle.rules_expansion.specs.declared.template.Derived.TheVariants as d
 use Rattle.rules_expansion.specs.declared.template.Part.{Part}
 use Rattle.rules_expansion.specs.declared.template.Part.TheVariants as part
 use Rattle.rules_expansion.specs.Names.{Name, Written, Added, Unread}
-use Rattle.rules_expansion.specs.Core.{CoreEx, OfScript, Read, NoValue, Core, Return, ThrowIo, Let, Bind, If, CaseMaybe, CaseEither, CaseList, CasePair, Call, Perform, Fork, ForkUnmask, Catch, MaskWith, MaskHard, Restore, ActionFunction, action_named}
+use Rattle.rules_expansion.specs.Core.{CoreEx, OfScript, Read, NoValue, Killed, Core, Return, ThrowIo, Let, Bind, If, CaseMaybe, CaseEither, CaseList, CasePair, Call, Perform, Fork, ForkUnmask, Catch, MaskWith, MaskHard, Restore, ActionFunction, action_named}
 use Rattle.rules_expansion.specs.Templates.{Filling, template, fill}
 
 -- ---- forms by their templates
 
--- the three blocks of a form, of which the others stand nowhere in its template
+-- three blocks, in the order in which they are written
 abbrev pub of_three : {A : Type 0} → A → A → A → Part → A
 of_three a c e part.First = a
 of_three a c e part.Second = c
 of_three a c e part.Third = e
 
-abbrev pub no_block : Core
-no_block = Return NoValue
-
-abbrev pub on_expression : CoreEx → Filling
-on_expression e = record { subject = e; given = []; block = of_three no_block no_block no_block }
+-- What a form puts into its template. A form with fewer than three blocks has its last one in their places, and a form
+-- without a name or an expression of its own an empty one: they stand nowhere in its template.
+abbrev pub filling : CoreEx → List ℕ → Core → Core → Core → Filling
+filling e x a c h = record { subject = e; given = x; block = of_three a c h }
 
 abbrev pub on_block : Core → Filling
-on_block a = record { subject = NoValue; given = []; block = of_three a no_block no_block }
+on_block a = filling NoValue [] a a a
 
 abbrev pub on_two : Core → Core → Filling
-on_two a c = record { subject = NoValue; given = []; block = of_three a c no_block }
+on_two a c = filling NoValue [] a c c
 
 abbrev pub on_three : Core → List ℕ → Core → Core → Filling
-on_three a x c e = record { subject = NoValue; given = x; block = of_three a c e }
+on_three a x c e = filling NoValue x a c e
 
 abbrev pub on_bound : CoreEx → List ℕ → Core → Filling
-on_bound e x a = record { subject = e; given = x; block = of_three a no_block no_block }
+on_bound e x a = filling e x a a a
 
 abbrev pub on_both : CoreEx → Core → Filling
-on_both e a = record { subject = e; given = []; block = of_three a no_block no_block }
+on_both e a = filling e [] a a a
 
 abbrev pub derived : Derived → Filling → Core
 derived o f = fill f (template o)
@@ -116,7 +115,7 @@ unary_core u.NewMVar a = Perform NewMVar (a ∷ [])
 unary_core u.TakeMVar a = Perform TakeMVar (a ∷ [])
 unary_core u.ReadMVar a = Perform ReadMVar (a ∷ [])
 unary_core u.TryTakeMVar a = Perform TryTakeMVar (a ∷ [])
-unary_core u.KillThread a = derived d.KillThread (on_expression a)
+unary_core u.KillThread a = Perform ThrowTo (a ∷ Killed ∷ [])
 unary_core u.ThreadDelay a = Perform ThreadDelay (a ∷ [])
 
 abbrev pub binary_core : BinaryAction → CoreEx → CoreEx → Core

@@ -132,7 +132,6 @@ timing_out a =
 
 -- what stands for each action that stands for others
 abbrev pub template : Derived → Template
-template d.KillThread = killing x.Subject
 template d.MaskOnly = masked (hole part.First)
 template d.UninterruptibleMaskOnly = masked_hard (hole part.First)
 template d.OnException = guarding (hole part.First) (hole part.Second)

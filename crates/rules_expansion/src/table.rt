@@ -6,13 +6,6 @@ use crate::hidden::Hidden;
 use crate::primitive::Primitive;
 use crate::template::{Binder, Derived, Operand, Part, Step};
 
-/// `killThread a`
-const KILL_THREAD: [Step; 3] = [
-    Step::Push(Operand::Subject),
-    Step::Push(Operand::Killed),
-    Step::PerformTwo(Primitive::ThrowTo),
-];
-
 /// `mask_ A`
 const MASK_ONLY: [Step; 4] = [
     Step::Under(Binder::Own(Hidden::Restorer)),
@@ -233,7 +226,6 @@ pub fn steps(form: Derived) -> &'static [Step]
     ensures { result.now ≡ steps form }
 {
     match form {
-        Derived::KillThread => &KILL_THREAD,
         Derived::MaskOnly => &MASK_ONLY,
         Derived::UninterruptibleMaskOnly => &UNINTERRUPTIBLE_MASK_ONLY,
         Derived::OnException => &ON_EXCEPTION,

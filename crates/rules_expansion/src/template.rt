@@ -6,7 +6,6 @@ use crate::primitive::Primitive;
 /// An action that stands for other actions.
 #[derive(Clone, Copy)]
 pub enum Derived {
-    KillThread,
     MaskOnly,
     UninterruptibleMaskOnly,
     OnException,

@@ -1,30 +1,26 @@
 use Rattle.std.proofs.Common.{refl, ap, sym, ◌∙◌, ◌∷◌, length, get_or, arith}
-use Rattle.hs_base.specs.declared.tree.forms.GuardAction.TheVariants as g
 use Rattle.rules_code.specs.declared.act.Act.TheVariants as k
 use Rattle.rules_trees.specs.Trees.{ex_of}
-use Rattle.rules_expansion.specs.Names.{Written, Added}
-use Rattle.rules_expansion.specs.declared.hidden.Hidden.TheVariants.{Restorer, Given, Caught, TheCell, Instance, BracketResult, BracketFault, Allowed, Owner, Expiry, Helper}
-use Rattle.rules_expansion.specs.Expansion.{block_core, scoped_core, masking_core}
-use Rattle.rules_trees.specs.Programs.{choose_act, case_act, modify, catch, guard, bracket, timeout, bind, let_in, then, maybe_acts, either_acts, list_acts, pair_acts, act_of, bl_of, stmt_of, act_arms_of}
-use Rattle.rules_trees.proofs.EquationsOfActions.{act-If, act-Case, act-ModifyMVar, act-Catch, act-Guard, act-Bracket, act-Timeout, stmt-Bind, stmt-Let, stmt-Do, acts-OfMaybe, acts-OfEither, acts-OfList, acts-OfPair}
+use Rattle.rules_expansion.specs.Names.{Written}
+use Rattle.rules_expansion.specs.Expansion.{block_core, masking_core}
+use Rattle.rules_trees.specs.Programs.{choose_act, case_act, catch, bind, let_in, then, maybe_acts, either_acts, list_acts, pair_acts, act_of, bl_of, stmt_of, act_arms_of}
+use Rattle.rules_trees.proofs.EquationsOfActions.{act-If, act-Case, act-Catch, stmt-Bind, stmt-Let, stmt-Do, acts-OfMaybe, acts-OfEither, acts-OfList, acts-OfPair}
 use Rattle.rules_code.specs.Slots.{slot_of, slotted}
-use Rattle.rules_code.specs.CodeTrees.{a_if, a_maybe, a_either, a_list, a_pair, a_bind, a_fork, a_fork_unmask, a_catch, a_mask, a_mask_hard, a_restore, slot_or_end}
+use Rattle.rules_code.specs.CodeTrees.{a_if, a_maybe, a_either, a_list, a_pair, a_fork, a_fork_unmask, a_catch, a_mask, a_mask_hard, a_restore, slot_or_end}
 use Rattle.hs_nodes.specs.declared.names.Bound.TheVariants as w
 use Rattle.hs_core.specs.Defining.{roots}
-use Rattle.hs_core.specs.Opening.{block_tree, arms_tree, added}
-use Rattle.hs_core.specs.Forms as form
-use Rattle.hs_core.proofs.Afterwards.{held_ex_one, held_ex_two, held_two, held_both, held_branch, all_as_action, act_then, ex_then, ex_act_then, acts_then}
-use Rattle.hs_core.proofs.Steps.{one, first, under, after1, after_one}
-use Rattle.hs_core.proofs.Openings.{opens_first, opens_step, opens_bind, opens_let, opens_then, block_is, under_names, within_names, after_known, as_core, as_action, as_case, arms_two, arms_one, as_arms}
+use Rattle.hs_core.specs.Opening.{core_tree, block_tree, arms_tree}
+use Rattle.hs_core.proofs.Afterwards.{held_branch, all_as_action, act_then, ex_act_then}
+use Rattle.hs_core.proofs.Steps.{one, first, under, after1}
+use Rattle.hs_core.proofs.Openings.{opens_first, opens_step, opens_bind, opens_let, opens_then, block_is, after_known, as_core, as_action, as_case, arms_two, arms_one, as_arms}
+use Rattle.std.specs.Option.{option_copied}
+use Rattle.rules_expansion.specs.declared.template.Part.TheVariants as part
+use Rattle.rules_expansion.specs.declared.template.Step.TheVariants as p
+use Rattle.rules_expansion.specs.Templates.{steps}
+use Rattle.hs_core.specs.Making.{filling_of}
+use Rattle.hs_core.proofs.Waits.{gone_none, gone_at, gone_as, gone_all, moves_block, as_moves, drop_past}
+use Rattle.hs_core.proofs.emitter.ActEmitter.+expand.Goals.{derived-in-Hole+in_ok-i-in-Hole+in_ok-add-in-Hole, derived-in_default+in_ok-step-in_default}
 use Rattle.hs_core.proofs.emitter.ActEmitter.+expand.Goals as goal
-
-pub under-returns : goal.under-returns
-under-returns t c =
-    under_names c.args.self.now c.block.new.self (added c.args.hs.now) c.len-count.result c.in_ok-bind_all.ensures c.in_ok-id.ensures c.len-count.ensures c.back_to.ensures
-
-pub within-returns : goal.within-returns
-within-returns t c =
-    within_names c.args.self.now c.block.new.self (added c.args.hs.now) (w.Written c.args.x.now) (added c.args.is.now) c.len-count.result c.in_ok-bind_all.ensures c.in_ok-bind.ensures c.in_ok-bind_all-2.ensures c.in_ok-id.ensures c.len-count.ensures c.back_to.ensures
 
 pub named-returns : goal.named-returns
 named-returns t c =
@@ -33,18 +29,6 @@ named-returns t c =
 pub named_two-returns : goal.named_two-returns
 named_two-returns t c =
     under c.args.self.now c.named.new.self (w.Written c.args.x.now) c.in_ok-bind.ensures c.in_ok-id.ensures c.off.ensures
-
-pub scoped-returns-in_ok-id-in-ForkIo : goal.scoped-returns-in_ok-id-in-ForkIo
-scoped-returns-in_ok-id-in-ForkIo t c =
-    as_core c.args.defs.now (ap (λ z. scoped_core z (block_core (bl_of c.args.b.now))) c.in-ForkIo.is) (one k.Fork a_fork (λ ts us x. refl) c.in_ok-i-in-ForkIo.ensures (λ k. k) c.in_ok-id-in-ForkIo.ensures)
-
-pub scoped-returns-in_ok-id-in-MaskOnly : goal.scoped-returns-in_ok-id-in-MaskOnly
-scoped-returns-in_ok-id-in-MaskOnly t c =
-    as_core c.args.defs.now (ap (λ z. scoped_core z (block_core (bl_of c.args.b.now))) c.in-MaskOnly.is) (one k.Mask a_mask (λ ts us x. refl) c.in_ok-i-in-MaskOnly.ensures (λ k. k) c.in_ok-id-in-MaskOnly.ensures)
-
-pub scoped-returns-in_ok-id-in-UninterruptibleMaskOnly : goal.scoped-returns-in_ok-id-in-UninterruptibleMaskOnly
-scoped-returns-in_ok-id-in-UninterruptibleMaskOnly t c =
-    as_core c.args.defs.now (ap (λ z. scoped_core z (block_core (bl_of c.args.b.now))) c.in-UninterruptibleMaskOnly.is) (one k.UninterruptibleMask a_mask_hard (λ ts us x. refl) c.in_ok-i-in-UninterruptibleMaskOnly.ensures (λ k. k) c.in_ok-id-in-UninterruptibleMaskOnly.ensures)
 
 pub masking-returns-in_ok-id-in-ForkIoWithUnmask : goal.masking-returns-in_ok-id-in-ForkIoWithUnmask
 masking-returns-in_ok-id-in-ForkIoWithUnmask t c =
@@ -57,6 +41,10 @@ masking-returns-in_ok-id-in-Mask t c =
 pub masking-returns-in_ok-id-in-UninterruptibleMask : goal.masking-returns-in_ok-id-in-UninterruptibleMask
 masking-returns-in_ok-id-in-UninterruptibleMask t c =
     as_core c.args.defs.now (ap (λ z. masking_core z (Written c.args.x.now) (block_core (bl_of c.args.b.now))) c.in-UninterruptibleMask.is) (one k.UninterruptibleMask a_mask_hard (λ ts us x. refl) c.in_ok-i.ensures (λ k. k) c.in_ok-id-in-UninterruptibleMask.ensures)
+
+pub fork_form-returns : goal.fork_form-returns
+fork_form-returns t c =
+    one k.Fork a_fork (λ ts us x. refl) c.in_ok-i.ensures (λ k. k) c.in_ok-id.ensures
 
 pub restore_form-returns : goal.restore_form-returns
 restore_form-returns t c =
@@ -112,60 +100,38 @@ action-returns-in_ok-id-in-Case t c =
     as_action c.args.defs.now (case_act c.in-Case.field-0 (ex_of c.in-Case.e) (act_arms_of c.get-two.result.now)) (act_of c.args.a.now) (ap act_of c.in-Case.is ∙ (act-Case c.in-Case.field-0 c.in-Case.e c.in-Case.arms ∙ ap (λ y. case_act c.in-Case.field-0 (ex_of c.in-Case.e) (act_arms_of y)) (sym c.get-two.ensures)))
     (as_case c.args.defs.now c.in-Case.field-0 (ex_of c.in-Case.e) (act_arms_of c.get-two.result.now) (after_known c.args.defs.now (λ s u. arms_tree c.args.defs.now s u (act_arms_of c.get-two.result.now)) c.in_ok-t-in-Case.ensures c.in_ok-id-in-Case.ensures))
 
-pub action-returns-in_ok-t-in-ModifyMVar : goal.action-returns-in_ok-t-in-ModifyMVar
-action-returns-in_ok-t-in-ModifyMVar t c =
-    all_as_action c.modify_form.result c.args.self.now c.modify_form.new.self c.args.defs.now (modify c.in-ModifyMVar.field-0 (ex_of c.in-ModifyMVar.e) c.in-ModifyMVar.x (bl_of c.in-ModifyMVar.b)) (act_of c.args.a.now) (ap act_of c.in-ModifyMVar.is ∙ act-ModifyMVar c.in-ModifyMVar.field-0 c.in-ModifyMVar.e c.in-ModifyMVar.x c.in-ModifyMVar.b)
-    (ex_then c.modify_form.result c.args.self.now c.modify_form.new.self (λ s. slotted (roots c.args.defs.now) s (ex_of c.in-ModifyMVar.e)) c.args.defs.now (λ s u. form.modify s u (Written c.in-ModifyMVar.x.text) (block_tree c.args.defs.now (Written c.in-ModifyMVar.x.text ∷ Added Restorer ∷ Added TheCell ∷ s) (bl_of c.in-ModifyMVar.b))) c.in_ok-t-in-ModifyMVar.ensures c.modify_form.ensures)
-
 pub action-returns-in_ok-i-in-Catch : goal.action-returns-in_ok-i-in-Catch
 action-returns-in_ok-i-in-Catch t c =
     all_as_action c.catch_form.result c.args.self.now c.catch_form.new.self c.args.defs.now (catch c.in-Catch.field-0 (bl_of c.in-Catch.b) c.in-Catch.x (bl_of c.in-Catch.d)) (act_of c.args.a.now) (ap act_of c.in-Catch.is ∙ act-Catch c.in-Catch.field-0 c.in-Catch.b c.in-Catch.x c.in-Catch.d)
     (act_then c.catch_form.result c.args.self.now c.catch_form.new.self (λ s. block_tree c.args.defs.now s (bl_of c.in-Catch.b)) c.args.defs.now (λ s u. a_catch u (block_tree c.args.defs.now (Written c.in-Catch.x.text ∷ s) (bl_of c.in-Catch.d))) c.in_ok-i-in-Catch.ensures c.catch_form.ensures)
 
-pub action-returns-in_ok-i-in-OnException : goal.action-returns-in_ok-i-in-OnException
-action-returns-in_ok-i-in-OnException t c =
-    all_as_action c.on_exception_form.result c.args.self.now c.on_exception_form.new.self c.args.defs.now (guard g.OnException c.in-Guard.field-1 (bl_of c.in-Guard.b) (bl_of c.in-Guard.d)) (act_of c.args.a.now) (ap act_of c.in-Guard.is ∙ (act-Guard c.in-Guard.word c.in-Guard.field-1 c.in-Guard.b c.in-Guard.d ∙ ap (λ z. guard z c.in-Guard.field-1 (bl_of c.in-Guard.b) (bl_of c.in-Guard.d)) c.in-OnException.is))
-    (act_then c.on_exception_form.result c.args.self.now c.on_exception_form.new.self (λ s. block_tree c.args.defs.now s (bl_of c.in-Guard.b)) c.args.defs.now (λ s u. a_catch u (form.handler s (block_tree c.args.defs.now (Added Caught ∷ s) (bl_of c.in-Guard.d)))) c.in_ok-i-in-OnException.ensures c.on_exception_form.ensures)
-
-pub action-returns-in_ok-i-in-Finally : goal.action-returns-in_ok-i-in-Finally
-action-returns-in_ok-i-in-Finally t c =
-    all_as_action c.finally_form.result c.args.self.now c.finally_form.new.self c.args.defs.now (guard g.Finally c.in-Guard.field-1 (bl_of c.in-Guard.b) (bl_of c.in-Guard.d)) (act_of c.args.a.now) (ap act_of c.in-Guard.is ∙ (act-Guard c.in-Guard.word c.in-Guard.field-1 c.in-Guard.b c.in-Guard.d ∙ ap (λ z. guard z c.in-Guard.field-1 (bl_of c.in-Guard.b) (bl_of c.in-Guard.d)) c.in-Finally.is))
-    (act_then c.finally_form.result c.args.self.now c.finally_form.new.self (λ s. block_tree c.args.defs.now (Added Restorer ∷ s) (bl_of c.in-Guard.b)) c.args.defs.now (λ s u. form.finally s u (block_tree c.args.defs.now (Added Caught ∷ Added Restorer ∷ s) (bl_of c.in-Guard.d)) (block_tree c.args.defs.now (Added Given ∷ Added Restorer ∷ s) (bl_of c.in-Guard.d))) c.in_ok-i-in-Finally.ensures c.finally_form.ensures)
-
-pub action-returns-in_ok-j-in-Bracket : goal.action-returns-in_ok-j-in-Bracket
-action-returns-in_ok-j-in-Bracket t c =
-    all_as_action c.bracket_form.result c.args.self.now c.bracket_form.new.self c.args.defs.now (bracket c.in-Bracket.field-0 (bl_of c.in-Bracket.b) c.in-Bracket.x (bl_of c.in-Bracket.d) (bl_of c.in-Bracket.u)) (act_of c.args.a.now) (ap act_of c.in-Bracket.is ∙ act-Bracket c.in-Bracket.field-0 c.in-Bracket.b c.in-Bracket.x c.in-Bracket.d c.in-Bracket.u)
-    (acts_then c.bracket_form.result c.args.self.now c.bracket_form.new.self (λ s. block_tree c.args.defs.now (Added Restorer ∷ s) (bl_of c.in-Bracket.b)) (λ s. block_tree c.args.defs.now (Added Instance ∷ Written c.in-Bracket.x.text ∷ Added Restorer ∷ s) (bl_of c.in-Bracket.u)) c.args.defs.now (λ s u v. a_mask (a_bind u (form.bracket_marked (Written c.in-Bracket.x.text ∷ Added Restorer ∷ s) v (block_tree c.args.defs.now (Added BracketFault ∷ Added Instance ∷ Written c.in-Bracket.x.text ∷ Added Restorer ∷ s) (bl_of c.in-Bracket.d)) (block_tree c.args.defs.now (Added BracketResult ∷ Added Instance ∷ Written c.in-Bracket.x.text ∷ Added Restorer ∷ s) (bl_of c.in-Bracket.d))))) c.in_ok-i-in-Bracket.ensures c.in_ok-j-in-Bracket.ensures c.bracket_form.ensures)
-
-pub action-returns-in_ok-t-in-Timeout : goal.action-returns-in_ok-t-in-Timeout
-action-returns-in_ok-t-in-Timeout t c =
-    all_as_action c.timeout_form.result c.args.self.now c.timeout_form.new.self c.args.defs.now (timeout c.in-Timeout.field-0 (ex_of c.in-Timeout.e) (bl_of c.in-Timeout.b)) (act_of c.args.a.now) (ap act_of c.in-Timeout.is ∙ act-Timeout c.in-Timeout.field-0 c.in-Timeout.e c.in-Timeout.b)
-    (ex_then c.timeout_form.result c.args.self.now c.timeout_form.new.self (λ s. slotted (roots c.args.defs.now) s (ex_of c.in-Timeout.e)) c.args.defs.now (λ s u. form.timeout s u (block_tree c.args.defs.now (Added Allowed ∷ s) (bl_of c.in-Timeout.b)) (block_tree c.args.defs.now (Added Instance ∷ Added Helper ∷ Added Restorer ∷ Added Expiry ∷ Added Owner ∷ Added Allowed ∷ s) (bl_of c.in-Timeout.b))) c.in_ok-t-in-Timeout.ensures c.timeout_form.ensures)
-
 pub if_form-returns : goal.if_form-returns
 if_form-returns t c =
     λ u A. held_branch c.args.defs.now u A k.If a_if (λ ts us x y z. refl) c.in_ok-j.ensures c.in_ok-id.ensures
-
-pub modify_form-returns : goal.modify_form-returns
-modify_form-returns t c =
-    λ u. held_ex_one c.args.defs.now u (λ s x y. form.modify s x (Written c.args.x.now) y) c.in_ok-i.ensures c.in_ok-id.ensures
 
 pub catch_form-returns : goal.catch_form-returns
 catch_form-returns t c =
     λ A. first k.Catch a_catch (λ ts us x y. refl) (λ k. k.1) c.in_ok-j.ensures (λ k. k.0) c.in_ok-id.ensures
 
-pub on_exception_form-returns : goal.on_exception_form-returns
-on_exception_form-returns t c =
-    λ A. after_one A (λ s u v. a_catch u (form.handler s v)) (λ k. k.1) c.in_ok-j.ensures (λ k. k.0) c.in_ok-id.ensures
+pub derived-steps-init : goal.derived-steps-init
+derived-steps-init t c =
+    gone_none c.args.defs.now (filling_of (option_copied c.args.subject) (option_copied c.args.name) (act_of c.args.a.now)) c.args.form c.len.ensures c.new.ensures c.new-2.ensures refl
 
-pub finally_form-returns : goal.finally_form-returns
-finally_form-returns t c =
-    λ A. held_two c.args.defs.now A (λ s u v w. form.finally s u v w) c.in_ok-j.ensures c.in_ok-k.ensures c.in_ok-id.ensures
+pub derived-steps-preserved : goal.derived-steps-preserved
+derived-steps-preserved t c =
+    let d = c.args.defs.now in
+    let f = filling_of (option_copied c.args.subject) (option_copied c.args.name) (act_of c.args.a.now) in
+    let all = c.steps-step-items.result.now in
+    let x = get_or all c.steps.step-index (p.Hole part.First) in
+    elim c.match-step.branch [
+      | derived-in-Hole+in_ok-i-in-Hole+in_ok-add-in-Hole w ↦
+          gone_as w.self-is w.making-is (gone_at d f c.args.form all c.steps.step-index (p.Hole part.First) c.steps-step-items.ensures c.steps-test.true c.steps.invariant
+          (as_moves d f x (p.Hole w.in-Hole.part) w.in-Hole.is (moves_block d (λ s. core_tree d s (f.block w.in-Hole.part)) w.in_ok-i-in-Hole.ensures w.in_ok-add-in-Hole.ensures.ok)))
+      | derived-in_default+in_ok-step-in_default w ↦
+          gone_as w.self-is w.making-is (gone_at d f c.args.form all c.steps.step-index (p.Hole part.First) c.steps-step-items.ensures c.steps-test.true c.steps.invariant
+          (w.in_ok-step-in_default.ensures f refl (sym c.in_ok-given.ensures) w.in_default.not-Hole))
+    ]
 
-pub bracket_form-returns : goal.bracket_form-returns
-bracket_form-returns t c =
-    λ A B. held_both c.args.defs.now A B (λ s u v w x. a_mask (a_bind u (form.bracket_marked (Written c.args.x.now ∷ Added Restorer ∷ s) v w x))) c.in_ok-k.ensures c.in_ok-l.ensures c.in_ok-id.ensures
-
-pub timeout_form-returns : goal.timeout_form-returns
-timeout_form-returns t c =
-    λ u. held_ex_two c.args.defs.now u (λ s x y z. form.timeout s x y z) c.in_ok-i.ensures c.in_ok-j.ensures c.in_ok-id.ensures
+pub derived-returns : goal.derived-returns
+derived-returns t c =
+    gone_all c.args.defs.now (filling_of (option_copied c.args.subject) (option_copied c.args.name) (act_of c.args.a.now)) c.args.form (drop_past (steps c.args.form) c.steps.step-index (let l = ap length c.steps-step-items.ensures in let e = c.steps-test.false in omega (arith, l, e))) c.steps.invariant c.act_off-id.ensures

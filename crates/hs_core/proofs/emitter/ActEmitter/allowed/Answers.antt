@@ -1,9 +1,0 @@
-use Rattle.std.proofs.Common.{refl}
-use Rattle.rules_code.specs.declared.act.Act.TheVariants as k
-use Rattle.rules_code.specs.CodeTrees.{a_if}
-use Rattle.hs_core.proofs.Steps.{goes_on, branches, goes, goes_ex, kept}
-use Rattle.hs_core.proofs.emitter.ActEmitter.allowed.Goals as goal
-
-pub returns : goal.returns
-returns c =
-    λ A B. branches k.If a_if (λ ts us x y z. refl) c.in_ok-t.ensures (λ k. tt) (c.in_ok-n.ensures A) (λ k. kept (goes_ex c.in_ok-t.ensures) k.0) (c.in_ok-r.ensures B) (λ k. kept (goes_on (goes_ex c.in_ok-t.ensures) (goes (c.in_ok-n.ensures A))) k.1) c.in_ok-id.ensures
