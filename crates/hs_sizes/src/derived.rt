@@ -11,10 +11,8 @@ use rules_expansion::{Derived, Operand, Part, Step, steps};
 /// What stands for the expression of a form that has none: `Nothing`.
 pub const NO_EXPRESSION: u32 = 1;
 
-/// What stands for a block that a form has not: `return Nothing`.
-pub const NO_BLOCK: u32 = 2;
-
-/// The nodes of a form, by those of its expression and of its blocks.
+/// The nodes of a form, by those of its expression and of its blocks. A form with fewer than three has its last one in
+/// their places: no step asks for those.
 pub fn derived_nodes(form: Derived, subject: u32, first: u32, second: u32, third: u32) -> u32
     ensures { (f : Filling) → Counted f subject first second third → result ≡ min (core_size (derived form f)) 1000001 }
 {

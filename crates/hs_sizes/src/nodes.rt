@@ -6,7 +6,7 @@ ghost use Rattle.rules_expansion.specs.Expansion.{unary_core, scoped_core, guard
 ghost use Rattle.rules_expansion.specs.Sizes.{ex_size, exs_size, links_size, arms_size, core_ex_size, core_size, body_size};
 
 use crate::count::add;
-use crate::derived::{NO_BLOCK, NO_EXPRESSION, derived_nodes};
+use crate::derived::{NO_EXPRESSION, derived_nodes};
 use hs_base::tree::forms::{BinaryForm, BlockAction, GuardAction, UnaryAction};
 use hs_base::tree::{
     Action, Block, BlockArms, Body, Expr, ExprArms, Link, ListLink, Stmt, SumLink,
@@ -134,13 +134,8 @@ fn act_nodes(a: &Action) -> u32
         Action::If(_, e, b, d) => add(1, add(ex_nodes(e), add(bl_nodes(b), bl_nodes(d)))),
         Action::Case(_, e, arms) => add(1, add(ex_nodes(e), act_arm_nodes(arms.get()))),
         Action::ModifyMVar(_, e, _, b) => {
-            derived_nodes(
-                Derived::ModifyMVar,
-                ex_nodes(e),
-                bl_nodes(b),
-                NO_BLOCK,
-                NO_BLOCK,
-            )
+            let n = bl_nodes(b);
+            derived_nodes(Derived::ModifyMVar, ex_nodes(e), n, n, n)
         }
         Action::Scoped(w, _, b) => scoped_nodes(*w, bl_nodes(b)),
         Action::Masking(_, _, _, b) => over_block(b),
@@ -157,13 +152,8 @@ fn act_nodes(a: &Action) -> u32
             )
         }
         Action::Timeout(_, e, b) => {
-            derived_nodes(
-                Derived::Timeout,
-                ex_nodes(e),
-                bl_nodes(b),
-                NO_BLOCK,
-                NO_BLOCK,
-            )
+            let n = bl_nodes(b);
+            derived_nodes(Derived::Timeout, ex_nodes(e), n, n, n)
         }
     }
 }
@@ -173,9 +163,8 @@ fn unary_nodes(w: UnaryAction, n: u32) -> u32
     ensures { (e : CoreEx) → n ≡ min (core_ex_size e) 1000001 → result ≡ min (core_size (unary_core w e)) 1000001 }
 {
     match w {
-        UnaryAction::KillThread => {
-            derived_nodes(Derived::KillThread, n, NO_BLOCK, NO_BLOCK, NO_BLOCK)
-        }
+        // `throwTo` with the exception `ThreadKilled`
+        UnaryAction::KillThread => add(1, add(n, 1)),
         _ => add(1, n),
     }
 }
@@ -186,17 +175,9 @@ fn scoped_nodes(w: BlockAction, n: u32) -> u32
 {
     match w {
         BlockAction::ForkIo => add(1, n),
-        BlockAction::MaskOnly => {
-            derived_nodes(Derived::MaskOnly, NO_EXPRESSION, n, NO_BLOCK, NO_BLOCK)
-        }
+        BlockAction::MaskOnly => { derived_nodes(Derived::MaskOnly, NO_EXPRESSION, n, n, n) }
         BlockAction::UninterruptibleMaskOnly => {
-            derived_nodes(
-                Derived::UninterruptibleMaskOnly,
-                NO_EXPRESSION,
-                n,
-                NO_BLOCK,
-                NO_BLOCK,
-            )
+            derived_nodes(Derived::UninterruptibleMaskOnly, NO_EXPRESSION, n, n, n)
         }
     }
 }
@@ -206,10 +187,8 @@ fn guard_nodes(w: GuardAction, m: u32, n: u32) -> u32
     ensures { (a c : Core) → m ≡ min (core_size a) 1000001 → n ≡ min (core_size c) 1000001 → result ≡ min (core_size (guard_core w a c)) 1000001 }
 {
     match w {
-        GuardAction::OnException => {
-            derived_nodes(Derived::OnException, NO_EXPRESSION, m, n, NO_BLOCK)
-        }
-        GuardAction::Finally => derived_nodes(Derived::Finally, NO_EXPRESSION, m, n, NO_BLOCK),
+        GuardAction::OnException => { derived_nodes(Derived::OnException, NO_EXPRESSION, m, n, n) }
+        GuardAction::Finally => derived_nodes(Derived::Finally, NO_EXPRESSION, m, n, n),
     }
 }
 
