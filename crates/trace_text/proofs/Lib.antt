@@ -1,0 +1,5 @@
+pub mod Digits
+pub mod Numbers
+pub mod EntryLines
+pub mod Readings
+pub mod ScriptLines
