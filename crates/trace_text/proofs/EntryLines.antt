@@ -1,9 +1,8 @@
 -- Lines at the begin of some bytes.
-use Rattle.std.proofs.Common.{◌≡◌, ◌≢◌, ℕ, ◌<◌, ◌≤◌, ◌^◌, List, [], ◌∷◌, ◌++◌, refl, sym, ap, ◌∙◌, subst, arith, append_assoc}
-use Rattle.std.specs.Fmt.{decimal}
+use Rattle.std.proofs.Common.{◌≡◌, ℕ, ◌<◌, ◌^◌, List, ◌∷◌, ◌++◌, refl, sym, ap, ◌∙◌, arith, append_assoc}
 use Rattle.hs_rules.specs.declared.entry.Entry.{Entry}
 use Rattle.hs_rules.specs.declared.entry.Entry.TheVariants.{Local, Op, Receive, Wake, Finish, Tick, Stranded}
-use Rattle.rules_traces.specs.Traces.{Fits, line_of, BeginsNoLine}
+use Rattle.rules_traces.specs.Traces.{Fits, line_of}
 use Rattle.trace_text.specs.Fields.{EndsNumber, EndsNumbers, ReadsNumber, ReadsNumbers, number_then, numbers_then, letter_of}
 use Rattle.trace_text.proofs.Numbers.{one_number, wider}
 

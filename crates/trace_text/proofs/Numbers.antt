@@ -1,9 +1,8 @@
 -- Numbers at the begin of some bytes.
-use Rattle.std.proofs.Common.{◌≡◌, ◌≢◌, ℕ, zero, suc, ◌+◌, ◌<◌, ◌≤◌, ◌^◌, List, [], ◌∷◌, ◌++◌, length, take, drop, get_or, refl, sym, ap, ◌∙◌, subst, arith, ⊎_elim}
+use Rattle.std.proofs.Common.{◌≡◌, ◌≢◌, ℕ, zero, suc, ◌<◌, ◌≤◌, ◌^◌, List, ◌∷◌, ◌++◌, length, take, drop, get_or, sym, ap, ◌∙◌, subst, arith, ⊎_elim}
 use Rattle.std.specs.Fmt.{decimal}
-use Rattle.std.specs.Char.{digit_value}
 use Rattle.std.specs.Prelude.{Result, Ok, Err, None, MatchResult}
-use Rattle.std.specs.Result.{result_ok}
+use Rattle.std.specs.Result.{OkIff, result_ok}
 use Rattle.std.specs.Str.{IsUtf8}
 use Rattle.std.proofs.lemmas.Str.{IsUtf8-from_ascii}
 use Rattle.std.specs.Str.Parse.{AllDigits, digits_value}
@@ -12,7 +11,7 @@ use Rattle.std.proofs.lemmas.Bool.{cases_lt}
 use Rattle.std.proofs.lemmas.List.{take-append-drop}
 use Rattle.std.proofs.Math.Seq.{take-append_seam, drop-append_seam}
 use Rattle.std.proofs.lemmas.Str.Parse.{IsNumeralModel, numerals_by_value, tells_digits}
-use Rattle.trace_text.specs.Fields.{EndsNumber, HasNumberForm, ReadsNumber, number_then}
+use Rattle.trace_text.specs.Fields.{EndsNumber, HasNumberForm, ReadsNumber}
 use Rattle.trace_text.proofs.Digits.{DigitsEnd, digits_apart}
 
 -- std's digits, as std's own words
@@ -86,3 +85,7 @@ no_digits (Err x) P Q U h u e = h.0 u
 
 pub digits_are_text : (digits : List ℕ) → AllDigits 10 digits → IsUtf8 digits
 digits_are_text digits d = IsUtf8-from_ascii digits (IsAscii-from_digits digits d)
+
+pub none_ok : {A E : Type 0} (r : Result A E) (P : Type 0) (v : A) → OkIff r P v → result_ok r ≡ None → P → ⊥
+none_ok (Ok x) P v h e q = cc
+none_ok (Err x) P v h e q = h q

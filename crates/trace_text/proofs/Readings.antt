@@ -1,12 +1,12 @@
 -- Texts read line by line.
-use Rattle.std.proofs.Common.{◌≡◌, ◌≢◌, ℕ, zero, suc, ◌+◌, ◌<◌, ◌≤◌, List, [], ◌∷◌, ◌++◌, length, drop, take, refl, sym, ap, ◌∙◌, subst, arith, append_assoc, ⊎_elim}
+use Rattle.std.proofs.Common.{◌≡◌, ℕ, zero, suc, ◌+◌, ◌<◌, ◌≤◌, List, [], ◌∷◌, ◌++◌, length, drop, take, refl, sym, ap, ◌∙◌, subst, arith, append_assoc, ⊎_elim}
 use Rattle.std.specs.List.{flat_map, AllByRecursion}
-use Rattle.std.specs.Prelude.{Result, Ok, Err, Option, Some, None, IfOk, slice_get}
+use Rattle.std.specs.Prelude.{Result, Ok, Err, Some, IfOk, slice_get}
 use Rattle.std.proofs.lemmas.List.Concat.{flat_map-append}
 use Rattle.std.proofs.lemmas.Bool.{cases_lt}
 use Rattle.std.proofs.lemmas.List.{append-nil, take_all}
 use Rattle.hs_rules.specs.declared.entry.Entry.{Entry}
-use Rattle.rules_traces.specs.Traces.{Fits, header, line_of, trace_of, Reads, Spells}
+use Rattle.rules_traces.specs.Traces.{Fits, header, line_of, trace_of, Spells}
 use Rattle.trace_text.specs.Fields.{letter_of, numbers_then}
 use Rattle.trace_text.specs.Reading.{GoesOn, OneReading, OneSpelling}
 use Rattle.trace_text.proofs.EntryLines.{line_parts, one_line}

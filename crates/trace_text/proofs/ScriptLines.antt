@@ -1,10 +1,9 @@
 -- The lines of a document, up to the first `script`.
-use Rattle.std.proofs.Common.{◌≡◌, ◌≢◌, ℕ, zero, suc, ◌+◌, ◌-◌, ◌<◌, ◌≤◌, ◌==◌, List, [], ◌∷◌, ◌++◌, length, take, drop, get_or, Bool, true, false, Option, Some, None, cond, refl, sym, ap, ◌∙◌, subst, arith, ⊎_elim, inl, inr}
+use Rattle.std.proofs.Common.{◌≡◌, ◌≢◌, ℕ, zero, suc, ◌+◌, ◌-◌, ◌<◌, ◌≤◌, ◌==◌, List, [], ◌∷◌, ◌++◌, length, take, drop, get_or, Bool, true, false, Some, None, cond, refl, sym, ap, ◌∙◌, arith, ⊎_elim, inl, inr}
 use Rattle.std.specs.List.{position, position_or_len}
-use Rattle.std.specs.Prelude.{slice_index}
 use Rattle.std.proofs.lemmas.Bool.{cases_lt, lt-ltb}
 use Rattle.std.proofs.lemmas.Bool.Decides.{Decides-eqb}
-use Rattle.std.proofs.lemmas.List.{get_or-drop, take-append-drop, length-drop}
+use Rattle.std.proofs.lemmas.List.{get_or-drop, get_or_past, take-append-drop, length-drop}
 use Rattle.std.proofs.lemmas.List.Quantifiers.{position-Some}
 use Rattle.std.proofs.lemmas.List.Sums.{fails_before_first}
 use Rattle.std.proofs.lemmas.Slice.Eq.{starts_is}
@@ -52,8 +51,8 @@ searched_more text begin end s other found =
       within = omega (arith, p.0, length-drop begin text, s.within);
       begins = inr (ap (λ i. get_or text i 0) (sym place) ∙ ten);
       before = λ at h. ⊎_elim (λ (l : begin < at). let r : begin + (end + 1) ≤ at = omega (arith, next_begin text begin end at found h.begins l) in r)
-      (λ (l : at ≤ begin). let same : at ≡ begin = omega (arith, s.before at h) in absurd (other (ap (λ i. take 7 (drop i text)) (sym same) ∙ h.line)))
-      (cases_lt begin at);
+          (λ (l : at ≤ begin). let same : at ≡ begin = omega (arith, s.before at h) in absurd (other (ap (λ i. take 7 (drop i text)) (sym same) ∙ h.line)))
+          (cases_lt begin at);
     }
 
 length_of_line : length script_line ≡ 7
@@ -87,12 +86,13 @@ searched_all text begin s none at h =
     get_or-drop begin text k 0 ∙ (ap (λ i. get_or text i 0) place ∙ (sym (get_or-drop at text 6 0) ∙ (sym (take_place 7 6 (drop at text) (omega arith)) ∙ (ap (λ z. get_or z 6 0) h.line ∙ last_of_line)))) in
     let past = no_position (drop begin text) none in
     ⊎_elim (λ (l : k < length (drop begin text)). not_ten (get_or (drop begin text) k 0) (fails_before_first (λ b. b == 10) (drop begin text) k 0 (omega arith)) ten)
-    (λ (l : length (drop begin text) ≤ k). omega (arith, ten, get_or_past (drop begin text) k l))
+    (λ (l : length (drop begin text) ≤ k). omega (arith, ten, get_or_past (drop begin text) k 0 l))
     (cases_lt k (length (drop begin text)))
 
 -- the code's test of a line
-pub tested : (rest : List ℕ) (yes : Bool) → yes ≡ pointwise eqb script_line (take (length script_line) rest) → (yes ≡ true → take 7 rest ≡ script_line) × (yes ≡ false → take 7 rest ≢ script_line)
-tested rest yes e =
-    let is = starts_is Decides-eqb rest script_line yes e in
-    (λ t. ap (λ k. take k rest) (sym length_of_line) ∙ (ap (take (length script_line)) (is.0 t) ∙ take-append_seam script_line (drop (length script_line) rest)),
-    λ f same. let whole : rest ≡ script_line ++ drop 7 rest = sym (take-append-drop 7 rest) ∙ ap (λ z. z ++ drop 7 rest) same in let t : yes ≡ true = is.1 (drop 7 rest) whole in cc)
+pub tested : (rest : List ℕ) (b : Bool) → b ≡ pointwise eqb script_line (take (length script_line) rest) → (b ≡ true → take 7 rest ≡ script_line) × (b ≡ false → take 7 rest ≢ script_line)
+tested rest b e =
+    let is = starts_is Decides-eqb rest script_line b e in (
+      λ t. ap (λ k. take k rest) (sym length_of_line) ∙ (ap (take (length script_line)) (is.0 t) ∙ take-append_seam script_line (drop (length script_line) rest)),
+      λ f same. let whole : rest ≡ script_line ++ drop 7 rest = sym (take-append-drop 7 rest) ∙ ap (λ z. z ++ drop 7 rest) same in let t : b ≡ true = is.1 (drop 7 rest) whole in cc,
+    )

@@ -1,5 +1,5 @@
-use Rattle.std.proofs.Common.{◌≡◌, ◌∷◌, ℕ, ap, sym, ◌∙◌, length, arith}
-use Rattle.trace_text.proofs.EntryLines.{read_behind, one_entry, line_read}
+use Rattle.std.proofs.Common.{◌≡◌, ◌∷◌, ap, sym, ◌∙◌, length, arith}
+use Rattle.trace_text.proofs.EntryLines.{read_behind, one_entry}
 use Rattle.trace_text.proofs.lines.entry_at.Goals as goal
 
 pub returns-in_err-entry : goal.returns-in_err-entry
