@@ -3,3 +3,5 @@ pub mod Numbers
 pub mod EntryLines
 pub mod Readings
 pub mod ScriptLines
+pub mod Faults
+pub mod Documents

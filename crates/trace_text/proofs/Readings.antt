@@ -12,7 +12,7 @@ use Rattle.trace_text.specs.Reading.{GoesOn, OneReading, OneSpelling}
 use Rattle.trace_text.proofs.EntryLines.{line_parts, one_line}
 
 -- behind one first line the bytes are the same
-header_apart : (x y : List ℕ) → header ++ x ≡ header ++ y → x ≡ y
+pub header_apart : (x y : List ℕ) → header ++ x ≡ header ++ y → x ≡ y
 unfolding header
 header_apart x y h = ap (drop 13) h
 
@@ -31,7 +31,7 @@ one_reading text es fs rest after le r s =
     lines_apart es fs rest after r.fit s.fit le (header_apart (flat_map line_of es ++ rest) (flat_map line_of fs ++ after) same)
 
 -- no bytes are no lines
-none_more : (gs : List Entry) (after : List ℕ) → [] ≡ flat_map line_of gs ++ after → gs ≡ []
+pub none_more : (gs : List Entry) (after : List ℕ) → [] ≡ flat_map line_of gs ++ after → gs ≡ []
 none_more [] after h = refl
 none_more (g ∷ gs) after h =
     let some : [] ≡ letter_of g ∷ numbers_then g (10 ∷ (flat_map line_of gs ++ after)) = h ∙ (append_assoc (line_of g) (flat_map line_of gs) after ∙ line_parts g (flat_map line_of gs ++ after)) in

@@ -1,8 +1,8 @@
 -- What reading a text line by line answers.
-use Rattle.std.specs.Prelude.{◌≡◌, ◌≢◌, ℕ, ◌+◌, ◌≤◌, List, [], ◌∷◌, ◌++◌, length}
-use Rattle.std.specs.List.{flat_map}
+use Rattle.std.specs.Prelude.{◌≡◌, ◌≢◌, ℕ, ◌+◌, ◌≤◌, List, [], ◌∷◌, ◌++◌, length, take, drop}
+use Rattle.std.specs.List.{flat_map, AllByRecursion}
 use Rattle.hs_rules.specs.declared.entry.Entry.{Entry}
-use Rattle.rules_traces.specs.Traces.{Fits, line_of, BeginsNoLine, Reads, Spells}
+use Rattle.rules_traces.specs.Traces.{Fits, line_of, trace_of, BeginsNoLine, Reads, Spells, IsMisspelled, IsScriptLine, document_of}
 use Rattle.trace_text.specs.declared.lines.Line.{Line}
 use Rattle.trace_text.specs.declared.lines.Line.TheVariants as line
 
@@ -39,3 +39,26 @@ OneSpelling = (text : List ℕ) (es fs : List Entry) → Spells text es → Spel
 -- and what stood behind the first is the lines of the others that follow.
 abbrev pub OneReading : Type 0
 OneReading = (text : List ℕ) (es fs : List Entry) (rest after : List ℕ) → length es ≤ length fs → Reads text es rest → Reads text fs after → GoesOn es fs rest after
+
+-- the line that isn't as a trace has it comes after all lines that were read
+abbrev pub FaultsComeLater : Type 0
+FaultsComeLater = (text : List ℕ) (es : List Entry) (rest : List ℕ) (n : ℕ) → Reads text es rest → IsMisspelled text n → length es + 2 ≤ n
+
+-- a text has one first such line
+abbrev pub OneFault : Type 0
+OneFault = (text : List ℕ) (m n : ℕ) → IsMisspelled text m → IsMisspelled text n → m ≡ n
+
+-- and a trace has none
+abbrev pub TracesAreFaultless : Type 0
+TracesAreFaultless = (text : List ℕ) (es : List Entry) (n : ℕ) → Spells text es → ¬ IsMisspelled text n
+
+-- a document is parted where its trace ends
+pub record IsPartedBy (document trace script : List ℕ) : Type 0 where
+  pub line : IsScriptLine document (length trace)
+  pub first : (at : ℕ) → IsScriptLine document at → length trace ≤ at
+  pub before : take (length trace) document ≡ trace
+  pub behind : drop (length trace + 7) document ≡ script
+
+-- no line of a trace is `script`, so a document has one trace and one script
+abbrev pub DocumentsPart : Type 0
+DocumentsPart = (es : List Entry) (script : List ℕ) → AllByRecursion Fits es → IsPartedBy (document_of es script) (trace_of es) script

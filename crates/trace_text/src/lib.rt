@@ -13,6 +13,6 @@ mod number;
 mod writing;
 
 pub use document::split;
-pub use laws::{one_reading, one_spelling, reads_on};
+pub use laws::{documents_part, one_fault, one_reading, one_spelling, reads_on};
 pub use lines::{Line, Lines};
 pub use writing::write_trace;
