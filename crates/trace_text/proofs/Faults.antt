@@ -1,11 +1,10 @@
 -- The first line that isn't as a trace has it.
-use Rattle.std.proofs.Common.{◌≡◌, ℕ, ◌+◌, ◌<◌, ◌≤◌, List, [], ◌∷◌, ◌++◌, length, refl, sym, ap, ◌∙◌, subst, arith, append_assoc, length-append, ⊎_elim, inl, inr}
+use Rattle.std.proofs.Common.{◌≡◌, ℕ, ◌<◌, ◌≤◌, List, [], ◌∷◌, ◌++◌, length, sym, ap, ◌∙◌, subst, arith, append_assoc, length-append, ⊎_elim, inl, inr}
 use Rattle.std.specs.List.{flat_map, AllByRecursion}
 use Rattle.std.proofs.lemmas.Bool.{cases_lt}
-use Rattle.std.proofs.lemmas.List.{append-nil}
 use Rattle.hs_rules.specs.declared.entry.Entry.{Entry}
-use Rattle.rules_traces.specs.Traces.{Fits, header, line_of, trace_of, Reads, Spells, HasNoHeader, GoesWrong, BeginsNoLine, IsMisspelled}
-use Rattle.trace_text.specs.Reading.{GoesOn, FaultsComeLater, OneFault, TracesAreFaultless}
+use Rattle.rules_traces.specs.Traces.{Fits, header, line_of, Reads, HasNoHeader, GoesWrong, BeginsNoLine}
+use Rattle.trace_text.specs.Reading.{FaultsComeLater, OneFault, TracesAreFaultless}
 use Rattle.trace_text.proofs.Readings.{one_reading, none_more}
 
 has_header : (text : List ℕ) (es : List Entry) (rest : List ℕ) → Reads text es rest → HasNoHeader text → ⊥
