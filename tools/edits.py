@@ -54,6 +54,21 @@ def can_be_applied():
             yield f"{RECORD}: {name} has no edits in more-edits"
 
 
+def wrong_bodies():
+    """Patches of tools/wrong-bodies that can't be applied, or that name a test which isn't there."""
+    for path in here("tools/wrong-bodies/*.patch"):
+        ran = subprocess.run(["patch", "--dry-run", "-f", "-s", "-p0", "-i", path], cwd=TOP, stdout=subprocess.PIPE, stderr=subprocess.STDOUT,
+                             text=True, check=False)
+        if ran.returncode:
+            yield f"{path}: it can't be applied: {' '.join(ran.stdout.split())}"
+        named = re.findall(r"^Refused by: (\w+) (\w+)$", read(path), re.M)
+        if not named:
+            yield f"{path}: it names no test that refuses it"
+        for crate, test in named:
+            if not any(f"fn {test}(" in read(it) for it in here(f"crates/{crate}/src/*.rt")):
+                yield f"{path}: {crate} has no test {test}"
+
+
 def recorded():
     if not os.path.isfile(os.path.join(TOP, RECORD)):
         return []

@@ -91,9 +91,9 @@ def say(text):
     print(f"check: {text}", file=sys.stderr, flush=True)
 
 
-def is_new(program, crate):
+def is_new(program, crate, may=os.X_OK):
     """Whether the program is there and no source of it is newer."""
-    if not os.access(program, os.X_OK):
+    if not os.access(program, may):
         return False
     made = os.path.getmtime(program)
     folders = [f"crates/{it}/{part}" for it in below(crate) | {crate} for part in ("src", "specs", "proofs")]

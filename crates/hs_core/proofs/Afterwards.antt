@@ -1,5 +1,5 @@
 -- Forms whose first parts stand already, and the rest of a form after its first parts.
-use Rattle.std.proofs.Common.{◌≡◌, ℕ, Option, ap, ◌∙◌, sym, subst}
+use Rattle.std.proofs.Common.{◌≡◌, sym, subst}
 use Rattle.std.proofs.lemmas.Result.{IfOk-weaker}
 use Rattle.std.specs.Prelude.{List, Result, IfOk}
 use Rattle.rules_code.specs.declared.node.ExprId.{ExprId}
@@ -13,11 +13,7 @@ use Rattle.hs_core.specs.declared.defs.Defs.{Defs}
 use Rattle.hs_core.specs.declared.emitter.ActEmitter.{ActEmitter}
 use Rattle.hs_core.specs.Defining.{Knows}
 use Rattle.hs_core.specs.Emits.{DoneIn, StandsIn, Emits, EmitsEx, Pushed}
-use Rattle.hs_core.specs.Opening.{core_tree, action_tree}
-use Rattle.hs_core.specs.Making.{filling_of}
-use Rattle.hs_base.specs.declared.tree.expr.Expr.{Expr}
-use Rattle.rules_expansion.specs.declared.template.Derived.{Derived}
-use Rattle.rules_expansion.specs.Expansion.{core, derived}
+use Rattle.hs_core.specs.Opening.{action_tree}
 use Rattle.hs_core.proofs.ActArena.{knows_on}
 use Rattle.hs_core.proofs.Steps.{goes, goes_ex, goes_on, kept, kept_ex, at, emits, follow, done_ex2}
 

@@ -1,5 +1,5 @@
 -- The steps of a template make the tree of the template with a form's parts in it.
-use Rattle.std.proofs.Common.{◌≡◌, ℕ, List, [], ◌∷◌, refl, ap, ◌∙◌, sym, cond, Bool, true, false}
+use Rattle.std.proofs.Common.{◌≡◌, ℕ, List, ◌∷◌, refl, ap, ◌∙◌, sym, cond, false}
 use Rattle.rules_expansion.specs.declared.template.Binder.{Binder}
 use Rattle.rules_expansion.specs.declared.template.Binder.TheVariants as b
 use Rattle.rules_expansion.specs.declared.template.Step.{Step}

@@ -32,7 +32,7 @@ use Rattle.hs_core.specs.Defining.{Knows, roots}
 use Rattle.hs_core.specs.Emits.{Grows, DoneIn, StandsIn, Emits, EmitsEx, Pushed}
 use Rattle.hs_core.specs.Opening.{core_tree, action_tree, block_tree, arms_tree, Opened, o_bind, o_let, o_then, wrap, wrap_all, node_of, Holds, HoldAll, Opens, OpensAll}
 use Rattle.hs_core.proofs.ActArena.{grows_same, grows_by, grows_on, stands_on, done_on, knows_on}
-use Rattle.hs_core.proofs.Steps.{goes, goes_ex, goes_on, kept, kept_ex, at, emits, follow, done_ex2, given2, given_ex1, with_ex, after2, after3, never, at_scope}
+use Rattle.hs_core.proofs.Steps.{goes, goes_ex, goes_on, kept, kept_ex, at, emits, follow, done_ex2, given2, given_ex1, with_ex, never, at_scope}
 
 pub holds_on : (a b : ActEmitter) (q : Pending) (o : Opened) → Grows Node a.emitter.nodes b.emitter.nodes → Grows Act a.acts b.acts → Holds a q o → Holds b q o
 holds_on a b (p.Bind i) (o_bind t) g w h = done_on g w h

@@ -23,7 +23,7 @@ use Rattle.hs_core.specs.declared.making.Making.{Making}
 use Rattle.hs_core.specs.Defining.{Knows, roots, functions}
 use Rattle.hs_core.specs.Emits.{Grows, DoneIn, StandsIn, Emits, EmitsEx, Nothing_given}
 use Rattle.hs_core.specs.Opening.{core_tree}
-use Rattle.hs_core.specs.Making.{Trees, above, behind, last_operand, last_act, of_none, of_operand, of_operands, of_act, of_acts, of_operand_act, of_operand_acts, pushing, under, leaving, restoring, after, run, nothing_waits}
+use Rattle.hs_core.specs.Making.{Trees, above, behind, last_operand, last_act, of_none, of_operand, of_operands, of_act, of_acts, of_operand_act, of_operand_acts, pushing, leaving, restoring, after, run, nothing_waits}
 use Rattle.hs_core.specs.Waiting.{put_on, OperandsWait, ActsWait, ReadsAs, OperandOff, ActOff, Put, Named, Waits, Stepped, Moves}
 use Rattle.hs_core.proofs.ActArena.{grows_same, grows_on, stands_on, done_on, knows_on, act_trees-length}
 use Rattle.hs_core.proofs.Steps.{Goes, goes_on, goes_push, kept_ex, pushed, stays, read_at, at_scope}

@@ -175,7 +175,7 @@ fn scoped_nodes(w: BlockAction, n: u32) -> u32
 {
     match w {
         BlockAction::ForkIo => add(1, n),
-        BlockAction::MaskOnly => { derived_nodes(Derived::MaskOnly, NO_EXPRESSION, n, n, n) }
+        BlockAction::MaskOnly => derived_nodes(Derived::MaskOnly, NO_EXPRESSION, n, n, n),
         BlockAction::UninterruptibleMaskOnly => {
             derived_nodes(Derived::UninterruptibleMaskOnly, NO_EXPRESSION, n, n, n)
         }
@@ -187,7 +187,7 @@ fn guard_nodes(w: GuardAction, m: u32, n: u32) -> u32
     ensures { (a c : Core) → m ≡ min (core_size a) 1000001 → n ≡ min (core_size c) 1000001 → result ≡ min (core_size (guard_core w a c)) 1000001 }
 {
     match w {
-        GuardAction::OnException => { derived_nodes(Derived::OnException, NO_EXPRESSION, m, n, n) }
+        GuardAction::OnException => derived_nodes(Derived::OnException, NO_EXPRESSION, m, n, n),
         GuardAction::Finally => derived_nodes(Derived::Finally, NO_EXPRESSION, m, n, n),
     }
 }

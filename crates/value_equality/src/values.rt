@@ -1,76 +1,133 @@
-ghost use Rattle.std.specs.Prelude.{◌≡◌, ◌↔◌, IsTrue};
+ghost use Rattle.std.specs.Prelude.{◌≡◌, ◌↔◌, IsTrue, IfOk, OnErr};
+ghost use Rattle.value_equality.specs.Efforts.{IsEndless};
 
-use hs_base::{Exn, Value, ValueList};
+use crate::effort::{Effort, Undecided};
+use hs_base::{Exn, Txt, Value, ValueList};
 use slot_env::Env;
 
-/// Whether two values are equal.
-#[cycle(same)]
-pub fn same_value(a: &Value, b: &Value) -> bool
-    ensures { IsTrue result ↔ (a.now ≡ b.now) }
+/// So many bytes of a text are compared in the time of one value.
+const BYTES_A_STEP: usize = 64;
+
+/// Whether two texts have the same bytes.
+fn compare_texts(a: &Txt, b: &Txt, effort: &mut Effort) -> Result<bool, Undecided>
+    ensures same { IfOk result (λ same. IsTrue same ↔ (a.now ≡ b.now)) }
+    ensures endless { IsEndless effort.old → IsEndless effort.new }
+    ensures err { OnErr result (IsEndless effort.old → ⊥) }
 {
+    effort.spend((a.as_str().len() / BYTES_A_STEP) as u64)?;
+    Ok(a.same(b))
+}
+
+/// Whether two exceptions are equal.
+fn compare_exceptions(a: &Exn, b: &Exn, effort: &mut Effort) -> Result<bool, Undecided>
+    ensures same { IfOk result (λ same. IsTrue same ↔ (a.now ≡ b.now)) }
+    ensures endless { IsEndless effort.old → IsEndless effort.new }
+    ensures err { OnErr result (IsEndless effort.old → ⊥) }
+{
+    if let Exn::ErrorCall(text) = a {
+        effort.spend((text.as_str().len() / BYTES_A_STEP) as u64)?;
+    }
+    Ok(a.same(b))
+}
+
+/// Whether two values are equal, where the effort does.
+#[cycle(same)]
+fn compare_values(a: &Value, b: &Value, effort: &mut Effort) -> Result<bool, Undecided>
+    ensures same { IfOk result (λ same. IsTrue same ↔ (a.now ≡ b.now)) }
+    ensures endless { IsEndless effort.old → IsEndless effort.new }
+    ensures err { OnErr result (IsEndless effort.old → ⊥) }
+{
+    effort.spend(1)?;
     match (a, b) {
-        (Value::Unit, Value::Unit) => true,
-        (Value::Int(a), Value::Int(b)) => a == b,
-        (Value::Bool(a), Value::Bool(b)) => a == b,
-        (Value::Text(a), Value::Text(b)) => a.same(b),
-        (Value::Pair(a, c), Value::Pair(b, d)) => same_value(a.get(), b.get())
-            && same_value(c.get(), d.get()),
-        (Value::Nothing, Value::Nothing) => true,
-        (Value::Just(a), Value::Just(b)) => same_value(a.get(), b.get()),
-        (Value::Left(a), Value::Left(b)) => same_value(a.get(), b.get()),
-        (Value::Right(a), Value::Right(b)) => same_value(a.get(), b.get()),
-        (Value::List(a), Value::List(b)) => same_list(a, b),
-        (Value::Cell(a), Value::Cell(b)) => a == b,
-        (Value::Thread(a), Value::Thread(b)) => a == b,
-        (Value::Exn(a), Value::Exn(b)) => a.same(b),
-        (Value::Restore(a), Value::Restore(b)) => a == b,
-        (Value::Inst(a), Value::Inst(b)) => a == b,
-        _ => false,
+        (Value::Unit, Value::Unit) => Ok(true),
+        (Value::Int(a), Value::Int(b)) => Ok(a == b),
+        (Value::Bool(a), Value::Bool(b)) => Ok(a == b),
+        (Value::Text(a), Value::Text(b)) => compare_texts(a, b, effort),
+        (Value::Pair(a, c), Value::Pair(b, d)) => Ok(
+            compare_values(a.get(), b.get(), effort)? && compare_values(c.get(), d.get(), effort)?,
+        ),
+        (Value::Nothing, Value::Nothing) => Ok(true),
+        (Value::Just(a), Value::Just(b)) => compare_values(a.get(), b.get(), effort),
+        (Value::Left(a), Value::Left(b)) => compare_values(a.get(), b.get(), effort),
+        (Value::Right(a), Value::Right(b)) => compare_values(a.get(), b.get(), effort),
+        (Value::List(a), Value::List(b)) => compare_lists(a, b, effort),
+        (Value::Cell(a), Value::Cell(b)) => Ok(a == b),
+        (Value::Thread(a), Value::Thread(b)) => Ok(a == b),
+        (Value::Exn(a), Value::Exn(b)) => compare_exceptions(a, b, effort),
+        (Value::Restore(a), Value::Restore(b)) => Ok(a == b),
+        (Value::Inst(a), Value::Inst(b)) => Ok(a == b),
+        _ => Ok(false),
     }
 }
 
 /// Whether two lists are equal, by a loop along them.
 #[cycle(same)]
-fn same_list(a: &ValueList, b: &ValueList) -> bool
-    ensures { IsTrue result ↔ (a.now ≡ b.now) }
+fn compare_lists(a: &ValueList, b: &ValueList, effort: &mut Effort) -> Result<bool, Undecided>
+    ensures same { IfOk result (λ same. IsTrue same ↔ (a.now ≡ b.now)) }
+    ensures endless { IsEndless effort.old → IsEndless effort.new }
+    ensures err { OnErr result (IsEndless effort.old → ⊥) }
 {
     let mut a = a;
     let mut b = b;
     loop {
         match (a, b) {
-            (ValueList::Nil, ValueList::Nil) => return true,
+            (ValueList::Nil, ValueList::Nil) => return Ok(true),
             (ValueList::Cons(x), ValueList::Cons(y)) => {
                 let x = x.get();
                 let y = y.get();
-                if !same_value(&x.first, &y.first) {
-                    return false;
+                let alike = compare_values(&x.first, &y.first, effort)?;
+                if !alike {
+                    return Ok(false);
                 }
                 a = &x.rest;
                 b = &y.rest;
             }
-            _ => return false,
+            _ => return Ok(false),
         }
     }
 }
 
-/// Whether two environments have the same values.
+/// Whether two environments have the same values, where the effort does: it takes a step for each value that is compared, and
+/// for each 64 bytes of a text. `Undecided` comes only where the steps are counted.
 #[tactic(auto, using(crate::proofs::Slots::same_at_each))]
-pub fn same_env(a: &Env, b: &Env) -> bool
-    ensures { IsTrue result ↔ (a.now ≡ b.now) }
+pub fn compare_envs(a: &Env, b: &Env, effort: &mut Effort) -> Result<bool, Undecided>
+    ensures same { IfOk result (λ same. IsTrue same ↔ (a.now ≡ b.now)) }
+    ensures endless { IsEndless effort.old → IsEndless effort.new }
+    ensures err { OnErr result (IsEndless effort.old → ⊥) }
 {
     let count = a.len();
     if count != b.len() {
-        return false;
+        return Ok(false);
     }
     for at in 0..count {
         match (a.get(at), b.get(at)) {
             (Some(x), Some(y)) => {
-                if !same_value(x, y) {
-                    return false;
+                if !compare_values(x, y, effort)? {
+                    return Ok(false);
                 }
             }
-            _ => return false,
+            _ => return Ok(false),
         }
     }
-    true
+    Ok(true)
+}
+
+/// Whether two values are equal.
+pub fn same_value(a: &Value, b: &Value) -> bool
+    ensures { IsTrue result ↔ (a.now ≡ b.now) }
+{
+    match compare_values(a, b, &mut Effort::Endless) {
+        Ok(same) => same,
+        Err(Undecided) => unreachable!(),
+    }
+}
+
+/// Whether two environments have the same values.
+pub fn same_env(a: &Env, b: &Env) -> bool
+    ensures { IsTrue result ↔ (a.now ≡ b.now) }
+{
+    match compare_envs(a, b, &mut Effort::Endless) {
+        Ok(same) => same,
+        Err(Undecided) => unreachable!(),
+    }
 }

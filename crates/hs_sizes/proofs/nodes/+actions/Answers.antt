@@ -10,7 +10,7 @@ pub act_nodes-returns-in-ModifyMVar : goal.act_nodes-returns-in-ModifyMVar
 act_nodes-returns-in-ModifyMVar t c =
     rw (ap act_of c.in-ModifyMVar.is ∙ act-ModifyMVar _ _ _ _)
     (c.derived_nodes.ensures (on_bound (OfScript (ex_of c.in-ModifyMVar.e)) c.in-ModifyMVar.field-2.text (block_core (bl_of c.in-ModifyMVar.b)))
-    (record { subject = c.ex_nodes-in-ModifyMVar.ensures; first = c.bl_nodes-in-ModifyMVar.ensures; second = c.bl_nodes-in-ModifyMVar.ensures; third = c.bl_nodes-in-ModifyMVar.ensures }))
+    (record { subject = c.ex_nodes-in-ModifyMVar.ensures; first = c.bl_nodes-n.ensures; second = c.bl_nodes-n.ensures; third = c.bl_nodes-n.ensures }))
 
 pub act_nodes-returns-in-Bracket : goal.act_nodes-returns-in-Bracket
 act_nodes-returns-in-Bracket t c =
@@ -22,4 +22,4 @@ pub act_nodes-returns-in-Timeout : goal.act_nodes-returns-in-Timeout
 act_nodes-returns-in-Timeout t c =
     rw (ap act_of c.in-Timeout.is ∙ act-Timeout _ _ _)
     (c.derived_nodes-in-Timeout.ensures (on_both (OfScript (ex_of c.in-Timeout.e)) (block_core (bl_of c.in-Timeout.b)))
-    (record { subject = c.ex_nodes-in-Timeout.ensures; first = c.bl_nodes-in-Timeout.ensures; second = c.bl_nodes-in-Timeout.ensures; third = c.bl_nodes-in-Timeout.ensures }))
+    (record { subject = c.ex_nodes-in-Timeout.ensures; first = c.bl_nodes-n-in-Timeout.ensures; second = c.bl_nodes-n-in-Timeout.ensures; third = c.bl_nodes-n-in-Timeout.ensures }))

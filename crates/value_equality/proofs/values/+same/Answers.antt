@@ -4,12 +4,13 @@ use Rattle.value_equality.proofs.Heads.{onward, no_deeper}
 use Rattle.value_equality.proofs.values.+same.Goals as goal
 use native.Mathlib.Nat.{le_trans}
 
--- src/values.rt:38:5
-pub same_list-loop-a-preserved : goal.same_list-loop-a-preserved
-same_list-loop-a-preserved t c =
+-- src/values.rt
+pub compare_lists-loop-a-preserved : goal.compare_lists-loop-a-preserved
+compare_lists-loop-a-preserved t c =
     let x = c.in-Cons-Cons.is-0 ∙ ap Cons (sym c.get-x.ensures) in
     let y = c.in-Cons-Cons.is-1 ∙ ap Cons (sym c.get-y.ensures) in
     record {
-      same = onward _ _ _ _ x y (c.same_value.ensures.0 c.if-not-same_value.false) c.loop-a.invariant.same;
+      same = onward _ _ _ _ x y (c.in_ok-alike-in-Cons-Cons.ensures.same.0 c.if-not-alike.false) c.loop-a.invariant.same;
       no_deeper = le_trans (no_deeper _ _ x) c.loop-a.invariant.no_deeper;
+      endless = λ e. c.compare_values.ensures.endless (c.loop-a.invariant.endless e);
     }

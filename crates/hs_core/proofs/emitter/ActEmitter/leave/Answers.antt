@@ -1,4 +1,4 @@
-use Rattle.std.proofs.Common.{sym, ◌∙◌, arith}
+use Rattle.std.proofs.Common.{arith}
 use Rattle.hs_core.proofs.Waits.{moves_off, moves_stay}
 use Rattle.hs_core.proofs.emitter.ActEmitter.leave.Goals as goal
 
