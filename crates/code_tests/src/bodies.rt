@@ -3,6 +3,7 @@
 //! A body is shown as its core actions: `* <- {A}; B` binds the next slot, `{A}; B` binds none, `let E; A` binds the next
 //! slot in A, `#k` reads slot k, `hard` is `uninterruptibleMask`, and `call k` calls the action function of that number.
 
+use hs_base::tree::forms::{BinaryForm, EmptyForm, UnaryForm};
 use hs_base::{Exn, Value, Values};
 use hs_core::expand;
 use hs_items::Items;
@@ -10,7 +11,6 @@ use hs_lex::lex;
 use hs_parse::parse;
 use hs_types::check;
 use rules_code::{Act, ActId, Body, Code, ExprId, Node, Primitive};
-use hs_base::tree::forms::{BinaryForm, EmptyForm, UnaryForm};
 use std::alloc::Global;
 use std::test::Fail;
 

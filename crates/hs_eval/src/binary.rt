@@ -9,8 +9,8 @@ use crate::forms::{limited, shared};
 use crate::found::Found;
 use crate::numbers::{minus, plus, quotient, remainder, times};
 use crate::read::{as_number, as_text};
-use hs_base::{NoMemory, Txt, Value, ValueList};
 use hs_base::tree::forms::BinaryForm;
+use hs_base::{NoMemory, Txt, Value, ValueList};
 use std::alloc::Global;
 use std::cmp::Ordering;
 

@@ -12,10 +12,10 @@ use crate::leaf::{closed, empty, listed, node_at, off, slot};
 use crate::lists::{Parted, id_at, joined, one, operand_ids, split_first};
 use crate::quick::of_node;
 use crate::read::as_truth;
+use hs_base::tree::forms::BinaryForm;
 use hs_base::{NoMemory, Value, Values};
 use hs_items::Items;
 use rules_code::{ExprId, Node, NodeLink};
-use hs_base::tree::forms::BinaryForm;
 use std::alloc::Global;
 
 /// What the node of a number gives, where the values of the slots are those of `outer` and then those of `inner`. `inner` is

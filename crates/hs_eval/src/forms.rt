@@ -7,9 +7,9 @@ ghost use Rattle.hs_eval.specs.Founds.{out_of};
 
 use crate::found::Found;
 use crate::numbers::negated;
+use hs_base::tree::forms::{SideForm, UnaryForm};
 use hs_base::{Exn, NoMemory, Txt, Value};
 use hs_items::Shared;
-use hs_base::tree::forms::{SideForm, UnaryForm};
 use std::alloc::Global;
 
 /// A part of a value, which copies share.

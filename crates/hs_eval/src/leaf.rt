@@ -10,10 +10,10 @@ ghost use Rattle.hs_eval.specs.Evaluation.{outs_of, mirrored, slots};
 
 use crate::binary::binary;
 use crate::found::{Found, FoundAll};
+use hs_base::tree::forms::{BinaryForm, EmptyForm};
 use hs_base::{NoMemory, Value, ValueList, Values};
 use hs_items::Items;
 use rules_code::{ExprId, Node};
-use hs_base::tree::forms::{BinaryForm, EmptyForm};
 use std::alloc::Global;
 
 /// The node of a number.

@@ -12,9 +12,9 @@ ghost use Rattle.hs_eval.specs.Evaluation.{mirrored, part_of, slots};
 use crate::found::Found;
 use crate::numbers::{minus, plus, quotient, remainder, times};
 use hs_base::Value;
+use hs_base::tree::forms::BinaryForm;
 use hs_items::Items;
 use rules_code::{ExprId, Node, NodeLink};
-use hs_base::tree::forms::BinaryForm;
 
 /// What a comparison says of two numbers. None for all other forms.
 fn compared(form: BinaryForm, m: i64, n: i64) -> Option<bool>
