@@ -12,14 +12,13 @@ use std::alloc::Global;
 
 #[tactic(auto, using(rules_trees::proofs::EquationsOfActions::act_rules))]
 impl ActEmitter {
-    ghost use Rattle.std.specs.Prelude.{IfOk, ◌∷◌, []};
-    ghost use Rattle.rules_trees.specs.Trees.{ex_of};
+    ghost use Rattle.std.specs.Prelude.{IfOk, ◌∷◌};
     ghost use Rattle.rules_expansion.specs.Names.{Written};
     ghost use Rattle.rules_expansion.specs.Expansion.{block_core, masking_core};
     ghost use Rattle.rules_trees.specs.Programs.{act_of, bl_of, act_arms_of};
-    ghost use Rattle.rules_code.specs.Slots.{Sx, slotted, slot_of};
+    ghost use Rattle.rules_code.specs.Slots.{Sx, slot_of};
     ghost use Rattle.rules_code.specs.CodeTrees.{Sa, a_if, a_fork, a_catch, a_restore, slot_or_end};
-    ghost use Rattle.hs_core.specs.Defining.{Knows, roots};
+    ghost use Rattle.hs_core.specs.Defining.{Knows};
     ghost use Rattle.hs_core.specs.Emits.{Emits, DoneIn, StandsIn};
     ghost use Rattle.hs_core.specs.Opening.{core_tree, action_tree, block_tree, arms_tree, Opens, OpensAll};
 

@@ -16,10 +16,9 @@ pub struct ActEmitter {
 }
 
 impl ActEmitter {
-    ghost use Rattle.std.specs.Prelude.{◌≡◌, ◌∷◌, [], IfOk, pos};
+    ghost use Rattle.std.specs.Prelude.{◌≡◌, [], IfOk, pos};
     ghost use Rattle.hs_base.specs.declared.exn.Exn.TheVariants as x;
     ghost use Rattle.hs_base.specs.declared.tree.forms.UnaryForm.TheVariants as u;
-    ghost use Rattle.hs_base.specs.declared.tree.forms.BinaryForm.TheVariants as b;
     ghost use Rattle.hs_base.specs.declared.tree.forms.EmptyForm.TheVariants as n;
     ghost use Rattle.rules_trees.specs.Trees.{ex_of, number, exception};
     ghost use Rattle.rules_expansion.specs.Names.{Written, Added};

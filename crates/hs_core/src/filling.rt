@@ -26,13 +26,13 @@ fn given(alloc: Global, name: Option<&Txt>) -> Result<Txt, NoMemory>
 }
 
 impl ActEmitter {
-    ghost use Rattle.std.specs.Prelude.{◌≡◌, ◌++◌, IfOk, OnOk, List, [], ◌∷◌, pos};
+    ghost use Rattle.std.specs.Prelude.{◌≡◌, IfOk, OnOk, [], pos};
     ghost use Rattle.std.specs.Option.{option_copied};
     ghost use Rattle.hs_core.specs.declared.defs.Defs.{Defs};
     ghost use Rattle.rules_trees.specs.Trees.{number};
     ghost use Rattle.rules_trees.specs.Programs.{act_of};
     ghost use Rattle.hs_core.specs.declared.making.Making.{Making};
-    ghost use Rattle.rules_expansion.specs.Core.{Core, JustRead, SameExn};
+    ghost use Rattle.rules_expansion.specs.Core.{JustRead, SameExn};
     ghost use Rattle.rules_expansion.specs.Templates.{Filling, named, operand};
     ghost use Rattle.rules_expansion.specs.declared.template.Part.{Part};
     ghost use Rattle.rules_expansion.specs.Expansion as expansion;

@@ -1,6 +1,4 @@
 //! What waits while the steps of a template are gone through, and the steps that make whole actions of it.
-ghost use Rattle.std.specs.Prelude.{◌≡◌};
-
 use crate::emitter::ActEmitter;
 use hs_base::NoMemory;
 use hs_items::Items;
@@ -19,7 +17,7 @@ pub struct Making {
 }
 
 impl ActEmitter {
-    ghost use Rattle.std.specs.Prelude.{IfOk, OnOk, List, [], ◌∷◌};
+    ghost use Rattle.std.specs.Prelude.{IfOk, OnOk, List};
     ghost use Rattle.rules_code.specs.Slots.{Sx, s_none, s_more};
     ghost use Rattle.rules_code.specs.CodeTrees.{Sa, a_return, a_throw, a_let, a_bind, a_then, a_if, a_perform, a_fork_unmask, a_catch, a_mask, a_mask_hard, a_restore};
     ghost use Rattle.hs_core.specs.declared.defs.Defs.{Defs};

@@ -8,7 +8,7 @@ use Rattle.std.proofs.lemmas.List.{append-nil, take_all}
 use Rattle.hs_rules.specs.declared.entry.Entry.{Entry}
 use Rattle.rules_traces.specs.Traces.{Fits, header, line_of, trace_of, Spells}
 use Rattle.trace_text.specs.Fields.{letter_of, numbers_then}
-use Rattle.trace_text.specs.Reading.{GoesOn, OneReading, OneSpelling}
+use Rattle.trace_text.specs.Reading.{GoesOn, OneReading, OneSpelling, ReadsOn}
 use Rattle.trace_text.proofs.EntryLines.{line_parts, one_line}
 
 -- behind one first line the bytes are the same
@@ -54,6 +54,12 @@ fit_last (f ∷ es) e p q = (p.0, fit_last es e p.1 q)
 
 trace_last : (es : List Entry) (e : Entry) → trace_of (es ++ e ∷ []) ≡ trace_of es ++ line_of e
 trace_last es e = ap (λ z. header ++ z) (flat_map-append line_of es (e ∷ []) ∙ ap (λ z. flat_map line_of es ++ z) (append-nil (line_of e))) ∙ sym (append_assoc header (flat_map line_of es) (line_of e))
+
+pub reads_on : ReadsOn
+reads_on text es e rest r fits = record {
+  fit = fit_last es e r.fit fits;
+  spelled = r.spelled ∙ (sym (append_assoc (trace_of es) (line_of e) rest) ∙ ap (λ z. z ++ rest) (sym (trace_last es e)));
+}
 
 take_one_more : (es : List Entry) (i : ℕ) (e : Entry) → slice_get es i ≡ Some e → take (i + 1) es ≡ take i es ++ e ∷ []
 take_one_more [] i e h = cc

@@ -1,6 +1,7 @@
 ghost use Rattle.trace_text.specs.Reading.{DocumentsPart, FaultsComeLater, OneFault, OneReading, OneSpelling, ReadsOn, TracesAreFaultless};
 
 /// A text that is read up to the line of an entry is read with that entry behind that line.
+#[tactic(auto, using(crate::proofs::Readings::reads_on))]
 pub fn reads_on()
     ensures { ReadsOn }
 {}
