@@ -37,7 +37,7 @@ impl<O: Sink, E: Sink, K: Clock, N: LentAs> Runs<Job, Slice> for LentDesk<O, E, 
     }
 
     fn commit(&mut self, slice: Slice) -> bool {
-        matches!(self.desk.commit(slice), Committed::Taken)
+        matches!(self.desk.commit_or_redo(slice), Committed::Taken)
     }
 
     fn overtaken(&mut self) -> Option<u64> {

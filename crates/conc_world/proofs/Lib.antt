@@ -4,3 +4,4 @@ pub mod Making
 pub mod Desks
 pub mod Closing
 pub mod Turning
+pub mod Refusing

@@ -48,6 +48,13 @@ IsCommitted (Short n) s old_end old new_end new = (old_end ≡ None) × Starts s
 IsCommitted Taken s old_end old new_end new = (old_end ≡ None) × Starts s old.world × (s.steps ≤ left old) × Accepted s new_end old new
 IsCommitted NoMemory s old_end old new_end new = (old_end ≡ None) × Same old new × (new_end ≡ Some end.Memory)
 
+-- What became of a slice, or of one of the same job that was made anew in its place.
+pub record IsCommittedAnew (c : Committed) (s : Slice) (old_end : Option RunEnd) (old : Record) (new_end : Option RunEnd) (new : Record) : Type 0 where
+  pub slice : Slice
+  pub ticket : slice.ticket ≡ s.ticket
+  pub tid : slice.tid ≡ s.tid
+  pub committed : IsCommitted c slice old_end old new_end new
+
 -- every answer but Ended and NoMemory takes the ticket back where it is out
 abbrev pub TicketBack : Committed → ℕ → Tickets → Tickets → Type 0
 TicketBack Ended k old new = SameJobs old new

@@ -1,7 +1,10 @@
 //! Slices that come back.
-ghost use Rattle.std.specs.Prelude.{◌≡◌, ◌≤◌, ◌↔◌, IsTrue, MatchOption, None, OnOk, OnErr};
+ghost use Rattle.std.specs.Prelude.{◌≡◌, ◌≤◌, ◌↔◌, true, IsTrue, IfOk, MatchOption, None, OnOk, OnErr};
 ghost use Rattle.hs_base.specs.declared.mask.Mask.TheVariants.{Unmasked};
 ghost use Rattle.local_steps.specs.Frames.{mask_inside};
+ghost use Rattle.value_equality.specs.Efforts.{IsEndless};
+ghost use Rattle.thread_table.specs.Listing.{Goes, is_doing};
+ghost use Rattle.thread_table.specs.Table.{IsAt};
 ghost use Rattle.world_entries.specs.Worlds.{Starts};
 ghost use Rattle.frame_stack.specs.Slicing.{IsDoing};
 ghost use Rattle.run_record.specs.Records.{Same};
@@ -16,46 +19,66 @@ use hs_base::NoMemory;
 use hs_io::{Clock, Sink};
 use run_record::Record;
 use thread_table::Thread;
-use value_equality::same_env;
+use value_equality::{Effort, Undecided, compare_envs};
 
-/// Whether a control is the start of a slice: to do the same action with the same values.
-fn same_start(control: &Control, start: &Control) -> bool
+/// Whether a control is the start of a slice: to do the same action with the same values. Only where these are compared the
+/// effort may not do.
+fn compare_starts(
+    control: &Control,
+    start: &Control,
+    effort: &mut Effort,
+) -> Result<bool, Undecided>
     requires { IsDoing start.now }
-    ensures { IsTrue result ↔ (control.now ≡ start.now) }
+    ensures same { IfOk result (λ same. IsTrue same ↔ (control.now ≡ start.now)) }
+    ensures err { OnErr result (IsEndless effort.old → ⊥) }
+    ensures doing { OnErr result (is_doing control.now ≡ true) }
 {
     let Control::Doing(b, y) = start else {
         unreachable!()
     };
     match control {
-        Control::Doing(a, x) => *a == *b && same_env(x, y),
-        _ => false,
+        Control::Doing(a, x) => {
+            if *a != *b {
+                return Ok(false);
+            }
+            compare_envs(x, y, effort)
+        }
+        _ => Ok(false),
     }
 }
 
 /// Whether a slice starts with the control and the masking state of a thread.
-fn starts_at(thread: &Thread, slice: &Slice) -> bool
-    ensures { IsTrue result ↔ ((thread.now.stack.control ≡ slice.now.start) × (mask_inside Unmasked thread.now.stack.frames ≡ slice.now.mask)) }
+fn starts_at(thread: &Thread, slice: &Slice, effort: &mut Effort) -> Result<bool, Undecided>
+    ensures same { IfOk result (λ same. IsTrue same ↔ ((thread.now.stack.control ≡ slice.now.start) × (mask_inside Unmasked thread.now.stack.frames ≡ slice.now.mask))) }
+    ensures err { OnErr result (IsEndless effort.old → ⊥) }
+    ensures doing { OnErr result (is_doing thread.now.stack.control ≡ true) }
 {
-    thread.stack.mask() == slice.mask && same_start(thread.stack.control(), &slice.start)
+    if thread.stack.mask() != slice.mask {
+        return Ok(false);
+    }
+    compare_starts(thread.stack.control(), &slice.start, effort)
 }
 
-/// Why a slice doesn't start where its thread is, if it doesn't.
-fn stale(run: &Record, slice: &Slice) -> Option<Why>
-    ensures { MatchOption result (Starts slice.now run.now.world) (λ why. IsStale why slice.now run.now) }
+/// Why a slice doesn't start where its thread is, if it doesn't. Undecided only where the thread is to do an action.
+fn stale(run: &Record, slice: &Slice, effort: &mut Effort) -> Result<Option<Why>, Undecided>
+    ensures stale { IfOk result (λ found. MatchOption found (Starts slice.now run.now.world) (λ why. IsStale why slice.now run.now)) }
+    ensures err { OnErr result (IsEndless effort.old → ⊥) }
+    ensures goes { OnErr result (IsAt slice.now.tid Goes run.now.world.threads.list.items) }
 {
     let Some(thread) = run.world.threads.list.get(slice.tid as usize) else {
-        return Some(Why::Finished);
+        return Ok(Some(Why::Finished));
     };
     if thread.finished {
-        return Some(Why::Finished);
+        return Ok(Some(Why::Finished));
     }
     if thread.blocked {
-        return Some(Why::Blocked);
+        return Ok(Some(Why::Blocked));
     }
-    if starts_at(thread, slice) {
-        None
+    let there = starts_at(thread, slice, effort)?;
+    if there {
+        Ok(None)
     } else {
-        Some(Why::Differs)
+        Ok(Some(Why::Differs))
     }
 }
 
@@ -66,7 +89,8 @@ impl<O: Sink, E: Sink, K: Clock> Desk<O, E, K> {
     /// or its control or masking state isn't the slice's start, `Short` with the fuel that is left where the steps exceed it.
     /// `Taken` in every other case, also where the limit of frames would be exceeded: then nothing is appended, and that is
     /// the ending. Where memory runs out nothing is appended, and the ending is Memory. It compares the values that the thread
-    /// holds with those of the slice's start, and its time grows with them.
+    /// holds with those of the slice's start, and takes as long as these are large, a part counted as often as it is reached:
+    /// `commit_or_redo` doesn't.
     pub fn commit(&mut self, slice: Slice) -> Committed
         requires code { slice.of.value ≡ self.old.course.clocked.record.of.value }
         ensures committed { IsCommitted result slice self.old.course.end self.old.course.clocked.record self.new.course.end self.new.course.clocked.record }
@@ -76,7 +100,10 @@ impl<O: Sink, E: Sink, K: Clock> Desk<O, E, K> {
         ensures given { self.new.given ≡ self.old.given }
         ensures code { self.new.code ≡ self.old.code }
     {
-        if let Some(refused) = self.refusal(&slice) {
+        let Ok(found) = self.refusal(&slice, &mut Effort::Endless) else {
+            unreachable!()
+        };
+        if let Some(refused) = found {
             self.take_back(refused, slice.ticket);
             return refused;
         }
@@ -124,27 +151,33 @@ impl<O: Sink, E: Sink, K: Clock> Desk<O, E, K> {
         }
     }
 
-    /// Why a slice is not taken, if it isn't.
-    fn refusal(&self, slice: &Slice) -> Option<Committed>
-        ensures { MatchOption result ((self.now.course.end ≡ None) × Starts slice.now self.now.course.clocked.record.world × (slice.now.steps ≤ left self.now.course.clocked.record)) (λ why. IsCommitted why slice.now self.now.course.end self.now.course.clocked.record self.now.course.end self.now.course.clocked.record) }
+    /// Why a slice is not taken, if it isn't. Undecided only where its thread is to do an action.
+    pub(crate) fn refusal(
+        &self,
+        slice: &Slice,
+        effort: &mut Effort,
+    ) -> Result<Option<Committed>, Undecided>
+        ensures refused { IfOk result (λ found. MatchOption found ((self.now.course.end ≡ None) × Starts slice.now self.now.course.clocked.record.world × (slice.now.steps ≤ left self.now.course.clocked.record)) (λ why. IsCommitted why slice.now self.now.course.end self.now.course.clocked.record self.now.course.end self.now.course.clocked.record)) }
+        ensures err { OnErr result (IsEndless effort.old → ⊥) }
+        ensures goes { OnErr result ((self.now.course.end ≡ None) × IsAt slice.now.tid Goes self.now.course.clocked.record.world.threads.list.items) }
     {
         if self.course.end.is_some() {
-            return Some(Committed::Ended);
+            return Ok(Some(Committed::Ended));
         }
         let run = &self.course.clocked.record;
-        if let Some(why) = stale(run, slice) {
-            return Some(Committed::Stale(why));
+        if let Some(why) = stale(run, slice, effort)? {
+            return Ok(Some(Committed::Stale(why)));
         }
         let left = u64::from(run.fuel) - run.history.steps();
         if left < u64::from(slice.steps) {
-            Some(Committed::Short(left))
+            Ok(Some(Committed::Short(left)))
         } else {
-            None
+            Ok(None)
         }
     }
 
     /// Takes the ticket back where it is to come back by this answer.
-    fn take_back(&mut self, answer: Committed, ticket: u64)
+    pub(crate) fn take_back(&mut self, answer: Committed, ticket: u64)
         ensures ticket { TicketBack answer ticket self.old.tickets self.new.tickets }
         ensures given { self.new.given ≡ self.old.given }
         ensures course { self.new.course ≡ self.old.course }

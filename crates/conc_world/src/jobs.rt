@@ -154,7 +154,7 @@ impl<O: Sink, E: Sink, K: Clock> Desk<O, E, K> {
     }
 
     /// The job of a thread that is to do an action.
-    fn job_of(&self, t: u32, ticket: u64) -> Result<Job, NoMemory>
+    pub(crate) fn job_of(&self, t: u32, ticket: u64) -> Result<Job, NoMemory>
         requires goes { IsAt t Goes self.now.course.clocked.record.world.threads.list.items }
         requires none { self.now.course.end ≡ None }
         ensures ok { IfOk result (λ j. IsJob j self.now.course.clocked.record × (j.tid ≡ t) × (j.ticket ≡ ticket)) }

@@ -5,7 +5,8 @@
 //! handed-in clock hadn't reached, that Ticks stand where they may, that the sinks were told what the history prints, and that
 //! an ending comes for its cause (`specs/Runs`, `close`). `settle` appends entries until only slices are left; `next_job`
 //! makes a job of a thread that is to do an action; `commit` appends the local rules of a slice, or says why not
-//! (`specs/Committing`); `overtaken` names jobs that an exception has overtaken (`specs/Jobs`); `alone` runs it all.
+//! (`specs/Committing`), and `commit_or_redo` does so in a time that the slice's own steps bound; `overtaken` names jobs that
+//! an exception has overtaken (`specs/Jobs`); `alone` runs it all.
 //!
 //! The promise: whatever is committed, in whatever order, the history is a run, and after an ending it stays as it is. That
 //! slices run beside each other, and who runs them, is left to the caller.
@@ -15,6 +16,7 @@ mod answers;
 mod commit;
 mod desk;
 mod jobs;
+mod redoing;
 mod running;
 
 pub use answers::{Closed, Committed, Parts, Why};

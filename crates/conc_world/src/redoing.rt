@@ -1,0 +1,81 @@
+//! Slices that come back to a thread which holds large values.
+ghost use Rattle.std.specs.Prelude.{◌≡◌, ◌≤◌, None, IfOk};
+ghost use Rattle.thread_table.specs.Listing.{Goes};
+ghost use Rattle.thread_table.specs.Table.{IsAt};
+ghost use Rattle.world_entries.specs.Worlds.{Starts};
+ghost use Rattle.conc_world.specs.Jobs.{left};
+ghost use Rattle.conc_world.specs.Committing.{IsCommittedAnew, TicketBack};
+
+use crate::answers::Committed;
+use crate::desk::Desk;
+use frame_stack::{Slice, slice};
+use hs_base::NoMemory;
+use hs_io::{Clock, NeverCut, Sink};
+use value_equality::Effort;
+
+/// A slice that comes back is compared in so many steps at most, ..
+const FEW: u64 = 256;
+/// .. and so many more for each of its rules, so that comparing it takes about as long as making it.
+const STEPS_A_RULE: u64 = 8;
+
+impl<O: Sink, E: Sink, K: Clock> Desk<O, E, K> {
+    /// `commit` in a time that the steps of a slice bound, whatever values its thread holds.
+    ///
+    /// Where the values of the slice's start can't be compared with those of the thread in a few steps for each of its rules, it
+    /// is dropped, and a slice of the same job is made anew where the thread stands, and committed: that needs no comparison.
+    pub fn commit_or_redo(&mut self, slice: Slice) -> Committed
+        requires code { slice.of.value ≡ self.old.course.clocked.record.of.value }
+        ensures committed { IsCommittedAnew result slice self.old.course.end self.old.course.clocked.record self.new.course.end self.new.course.clocked.record }
+        ensures ticket { TicketBack result slice.ticket self.old.tickets self.new.tickets }
+        ensures lent { (self.new.course.out_lent ≡ self.old.course.out_lent) × (self.new.course.err_lent ≡ self.old.course.err_lent) × (self.new.course.clocked.lent ≡ self.old.course.clocked.lent) }
+        ensures kept { (self.new.course.out ≡ self.old.course.out) × (self.new.course.err ≡ self.old.course.err) × (self.new.course.clocked.clock ≡ self.old.course.clocked.clock) }
+        ensures given { self.new.given ≡ self.old.given }
+        ensures code { self.new.code ≡ self.old.code }
+    {
+        let mut effort = Effort::Steps(FEW + STEPS_A_RULE * u64::from(slice.steps));
+        let Ok(found) = self.refusal(&slice, &mut effort) else {
+            return self.redo(&slice);
+        };
+        if let Some(refused) = found {
+            self.take_back(refused, slice.ticket);
+            return refused;
+        }
+        self.commit_fresh(slice)
+    }
+
+    /// Makes a slice of this one's job anew, where its thread stands, and commits it.
+    fn redo(&mut self, late: &Slice) -> Committed
+        requires none { self.old.course.end ≡ None }
+        requires goes { IsAt late.now.tid Goes self.old.course.clocked.record.world.threads.list.items }
+        ensures committed { IsCommittedAnew result late.now self.old.course.end self.old.course.clocked.record self.new.course.end self.new.course.clocked.record }
+        ensures ticket { TicketBack result late.now.ticket self.old.tickets self.new.tickets }
+        ensures lent { (self.new.course.out_lent ≡ self.old.course.out_lent) × (self.new.course.err_lent ≡ self.old.course.err_lent) × (self.new.course.clocked.lent ≡ self.old.course.clocked.lent) }
+        ensures kept { (self.new.course.out ≡ self.old.course.out) × (self.new.course.err ≡ self.old.course.err) × (self.new.course.clocked.clock ≡ self.old.course.clocked.clock) }
+        ensures given { self.new.given ≡ self.old.given }
+        ensures code { self.new.code ≡ self.old.code }
+    {
+        match self.made_anew(late.tid, late.ticket) {
+            Ok(slice) => self.commit_fresh(slice),
+            Err(NoMemory) => {
+                self.no_memory();
+                Committed::NoMemory
+            }
+        }
+    }
+
+    /// The slice of a thread that is to do an action, from where it stands.
+    fn made_anew(&self, t: u32, ticket: u64) -> Result<Slice, NoMemory>
+        requires none { self.now.course.end ≡ None }
+        requires goes { IsAt t Goes self.now.course.clocked.record.world.threads.list.items }
+        ensures of { IfOk result (λ s. (s.tid ≡ t) × (s.ticket ≡ ticket) × (s.of.value ≡ self.now.course.clocked.record.of.value)) }
+        ensures starts { IfOk result (λ s. Starts s self.now.course.clocked.record.world) }
+        ensures fuel { IfOk result (λ s. s.steps ≤ left self.now.course.clocked.record) }
+    {
+        let job = self.job_of(t, ticket)?;
+        let alloc = self.course.clocked.record.world.alloc;
+        match slice(alloc, &self.code, job, &mut NeverCut) {
+            Ok(slice) => Ok(slice),
+            Err(_) => Err(NoMemory),
+        }
+    }
+}
