@@ -4,7 +4,7 @@ use Rattle.std.proofs.Common.{◌≡◌, ℕ, List, Bool, true, Option, Some, No
 use Rattle.std.proofs.Math.Logic.{∥∥₁_elim, ∥∥₁_map}
 use Rattle.rules_trees.specs.Trees.{T}
 use Rattle.rules_trees.specs.Programs.{Fn}
-use Rattle.rules_typed.specs.Sorts.{Sort}
+use Rattle.rules_sorts.specs.Sorts.{Sort}
 use Rattle.rules_code.specs.declared.code.Body.{Body}
 use Rattle.hs_rules.specs.Terms as named
 use Rattle.hs_rules.specs.Terms.{Calls}

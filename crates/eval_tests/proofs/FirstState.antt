@@ -4,7 +4,7 @@ use Rattle.rules_trees.specs.Trees.{unit}
 use Rattle.rules_trees.specs.Programs.{script_of}
 use Rattle.rules_expansion.specs.Core.{Core}
 use Rattle.rules_meaning.specs.Values.{V}
-use Rattle.rules_typed.specs.Sorts.{a_value}
+use Rattle.rules_sorts.specs.Sorts.{a_value}
 use Rattle.rules_code.specs.declared.code.Body.{Body}
 use Rattle.rules_code.specs.declared.node.ExprId.{ExprId}
 use Rattle.rules_code.specs.Slots.{tree_at}

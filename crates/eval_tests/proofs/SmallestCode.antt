@@ -11,15 +11,15 @@ use Rattle.rules_code.specs.declared.code.Fun.{Fun}
 use Rattle.rules_code.specs.declared.code.Body.{Body}
 use Rattle.rules_trees.specs.Trees.{T, unit, lit, nothing_more}
 use Rattle.rules_trees.specs.Programs.{Bl, last, unary_act, bl_of, io_body, Fn, script_of}
-use Rattle.rules_typed.specs.Sorts.{a_value}
+use Rattle.rules_sorts.specs.Sorts.{a_value}
 use Rattle.rules_typing.specs.TypingScripts.{Accepted, NothingBroken, has_main}
-use Rattle.rules_typed.specs.TypedMeaning.{any_cell}
+use Rattle.rules_sorts.specs.TypedMeaning.{any_cell}
 use Rattle.rules_code.specs.Slots.{tree_at}
 use Rattle.rules_expansion.specs.Core.{OfScript}
 use Rattle.rules_code.specs.CodeTrees.{code_trees, main_tree, StandsFor}
 use Rattle.rules_trees.proofs.Equations.{ty-Unit, ex-Unit}
 use Rattle.rules_trees.proofs.EquationsOfActions.{bl_is, act-Unary}
-use Rattle.hs_judging.proofs.Scripts.{script_breaks}
+use Rattle.typing_judge.proofs.Scripts.{script_breaks}
 use Rattle.hs_soundness.proofs.Growing.{fits_none}
 use Rattle.hs_eval.specs.Readings.{Reading}
 use Rattle.eval_tests.specs.SmallestCode.{smallest_script, smallest_nodes, smallest_acts, smallest_funs}

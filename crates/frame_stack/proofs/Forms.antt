@@ -11,8 +11,8 @@ use Rattle.rules_expansion.specs.declared.primitive.Primitive.TheVariants.{PutSt
 use Rattle.rules_meaning.specs.Values as val
 use Rattle.rules_meaning.specs.Values.{V, value_of, values_of, list_value_of}
 use Rattle.rules_meaning.proofs.Values.{value_of-Pair, value_of-Just, value_of-Left, value_of-Right, value_of-List, list_value_of-Nil, list_value_of-before}
-use Rattle.rules_typed.specs.Sorts.{Sort}
-use Rattle.rules_typed.specs.TypedMeaning.{any_cell, of_int, of_text, of_exn, of_thread, of_cell}
+use Rattle.rules_sorts.specs.Sorts.{Sort}
+use Rattle.rules_sorts.specs.TypedMeaning.{any_cell, of_int, of_text, of_exn, of_thread, of_cell}
 use Rattle.rules_expansion.specs.declared.primitive.Primitive.{Primitive as Asked}
 use Rattle.rules_expansion.specs.declared.primitive.Primitive.TheVariants as p
 use Rattle.hs_eval.proofs.Cases.{by_form, by_list, value_of-Unit, value_of-Int, value_of-Bool, value_of-Text, value_of-Nothing, value_of-Cell, value_of-Thread, value_of-Exn, value_of-Restore, value_of-Inst}

@@ -9,7 +9,7 @@ use Rattle.rules_trees.specs.Programs.{Fn, script_of}
 use Rattle.rules_expansion.specs.declared.primitive.Primitive.{Primitive}
 use Rattle.rules_meaning.specs.Values.{V}
 use Rattle.rules_meaning.specs.CoreMeaning.{code_of}
-use Rattle.rules_typed.specs.Sorts.{Sort}
+use Rattle.rules_sorts.specs.Sorts.{Sort}
 use Rattle.rules_code.specs.declared.code.Body.{Body}
 use Rattle.rules_code.specs.CodeTrees.{StandsFor, code_trees}
 use Rattle.hs_rules.specs.Terms as named

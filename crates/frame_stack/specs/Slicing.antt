@@ -3,8 +3,8 @@ use Rattle.std.specs.Prelude.{◌≡◌, ℕ, ◌<◌, List, [], ◌∷◌, ◌+
 use Rattle.hs_base.specs.declared.mask.Mask.{Mask}
 use Rattle.rules_trees.specs.Programs.{script_of}
 use Rattle.rules_meaning.specs.Values.{V, values_of}
-use Rattle.rules_typed.specs.Sorts.{Sort}
-use Rattle.rules_typed.specs.TypedMeaning.{any_cell}
+use Rattle.rules_sorts.specs.Sorts.{Sort}
+use Rattle.rules_sorts.specs.TypedMeaning.{any_cell}
 use Rattle.rules_expansion.specs.declared.primitive.Primitive.{Primitive}
 use Rattle.rules_code.specs.declared.code.Body.{Body}
 use Rattle.hs_rules.specs.Terms.{Term}

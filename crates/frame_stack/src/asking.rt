@@ -2,7 +2,7 @@
 ghost use Rattle.std.specs.Prelude.{◌≡◌, [], ◌∷◌, MatchOption};
 ghost use Rattle.rules_meaning.specs.Values as val;
 ghost use Rattle.rules_meaning.specs.Values.{value_of, values_of};
-ghost use Rattle.rules_typed.specs.TypedMeaning.{of_int, of_text, of_exn, of_thread, of_cell};
+ghost use Rattle.rules_sorts.specs.TypedMeaning.{of_int, of_text, of_exn, of_thread, of_cell};
 ghost use Rattle.rules_code.specs.declared.code.Body.{Body};
 ghost use Rattle.hs_soundness.specs.CoreSorts.{of_instance};
 ghost use Rattle.slot_laws.specs.SlotRules.{calls};

@@ -7,7 +7,7 @@ ghost use Rattle.rules_trees.specs.Programs.{Fn, script_of};
 ghost use Rattle.rules_expansion.specs.declared.primitive.Primitive.{Primitive};
 ghost use Rattle.rules_meaning.specs.Values.{V};
 ghost use Rattle.rules_meaning.specs.CoreMeaning.{code_of};
-ghost use Rattle.rules_typed.specs.Sorts.{Sort};
+ghost use Rattle.rules_sorts.specs.Sorts.{Sort};
 ghost use Rattle.rules_code.specs.declared.code.Body.{Body};
 ghost use Rattle.rules_code.specs.CodeTrees.{StandsFor};
 ghost use Rattle.hs_rules.specs.Terms as named;

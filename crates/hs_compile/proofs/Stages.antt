@@ -5,8 +5,8 @@ use Rattle.rules_tokens.specs.declared.token.Tokens.{Tokens}
 use Rattle.rules_tokens.specs.Tokens.{HasTokens}
 use Rattle.hs_base.specs.declared.tree.script.Script.{Script}
 use Rattle.hs_types.specs.Faults as types
-use Rattle.hs_typing.specs.declared.fault.TypeFault.{TypeFault}
-use Rattle.hs_typing.specs.declared.fault.TypeFault.TheVariants as fault
+use Rattle.typing_parts.specs.declared.fault.TypeFault.{TypeFault}
+use Rattle.typing_parts.specs.declared.fault.TypeFault.TheVariants as fault
 use Rattle.hs_parse.specs.Parsed.{Parsed}
 use Rattle.hs_parse.specs.declared.fault.ParseFault.{ParseFault}
 use Rattle.hs_parse.specs.declared.fault.ParseFault.TheVariants as parse

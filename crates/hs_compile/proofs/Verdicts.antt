@@ -13,8 +13,8 @@ use Rattle.hs_lex.specs.declared.fault.LexFault.TheVariants as lex
 use Rattle.hs_parse.specs.declared.fault.ParseFault.{ParseFault}
 use Rattle.hs_parse.specs.declared.fault.ParseFault.TheVariants as parse
 use Rattle.hs_types.specs.Faults as types
-use Rattle.hs_typing.specs.declared.fault.TypeFault.{TypeFault}
-use Rattle.hs_typing.specs.declared.fault.TypeFault.TheVariants as fault
+use Rattle.typing_parts.specs.declared.fault.TypeFault.{TypeFault}
+use Rattle.typing_parts.specs.declared.fault.TypeFault.TheVariants as fault
 use Rattle.hs_compile.specs.declared.refusal.Refusal.{Refusal}
 use Rattle.hs_compile.specs.declared.refusal.Refusal.TheVariants.{TooLong, Lex, Parse, Types}
 use Rattle.hs_compile.specs.Verdicts.{depth_limit, IsAccepted, IsFirstFault, IsMisspelled, IsParseFault, IsRefused, IsSpelled}

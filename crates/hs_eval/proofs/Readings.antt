@@ -8,7 +8,7 @@ use Rattle.rules_code.specs.declared.node.ExprId.{ExprId}
 use Rattle.rules_trees.specs.Programs.{script_of}
 use Rattle.rules_meaning.specs.Values.{V, Outcome, Stuck}
 use Rattle.rules_typing.specs.TypingScripts.{Accepted, sigs_from}
-use Rattle.rules_typed.specs.TypedMeaning.{any_cell}
+use Rattle.rules_sorts.specs.TypedMeaning.{any_cell}
 use Rattle.rules_code.specs.Slots.{run, tree_at}
 use Rattle.hs_soundness.specs.CoreSorts.{GoodSort}
 use Rattle.hs_soundness.proofs.CoreExpressions.{accepted_good}

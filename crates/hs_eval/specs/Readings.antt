@@ -7,9 +7,9 @@ use Rattle.rules_trees.specs.Programs.{script_of}
 use Rattle.rules_meaning.specs.Values as val
 use Rattle.rules_meaning.specs.Values.{V, Env, value_of}
 use Rattle.rules_meaning.specs.Meaning.{functions_of}
-use Rattle.rules_typed.specs.Sorts.{Sort, Bound}
+use Rattle.rules_sorts.specs.Sorts.{Sort, Bound}
 use Rattle.rules_typing.specs.TypingScripts.{sigs_from}
-use Rattle.rules_typed.specs.TypedMeaning.{any_cell}
+use Rattle.rules_sorts.specs.TypedMeaning.{any_cell}
 use Rattle.rules_code.specs.Slots.{roots_of, tree_at}
 use Rattle.rules_expansion.specs.Core.{CoreEx}
 use Rattle.rules_meaning.specs.CoreMeaning.{value_of_core}

@@ -7,7 +7,7 @@ ghost use Rattle.rules_meaning.specs.Meaning.{functions_of, value_of_ex};
 ghost use Rattle.rules_code.specs.Slots.{Scope, roots_of, run, slotted, tree_at};
 ghost use Rattle.rules_code.specs.Matching.{Matches};
 ghost use Rattle.rules_code.specs.Codes.{body_of};
-ghost use Rattle.rules_typed.specs.TypedMeaning.{any_cell};
+ghost use Rattle.rules_sorts.specs.TypedMeaning.{any_cell};
 ghost use Rattle.hs_soundness.specs.CoreSorts.{GoodSort};
 ghost use Rattle.hs_eval.specs.Founds.{out_of};
 ghost use Rattle.hs_eval.specs.Readings.{Reading, meaning, outcome_of};

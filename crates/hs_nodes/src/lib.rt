@@ -6,6 +6,7 @@
 //! call names the body of the first function of that name, which `Places` finds through an index, in time by the
 //! logarithm of their number. A scope also holds the names that expansions add, which no script can write; actions and
 //! whole scripts are expanded above.
+//! It is a crate apart from `hs_core` for the prover's cost alone.
 #![tactic(auto)]
 
 mod emitter;

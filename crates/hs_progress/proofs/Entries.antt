@@ -8,7 +8,7 @@ use Rattle.rules_trees.specs.Programs.{Fn, script_of}
 use Rattle.rules_meaning.specs.Values.{V, UnitValue}
 use Rattle.rules_expansion.specs.Core.{Core}
 use Rattle.rules_meaning.specs.CoreMeaning.{Code, code_of}
-use Rattle.rules_typed.specs.Sorts.{a_value}
+use Rattle.rules_sorts.specs.Sorts.{a_value}
 use Rattle.rules_typing.specs.TypingScripts.{Accepted}
 use Rattle.hs_rules.specs.Terms.{Operation, Part, Ret, Throw, Do, Performs, Frame, Term, mask_at}
 use Rattle.hs_rules.specs.LocalRules.{local, on_term, locals}

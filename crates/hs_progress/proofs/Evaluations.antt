@@ -7,8 +7,8 @@ use Rattle.rules_trees.specs.Programs.{Fn, script_of}
 use Rattle.rules_meaning.specs.Values.{Env, Outcome, Gives, Throws, Stuck}
 use Rattle.rules_meaning.specs.Meaning.{functions_of}
 use Rattle.rules_meaning.specs.CoreMeaning.{code_of, value_of_core}
-use Rattle.rules_typed.specs.Sorts.{Sort, a_value, Bound}
-use Rattle.rules_typed.specs.TypedMeaning.{WellAll, any_cell}
+use Rattle.rules_sorts.specs.Sorts.{Sort, a_value, Bound}
+use Rattle.rules_sorts.specs.TypedMeaning.{WellAll, any_cell}
 use Rattle.rules_typing.specs.Typing as typing
 use Rattle.rules_typing.specs.TypingScripts.{Accepted}
 use Rattle.rules_expansion.specs.Core.{CoreEx, Core}

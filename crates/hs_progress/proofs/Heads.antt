@@ -8,7 +8,7 @@ use Rattle.hs_base.specs.declared.tree.script.Script.{Script}
 use Rattle.rules_trees.specs.Trees.{T, unit}
 use Rattle.rules_trees.specs.Programs.{bl_of, bd_of, Par, Fn, fn_of, script_of}
 use Rattle.rules_expansion.specs.Names.{Name, Written}
-use Rattle.rules_typed.specs.Sorts.{a_value, Bound}
+use Rattle.rules_sorts.specs.Sorts.{a_value, Bound}
 use Rattle.rules_typing.specs.Typing.{Sig}
 use Rattle.rules_typing.specs.Typing as typing
 use Rattle.rules_typing.specs.TypingScripts.{Accepted, sig_of_fn, sigs_from, params_in, param_types, result_of, BodyHas, is_unit, is_none, main_by}

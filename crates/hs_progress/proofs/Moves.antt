@@ -8,10 +8,10 @@ use Rattle.rules_trees.specs.Programs.{Fn, script_of}
 use Rattle.rules_expansion.specs.Names.{Name, Written, Added, Unread}
 use Rattle.rules_meaning.specs.Values.{V, Truth, Nothing, Just, Left, Right, Pair, Nil, Cons, Exception, Restore, Env, with_name, value_at, Outcome, Gives, Throws, Stuck, Outcomes, AllGive, OneThrows, OneStuck, and_then}
 use Rattle.rules_meaning.specs.Meaning.{functions_of, value_of_ex, values_of_exs}
-use Rattle.rules_typed.specs.Sorts.{Sort, a_value, a_masking_name, an_instance, Bound}
+use Rattle.rules_sorts.specs.Sorts.{Sort, a_value, a_masking_name, an_instance, Bound}
 use Rattle.rules_typing.specs.Typing as typing
 use Rattle.rules_typing.specs.TypingScripts.{Accepted, sigs_from}
-use Rattle.rules_typed.specs.TypedMeaning.{AllOf, WellAll}
+use Rattle.rules_sorts.specs.TypedMeaning.{AllOf, WellAll}
 use Rattle.rules_expansion.specs.Core.{CoreEx, OfScript, Core, action_named}
 use Rattle.rules_meaning.specs.CoreMeaning.{value_of_core, values_of_core, code_of}
 use Rattle.rules_code.specs.CodeTrees.{is_unread}

@@ -9,8 +9,8 @@ use Rattle.rules_trees.specs.Programs.{Fn}
 use Rattle.rules_meaning.specs.Values as val
 use Rattle.rules_meaning.specs.Values.{V, UnitValue, Int, Truth, Text, Nothing, Just, Exception, Restore, Inst, Env, with_name}
 use Rattle.rules_expansion.specs.declared.primitive.Primitive.{Primitive}
-use Rattle.rules_typed.specs.Sorts.{Sort, a_value, a_masking_name, an_instance}
-use Rattle.rules_typed.specs.TypedMeaning.{of_int, of_text, of_exn, of_thread, of_cell, HasV}
+use Rattle.rules_sorts.specs.Sorts.{Sort, a_value, a_masking_name, an_instance}
+use Rattle.rules_sorts.specs.TypedMeaning.{of_int, of_text, of_exn, of_thread, of_cell, HasV}
 use Rattle.hs_rules.specs.Terms.{Operation, Calls, Part, Ret, Throw, Do, MaskIn, Term, term}
 use Rattle.rules_waiting.specs.Waiting.{Taking, Reading, Putting, Throwing, Sleeping}
 use Rattle.hs_rules.specs.State.{AcquiredBy, ReleasedBy, Thread, State, with_term, frames_of, resume, answer, block, spawn}

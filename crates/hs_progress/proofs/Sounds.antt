@@ -6,8 +6,8 @@ use Rattle.rules_trees.specs.Programs.{Fn}
 use Rattle.rules_meaning.specs.Values as val
 use Rattle.rules_meaning.specs.Values.{V, UnitValue, Exception, Int, Env}
 use Rattle.rules_expansion.specs.declared.primitive.Primitive.TheVariants.{TakeMVar, ReadMVar, PutMVar, ThreadDelay, ThrowTo}
-use Rattle.rules_typed.specs.Sorts.{Sort, a_value}
-use Rattle.rules_typed.specs.TypedMeaning.{HasV}
+use Rattle.rules_sorts.specs.Sorts.{Sort, a_value}
+use Rattle.rules_sorts.specs.TypedMeaning.{HasV}
 use Rattle.hs_rules.specs.Terms.{Operation, Calls, Part, Ret, Throw, Do, Performs, Term, term}
 use Rattle.rules_waiting.specs.OneCell.{first_put}
 use Rattle.rules_waiting.specs.Waiting.{Reason, Taking, Reading, Putting, Throwing, Sleeping, line_of}

@@ -5,7 +5,7 @@ use Rattle.rules_trees.specs.Programs.{Fn}
 use Rattle.rules_expansion.specs.Names.{Name}
 use Rattle.rules_meaning.specs.Values.{V, Env}
 use Rattle.rules_expansion.specs.Core.{Core}
-use Rattle.rules_typed.specs.Sorts.{Sort, a_value, a_masking_name, an_instance}
+use Rattle.rules_sorts.specs.Sorts.{Sort, a_value, a_masking_name, an_instance}
 use Rattle.hs_rules.specs.Terms.{Operation, Part, Frame, Term}
 use Rattle.hs_rules.specs.State.{Thread}
 use Rattle.hs_laws.proofs.Lists.{cond_false, equal_or, item_append}

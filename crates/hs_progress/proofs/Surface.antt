@@ -18,11 +18,11 @@ use Rattle.rules_expansion.specs.Names as names
 use Rattle.rules_expansion.specs.Names.{Written, Added, same_name, Unread}
 use Rattle.rules_expansion.specs.declared.hidden.Hidden.{Hidden}
 use Rattle.rules_expansion.specs.declared.hidden.Hidden.TheVariants.{Restorer, Given, Caught, TheCell, Instance, BracketResult, BracketFault, Allowed, InTime, Owner, Expiry, Helper, HelperRestorer}
-use Rattle.rules_typed.specs.Sorts.{Sort, a_value, a_masking_name, an_instance, sort_at, Bound}
+use Rattle.rules_sorts.specs.Sorts.{Sort, a_value, a_masking_name, an_instance, sort_at, Bound}
 use Rattle.rules_typing.specs.Typing.{Need, is, AllMet, Sig, inner_of, first_of, second_of}
 use Rattle.rules_typing.specs.Typing as typing
 use Rattle.rules_typing.specs.TypingActions.{form_of_acts, type_of_bare, row_unary_act, row_binary_act, ActHas, BlHas, ActArmsHave}
-use Rattle.rules_typed.specs.TypedMeaning.{Well, WellAll}
+use Rattle.rules_sorts.specs.TypedMeaning.{Well, WellAll}
 use Rattle.rules_expansion.specs.Core.{CoreEx, OfScript, JustRead, Core, Call, Return, Bind, MaskWith}
 use Rattle.rules_expansion.specs.declared.template.Derived.TheVariants as form
 use Rattle.rules_expansion.specs.Expansion.{bare_core, core, block_core, arms_core, bracket_masked, derived, on_bound, on_both, guard_core, unary_core, binary_core}

@@ -5,8 +5,8 @@ use Rattle.rules_trees.specs.Programs.{Fn}
 use Rattle.rules_meaning.specs.Values.{Env, Stuck}
 use Rattle.rules_meaning.specs.Meaning.{Functions}
 use Rattle.rules_meaning.specs.CoreMeaning.{value_of_core}
-use Rattle.rules_typed.specs.Sorts.{Sort, Bound}
-use Rattle.rules_typed.specs.TypedMeaning.{any_cell}
+use Rattle.rules_sorts.specs.Sorts.{Sort, Bound}
+use Rattle.rules_sorts.specs.TypedMeaning.{any_cell}
 use Rattle.rules_typing.specs.Typing.{Ctx}
 use Rattle.rules_expansion.specs.Core.{CoreEx, OfScript, Core, Return, ThrowIo, Let, Bind, If, CaseMaybe, CaseEither, CaseList, CasePair, Call, Perform, Fork, ForkUnmask, Catch, MaskWith, MaskHard, Restore}
 use Rattle.hs_soundness.specs.CoreSorts.{CoreHas, FitsScope}

@@ -12,10 +12,10 @@ use Rattle.rules_trees.specs.Trees.{T, exn, thread, cell}
 use Rattle.rules_trees.specs.Programs.{Fn}
 use Rattle.rules_expansion.specs.Names.{Name, Added, Unread}
 use Rattle.rules_meaning.specs.Values.{V, Env}
-use Rattle.rules_typed.specs.Sorts.{Sort, a_value, a_masking_name, Bound}
+use Rattle.rules_sorts.specs.Sorts.{Sort, a_value, a_masking_name, Bound}
 use Rattle.rules_typing.specs.Typing as typing
 use Rattle.rules_typing.specs.TypingScripts.{sigs_from}
-use Rattle.rules_typed.specs.TypedMeaning.{HasV}
+use Rattle.rules_sorts.specs.TypedMeaning.{HasV}
 use Rattle.rules_expansion.specs.Core.{Core, ActionFunction, action_named}
 use Rattle.rules_expansion.specs.declared.primitive.Primitive.{Primitive}
 use Rattle.rules_expansion.specs.Expansion.{actions_of}

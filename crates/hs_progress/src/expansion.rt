@@ -6,7 +6,7 @@ ghost use Rattle.rules_trees.specs.Trees.{T, unit};
 ghost use Rattle.rules_trees.specs.Programs.{Act, Bl, script_of};
 ghost use Rattle.rules_expansion.specs.Core.{Core};
 ghost use Rattle.rules_expansion.specs.Expansion.{core, block_core, main_of};
-ghost use Rattle.rules_typed.specs.Sorts.{a_value, Bound};
+ghost use Rattle.rules_sorts.specs.Sorts.{a_value, Bound};
 ghost use Rattle.rules_typing.specs.Typing as typing;
 ghost use Rattle.rules_typing.specs.TypingActions.{ActHas, BlHas};
 ghost use Rattle.rules_typing.specs.TypingScripts.{Accepted};

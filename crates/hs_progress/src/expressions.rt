@@ -14,7 +14,7 @@ ghost use Rattle.hs_rules.specs.LocalRules.{locals};
 ghost use Rattle.hs_rules.specs.State.{State, Thread};
 ghost use Rattle.hs_rules.specs.Runs.{IsRun};
 ghost use Rattle.rules_code.specs.Matching.{Matches};
-ghost use Rattle.rules_typed.specs.TypedMeaning.{any_cell};
+ghost use Rattle.rules_sorts.specs.TypedMeaning.{any_cell};
 ghost use Rattle.hs_soundness.specs.CoreSorts.{names_of, SlotsFit};
 ghost use Rattle.hs_progress.specs.Evaluated.{evaluated, MayEvaluate, AllAnswer};
 

@@ -4,7 +4,7 @@ ghost use Rattle.std.specs.Prelude.{◌≡◌, ◌<◌, ℕ, List, Option};
 ghost use Rattle.rules_trees.specs.Trees.{T};
 ghost use Rattle.rules_trees.specs.Programs.{Fn};
 ghost use Rattle.rules_meaning.specs.Values.{V};
-ghost use Rattle.rules_typed.specs.Sorts.{Sort};
+ghost use Rattle.rules_sorts.specs.Sorts.{Sort};
 ghost use Rattle.hs_rules.specs.Terms.{Term};
 ghost use Rattle.hs_rules.specs.State.{Thread};
 ghost use Rattle.hs_soundness.specs.CoreSorts.{OfSort};

@@ -8,12 +8,12 @@ use Rattle.rules_trees.specs.Programs.{Bd, pure_body, io_body, Fn, bd_of, fn_of,
 use Rattle.rules_typing.specs.Typing.{Fault, Need, is, Met, Bound, Ctx, Sig}
 use Rattle.rules_typing.specs.TypingFaults.{In}
 use Rattle.rules_typing.specs.TypingScripts.{result_of, params_in, head_faults, sigs_from, BodyHas, BodyBreaks, DefBreaks, AnyBreaks, Measured, unmeasured, measured_with, Accepted}
-use Rattle.rules_typed.specs.TypedMeaning.{BodyTyped, PureTyped}
-use Rattle.hs_judging.specs.Judging.{met}
-use Rattle.hs_judging.specs.JudgingScripts.{judge_body}
-use Rattle.hs_judging.proofs.Laws.{Agrees, met_true, true_met}
-use Rattle.hs_judging.proofs.Expressions.{agree}
-use Rattle.hs_judging.proofs.Actions.{agree_bl}
+use Rattle.rules_sorts.specs.TypedMeaning.{BodyTyped, PureTyped}
+use Rattle.typing_judge.specs.Judging.{met}
+use Rattle.typing_judge.specs.JudgingScripts.{judge_body}
+use Rattle.typing_judge.proofs.Laws.{Agrees, met_true, true_met}
+use Rattle.typing_judge.proofs.Expressions.{agree}
+use Rattle.typing_judge.proofs.Actions.{agree_bl}
 use Rattle.hs_soundness.specs.AcceptedBodies.{BodiesTyped}
 use Rattle.hs_soundness.proofs.Faultless.{sure_body}
 use Rattle.hs_soundness.proofs.Wells.{ex_well}

@@ -10,10 +10,10 @@ use Rattle.rules_meaning.specs.Values.{V, Int, Just, Exception, Restore, Env, va
 use Rattle.rules_meaning.specs.Meaning.{Functions, binary_of, functions_of, value_of_ex}
 use Rattle.rules_expansion.specs.Core.{CoreEx, OfScript, Read, JustRead, NoValue, BelowZero, IsZero, SameExn, Killed}
 use Rattle.rules_meaning.specs.CoreMeaning.{read, value_of_core}
-use Rattle.rules_typed.specs.Sorts.{Sort, a_value, a_masking_name, an_instance, Bound, sort_at}
+use Rattle.rules_sorts.specs.Sorts.{Sort, a_value, a_masking_name, an_instance, Bound, sort_at}
 use Rattle.rules_typing.specs.Typing as typing
 use Rattle.rules_typing.specs.TypingScripts.{Accepted, sigs_from}
-use Rattle.rules_typed.specs.TypedMeaning.{of_int, of_exn, HasSort, Fits, FunctionsGood, Good}
+use Rattle.rules_sorts.specs.TypedMeaning.{of_int, of_exn, HasSort, Fits, FunctionsGood, Good}
 use Rattle.hs_soundness.proofs.TypesKept.{ex_good}
 use Rattle.hs_soundness.proofs.FunctionsTyped.{functions_good}
 use Rattle.hs_soundness.specs.CoreSorts.{seen_as, with_written, written_in, IsThere, CoreHas, of_masking, OfSort, FitsAt, FitsScope, GoodSort}

@@ -10,7 +10,7 @@ use Rattle.rules_meaning.specs.Values.{V, Int, Env, value_at, Outcome, Gives}
 use Rattle.rules_meaning.specs.Meaning.{then, unary_of, binary_of, functions_of}
 use Rattle.rules_expansion.specs.Core.{CoreEx, OfScript, Read, JustRead, NoValue, BelowZero, IsZero, SameExn, Killed}
 use Rattle.rules_meaning.specs.CoreMeaning.{read, value_of_core}
-use Rattle.rules_typed.specs.Sorts.{Sort, Bound}
+use Rattle.rules_sorts.specs.Sorts.{Sort, Bound}
 use Rattle.rules_typing.specs.Typing as typing
 use Rattle.rules_code.specs.Slots.{Scope, slot_of, roots_of, run, at_slot}
 use Rattle.rules_code.specs.CodeTrees.{is_unread, slot_or_end, slot_read, slotted_core_ex}

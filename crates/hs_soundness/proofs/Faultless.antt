@@ -6,10 +6,10 @@ use Rattle.rules_trees.specs.Trees.{T, exn, Wr, Ex, lit, name, unary, binary, ch
 use Rattle.rules_trees.specs.Programs.{Act, bare, unary_act, binary_act, throw_io, new_empty, call, choose_act, case_act, modify, scoped, masking, restore, catch, guard, bracket, timeout, Bl, last, then, bind, let_in, ActArms, maybe_acts, either_acts, list_acts, pair_acts, Bd, pure_body, io_body}
 use Rattle.rules_typing.specs.Typing.{Fault, scope, wide, nodes, a_cell, Need, of, Row, type_of_lit, row_unary, row_binary, row_empty, row_side, row_choose, row_items, row_arms, form_of_arms, first_of, second_of, inner_of, Ctx, Bound, bound, masked, Meant, wrong, takes, meant, meant_act, no_mask, is_each, count}
 use Rattle.rules_typing.specs.TypingActions.{type_of_bare, row_unary_act, row_binary_act, row_throw, row_new_empty, row_scoped, row_masking, row_modify, row_guard, row_bracket, row_timeout, form_of_acts}
-use Rattle.hs_judging.specs.Judging.{met, Found, good, bad, after, with1, with2, with3, with_all, needing, made, own, written, full, unless_full, unless, unless_wrong, scope_faults, Founds, joined, called, part, parts2, parts3, parts_all, join, not_full, judge, judges, judge_links, judge_arms}
-use Rattle.hs_judging.specs.JudgingActions.{judge_act, judge_bl, judge_act_arms}
-use Rattle.hs_judging.specs.JudgingScripts.{judge_body}
-use Rattle.hs_judging.proofs.Chains.{judge_conses, links_after, conses_after, conses_are}
+use Rattle.typing_judge.specs.Judging.{met, Found, good, bad, after, with1, with2, with3, with_all, needing, made, own, written, full, unless_full, unless, unless_wrong, scope_faults, Founds, joined, called, part, parts2, parts3, parts_all, join, not_full, judge, judges, judge_links, judge_arms}
+use Rattle.typing_judge.specs.JudgingActions.{judge_act, judge_bl, judge_act_arms}
+use Rattle.typing_judge.specs.JudgingScripts.{judge_body}
+use Rattle.typing_judge.proofs.Chains.{judge_conses, links_after, conses_after, conses_are}
 
 abbrev pub Sure : Found → Type 0
 Sure x = x.faults ≡ [] → (t : T) × (x.type ≡ Some t)

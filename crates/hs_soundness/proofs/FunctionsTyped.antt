@@ -8,7 +8,7 @@ use Rattle.rules_expansion.specs.Names.{Written}
 use Rattle.rules_meaning.specs.Meaning.{Functions, answer, answer_of, in_env, bound_onto, texts_of, with_body, functions_onto, functions_of, value_of_ex}
 use Rattle.rules_typing.specs.Typing.{Bound, bound, Sig, find, HasType}
 use Rattle.rules_typing.specs.TypingScripts.{acts, param_types, sig_of_fn, sigs_from, params_in, result_of}
-use Rattle.rules_typed.specs.TypedMeaning.{Good, AllOf, Fits, FunctionsGood, Well, PureTyped, BodyTyped}
+use Rattle.rules_sorts.specs.TypedMeaning.{Good, AllOf, Fits, FunctionsGood, Well, PureTyped, BodyTyped}
 use Rattle.hs_soundness.proofs.TypesKept.{ex_good, fits_more}
 
 -- ---- what is found

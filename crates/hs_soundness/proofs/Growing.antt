@@ -5,8 +5,8 @@ use Rattle.rules_trees.specs.Trees.{T, unit, int, bool, text, thread, exn, pair,
 use Rattle.rules_meaning.specs.Values as val
 use Rattle.rules_expansion.specs.Names.{Name, Written, Added, same_name, Unread}
 use Rattle.rules_meaning.specs.Values.{V, Pair, Nothing, Just, Left, Right, Nil, Cons, Env, with_name, value_at}
-use Rattle.rules_typed.specs.Sorts.{Sort, a_value, a_masking_name, an_instance, Bound, sort_at}
-use Rattle.rules_typed.specs.TypedMeaning.{of_pair, of_maybe, of_either, of_list, of_thread, of_cell, HasV, any_cell}
+use Rattle.rules_sorts.specs.Sorts.{Sort, a_value, a_masking_name, an_instance, Bound, sort_at}
+use Rattle.rules_sorts.specs.TypedMeaning.{of_pair, of_maybe, of_either, of_list, of_thread, of_cell, HasV, any_cell}
 use Rattle.rules_code.specs.Slots.{Scope, slot_of}
 use Rattle.rules_code.specs.CodeTrees.{is_unread}
 use Rattle.rules_code.specs.Matching.{Seen, Matches}

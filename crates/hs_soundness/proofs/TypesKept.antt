@@ -19,7 +19,7 @@ use Rattle.hs_base.specs.declared.tree.expr.Name.{Name}
 use Rattle.rules_meaning.specs.Meaning.{has_no_quotient, floor_quotient, floor_rest, quotient, remainder, limited, shown, then, then_all, as_text, on_number, on_text, on_truth, on_pair, on_maybe, on_either, on_list, on_numbers, literal, unary_of, binary_of, put_before, joined_texts, both, either_one, linked, Functions, answer, or_else, empty_of, side_of, value_of_ex, values_of_exs, left_chain, right_chain, value_of_arms}
 use Rattle.rules_typing.specs.Typing as typing
 use Rattle.rules_typing.specs.Typing.{Has, equal, order, first_of, second_of, inner_of, row_unary, row_binary}
-use Rattle.rules_typed.specs.TypedMeaning.{of_int, of_bool, of_text, of_thread, of_exn, of_pair, of_maybe, of_either, of_list, HasV, Good, AllOf, AllGood, HasSort, Fits, FunctionsGood, IsStrict, Well, WellAll, WellLinks, WellConses, WellArms}
+use Rattle.rules_sorts.specs.TypedMeaning.{of_int, of_bool, of_text, of_thread, of_exn, of_pair, of_maybe, of_either, of_list, HasV, Good, AllOf, AllGood, HasSort, Fits, FunctionsGood, IsStrict, Well, WellAll, WellLinks, WellConses, WellArms}
 use Rattle.hs_soundness.proofs.Conditions.{cond_cases, cond_true, cond_false, equal_or}
 use Rattle.std.proofs.lemmas.Slice.Eq.{bytes_eq-Decides}
 use Rattle.hs_base.specs.declared.pos.Pos.{Pos}

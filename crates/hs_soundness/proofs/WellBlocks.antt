@@ -10,7 +10,7 @@ use Rattle.hs_base.specs.declared.tree.action.Action.TheViews.{roll-Action, roll
 use Rattle.hs_base.specs.declared.tree.action.Action.TheFolds.{map-Action, map-Block, map-BlockArms, map-Stmt, fold-roll-Action, fold-roll-Block, fold-roll-BlockArms, fold-roll-Stmt, ind-Block}
 use Rattle.rules_trees.specs.Trees.{exs_of}
 use Rattle.rules_trees.specs.Programs.{Act, Bl, last, ActArms, before, act_step, stmt_step, block_step, act_arms_step, act_of, stmt_of, bl_of, act_arms_of}
-use Rattle.rules_typed.specs.TypedMeaning.{WellAll}
+use Rattle.rules_sorts.specs.TypedMeaning.{WellAll}
 use Rattle.hs_soundness.specs.WellActions.{WellAct, WellBl, WellActArms}
 use Rattle.hs_soundness.proofs.Wells.{ex_well}
 

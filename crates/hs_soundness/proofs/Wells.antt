@@ -14,7 +14,7 @@ use Rattle.hs_base.specs.declared.tree.expr.Expr.TheViews.{roll-Expr, roll-ExprA
 use Rattle.hs_base.specs.declared.tree.expr.Expr.TheFolds.{map-Expr, map-ExprArms, fold-roll-Expr, fold-roll-ExprArms, fold-roll-Link, fold-roll-ListLink, fold-roll-SumLink, ind-Expr}
 use Rattle.hs_base.specs.declared.tree.forms.BinaryForm.{BinaryForm}
 use Rattle.rules_trees.specs.Trees.{Ex, Arms, Linked, Joined, to_exs, to_links, all_by, compare_form, cons_form, ex_step, arms_step, link_step, list_link_step, sum_link_step, ex_of, arms_of, joined_of, list_linked_of, sum_linked_of}
-use Rattle.rules_typed.specs.TypedMeaning.{IsStrict, Well, WellAll, WellLinks, WellConses, WellArms}
+use Rattle.rules_sorts.specs.TypedMeaning.{IsStrict, Well, WellAll, WellLinks, WellConses, WellArms}
 
 -- ---- parts with their proofs
 

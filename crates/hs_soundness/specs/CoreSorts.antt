@@ -7,9 +7,9 @@ use Rattle.std.specs.Prelude.{◌≡◌, ℕ, false, List, [], ◌∷◌, map, O
 use Rattle.rules_trees.specs.Trees.{T, int, bool, exn, maybe}
 use Rattle.rules_expansion.specs.Names.{Name, Written, Added, Unread}
 use Rattle.rules_meaning.specs.Values.{V, Restore, Inst, Env, value_at, Outcome, Gives, Throws, Stuck}
-use Rattle.rules_typed.specs.Sorts.{Sort, a_value, a_masking_name, an_instance, Bound, sort_at}
+use Rattle.rules_sorts.specs.Sorts.{Sort, a_value, a_masking_name, an_instance, Bound, sort_at}
 use Rattle.rules_typing.specs.Typing as typing
-use Rattle.rules_typed.specs.TypedMeaning.{HasV, Well}
+use Rattle.rules_sorts.specs.TypedMeaning.{HasV, Well}
 use Rattle.rules_code.specs.Slots.{Scope}
 use Rattle.rules_code.specs.CodeTrees.{is_unread}
 use Rattle.rules_expansion.specs.Core.{CoreEx, OfScript, Read, JustRead, NoValue, BelowZero, IsZero, SameExn, Killed}

@@ -7,7 +7,7 @@ ghost use Rattle.hs_base.specs.declared.tree.action.Block.{Block};
 ghost use Rattle.rules_trees.specs.Trees.{ex_of};
 ghost use Rattle.rules_trees.specs.Programs.{bl_of, script_of};
 ghost use Rattle.rules_typing.specs.TypingScripts.{Accepted, sigs_from};
-ghost use Rattle.rules_typed.specs.TypedMeaning.{PureTyped, Well};
+ghost use Rattle.rules_sorts.specs.TypedMeaning.{PureTyped, Well};
 ghost use Rattle.hs_soundness.specs.AcceptedBodies.{BodiesTyped};
 ghost use Rattle.hs_soundness.specs.WellActions.{WellBl};
 

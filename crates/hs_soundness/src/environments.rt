@@ -3,9 +3,9 @@
 ghost use Rattle.std.specs.Prelude.{◌≡◌, ◌++◌, ◌∷◌, [], List, false};
 ghost use Rattle.rules_expansion.specs.Names.{Name};
 ghost use Rattle.rules_meaning.specs.Values.{V, Env, with_name};
-ghost use Rattle.rules_typed.specs.Sorts.{Bound, Sort};
+ghost use Rattle.rules_sorts.specs.Sorts.{Bound, Sort};
 ghost use Rattle.rules_code.specs.CodeTrees.{is_unread};
-ghost use Rattle.rules_typed.specs.TypedMeaning.{any_cell};
+ghost use Rattle.rules_sorts.specs.TypedMeaning.{any_cell};
 ghost use Rattle.hs_soundness.specs.CoreSorts.{FitsAt, SlotsFit};
 
 /// No values fit the empty scope. Where values fit a scope, one more fits it with one name more, of a sort that the value

@@ -4,7 +4,7 @@ ghost use Rattle.std.specs.Prelude.{◌≡◌, ℕ, List};
 ghost use Rattle.hs_base.specs.declared.tree.script.Script.{Script};
 ghost use Rattle.rules_trees.specs.Programs.{Fn, script_of};
 ghost use Rattle.rules_meaning.specs.Values.{V, Env};
-ghost use Rattle.rules_typed.specs.Sorts.{Bound, Sort};
+ghost use Rattle.rules_sorts.specs.Sorts.{Bound, Sort};
 ghost use Rattle.rules_typing.specs.Typing.{Ctx};
 ghost use Rattle.rules_typing.specs.TypingScripts.{Accepted, sigs_from};
 ghost use Rattle.rules_meaning.specs.Meaning.{functions_of};
@@ -12,7 +12,7 @@ ghost use Rattle.rules_code.specs.Slots.{roots_of, run};
 ghost use Rattle.rules_expansion.specs.Core.{CoreEx};
 ghost use Rattle.rules_meaning.specs.CoreMeaning.{value_of_core};
 ghost use Rattle.rules_code.specs.CodeTrees.{slotted_core_ex};
-ghost use Rattle.rules_typed.specs.TypedMeaning.{any_cell};
+ghost use Rattle.rules_sorts.specs.TypedMeaning.{any_cell};
 ghost use Rattle.hs_soundness.specs.CoreSorts.{CoreHas, FitsScope, GoodSort, SlotsFit, names_of};
 
 /// In an accepted script an expression of a core action gives a value of its sort or an exception, and never nothing, in

@@ -7,7 +7,7 @@ ghost use Rattle.rules_meaning.specs.Values.{Env};
 ghost use Rattle.rules_meaning.specs.Meaning.{Functions, functions_of, value_of_ex};
 ghost use Rattle.rules_typing.specs.Typing.{Ctx, Bound, HasType};
 ghost use Rattle.rules_typing.specs.TypingScripts.{sigs_from};
-ghost use Rattle.rules_typed.specs.TypedMeaning.{any_cell, Fits, FunctionsGood, Good, PureTyped, Well};
+ghost use Rattle.rules_sorts.specs.TypedMeaning.{any_cell, Fits, FunctionsGood, Good, PureTyped, Well};
 
 /// An expression that has a type gives a value of that type or an exception, and never nothing, in every environment that
 /// fits its scope, where the pure functions that it may call do so. The pure functions of a script do, where each pure

@@ -6,8 +6,8 @@ use Rattle.rules_expansion.specs.Sizes.{body_size}
 use Rattle.rules_typing.specs.Typing.{large, Sig, Ctx}
 use Rattle.rules_typing.specs.TypingSizes.{Extent, nil, worst_body, param_names}
 use Rattle.rules_typing.specs.TypingScripts.{Measured, measured_with, none_of, head_faults}
-use Rattle.hs_judging.specs.JudgingScripts.{def_faults, large_faults, faults_from, is_far, is_large}
-use Rattle.hs_judging.proofs.Capped.{Same, SameTable}
+use Rattle.typing_judge.specs.JudgingScripts.{def_faults, large_faults, faults_from, is_far, is_large}
+use Rattle.typing_judge.proofs.Capped.{Same, SameTable}
 use Rattle.hs_types.proofs.Worst.{same_worst, same_called}
 
 abbrev pub SameAll : List Extent → List Extent → Type 0

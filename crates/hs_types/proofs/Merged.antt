@@ -3,7 +3,7 @@ use Rattle.std.proofs.Common.{◌≡◌, ℕ, ◌<◌, ◌||◌, ◌⊎◌, List
 use Rattle.std.proofs.lemmas.Bool.{ltb-true, ltb-false, lt-ltb, le-ltb}
 use Rattle.rules_typing.specs.Typing.{Fault}
 use Rattle.rules_typing.specs.TypingFaults.{place, rank}
-use Rattle.hs_judging.specs.Least.{lower, before, lesser, least}
+use Rattle.typing_judge.specs.Least.{lower, before, lesser, least}
 
 lower_less : (m n : ℕ) (b : Bool) → m < n → lower m n b ≡ true
 lower_less m n b h = ap (λ t. t || cond (ltb n m) false b) (lt-ltb m n h)

@@ -4,14 +4,14 @@ use Rattle.hs_base.specs.declared.tree.expr.Name.{Name}
 use Rattle.hs_base.specs.declared.tree.ty.Written.{Written}
 use Rattle.rules_trees.specs.Trees.{T, ty_of, wr_of}
 use Rattle.rules_typing.specs.Typing.{Fault, is, refusal}
-use Rattle.hs_judging.specs.Judging.{bad, good, met, with1}
-use Rattle.hs_judging.specs.JudgingScripts.{ends}
-use Rattle.hs_judging.specs.Least.{least}
-use Rattle.hs_type_table.specs.declared.table.Node.{Node}
-use Rattle.hs_type_table.specs.declared.ty.TypeTerm.{TypeTerm}
-use Rattle.hs_type_table.specs.Meaning.{type_in}
-use Rattle.hs_typing.specs.Judged.{unmet1}
-use Rattle.hs_typing.specs.Views.{opt_ty}
+use Rattle.typing_judge.specs.Judging.{bad, good, met, with1}
+use Rattle.typing_judge.specs.JudgingScripts.{ends}
+use Rattle.typing_judge.specs.Least.{least}
+use Rattle.typing_table.specs.declared.table.Node.{Node}
+use Rattle.typing_table.specs.declared.ty.TypeTerm.{TypeTerm}
+use Rattle.typing_table.specs.Meaning.{type_in}
+use Rattle.typing_parts.specs.Judged.{unmet1}
+use Rattle.typing_parts.specs.Views.{opt_ty}
 
 one_need : (b : Bool) (f : Fault) (u : T) → cond b [] (f ∷ []) ≡ (cond b (good u) (bad f)).faults
 one_need true f u = refl

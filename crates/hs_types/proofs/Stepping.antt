@@ -7,12 +7,12 @@ use Rattle.rules_typing.specs.Typing.{Fault, large, Sig, Ctx, Bound}
 use Rattle.rules_typing.specs.TypingSizes as rule
 use Rattle.rules_typing.specs.TypingSizes.{nil, worst_body, called_extent, param_names}
 use Rattle.rules_typing.specs.TypingScripts.{Measured, measured_with, fn_extent, none_of, head_faults, twice_faults}
-use Rattle.hs_judging.specs.JudgingScripts.{def_faults, def_found, large_faults, faults_from, is_far, is_large}
-use Rattle.hs_judging.specs.Least.{least}
-use Rattle.hs_judging.proofs.Capped.{Same}
-use Rattle.hs_extents.specs.Measuring.{ext_of, exts_of}
-use Rattle.hs_extents.specs.declared.meter.Extent.{Extent}
-use Rattle.hs_typing.proofs.Noted.{least-append}
+use Rattle.typing_judge.specs.JudgingScripts.{def_faults, def_found, large_faults, faults_from, is_far, is_large}
+use Rattle.typing_judge.specs.Least.{least}
+use Rattle.typing_judge.proofs.Capped.{Same}
+use Rattle.typing_extents.specs.Measuring.{ext_of, exts_of}
+use Rattle.typing_extents.specs.declared.meter.Extent.{Extent}
+use Rattle.typing_parts.proofs.Noted.{least-append}
 use Rattle.hs_types.specs.Steps.{of_call}
 use Rattle.hs_types.proofs.Merged.{merged, none_noted}
 use Rattle.hs_types.proofs.Counted.{SameMeasured, same_self, same_push, large_counted, same_faults}

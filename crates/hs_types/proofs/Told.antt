@@ -3,8 +3,8 @@ use Rattle.std.proofs.Common.{◌≡◌, Some, subst, sym}
 use Rattle.hs_base.specs.declared.tree.script.Script.{Script}
 use Rattle.rules_typing.specs.Typing.{Fault}
 use Rattle.rules_typing.specs.TypingScripts.{IsFirstBroken}
-use Rattle.hs_typing.specs.declared.fault.TypeFault.{TypeFault}
-use Rattle.hs_typing.specs.declared.fault.TypeFault.TheVariants as t
+use Rattle.typing_parts.specs.declared.fault.TypeFault.{TypeFault}
+use Rattle.typing_parts.specs.declared.fault.TypeFault.TheVariants as t
 use Rattle.hs_types.specs.Faults.{Refused, told}
 
 some_is : (x y : Fault) → Some x ≡ Some y → x ≡ y

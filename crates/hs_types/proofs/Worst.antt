@@ -4,7 +4,7 @@ use Rattle.rules_trees.specs.Trees.{Exs, none, more}
 use Rattle.rules_trees.specs.Programs.{Act, bare, unary_act, binary_act, throw_io, new_empty, call, choose_act, case_act, modify, scoped, masking, restore, catch, guard, bracket, timeout, Bl, last, then, bind, let_in, ActArms, maybe_acts, either_acts, list_acts, pair_acts, Bd, pure_body, io_body}
 use Rattle.rules_typing.specs.Typing.{Bound, Sig, masked}
 use Rattle.rules_typing.specs.TypingSizes.{Extent, nil, worse, worst_exs, worst_act, worst_bl, worst_arms, worst_body, called_extent}
-use Rattle.hs_judging.proofs.Capped.{Same, SameTable, same_extent}
+use Rattle.typing_judge.proofs.Capped.{Same, SameTable, same_extent}
 
 same_nil : Same nil nil
 same_nil = record { size = refl; height = refl }

@@ -4,9 +4,9 @@ use Rattle.hs_base.specs.declared.tree.script.Script.{Script}
 use Rattle.rules_trees.specs.Trees.{ty_of}
 use Rattle.rules_typing.specs.Typing.{Fault, twice, unknown, kind, forward, arity, mismatch, scope, wide, large}
 use Rattle.rules_typing.specs.TypingScripts.{LacksMain, IsFirstBroken}
-use Rattle.hs_typing.specs.Views.{wanted_of}
-use Rattle.hs_typing.specs.declared.fault.TypeFault.{TypeFault}
-use Rattle.hs_typing.specs.declared.fault.TypeFault.TheVariants as t
+use Rattle.typing_parts.specs.Views.{wanted_of}
+use Rattle.typing_parts.specs.declared.fault.TypeFault.{TypeFault}
+use Rattle.typing_parts.specs.declared.fault.TypeFault.TheVariants as t
 
 -- The named rule is broken and comes before every broken one; for `NoMain` nothing is broken but there is no `main`.
 -- Memory may be refused for any script.

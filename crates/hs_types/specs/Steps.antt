@@ -4,11 +4,11 @@ use Rattle.rules_trees.specs.Programs.{Bd, pure_body, io_body, Fn}
 use Rattle.rules_typing.specs.Typing.{Ctx}
 use Rattle.rules_typing.specs.TypingSizes.{Extent, nil}
 use Rattle.rules_typing.specs.TypingScripts.{Measured}
-use Rattle.hs_judging.specs.JudgingScripts.{faults_from}
-use Rattle.hs_judging.specs.Least.{least}
-use Rattle.hs_type_table.specs.declared.table.Node.{Node}
-use Rattle.hs_typing.specs.Views.{kept_of, scope_of}
-use Rattle.hs_extents.specs.Measuring.{exts_of}
+use Rattle.typing_judge.specs.JudgingScripts.{faults_from}
+use Rattle.typing_judge.specs.Least.{least}
+use Rattle.typing_table.specs.declared.table.Node.{Node}
+use Rattle.typing_parts.specs.Views.{kept_of, scope_of}
+use Rattle.typing_extents.specs.Measuring.{exts_of}
 use Rattle.hs_types.specs.declared.progress.Progress.{Progress}
 
 -- what was measured, in counts

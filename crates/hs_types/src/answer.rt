@@ -1,22 +1,22 @@
 ghost use Rattle.std.specs.Prelude.{◌≡◌, None, Some, IfOk};
 ghost use Rattle.rules_trees.specs.Programs.{script_of};
 ghost use Rattle.rules_typing.specs.TypingScripts.{sigs_from};
-ghost use Rattle.hs_judging.specs.JudgingScripts.{script_faults};
-ghost use Rattle.hs_judging.specs.Least.{least};
-ghost use Rattle.hs_typing.specs.Views.{asked_of, broken_of, kept_of, sigs_of, wanted_of};
+ghost use Rattle.typing_judge.specs.JudgingScripts.{script_faults};
+ghost use Rattle.typing_judge.specs.Least.{least};
+ghost use Rattle.typing_parts.specs.Views.{asked_of, broken_of, kept_of, sigs_of, wanted_of};
 ghost use Rattle.hs_types.specs.Faults.{told};
 ghost use Rattle.hs_types.specs.Answers.{IsAnswer};
 
 use crate::progress::Progress;
 use hs_base::NoMemory;
 use hs_base::tree::Script;
-use hs_type_table::table::TypeTable;
-use hs_type_table::written::to_written;
-use hs_typing::first::{Asked, Broken, First};
-use hs_typing::funs::Funs;
-use hs_typing::heads::{has_main, heads_of};
-use hs_typing::{TypeFault, Want};
 use std::alloc::Global;
+use typing_parts::first::{Asked, Broken, First};
+use typing_parts::funs::Funs;
+use typing_parts::heads::{has_main, heads_of};
+use typing_parts::{TypeFault, Want};
+use typing_table::table::TypeTable;
+use typing_table::written::to_written;
 
 /// What the rules say of a script.
 #[derive(Drop)]

@@ -3,28 +3,28 @@ ghost use Rattle.rules_trees.specs.Trees.{wr_of};
 ghost use Rattle.rules_trees.specs.Programs.{par_of, bd_of, fn_of};
 ghost use Rattle.rules_typing.specs.Typing.{bound};
 ghost use Rattle.rules_typing.specs.TypingScripts.{result_of, params_in, wide_faults, room_faults, param_faults, head_faults, twice_faults, none_of};
-ghost use Rattle.hs_judging.specs.Judging.{part, with1};
-ghost use Rattle.hs_judging.specs.JudgingScripts.{judge_body, ends, def_faults};
-ghost use Rattle.hs_judging.specs.Least.{least};
-ghost use Rattle.hs_typing.specs.Views.{kept_of, opt_ty};
-ghost use Rattle.hs_typing.specs.Contexts.{ctx_of};
-ghost use Rattle.hs_typing.specs.Judged.{Judged, names, kept};
+ghost use Rattle.typing_judge.specs.Judging.{part, with1};
+ghost use Rattle.typing_judge.specs.JudgingScripts.{judge_body, ends, def_faults};
+ghost use Rattle.typing_judge.specs.Least.{least};
+ghost use Rattle.typing_parts.specs.Views.{kept_of, opt_ty};
+ghost use Rattle.typing_parts.specs.Contexts.{ctx_of};
+ghost use Rattle.typing_parts.specs.Judged.{Judged, names, kept};
 
-use hs_act_types::type_of_block;
 use hs_base::NoMemory;
 use hs_base::tree::{Body, Def, Name, Param, Written};
-use hs_expr_types::type_of;
 use hs_items::Items;
-use hs_type_table::table::TypeTable;
-use hs_type_table::ty::TypeTerm;
-use hs_type_table::widths::is_wide_written;
-use hs_type_table::written::from_written;
-use hs_typing::checker::Checker;
-use hs_typing::first::{Broken, First};
-use hs_typing::funs::Funs;
-use hs_typing::heads::written_of;
-use hs_typing::table::Table;
 use std::alloc::Global;
+use typing_actions::type_of_block;
+use typing_exprs::type_of;
+use typing_parts::checker::Checker;
+use typing_parts::first::{Broken, First};
+use typing_parts::funs::Funs;
+use typing_parts::heads::written_of;
+use typing_parts::table::Table;
+use typing_table::table::TypeTable;
+use typing_table::ty::TypeTerm;
+use typing_table::widths::is_wide_written;
+use typing_table::written::from_written;
 
 /// What a definition breaks first, `Large` aside, and whether its head is sound.
 #[derive(Drop)]
@@ -34,7 +34,7 @@ pub struct Judgement {
 }
 
 /// Notes where a written type is too wide.
-#[tactic(auto, using(hs_typing::proofs::ScriptSteps::script_rules))]
+#[tactic(auto, using(typing_parts::proofs::ScriptSteps::script_rules))]
 fn check_width(checker: &mut Checker, types: &TypeTable, w: &Written) -> bool
     ensures { (names types.now.nodes checker.new ≡ names types.now.nodes checker.old) × (kept types.now.nodes checker.new ≡ least (kept types.now.nodes checker.old) (wide_faults (wr_of w.now))) × (result ≡ none_of (wide_faults (wr_of w.now))) }
 {
@@ -47,7 +47,7 @@ fn check_width(checker: &mut Checker, types: &TypeTable, w: &Written) -> bool
 }
 
 /// Notes where an earlier definition has the name.
-#[tactic(auto, using(hs_typing::proofs::ScriptSteps::script_rules))]
+#[tactic(auto, using(typing_parts::proofs::ScriptSteps::script_rules))]
 fn check_once(checker: &mut Checker, funs: &Funs, x: &Name)
     ensures { (names funs.now.types.nodes checker.new ≡ names funs.now.types.nodes checker.old) × (kept funs.now.types.nodes checker.new ≡ least (kept funs.now.types.nodes checker.old) (twice_faults (ctx_of funs.now) x.now)) }
 {
@@ -76,7 +76,7 @@ fn bind_written(
 }
 
 /// Binds a parameter, and says whether it is sound.
-#[tactic(auto, using(hs_typing::proofs::ScriptSteps::script_rules))]
+#[tactic(auto, using(typing_parts::proofs::ScriptSteps::script_rules))]
 fn param(
     checker: &mut Checker,
     alloc: Global,
@@ -93,7 +93,7 @@ fn param(
 }
 
 /// Binds the parameters, and says whether each is sound.
-#[tactic(auto, using(hs_typing::proofs::ScriptSteps::script_rules))]
+#[tactic(auto, using(typing_parts::proofs::ScriptSteps::script_rules))]
 fn params(
     checker: &mut Checker,
     alloc: Global,
@@ -111,7 +111,7 @@ fn params(
 }
 
 /// The name and the head of a definition; it says whether the head is sound.
-#[tactic(auto, using(hs_typing::proofs::ScriptSteps::script_rules))]
+#[tactic(auto, using(typing_parts::proofs::ScriptSteps::script_rules))]
 fn head(checker: &mut Checker, alloc: Global, funs: &Funs, d: &Def) -> Result<bool, NoMemory>
     requires { names funs.now.types.nodes checker.old ≡ [] }
     ensures { IfOk result (λ b. (names funs.now.types.nodes checker.new ≡ params_in [] (fn_of d.now).params) × (kept funs.now.types.nodes checker.new ≡ least (kept funs.now.types.nodes checker.old) (twice_faults (ctx_of funs.now) d.now.name ++ head_faults (fn_of d.now))) × (b ≡ none_of (head_faults (fn_of d.now)))) }
@@ -165,7 +165,7 @@ fn check_result(
 }
 
 /// The body of a definition whose head is sound.
-#[tactic(auto, using(hs_typing::proofs::ScriptSteps::script_rules))]
+#[tactic(auto, using(typing_parts::proofs::ScriptSteps::script_rules))]
 fn tail(checker: &mut Checker, alloc: Global, funs: &Funs, d: &Def) -> Result<(), NoMemory>
     requires { names funs.now.types.nodes checker.old ≡ params_in [] (fn_of d.now).params }
     ensures { OnOk result (kept funs.now.types.nodes checker.new ≡ least (kept funs.now.types.nodes checker.old) (part (judge_body (ctx_of funs.now) (params_in [] (fn_of d.now).params) (fn_of d.now).body) (ends d.now.name (result_of (fn_of d.now).body))).faults) }
@@ -184,7 +184,7 @@ fn fault_in(checker: Checker) -> Option<Broken>
 }
 
 /// What a definition breaks first, `Large` aside.
-#[tactic(auto, using(hs_typing::proofs::ScriptSteps::script_rules))]
+#[tactic(auto, using(typing_parts::proofs::ScriptSteps::script_rules))]
 pub fn judge(alloc: Global, funs: &Funs, d: &Def) -> Result<Judgement, NoMemory>
     ensures { IfOk result (λ j. (kept_of funs.now.types.nodes j.fault ≡ least None (def_faults (ctx_of funs.now) (fn_of d.now))) × (j.head ≡ none_of (head_faults (fn_of d.now)))) }
 {

@@ -14,9 +14,9 @@ ghost use Rattle.hs_types.specs.Faults.{Refused};
 
 use crate::answer::{Answer, judge_script};
 use hs_base::tree::Script;
-pub use hs_typing::{Form, TypeFault, Want};
 use rules_typing::Checked;
 use std::alloc::Global;
+pub use typing_parts::{Form, TypeFault, Want};
 
 /// Accepts a script, or says which broken rule comes first.
 pub fn check(alloc: Global, script: Script) -> Result<Checked, TypeFault>

@@ -4,24 +4,24 @@ ghost use Rattle.rules_expansion.specs.Sizes.{body_size};
 ghost use Rattle.rules_typing.specs.Typing.{large};
 ghost use Rattle.rules_typing.specs.TypingSizes.{param_names, worst_body};
 ghost use Rattle.rules_typing.specs.TypingScripts.{unmeasured, fn_extent, head_faults, none_of};
-ghost use Rattle.hs_judging.specs.JudgingScripts.{def_faults, faults_from, is_far};
-ghost use Rattle.hs_judging.specs.Least.{least};
-ghost use Rattle.hs_typing.specs.Views.{broken_of, kept_of, scope_of, sigs_of};
-ghost use Rattle.hs_typing.specs.Contexts.{ctx_of};
-ghost use Rattle.hs_extents.specs.Measuring.{Extends, ext_of, exts_of};
+ghost use Rattle.typing_judge.specs.JudgingScripts.{def_faults, faults_from, is_far};
+ghost use Rattle.typing_judge.specs.Least.{least};
+ghost use Rattle.typing_parts.specs.Views.{broken_of, kept_of, scope_of, sigs_of};
+ghost use Rattle.typing_parts.specs.Contexts.{ctx_of};
+ghost use Rattle.typing_extents.specs.Measuring.{Extends, ext_of, exts_of};
 ghost use Rattle.hs_types.specs.Steps.{Advanced, measured_of, of_call};
 
 use crate::definition::{Judgement, judge};
 use hs_base::tree::{Body, Def, Param};
 use hs_base::{NoMemory, Pos};
-use hs_extents::meter::{Extent, Meter, nothing};
 use hs_items::Items;
-use hs_sizes::{add, body_nodes};
-use hs_type_table::table::TypeTable;
-use hs_typing::first::{Broken, First};
-use hs_typing::funs::Funs;
-use hs_typing::table::Table;
 use std::alloc::Global;
+use typing_extents::meter::{Extent, Meter, nothing};
+use typing_parts::first::{Broken, First};
+use typing_parts::funs::Funs;
+use typing_parts::table::Table;
+use typing_sizes::{add, body_nodes};
+use typing_table::table::TypeTable;
 
 /// The first broken rule of the definitions so far, how far calls of them unfold, and their expanded sizes together.
 #[derive(Drop)]

@@ -3,6 +3,7 @@
 //! A function of this crate is passed `inner`, which reads an expression wherever fewer levels of openers are left than
 //! where the function begins. What it promises is `Reads`: it answers as the parser of its rule does.
 //! Operators, and what `inner` is, are left to the crate above.
+//! It is a crate apart from `parse_exprs` for the prover's cost alone.
 #![tactic(auto)]
 
 mod bracketed;

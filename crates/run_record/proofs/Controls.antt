@@ -6,7 +6,7 @@ use Rattle.hs_rules.specs.Terms.{Operation, Ret, Throw, Performs}
 use Rattle.hs_progress.specs.GoingOn.{own_entry}
 use Rattle.rules_trees.specs.Trees.{T}
 use Rattle.rules_trees.specs.Programs.{Fn}
-use Rattle.rules_typed.specs.Sorts.{Sort}
+use Rattle.rules_sorts.specs.Sorts.{Sort}
 use Rattle.rules_code.specs.declared.code.Body.{Body}
 use Rattle.slot_laws.specs.SlotRules.{SlotOp, performs}
 use Rattle.slot_laws.specs.Standing.{PartStands, op_stands, FramesStand}

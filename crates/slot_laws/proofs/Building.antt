@@ -9,7 +9,7 @@ use Rattle.rules_expansion.specs.Names.{Name, Written, Added, hidden_number, sam
 use Rattle.rules_expansion.specs.declared.hidden.Hidden.{Hidden}
 use Rattle.rules_expansion.specs.Core.{Core}
 use Rattle.rules_meaning.specs.Values.{V, UnitValue, Env, value_at}
-use Rattle.rules_typed.specs.Sorts.{Sort, Bound, sort_at}
+use Rattle.rules_sorts.specs.Sorts.{Sort, Bound, sort_at}
 use Rattle.rules_typing.specs.TypingScripts.{Accepted}
 use Rattle.rules_code.specs.Slots.{slot_of}
 use Rattle.rules_code.specs.CodeTrees.{a_bad}

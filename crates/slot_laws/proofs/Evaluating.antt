@@ -8,8 +8,8 @@ use Rattle.rules_expansion.specs.Core.{CoreEx, OfScript, Core, Return, ThrowIo, 
 use Rattle.rules_expansion.specs.Expansion.{actions_of}
 use Rattle.rules_meaning.specs.Values.{V, Env}
 use Rattle.rules_meaning.specs.CoreMeaning.{code_of}
-use Rattle.rules_typed.specs.Sorts.{Sort, a_value, Bound}
-use Rattle.rules_typed.specs.TypedMeaning.{WellAll}
+use Rattle.rules_sorts.specs.Sorts.{Sort, a_value, Bound}
+use Rattle.rules_sorts.specs.TypedMeaning.{WellAll}
 use Rattle.rules_typing.specs.Typing as typing
 use Rattle.rules_typing.specs.TypingScripts.{Accepted}
 use Rattle.rules_code.specs.declared.act.Act.{Act}

@@ -8,7 +8,7 @@ use Rattle.rules_trees.specs.Programs.{Fn, script_of}
 use Rattle.rules_meaning.specs.Values as val
 use Rattle.rules_expansion.specs.Names.{Name}
 use Rattle.rules_meaning.specs.Values.{V, Env, Restore, with_name}
-use Rattle.rules_typed.specs.Sorts.{Sort, a_value}
+use Rattle.rules_sorts.specs.Sorts.{Sort, a_value}
 use Rattle.rules_expansion.specs.Core.{Core}
 use Rattle.rules_typing.specs.TypingScripts.{Accepted}
 use Rattle.rules_code.specs.CodeTrees.{Sa, main_tree}

@@ -5,7 +5,7 @@ use Rattle.hs_base.specs.declared.tree.script.Script.{Script}
 use Rattle.rules_trees.specs.Trees.{T, unit}
 use Rattle.rules_trees.specs.Programs.{script_of}
 use Rattle.rules_expansion.specs.Names.{Name}
-use Rattle.rules_typed.specs.Sorts.{a_value, Bound}
+use Rattle.rules_sorts.specs.Sorts.{a_value, Bound}
 use Rattle.rules_typing.specs.Typing as typing
 use Rattle.rules_typing.specs.Typing.{Sig}
 use Rattle.rules_typing.specs.TypingScripts.{Accepted, sigs_from, is_unit, is_none, main_by}
@@ -17,8 +17,8 @@ use Rattle.hs_progress.specs.CoreTyping.{Does, Takes, takes_none, takes_one}
 use Rattle.hs_base.specs.declared.mask.Mask.{Mask}
 use Rattle.rules_trees.specs.Programs.{Fn}
 use Rattle.rules_meaning.specs.Values.{V, Env}
-use Rattle.rules_typed.specs.Sorts.{Sort}
-use Rattle.rules_typed.specs.TypedMeaning.{any_cell}
+use Rattle.rules_sorts.specs.Sorts.{Sort}
+use Rattle.rules_sorts.specs.TypedMeaning.{any_cell}
 use Rattle.rules_code.specs.CodeTrees.{Sa}
 use Rattle.hs_rules.specs.Terms as named
 use Rattle.hs_soundness.proofs.Growing.{fits_any}

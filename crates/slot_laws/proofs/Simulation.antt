@@ -11,10 +11,10 @@ use Rattle.rules_trees.specs.Programs.{Fn, script_of}
 use Rattle.rules_expansion.specs.Names.{Name}
 use Rattle.rules_meaning.specs.Values.{V, Truth, Nothing, Just, Left, Right, Pair, Nil, Cons, Exception, Restore, Env, with_name, value_at, Outcomes, AllGive, OneThrows, OneStuck}
 use Rattle.rules_meaning.specs.Meaning.{functions_of, values_of_exs}
-use Rattle.rules_typed.specs.Sorts.{Sort, a_value, a_masking_name, Bound}
+use Rattle.rules_sorts.specs.Sorts.{Sort, a_value, a_masking_name, Bound}
 use Rattle.rules_typing.specs.Typing as typing
 use Rattle.rules_typing.specs.TypingScripts.{Accepted, sigs_from}
-use Rattle.rules_typed.specs.TypedMeaning.{AllOf, AllGood}
+use Rattle.rules_sorts.specs.TypedMeaning.{AllOf, AllGood}
 use Rattle.rules_expansion.specs.Core.{CoreEx, Core, Bind, ActionFunction, action_named}
 use Rattle.rules_meaning.specs.CoreMeaning.{value_of_core, values_of_core, code_of}
 use Rattle.rules_expansion.specs.Expansion.{actions_of}

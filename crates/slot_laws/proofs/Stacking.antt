@@ -4,7 +4,7 @@ use Rattle.rules_trees.specs.Trees.{T}
 use Rattle.rules_trees.specs.Programs.{Fn}
 use Rattle.rules_expansion.specs.Names.{Name}
 use Rattle.rules_meaning.specs.Values.{V, Env}
-use Rattle.rules_typed.specs.Sorts.{Sort, Bound}
+use Rattle.rules_sorts.specs.Sorts.{Sort, Bound}
 use Rattle.rules_expansion.specs.Core.{Core}
 use Rattle.rules_code.specs.CodeTrees.{Sa}
 use Rattle.hs_rules.specs.State.{Thread, State}

@@ -9,10 +9,10 @@ use Rattle.rules_meaning.specs.Values as val
 use Rattle.rules_expansion.specs.Names.{Name, Written, Added, Unread}
 use Rattle.rules_meaning.specs.Values.{V, Env, with_name, value_at, Outcome, Gives, Throws, Stuck, Outcomes, AllGive, OneThrows, OneStuck, and_then}
 use Rattle.rules_meaning.specs.Meaning.{functions_of, value_of_ex, values_of_exs}
-use Rattle.rules_typed.specs.Sorts.{Sort, a_value, a_masking_name, an_instance, Bound}
+use Rattle.rules_sorts.specs.Sorts.{Sort, a_value, a_masking_name, an_instance, Bound}
 use Rattle.rules_typing.specs.Typing as typing
 use Rattle.rules_typing.specs.TypingScripts.{Accepted}
-use Rattle.rules_typed.specs.TypedMeaning.{AllOf, AllGood, WellAll}
+use Rattle.rules_sorts.specs.TypedMeaning.{AllOf, AllGood, WellAll}
 use Rattle.rules_expansion.specs.Core.{CoreEx, OfScript, Core, ActionFunction, action_named}
 use Rattle.rules_meaning.specs.CoreMeaning.{value_of_core, values_of_core}
 use Rattle.rules_code.specs.Slots.{Scope, slot_of, Root, roots_of, run_all}

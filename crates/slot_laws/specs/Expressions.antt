@@ -6,8 +6,8 @@ use Rattle.std.specs.Prelude.{◌≡◌, ℕ, List, [], ◌∷◌, Some, slice_g
 use Rattle.rules_trees.specs.Programs.{Fn}
 use Rattle.rules_expansion.specs.Core.{CoreEx, Core}
 use Rattle.rules_meaning.specs.Values.{V, Env}
-use Rattle.rules_typed.specs.Sorts.{Sort, Bound}
-use Rattle.rules_typed.specs.TypedMeaning.{any_cell}
+use Rattle.rules_sorts.specs.Sorts.{Sort, Bound}
+use Rattle.rules_sorts.specs.TypedMeaning.{any_cell}
 use Rattle.rules_code.specs.declared.act.Act.{Act}
 use Rattle.rules_code.specs.declared.act.Act.TheVariants as a
 use Rattle.rules_code.specs.declared.node.ExprId.{ExprId}

@@ -9,7 +9,7 @@ use Rattle.hs_rules.specs.declared.entry.LimitKind.TheVariants as limit
 use Rattle.rules_trees.specs.Programs.{Fn, script_of}
 use Rattle.rules_meaning.specs.Values.{V}
 use Rattle.rules_expansion.specs.Core.{Core}
-use Rattle.rules_typed.specs.TypedMeaning.{any_cell}
+use Rattle.rules_sorts.specs.TypedMeaning.{any_cell}
 use Rattle.rules_typing.specs.TypingScripts.{Accepted}
 use Rattle.rules_code.specs.CodeTrees.{Sa, main_tree}
 use Rattle.rules_waiting.specs.Waiting.{is_blocked, flying_to, sleepers_of, first_awake}

@@ -4,7 +4,7 @@ use Rattle.rules_trees.specs.Trees.{T, cell}
 use Rattle.rules_trees.specs.Programs.{Fn}
 use Rattle.rules_meaning.specs.Values as val
 use Rattle.rules_meaning.specs.Values.{V}
-use Rattle.rules_typed.specs.Sorts.{Sort}
+use Rattle.rules_sorts.specs.Sorts.{Sort}
 use Rattle.rules_expansion.specs.declared.primitive.Primitive.TheVariants.{TryTakeMVar, TryPutMVar}
 use Rattle.hs_rules.specs.Terms as named
 use Rattle.hs_rules.specs.Terms.{Operation, Calls, Performs, mask_at}

@@ -16,7 +16,7 @@ use Rattle.rules_meaning.specs.Values.{V, UnitValue, Int, Truth, Text, Nothing, 
 use Rattle.rules_expansion.specs.declared.primitive.Primitive.{Primitive}
 use Rattle.rules_expansion.specs.declared.primitive.Primitive.TheVariants.{PutStr, PutStrLn, HPutStrLn, NewMVar, NewEmptyMVar, TakeMVar, PutMVar, ReadMVar, TryTakeMVar, TryPutMVar, MyThreadId, GetMaskingState, ClockMicros, ThreadDelay, ThrowTo, NewTimeout, Acquired, Release}
 use Rattle.rules_meaning.specs.CoreMeaning.{Code, code_of}
-use Rattle.rules_typed.specs.Sorts.{Sort}
+use Rattle.rules_sorts.specs.Sorts.{Sort}
 use Rattle.hs_rules.specs.Terms.{Operation, Part, Ret, Throw, Do, Performs, Frame, MaskIn, term, mask_at}
 use Rattle.rules_waiting.specs.OneCell.{first_put, first_take, readers}
 use Rattle.rules_waiting.specs.Waiting.{Reason, Sleeping, Flying, Sleeper, is_blocked, reason_of, line_of, flight_of, flying_to, sleepers_of}

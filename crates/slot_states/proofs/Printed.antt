@@ -12,7 +12,7 @@ use Rattle.rules_expansion.specs.Core.{Core}
 use Rattle.rules_expansion.specs.declared.primitive.Primitive.{Primitive}
 use Rattle.rules_expansion.specs.declared.primitive.Primitive.TheVariants.{PutStr, PutStrLn, HPutStrLn, NewMVar, NewEmptyMVar, TakeMVar, PutMVar, ReadMVar, TryTakeMVar, TryPutMVar, MyThreadId, GetMaskingState, ClockMicros, ThreadDelay, ThrowTo, NewTimeout, Acquired, Release}
 use Rattle.rules_meaning.specs.CoreMeaning.{Code, code_of}
-use Rattle.rules_typed.specs.Sorts.{Sort}
+use Rattle.rules_sorts.specs.Sorts.{Sort}
 use Rattle.hs_rules.specs.Terms.{Part, Ret, Throw, Frame, Term, mask_at}
 use Rattle.hs_rules.specs.LocalRules.{locals}
 use Rattle.rules_waiting.specs.OneCell.{first_put, first_take, readers}

@@ -13,7 +13,7 @@ use Rattle.rules_expansion.specs.Core.{Core}
 use Rattle.rules_expansion.specs.declared.primitive.Primitive.{Primitive}
 use Rattle.rules_meaning.specs.Values.{V, Env}
 use Rattle.rules_meaning.specs.CoreMeaning.{Code, code_of}
-use Rattle.rules_typed.specs.Sorts.{Sort}
+use Rattle.rules_sorts.specs.Sorts.{Sort}
 use Rattle.rules_code.specs.CodeTrees.{Sa}
 use Rattle.rules_waiting.specs.OneCell.{Cell, leaves_line}
 use Rattle.rules_waiting.specs.Waiting.{Reason, is_blocked, reason_of, line_of}

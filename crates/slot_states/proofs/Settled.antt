@@ -9,7 +9,7 @@ use Rattle.rules_trees.specs.Programs.{Fn, script_of}
 use Rattle.rules_expansion.specs.Core.{Core}
 use Rattle.rules_meaning.specs.Values.{V, UnitValue, Env}
 use Rattle.rules_meaning.specs.CoreMeaning.{Code, code_of}
-use Rattle.rules_typed.specs.Sorts.{Sort}
+use Rattle.rules_sorts.specs.Sorts.{Sort}
 use Rattle.rules_typing.specs.TypingScripts.{Accepted}
 use Rattle.rules_waiting.specs.Waiting.{Reason, Taking, Reading, Putting, Throwing, Sleeping, is_blocked, reason_of, flight_of, flying_to, sleepers_of, sorted_sleepers, first_awake, earliest}
 use Rattle.hs_rules.specs.Terms as named

@@ -9,7 +9,7 @@ ghost use Rattle.hs_rules.specs.declared.entry.Entry.{Entry};
 ghost use Rattle.hs_rules.specs.declared.entry.LimitKind.{LimitKind};
 ghost use Rattle.rules_trees.specs.Programs.{script_of};
 ghost use Rattle.rules_meaning.specs.Values.{V};
-ghost use Rattle.rules_typed.specs.TypedMeaning.{any_cell};
+ghost use Rattle.rules_sorts.specs.TypedMeaning.{any_cell};
 ghost use Rattle.rules_typing.specs.TypingScripts.{Accepted};
 ghost use Rattle.rules_code.specs.CodeTrees.{Sa, main_tree};
 ghost use Rattle.rules_waiting.specs.Waiting.{sleepers_of};

@@ -7,7 +7,7 @@ use Rattle.hs_base.specs.declared.value.Value.{Value}
 use Rattle.rules_trees.specs.Trees.{unit}
 use Rattle.rules_trees.specs.Programs.{script_of}
 use Rattle.rules_meaning.specs.Values.{values_of}
-use Rattle.rules_typed.specs.Sorts.{a_value}
+use Rattle.rules_sorts.specs.Sorts.{a_value}
 use Rattle.rules_code.specs.declared.act.ActId.{ActId}
 use Rattle.rules_code.specs.declared.code.Body.{Body}
 use Rattle.rules_code.specs.CodeTrees.{StandsFor}

@@ -5,8 +5,8 @@ use Rattle.rules_trees.specs.Trees.{T, exn}
 use Rattle.rules_trees.specs.Programs.{Act, bare, unary_act, binary_act, throw_io, new_empty, call, choose_act, case_act, modify, scoped, masking, restore, catch, guard, bracket, timeout, Bl, last, then, bind, let_in, ActArms, maybe_acts, either_acts, list_acts, pair_acts}
 use Rattle.rules_typing.specs.Typing.{Fault, a_cell, of, first_of, second_of, inner_of, row_choose, row_arms, Bound, bound, masked, Ctx, look, meant_act, no_mask, count}
 use Rattle.rules_typing.specs.TypingActions.{row_unary_act, row_binary_act, row_throw, row_new_empty, row_scoped, row_masking, row_modify, row_guard, row_bracket, row_timeout, form_of_acts}
-use Rattle.hs_judging.specs.Judging.{Found, own, written, unless_full, part, parts2, judge, judges}
-use Rattle.hs_judging.specs.JudgingActions.{judge_act, judge_bl, judge_act_arms}
+use Rattle.typing_judge.specs.Judging.{Found, own, written, unless_full, part, parts2, judge, judges}
+use Rattle.typing_judge.specs.JudgingActions.{judge_act, judge_bl, judge_act_arms}
 use Rattle.typing_laws.specs.Positions.{ex_positions, exs_positions, act_positions, bl_positions, act_arm_positions}
 use Rattle.typing_laws.proofs.Counts.{here, times, times-append}
 use Rattle.typing_laws.proofs.Tally.{tally, Most, needing_most, own_most, written_most, part_most, parts2_most, parts3_most, call_most, unless_full_most, unless_wrong_most}

@@ -8,8 +8,8 @@ use Rattle.rules_grammar.specs.Grammar.{Spells}
 use Rattle.rules_typing.specs.Typing.{Fault}
 use Rattle.rules_typing.specs.TypingFaults.{place, rank, Precedes}
 use Rattle.rules_typing.specs.TypingScripts.{ScriptBreaks, IsFirstBroken}
-use Rattle.hs_judging.specs.JudgingScripts.{script_faults}
-use Rattle.hs_judging.proofs.Scripts.{script_breaks}
+use Rattle.typing_judge.specs.JudgingScripts.{script_faults}
+use Rattle.typing_judge.proofs.Scripts.{script_breaks}
 use Rattle.typing_laws.specs.Positions.{positions_of, AreInOrder}
 use Rattle.typing_laws.proofs.Counts.{times_contains}
 use Rattle.typing_laws.proofs.Scripts.{script_most, in_tally, once_same}

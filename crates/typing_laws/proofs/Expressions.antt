@@ -6,7 +6,7 @@ use Rattle.hs_base.specs.declared.tree.expr.Name.{Name}
 use Rattle.hs_base.specs.declared.tree.forms.BinaryForm.{BinaryForm}
 use Rattle.rules_trees.specs.Trees.{T, Ex, lit, name, unary, binary, chain, conses, choose, items, empty, side, given, case, Exs, none, more, Links, end, link, Arms, maybe_arms, either_arms, list_arms, pair_arms}
 use Rattle.rules_typing.specs.Typing.{Fault, of, kind, forward, Sig, Sort, value, masking_name, meant_act_sig, meant_act_sort, unmask_sig, unmask_sort, row_unary, row_binary, row_empty, row_side, row_choose, row_items, row_arms, form_of_arms, first_of, second_of, inner_of, Ctx, Bound, bound, wrong, arity, takes, meant_args, meant_sig, meant_sort, meant, shown_count, find, look, count}
-use Rattle.hs_judging.specs.Judging.{Found, after, own, written, unless_full, typed, folded, with2, scope_faults, not_full, part, parts2, operand_faults, operand_types, judge, judges, judge_links, judge_arms}
+use Rattle.typing_judge.specs.Judging.{Found, after, own, written, unless_full, typed, folded, with2, scope_faults, not_full, part, parts2, operand_faults, operand_types, judge, judges, judge_links, judge_arms}
 use Rattle.typing_laws.specs.Positions.{ex_positions, exs_positions, link_positions, arm_positions}
 use Rattle.typing_laws.proofs.Counts.{here, times, times-append}
 use Rattle.typing_laws.proofs.Tally.{tally, tally-append, Most, needing_most, own_most, written_most, after_most, part_most, parts2_most, parts3_most, all_most, room_most, unless_full_most, WrongAt, MaybeAt, wrong_cond, call_most}

@@ -8,8 +8,8 @@ use Rattle.rules_trees.specs.Programs.{Par, Bd, pure_body, io_body, Fn}
 use Rattle.rules_typing.specs.Typing.{Fault, exactly, twice, mismatch, wide, large, nodes, Bound, bound, Sig, Ctx, find}
 use Rattle.rules_typing.specs.TypingFaults.{place, rank, In}
 use Rattle.rules_typing.specs.TypingScripts.{result_of, params_in, wide_faults, room_faults, param_faults, head_faults, twice_by, twice_faults, sigs_from, none_of, Measured, measured_with, unmeasured}
-use Rattle.hs_judging.specs.Judging.{same, Found, lost, part}
-use Rattle.hs_judging.specs.JudgingScripts.{judge_body, ends, def_found, def_faults, is_large, large_faults, faults_from, script_faults}
+use Rattle.typing_judge.specs.Judging.{same, Found, lost, part}
+use Rattle.typing_judge.specs.JudgingScripts.{judge_body, ends, def_found, def_faults, is_large, large_faults, faults_from, script_faults}
 use Rattle.typing_laws.specs.Positions.{ex_positions, bl_positions, par_positions, body_positions, fn_positions}
 use Rattle.typing_laws.proofs.Counts.{same_pos, same_pos_self, here, times, times-append}
 use Rattle.typing_laws.proofs.Tally.{spot, hit, tally, tally-append, Most, bad_most, part_most, room_most}

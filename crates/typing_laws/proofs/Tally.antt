@@ -5,7 +5,7 @@ use Rattle.hs_base.specs.declared.tree.expr.Name.{Name}
 use Rattle.rules_trees.specs.Trees.{T, Wr}
 use Rattle.rules_typing.specs.Typing.{Fault, scope, wide, Need, is, of, refusal, Row, nodes, Bound, Meant, wrong, takes, is_each}
 use Rattle.rules_typing.specs.TypingFaults.{place, rank}
-use Rattle.hs_judging.specs.Judging.{met, Found, good, bad, after, with1, with2, with3, with_all, needing, made, own, written, full, unless_full, unless_wrong, scope_faults, Founds, called, part, parts2, parts3, parts_all}
+use Rattle.typing_judge.specs.Judging.{met, Found, good, bad, after, with1, with2, with3, with_all, needing, made, own, written, full, unless_full, unless_wrong, scope_faults, Founds, called, part, parts2, parts3, parts_all}
 use Rattle.typing_laws.proofs.Counts.{same_pos, here}
 
 -- what a name means, where a broken rule is at the name

@@ -13,13 +13,13 @@ use Rattle.rules_grammar.specs.Grammar.{Spells}
 use Rattle.rules_typing.specs.Typing as rule
 use Rattle.rules_typing.specs.Typing.{Fault, Wanted, exactly, of_form, twice, unknown, kind, forward, arity, mismatch, scope, wide, large}
 use Rattle.rules_typing.specs.TypingScripts.{Accepted, LacksMain, IsFirstBroken}
-use Rattle.hs_typing.specs.declared.fault.Form.{Form}
-use Rattle.hs_typing.specs.declared.fault.Form.TheVariants as f
-use Rattle.hs_typing.specs.declared.fault.Want.{Want}
-use Rattle.hs_typing.specs.declared.fault.Want.TheVariants as w
-use Rattle.hs_typing.specs.declared.fault.TypeFault.{TypeFault}
-use Rattle.hs_typing.specs.declared.fault.TypeFault.TheVariants as x
-use Rattle.hs_typing.specs.Views.{form_of, wanted_of}
+use Rattle.typing_parts.specs.declared.fault.Form.{Form}
+use Rattle.typing_parts.specs.declared.fault.Form.TheVariants as f
+use Rattle.typing_parts.specs.declared.fault.Want.{Want}
+use Rattle.typing_parts.specs.declared.fault.Want.TheVariants as w
+use Rattle.typing_parts.specs.declared.fault.TypeFault.{TypeFault}
+use Rattle.typing_parts.specs.declared.fault.TypeFault.TheVariants as x
+use Rattle.typing_parts.specs.Views.{form_of, wanted_of}
 use Rattle.hs_types.specs.declared.answer.Answer.{Answer}
 use Rattle.hs_types.specs.declared.answer.Answer.TheVariants as a
 use Rattle.hs_types.specs.Answers.{IsAnswer}

@@ -1,4 +1,4 @@
-use Rattle.rules_typed.specs.TypedMeaning.{any_cell}
+use Rattle.rules_sorts.specs.TypedMeaning.{any_cell}
 use Rattle.hs_soundness.proofs.Growing.{fits_none, fits_with}
 use Rattle.hs_soundness.proofs.environments.environments_fit.Goals as goal
 

@@ -1,4 +1,4 @@
-use Rattle.rules_typed.specs.TypedMeaning.{any_cell}
+use Rattle.rules_sorts.specs.TypedMeaning.{any_cell}
 use Rattle.hs_soundness.proofs.CoreExpressions.{accepted_good}
 use Rattle.hs_soundness.proofs.CoreSlots.{core_slots}
 use Rattle.hs_soundness.proofs.expressions.expressions_keep_sorts.Goals as goal

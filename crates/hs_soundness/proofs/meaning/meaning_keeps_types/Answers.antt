@@ -1,4 +1,4 @@
-use Rattle.rules_typed.specs.TypedMeaning.{any_cell}
+use Rattle.rules_sorts.specs.TypedMeaning.{any_cell}
 use Rattle.hs_soundness.proofs.TypesKept.{ex_good}
 use Rattle.hs_soundness.proofs.FunctionsTyped.{functions_good}
 use Rattle.hs_soundness.proofs.meaning.meaning_keeps_types.Goals as goal

@@ -2,10 +2,10 @@ use Rattle.std.proofs.Common.{Some, ap, ◌∙◌, sym, codes}
 use Rattle.rules_trees.specs.Programs.{script_of}
 use Rattle.rules_typing.specs.Typing.{find}
 use Rattle.rules_typing.specs.TypingScripts.{main_by}
-use Rattle.hs_judging.specs.JudgingScripts.{script_faults}
-use Rattle.hs_judging.proofs.Scripts.{first_broken, nothing_broken}
-use Rattle.hs_typing.specs.Views.{broken_of, kept_of}
-use Rattle.hs_typing.proofs.ScriptSteps.{first_is, first_none}
+use Rattle.typing_judge.specs.JudgingScripts.{script_faults}
+use Rattle.typing_judge.proofs.Scripts.{first_broken, nothing_broken}
+use Rattle.typing_parts.specs.Views.{broken_of, kept_of}
+use Rattle.typing_parts.proofs.ScriptSteps.{first_is, first_none}
 use Rattle.hs_types.proofs.Headed.{heads_are}
 use Rattle.hs_types.proofs.answer.judge_script.Goals as goal
 

@@ -1,6 +1,6 @@
 use Rattle.std.proofs.Common.{◌≡◌, ◌∷◌, OnOk, subst}
 use Rattle.rules_typing.specs.Typing.{bound}
-use Rattle.hs_typing.specs.Judged.{kept, names}
+use Rattle.typing_parts.specs.Judged.{kept, names}
 use Rattle.hs_types.proofs.definition.bind_written.Goals as goal
 
 pub returns : goal.returns

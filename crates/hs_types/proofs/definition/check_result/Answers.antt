@@ -1,8 +1,8 @@
 use Rattle.std.proofs.Common.{ap, ◌∙◌}
 use Rattle.rules_typing.specs.Typing.{is}
-use Rattle.hs_judging.specs.Least.{least}
-use Rattle.hs_typing.specs.Judged.{kept, unmet1}
-use Rattle.hs_type_table.specs.Meaning.{type_in}
+use Rattle.typing_judge.specs.Least.{least}
+use Rattle.typing_parts.specs.Judged.{kept, unmet1}
+use Rattle.typing_table.specs.Meaning.{type_in}
 use Rattle.hs_types.proofs.Noting.{ended}
 use Rattle.hs_types.proofs.definition.check_result.Goals as goal
 

@@ -1,8 +1,8 @@
 use Rattle.std.proofs.Common.{◌≡◌, ◌&&◌, drop, map}
 use Rattle.rules_trees.specs.Programs.{par_of}
 use Rattle.rules_typing.specs.TypingScripts.{params_in, param_faults, none_of}
-use Rattle.hs_judging.specs.Least.{least}
-use Rattle.hs_typing.specs.Judged.{names, kept}
+use Rattle.typing_judge.specs.Least.{least}
+use Rattle.typing_parts.specs.Judged.{names, kept}
 use Rattle.hs_types.proofs.definition.params.Given as goal
 
 abbrev pub invariant-each : goal.invariant-each

@@ -1,9 +1,9 @@
 use Rattle.std.proofs.Common.{[], ◌∷◌, ◌++◌, ap, ◌∙◌}
 use Rattle.rules_trees.specs.Programs.{fn_of}
 use Rattle.rules_typing.specs.TypingScripts.{fn_extent}
-use Rattle.hs_typing.specs.Views.{broken_of, kept_of, scope_of}
-use Rattle.hs_typing.specs.Contexts.{ctx_of}
-use Rattle.hs_extents.specs.Measuring.{exts_of}
+use Rattle.typing_parts.specs.Views.{broken_of, kept_of, scope_of}
+use Rattle.typing_parts.specs.Contexts.{ctx_of}
+use Rattle.typing_extents.specs.Measuring.{exts_of}
 use Rattle.hs_types.specs.Steps.{measured_of}
 use Rattle.hs_types.proofs.Stepping.{advance, counted, measured_one, broken_noted}
 use Rattle.hs_types.proofs.progress.Progress.add_broken.Goals as goal

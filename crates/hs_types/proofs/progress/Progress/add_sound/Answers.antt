@@ -2,11 +2,11 @@ use Rattle.std.proofs.Common.{[], ◌∷◌, ◌++◌, ◌||◌, cond, ltb, ap, 
 use Rattle.rules_trees.specs.Programs.{fn_of}
 use Rattle.rules_typing.specs.Typing.{large}
 use Rattle.rules_typing.specs.TypingSizes.{param_names, worst_body}
-use Rattle.hs_judging.specs.JudgingScripts.{is_far}
-use Rattle.hs_judging.specs.Least.{least}
-use Rattle.hs_typing.specs.Views.{kept_of, scope_of}
-use Rattle.hs_typing.specs.Contexts.{ctx_of}
-use Rattle.hs_extents.specs.Measuring.{ext_of, exts_of}
+use Rattle.typing_judge.specs.JudgingScripts.{is_far}
+use Rattle.typing_judge.specs.Least.{least}
+use Rattle.typing_parts.specs.Views.{kept_of, scope_of}
+use Rattle.typing_parts.specs.Contexts.{ctx_of}
+use Rattle.typing_extents.specs.Measuring.{ext_of, exts_of}
 use Rattle.hs_types.specs.Steps.{measured_of}
 use Rattle.hs_types.proofs.Stepping.{advance, counted, measured_one, sound_extent, sound_noted}
 use Rattle.hs_types.proofs.progress.Progress.add_sound.Goals as goal

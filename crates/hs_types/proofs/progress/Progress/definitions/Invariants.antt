@@ -1,8 +1,8 @@
 use Rattle.std.proofs.Common.{◌≡◌, [], drop, map}
 use Rattle.rules_trees.specs.Programs.{fn_of}
-use Rattle.hs_judging.specs.JudgingScripts.{faults_from}
-use Rattle.hs_judging.specs.Least.{least}
-use Rattle.hs_typing.specs.Views.{kept_of, scope_of, sigs_of}
+use Rattle.typing_judge.specs.JudgingScripts.{faults_from}
+use Rattle.typing_judge.specs.Least.{least}
+use Rattle.typing_parts.specs.Views.{kept_of, scope_of, sigs_of}
 use Rattle.hs_types.specs.Steps.{measured_of}
 use Rattle.hs_types.proofs.progress.Progress.definitions.Given as goal
 

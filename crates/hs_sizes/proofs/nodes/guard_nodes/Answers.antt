@@ -1,9 +1,0 @@
-use Rattle.std.proofs.Common.{refl}
-use Rattle.rules_expansion.specs.Expansion.{on_two}
-use Rattle.hs_sizes.proofs.nodes.guard_nodes.Goals as goal
-
-pub returns-in-OnException : goal.returns-in-OnException
-returns-in-OnException c = λ a e h i. rw c.in-OnException.is (c.derived_nodes.ensures (on_two a e) (record { subject = refl; first = h; second = i; third = i }))
-
-pub returns-in-Finally : goal.returns-in-Finally
-returns-in-Finally c = λ a e h i. rw c.in-Finally.is (c.derived_nodes-in-Finally.ensures (on_two a e) (record { subject = refl; first = h; second = i; third = i }))

@@ -1,0 +1,401 @@
+// The walk down a block.
+
+ghost use Rattle.std.specs.Prelude.{◌≡◌, [], ◌∷◌, IfOk};
+ghost use Rattle.rules_trees.specs.Trees.{exn};
+ghost use Rattle.typing_table.specs.Meaning.{type_in};
+ghost use Rattle.rules_trees.specs.Programs.{act_of, bl_of, stmt_of, act_arms_of, scoped, masking};
+ghost use Rattle.rules_typing.specs.Typing.{a_cell, bound, inner_of, no_mask, of, row_arms, row_choose};
+ghost use Rattle.rules_typing.specs.TypingActions.{form_of_acts, row_modify};
+ghost use Rattle.typing_judge.specs.Judging.{needing, own, part, unless_full, unless_wrong, with1};
+ghost use Rattle.typing_judge.specs.JudgingActions.{judge_act, judge_act_arms, judge_bl};
+ghost use Rattle.typing_parts.specs.Views.{opt_ty, part_of};
+ghost use Rattle.typing_parts.specs.Contexts.{ctx_of};
+ghost use Rattle.typing_parts.specs.Judged.{Judged, Stated, names};
+ghost use Rattle.typing_actions.specs.Parts.{row_two, second_part, third_part};
+
+use crate::closing::{TwoParts, close_two, dropped, kept_if};
+use crate::opening::{asked_form, back_to, mark, open, open_exception, open_mask, open_part};
+use crate::simple::{applied, binary, empty_cell, throw, unary};
+use hs_base::tree::forms::{BlockAction, MaskingAction};
+use hs_base::tree::{Action, Block, BlockArms, Name, Stmt};
+use hs_base::{NoMemory, Pos};
+use std::alloc::Global;
+use typing_exprs::type_of;
+use typing_parts::Form;
+use typing_parts::act_rows::bare_type;
+use typing_parts::checker::Checker;
+use typing_parts::funs::Funs;
+use typing_parts::parts::Part;
+use typing_table::ty::TypeTerm;
+
+/// The type of an action, where it has one.
+#[cycle(acts)]
+#[tactic(auto, using(crate::proofs::Acted::acted_rules))]
+fn action(
+    checker: &mut Checker,
+    alloc: Global,
+    funs: &Funs,
+    a: &Action,
+) -> Result<Option<TypeTerm>, NoMemory>
+    ensures { IfOk result (λ t. Judged funs.now.types.nodes checker.old checker.new (opt_ty funs.now.types.nodes t) (judge_act (ctx_of funs.now) (names funs.now.types.nodes checker.old) (act_of a.now))) }
+{
+    match a {
+        Action::Bare(w, _) => Ok(Some(TypeTerm::Base(bare_type(*w)))),
+        Action::Unary(w, p, e) => unary(checker, alloc, funs, *p, *w, e),
+        Action::Binary(w, p, d, e) => binary(checker, alloc, funs, *p, *w, d, e),
+        Action::ThrowIo(p, w, e) => throw(checker, alloc, funs, *p, w, e),
+        Action::NewEmptyMVar(p, w) => empty_cell(checker, alloc, funs, *p, w),
+        Action::Call(x, es) => applied(checker, alloc, funs, x, es),
+        Action::Scoped(w, p, b) => in_block(checker, alloc, funs, b, *p, *w),
+        Action::Masking(w, p, x, b) => in_masking(checker, alloc, funs, b, *p, *w, x),
+        Action::Restore(_, x, b) => restored(checker, alloc, funs, b, x),
+        Action::If(p, e, b, d) => {
+            let t = type_of(checker, alloc, funs, e)?;
+            let u = block(checker, alloc, funs, b)?;
+            third(checker, alloc, funs, d, *p, t, u)
+        }
+        Action::Case(p, e, arms) => {
+            let t = type_of(checker, alloc, funs, e)?;
+            arms_at(checker, alloc, funs, arms.get(), *p, t)
+        }
+        Action::ModifyMVar(p, e, x, b) => {
+            let t = type_of(checker, alloc, funs, e)?;
+            in_cell(checker, alloc, funs, b, *p, t, x)
+        }
+        Action::Catch(p, b, x, d) => {
+            let t = block(checker, alloc, funs, b)?;
+            caught(checker, alloc, funs, d, *p, t, x)
+        }
+        Action::Guard(_, p, b, d) => {
+            let t = block(checker, alloc, funs, b)?;
+            second(checker, alloc, funs, d, *p, TwoParts::Guard, t)
+        }
+        Action::Bracket(p, b, x, d, h) => match block(checker, alloc, funs, b)? {
+            None => Ok(None),
+            Some(t) => match open(checker, alloc, &funs.types, x, t)? {
+                false => Ok(None),
+                true => {
+                    let u = block(checker, alloc, funs, d)?;
+                    let r = second(checker, alloc, funs, h, *p, TwoParts::Bracket, u)?;
+                    checker.unbind(&funs.types);
+                    Ok(r)
+                }
+            },
+        },
+        Action::Timeout(p, e, b) => {
+            let t = type_of(checker, alloc, funs, e)?;
+            second(checker, alloc, funs, b, *p, TwoParts::Timeout, t)
+        }
+    }
+}
+
+/// An action with one block.
+#[cycle(acts)]
+#[tactic(auto, using(typing_parts::proofs::Noted::step_rules))]
+fn in_block(
+    checker: &mut Checker,
+    alloc: Global,
+    funs: &Funs,
+    b: &Block,
+    p: Pos,
+    o: BlockAction,
+) -> Result<Option<TypeTerm>, NoMemory>
+    ensures { IfOk result (λ t. Judged funs.now.types.nodes checker.old checker.new (opt_ty funs.now.types.nodes t) (judge_act (ctx_of funs.now) (names funs.now.types.nodes checker.old) (scoped o p (bl_of b.now)))) }
+{
+    let t = block(checker, alloc, funs, b)?;
+    let r = checker.close_scoped(alloc, &funs.types, p, o, t)?;
+    Ok(r)
+}
+
+/// An action with a block in which a masking name is bound.
+#[cycle(acts)]
+#[tactic(auto, using(typing_parts::proofs::Noted::step_rules))]
+fn in_masking(
+    checker: &mut Checker,
+    alloc: Global,
+    funs: &Funs,
+    b: &Block,
+    p: Pos,
+    o: MaskingAction,
+    x: &Name,
+) -> Result<Option<TypeTerm>, NoMemory>
+    ensures { IfOk result (λ t. Judged funs.now.types.nodes checker.old checker.new (opt_ty funs.now.types.nodes t) (judge_act (ctx_of funs.now) (names funs.now.types.nodes checker.old) (masking o p x.now (bl_of b.now)))) }
+{
+    match open_mask(checker, alloc, &funs.types, x)? {
+        false => Ok(None),
+        true => {
+            let t = block(checker, alloc, funs, b)?;
+            checker.unbind(&funs.types);
+            let r = checker.close_masking(alloc, &funs.types, p, o, t)?;
+            Ok(r)
+        }
+    }
+}
+
+/// `restore x b`
+#[cycle(acts)]
+fn restored(
+    checker: &mut Checker,
+    alloc: Global,
+    funs: &Funs,
+    b: &Block,
+    x: &Name,
+) -> Result<Option<TypeTerm>, NoMemory>
+    ensures { IfOk result (λ t. Judged funs.now.types.nodes checker.old checker.new (opt_ty funs.now.types.nodes t) (unless_wrong (no_mask (ctx_of funs.now) (names funs.now.types.nodes checker.old) x.now) (judge_bl (ctx_of funs.now) (names funs.now.types.nodes checker.old) (bl_of b.now)))) }
+{
+    let is_mask = checker.check_mask(funs, x);
+    let t = block(checker, alloc, funs, b)?;
+    Ok(kept_if(is_mask, t))
+}
+
+/// The second block of an action, after the type of what stands before it.
+#[cycle(acts)]
+#[tactic(auto, using(typing_parts::proofs::Noted::step_rules))]
+fn second(
+    checker: &mut Checker,
+    alloc: Global,
+    funs: &Funs,
+    b: &Block,
+    p: Pos,
+    o: TwoParts,
+    t: Option<TypeTerm>,
+) -> Result<Option<TypeTerm>, NoMemory>
+    ensures { IfOk result (λ r. Judged funs.now.types.nodes checker.old checker.new (opt_ty funs.now.types.nodes r) (second_part (opt_ty funs.now.types.nodes t) (judge_bl (ctx_of funs.now) (names funs.now.types.nodes checker.old) (bl_of b.now)) (λ u v. own p (row_two o u v)))) }
+{
+    let u = block(checker, alloc, funs, b)?;
+    let r = close_two(checker, alloc, &funs.types, p, o, t, u)?;
+    Ok(r)
+}
+
+/// The second branch of an `if`, after the types of what stands before it.
+#[cycle(acts)]
+#[tactic(auto, using(typing_parts::proofs::Noted::step_rules))]
+fn third(
+    checker: &mut Checker,
+    alloc: Global,
+    funs: &Funs,
+    b: &Block,
+    p: Pos,
+    t: Option<TypeTerm>,
+    u: Option<TypeTerm>,
+) -> Result<Option<TypeTerm>, NoMemory>
+    ensures { IfOk result (λ r. Judged funs.now.types.nodes checker.old checker.new (opt_ty funs.now.types.nodes r) (third_part (opt_ty funs.now.types.nodes t) (opt_ty funs.now.types.nodes u) (judge_bl (ctx_of funs.now) (names funs.now.types.nodes checker.old) (bl_of b.now)) (λ u v w. own p (row_choose u v w)))) }
+{
+    let v = block(checker, alloc, funs, b)?;
+    let r = checker.close_choose(alloc, &funs.types, p, t, u, v)?;
+    Ok(r)
+}
+
+/// The handler of a `catch`, after the type of the block before it.
+#[cycle(acts)]
+#[tactic(auto, using(crate::proofs::Acted::caught_rules))]
+fn caught(
+    checker: &mut Checker,
+    alloc: Global,
+    funs: &Funs,
+    b: &Block,
+    p: Pos,
+    t: Option<TypeTerm>,
+    x: &Name,
+) -> Result<Option<TypeTerm>, NoMemory>
+    ensures { IfOk result (λ r. Judged funs.now.types.nodes checker.old checker.new (opt_ty funs.now.types.nodes r) (second_part (opt_ty funs.now.types.nodes t) (unless_full (names funs.now.types.nodes checker.old) x.now (judge_bl (ctx_of funs.now) (bound x.now exn ∷ names funs.now.types.nodes checker.old) (bl_of b.now))) (λ u v. own p (row_arms u v)))) }
+{
+    match open_exception(checker, alloc, &funs.types, x)? {
+        false => Ok(dropped(t)),
+        true => {
+            let u = block(checker, alloc, funs, b)?;
+            checker.unbind(&funs.types);
+            let r = checker.close_arms(alloc, &funs.types, p, t, u)?;
+            Ok(r)
+        }
+    }
+}
+
+/// The block of a modification of a cell, after the cell's type.
+#[cycle(acts)]
+#[tactic(auto, using(typing_parts::proofs::Noted::step_rules))]
+fn in_cell(
+    checker: &mut Checker,
+    alloc: Global,
+    funs: &Funs,
+    b: &Block,
+    p: Pos,
+    t: Option<TypeTerm>,
+    x: &Name,
+) -> Result<Option<TypeTerm>, NoMemory>
+    ensures { IfOk result (λ r. Judged funs.now.types.nodes checker.old checker.new (opt_ty funs.now.types.nodes r) (with1 (opt_ty funs.now.types.nodes t) (λ u. needing p (of a_cell u ∷ []) (part (unless_full (names funs.now.types.nodes checker.old) x.now (judge_bl (ctx_of funs.now) (bound x.now (inner_of u) ∷ names funs.now.types.nodes checker.old) (bl_of b.now))) (λ v. own p (row_modify u v)))))) }
+{
+    match t {
+        None => Ok(None),
+        Some(t) => {
+            if !checker.fits(alloc, &funs.types, p, Form::Cell, &t)? {
+                return Ok(None);
+            }
+            let u = under(checker, alloc, funs, b, x, Part::Inner, &t)?;
+            let r = checker.close_modify(alloc, &funs.types, p, &t, u)?;
+            Ok(r)
+        }
+    }
+}
+
+/// The arms of a `case`, after the type of what stands before them.
+#[cycle(acts)]
+#[tactic(auto, using(typing_parts::proofs::Noted::step_rules))]
+fn arms_at(
+    checker: &mut Checker,
+    alloc: Global,
+    funs: &Funs,
+    arms: &BlockArms,
+    p: Pos,
+    t: Option<TypeTerm>,
+) -> Result<Option<TypeTerm>, NoMemory>
+    ensures { IfOk result (λ r. Judged funs.now.types.nodes checker.old checker.new (opt_ty funs.now.types.nodes r) (with1 (opt_ty funs.now.types.nodes t) (λ u. needing p (of (form_of_acts (act_arms_of arms.now)) u ∷ []) (judge_act_arms (ctx_of funs.now) (names funs.now.types.nodes checker.old) p u (act_arms_of arms.now))))) }
+{
+    match t {
+        None => Ok(None),
+        Some(t) => {
+            let form = asked_form(arms);
+            if !checker.fits(alloc, &funs.types, p, form, &t)? {
+                return Ok(None);
+            }
+            let r = in_arms(checker, alloc, funs, arms, p, &t)?;
+            Ok(r)
+        }
+    }
+}
+
+/// The arms of a `case` at a type of their form.
+#[cycle(acts)]
+#[tactic(auto, using(crate::proofs::Acted::arms_rules))]
+fn in_arms(
+    checker: &mut Checker,
+    alloc: Global,
+    funs: &Funs,
+    arms: &BlockArms,
+    p: Pos,
+    t: &TypeTerm,
+) -> Result<Option<TypeTerm>, NoMemory>
+    ensures { IfOk result (λ r. Judged funs.now.types.nodes checker.old checker.new (opt_ty funs.now.types.nodes r) (judge_act_arms (ctx_of funs.now) (names funs.now.types.nodes checker.old) p (type_in funs.now.types.nodes t.now) (act_arms_of arms.now))) }
+{
+    match arms {
+        BlockArms::OfMaybe(a, x, b) => {
+            let u = block(checker, alloc, funs, a)?;
+            let v = under(checker, alloc, funs, b, x, Part::Inner, t)?;
+            let r = checker.close_arms(alloc, &funs.types, p, u, v)?;
+            Ok(r)
+        }
+        BlockArms::OfEither(x, a, y, b) => {
+            let u = under(checker, alloc, funs, a, x, Part::First, t)?;
+            let v = under(checker, alloc, funs, b, y, Part::Second, t)?;
+            let r = checker.close_arms(alloc, &funs.types, p, u, v)?;
+            Ok(r)
+        }
+        BlockArms::OfList(a, x, y, b) => {
+            let u = block(checker, alloc, funs, a)?;
+            let v = under_two(checker, alloc, funs, b, x, Part::Inner, y, Part::Whole, t)?;
+            let r = checker.close_arms(alloc, &funs.types, p, u, v)?;
+            Ok(r)
+        }
+        BlockArms::OfPair(x, y, a) => {
+            let r = under_two(checker, alloc, funs, a, x, Part::First, y, Part::Second, t)?;
+            Ok(r)
+        }
+    }
+}
+
+/// A block in which a name has a part of a type.
+#[cycle(acts)]
+fn under(
+    checker: &mut Checker,
+    alloc: Global,
+    funs: &Funs,
+    b: &Block,
+    x: &Name,
+    which: Part,
+    t: &TypeTerm,
+) -> Result<Option<TypeTerm>, NoMemory>
+    ensures { IfOk result (λ r. Judged funs.now.types.nodes checker.old checker.new (opt_ty funs.now.types.nodes r) (unless_full (names funs.now.types.nodes checker.old) x.now (judge_bl (ctx_of funs.now) (bound x.now (part_of which (type_in funs.now.types.nodes t.now)) ∷ names funs.now.types.nodes checker.old) (bl_of b.now)))) }
+{
+    match open_part(checker, alloc, &funs.types, x, which, t)? {
+        false => Ok(None),
+        true => {
+            let r = block(checker, alloc, funs, b)?;
+            checker.unbind(&funs.types);
+            Ok(r)
+        }
+    }
+}
+
+/// A block in which two names have parts of a type.
+#[cycle(acts)]
+fn under_two(
+    checker: &mut Checker,
+    alloc: Global,
+    funs: &Funs,
+    b: &Block,
+    x: &Name,
+    first: Part,
+    y: &Name,
+    second: Part,
+    t: &TypeTerm,
+) -> Result<Option<TypeTerm>, NoMemory>
+    ensures { IfOk result (λ r. Judged funs.now.types.nodes checker.old checker.new (opt_ty funs.now.types.nodes r) (unless_full (names funs.now.types.nodes checker.old) x.now (unless_full (bound x.now (part_of first (type_in funs.now.types.nodes t.now)) ∷ names funs.now.types.nodes checker.old) y.now (judge_bl (ctx_of funs.now) (bound y.now (part_of second (type_in funs.now.types.nodes t.now)) ∷ bound x.now (part_of first (type_in funs.now.types.nodes t.now)) ∷ names funs.now.types.nodes checker.old) (bl_of b.now))))) }
+{
+    match open_part(checker, alloc, &funs.types, x, first, t)? {
+        false => Ok(None),
+        true => {
+            let r = under(checker, alloc, funs, b, y, second, t)?;
+            checker.unbind(&funs.types);
+            Ok(r)
+        }
+    }
+}
+
+/// Judges a statement and binds its name: false where it is broken.
+#[cycle(acts)]
+#[tactic(auto, using(crate::proofs::Acted::stated_rules))]
+fn stmt(checker: &mut Checker, alloc: Global, funs: &Funs, st: &Stmt) -> Result<bool, NoMemory>
+    ensures { IfOk result (λ b. Stated funs.now.types.nodes (ctx_of funs.now) checker.old checker.new b (stmt_of st.now)) }
+{
+    match st {
+        Stmt::Do(a) => {
+            let t = action(checker, alloc, funs, a)?;
+            Ok(t.is_some())
+        }
+        Stmt::Bind(x, a) => {
+            checker.check_room(&funs.types, x);
+            let t = action(checker, alloc, funs, a)?;
+            let b = checker.begin(alloc, &funs.types, x, t)?;
+            Ok(b)
+        }
+        Stmt::Let(x, e) => {
+            checker.check_room(&funs.types, x);
+            let t = type_of(checker, alloc, funs, e)?;
+            let b = checker.begin(alloc, &funs.types, x, t)?;
+            Ok(b)
+        }
+    }
+}
+
+/// The type of a block, where it has one.
+#[cycle(acts)]
+#[tactic(auto, using(rules_trees::proofs::EquationsOfActions::bl_is))]
+pub fn block(
+    checker: &mut Checker,
+    alloc: Global,
+    funs: &Funs,
+    b: &Block,
+) -> Result<Option<TypeTerm>, NoMemory>
+    ensures { IfOk result (λ t. Judged funs.now.types.nodes checker.old checker.new (opt_ty funs.now.types.nodes t) (judge_bl (ctx_of funs.now) (names funs.now.types.nodes checker.old) (bl_of b.now))) }
+{
+    let mark = mark(checker, &funs.types);
+    'stmts: for st in b.stmts.as_slice() {
+        if !stmt(checker, alloc, funs, st)? {
+            back_to(checker, &funs.types, mark);
+            return Ok(None);
+        }
+    }
+    let t = action(checker, alloc, funs, b.last.get())?;
+    back_to(checker, &funs.types, mark);
+    Ok(t)
+}

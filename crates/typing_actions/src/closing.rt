@@ -1,0 +1,56 @@
+// What actions with two blocks add to their parts.
+
+ghost use Rattle.std.specs.Prelude.{◌≡◌, IfOk, cond, None};
+ghost use Rattle.typing_judge.specs.Judging.{own, with2};
+ghost use Rattle.typing_parts.specs.Views.{opt_ty};
+ghost use Rattle.typing_parts.specs.Judged.{Judged};
+ghost use Rattle.typing_actions.specs.Parts.{row_two};
+
+use hs_base::{NoMemory, Pos};
+use std::alloc::Global;
+use typing_parts::checker::Checker;
+use typing_table::table::TypeTable;
+use typing_table::ty::TypeTerm;
+
+/// An action with two parts, of which the second is a block in the scope of the first.
+#[derive(Clone, Copy)]
+pub enum TwoParts {
+    /// `onException` and `finally`
+    Guard,
+    /// the two blocks under the name of a `bracket`
+    Bracket,
+    Timeout,
+}
+
+/// The type of an action with two parts, where both have one.
+pub fn close_two(
+    checker: &mut Checker,
+    alloc: Global,
+    types: &TypeTable,
+    p: Pos,
+    o: TwoParts,
+    t: Option<TypeTerm>,
+    u: Option<TypeTerm>,
+) -> Result<Option<TypeTerm>, NoMemory>
+    ensures { IfOk result (λ r. Judged types.now.nodes checker.old checker.new (opt_ty types.now.nodes r) (with2 (opt_ty types.now.nodes t) (opt_ty types.now.nodes u) (λ u v. own p (row_two o u v)))) }
+{
+    match o {
+        TwoParts::Guard => Ok(checker.close_guard(types, p, t, u)),
+        TwoParts::Bracket => Ok(checker.close_bracket(types, p, t, u)),
+        TwoParts::Timeout => checker.close_timeout(alloc, types, p, t, u),
+    }
+}
+
+/// Lets a type go.
+pub fn dropped(_t: Option<TypeTerm>) -> Option<TypeTerm>
+    ensures { result ≡ None }
+{
+    None
+}
+
+/// The type, where the test holds.
+pub fn kept_if(b: bool, t: Option<TypeTerm>) -> Option<TypeTerm>
+    ensures { result ≡ cond b t None }
+{
+    if b { t } else { None }
+}

@@ -1,0 +1,39 @@
+//! The types of actions: the walk down a block.
+//!
+//! To a contract the walk is a step of the checker (`typing_parts/specs/Judged`). The one promise: it leaves the scope as it
+//! was, the type that it gives is the one that `typing_judge` gives to the block in that scope, and the kept fault is the
+//! least of the one that was kept and of those that `typing_judge` lists.
+//! It is a crate apart from `hs_types` for the prover's cost alone.
+#![tactic(auto)]
+
+ghost use Rattle.std.specs.Prelude.{◌≡◌, IfOk};
+ghost use Rattle.rules_trees.specs.Programs.{bl_of};
+ghost use Rattle.typing_judge.specs.JudgingActions.{judge_bl};
+ghost use Rattle.typing_parts.specs.Views.{opt_ty};
+ghost use Rattle.typing_parts.specs.Contexts.{ctx_of};
+ghost use Rattle.typing_parts.specs.Judged.{Judged, names};
+
+mod blocks;
+mod closing;
+mod opening;
+mod simple;
+
+use hs_base::NoMemory;
+use hs_base::tree::Block;
+use std::alloc::Global;
+use typing_parts::checker::Checker;
+use typing_parts::funs::Funs;
+use typing_table::ty::TypeTerm;
+
+/// The type of a block, where it has one.
+pub fn type_of_block(
+    checker: &mut Checker,
+    alloc: Global,
+    funs: &Funs,
+    b: &Block,
+) -> Result<Option<TypeTerm>, NoMemory>
+    ensures { IfOk result (λ t. Judged funs.now.types.nodes checker.old checker.new (opt_ty funs.now.types.nodes t) (judge_bl (ctx_of funs.now) (names funs.now.types.nodes checker.old) (bl_of b.now))) }
+{
+    let t = blocks::block(checker, alloc, funs, b)?;
+    Ok(t)
+}

@@ -1,0 +1,105 @@
+// Actions without blocks.
+
+ghost use Rattle.std.specs.Prelude.{◌≡◌, IfOk};
+ghost use Rattle.rules_trees.specs.Trees.{ex_of, exs_of, wr_of};
+ghost use Rattle.rules_trees.specs.Programs.{bare, unary_act, binary_act, throw_io, new_empty, call};
+ghost use Rattle.typing_judge.specs.JudgingActions.{judge_act};
+ghost use Rattle.typing_parts.specs.Views.{opt_ty};
+ghost use Rattle.typing_parts.specs.Contexts.{ctx_of};
+ghost use Rattle.typing_parts.specs.Judged.{Judged, names};
+
+use hs_base::tree::forms::{BinaryAction, UnaryAction};
+use hs_base::tree::{Expr, Name, Written};
+use hs_base::{NoMemory, Pos};
+use hs_items::Items;
+use std::alloc::Global;
+use typing_exprs::{type_of, types_of};
+use typing_parts::checker::Checker;
+use typing_parts::funs::Funs;
+use typing_table::ty::TypeTerm;
+
+/// An action with one expression.
+#[tactic(auto, using(typing_parts::proofs::Noted::step_rules))]
+pub fn unary(
+    checker: &mut Checker,
+    alloc: Global,
+    funs: &Funs,
+    p: Pos,
+    o: UnaryAction,
+    e: &Expr,
+) -> Result<Option<TypeTerm>, NoMemory>
+    ensures { IfOk result (λ t. Judged funs.now.types.nodes checker.old checker.new (opt_ty funs.now.types.nodes t) (judge_act (ctx_of funs.now) (names funs.now.types.nodes checker.old) (unary_act o p (ex_of e.now)))) }
+{
+    let t = type_of(checker, alloc, funs, e)?;
+    let r = checker.close_unary_act(alloc, &funs.types, p, o, t)?;
+    Ok(r)
+}
+
+/// An action with two expressions.
+#[tactic(auto, using(typing_parts::proofs::Noted::step_rules))]
+pub fn binary(
+    checker: &mut Checker,
+    alloc: Global,
+    funs: &Funs,
+    p: Pos,
+    o: BinaryAction,
+    a: &Expr,
+    b: &Expr,
+) -> Result<Option<TypeTerm>, NoMemory>
+    ensures { IfOk result (λ t. Judged funs.now.types.nodes checker.old checker.new (opt_ty funs.now.types.nodes t) (judge_act (ctx_of funs.now) (names funs.now.types.nodes checker.old) (binary_act o p (ex_of a.now) (ex_of b.now)))) }
+{
+    let t = type_of(checker, alloc, funs, a)?;
+    let u = type_of(checker, alloc, funs, b)?;
+    let r = checker.close_binary_act(alloc, &funs.types, p, o, t, u)?;
+    Ok(r)
+}
+
+/// `throwIO @t a`
+#[tactic(auto, using(typing_parts::proofs::Noted::step_rules))]
+pub fn throw(
+    checker: &mut Checker,
+    alloc: Global,
+    funs: &Funs,
+    p: Pos,
+    w: &Written,
+    e: &Expr,
+) -> Result<Option<TypeTerm>, NoMemory>
+    ensures { IfOk result (λ t. Judged funs.now.types.nodes checker.old checker.new (opt_ty funs.now.types.nodes t) (judge_act (ctx_of funs.now) (names funs.now.types.nodes checker.old) (throw_io p (wr_of w.now) (ex_of e.now)))) }
+{
+    let t = checker.written(alloc, &funs.types, w)?;
+    let u = type_of(checker, alloc, funs, e)?;
+    let r = checker.close_throw(alloc, &funs.types, p, t, u)?;
+    Ok(r)
+}
+
+/// `newEmptyMVar @t`
+#[tactic(auto, using(typing_parts::proofs::Noted::step_rules))]
+pub fn empty_cell(
+    checker: &mut Checker,
+    alloc: Global,
+    funs: &Funs,
+    p: Pos,
+    w: &Written,
+) -> Result<Option<TypeTerm>, NoMemory>
+    ensures { IfOk result (λ t. Judged funs.now.types.nodes checker.old checker.new (opt_ty funs.now.types.nodes t) (judge_act (ctx_of funs.now) (names funs.now.types.nodes checker.old) (new_empty p (wr_of w.now)))) }
+{
+    let t = checker.written(alloc, &funs.types, w)?;
+    let r = checker.close_new_empty(alloc, &funs.types, p, t)?;
+    Ok(r)
+}
+
+/// A call of an action function.
+#[tactic(auto, using(typing_parts::proofs::Noted::step_rules))]
+pub fn applied(
+    checker: &mut Checker,
+    alloc: Global,
+    funs: &Funs,
+    x: &Name,
+    es: &Items<Expr>,
+) -> Result<Option<TypeTerm>, NoMemory>
+    ensures { IfOk result (λ t. Judged funs.now.types.nodes checker.old checker.new (opt_ty funs.now.types.nodes t) (judge_act (ctx_of funs.now) (names funs.now.types.nodes checker.old) (call x.now (exs_of es.now)))) }
+{
+    let ts = types_of(checker, alloc, funs, es)?;
+    let t = checker.close_act_call(alloc, funs, x, es.len(), ts)?;
+    Ok(t)
+}

@@ -1,0 +1,124 @@
+//! What the walk does where it goes no deeper: words, written types, names that are bound, and types that are gathered.
+ghost use Rattle.std.specs.Prelude.{◌≡◌, [], ◌∷◌, ◌++◌, IfOk, Some};
+ghost use Rattle.rules_trees.specs.Trees.{wr_of, constant_of};
+ghost use Rattle.typing_table.specs.Meaning.{base_of, type_in};
+ghost use Rattle.rules_typing.specs.Typing.{of, row_empty, type_of_lit};
+ghost use Rattle.typing_judge.specs.Judging.{good, needing, own, part, typed, written};
+ghost use Rattle.typing_parts.specs.Views.{form_of, opt_ty, part_of};
+ghost use Rattle.typing_parts.specs.Judged.{Judged, pushed};
+ghost use Rattle.typing_exprs.specs.Entering.{Entered};
+
+use hs_base::tree::forms::EmptyForm;
+use hs_base::tree::{Constant, Name, Written};
+use hs_base::{NoMemory, Pos};
+use hs_items::Items;
+use std::alloc::Global;
+use typing_parts::Form;
+use typing_parts::checker::Checker;
+use typing_parts::first::Broken;
+use typing_parts::parts::Part;
+use typing_table::base::Base;
+use typing_table::table::TypeTable;
+use typing_table::ty::TypeTerm;
+
+/// The type of an atom that is one word.
+pub fn constant_type(constant: Constant) -> Base
+    ensures { base_of result ≡ type_of_lit (constant_of constant) }
+{
+    match constant {
+        Constant::True => Base::Bool,
+        Constant::False => Base::Bool,
+        Constant::ThreadKilled => Base::Exn,
+        Constant::UserInterrupt => Base::Exn,
+        Constant::DivideByZero => Base::Exn,
+        Constant::Overflow => Base::Exn,
+    }
+}
+
+/// The type of `Nothing` or `[]`.
+#[tactic(auto, using(typing_parts::proofs::Noted::noted_rules))]
+pub fn empty(
+    checker: &mut Checker,
+    alloc: Global,
+    types: &TypeTable,
+    p: Pos,
+    o: EmptyForm,
+    w: &Written,
+) -> Result<Option<TypeTerm>, NoMemory>
+    ensures { IfOk result (λ t. Judged types.now.nodes checker.old checker.new (opt_ty types.now.nodes t) (part (written (wr_of w.now)) (λ u. own p (row_empty o u)))) }
+{
+    let t = checker.written(alloc, types, w)?;
+    let r = checker.close_empty(alloc, types, p, o, t)?;
+    Ok(r)
+}
+
+/// The type of what a `case` looks at, where it is of the form that the alternatives ask for.
+pub fn fitting(
+    checker: &mut Checker,
+    alloc: Global,
+    types: &TypeTable,
+    p: Pos,
+    form: Form,
+    t: Option<TypeTerm>,
+) -> Result<Option<TypeTerm>, NoMemory>
+    ensures { IfOk result (λ r. Judged types.now.nodes checker.old checker.new (opt_ty types.now.nodes r) (part (typed (opt_ty types.now.nodes t)) (λ u. needing p (of (form_of form) u ∷ []) (good u)))) }
+{
+    match t {
+        None => Ok(None),
+        Some(t) => {
+            if checker.fits(alloc, types, p, form, &t)? {
+                Ok(Some(t))
+            } else {
+                Ok(None)
+            }
+        }
+    }
+}
+
+/// Binds a name to a part of a type where the scope takes it, and else notes that it is full.
+pub fn enter(
+    checker: &mut Checker,
+    alloc: Global,
+    types: &TypeTable,
+    x: &Name,
+    which: Part,
+    t: &TypeTerm,
+) -> Result<bool, NoMemory>
+    ensures { IfOk result (λ b. Entered types.now.nodes checker.old checker.new b x.now (part_of which (type_in types.now.nodes t.now))) }
+{
+    if checker.is_full(types) {
+        checker.first.note(types, Broken::Scope(x.pos));
+        return Ok(false);
+    }
+    checker.bind_part(alloc, types, x, which, t)?;
+    Ok(true)
+}
+
+/// The types with one more, where all are known.
+pub fn added(
+    ts: Option<Items<TypeTerm>>,
+    t: Option<TypeTerm>,
+) -> Result<Option<Items<TypeTerm>>, NoMemory>
+    ensures { IfOk result (λ us. us ≡ pushed ts t) }
+{
+    match ts {
+        None => Ok(None),
+        Some(us) => match t {
+            None => Ok(None),
+            Some(u) => {
+                let mut us = us;
+                us.add(u)?;
+                Ok(Some(us))
+            }
+        },
+    }
+}
+
+/// The type of the first operand, before those that follow.
+pub fn alone(alloc: Global, t: Option<TypeTerm>) -> Result<Items<Option<TypeTerm>>, NoMemory>
+    ensures { IfOk result (λ ts. ts ≡ t ∷ []) }
+{
+    let mut ts = Items::new(alloc);
+    ts.add(t)?;
+    Ok(ts)
+}

@@ -1,0 +1,413 @@
+//! The walk itself: one cycle of calls over the parts of an expression. A function has the tree that it goes down as its
+//! first tree, and what is known of the parts before it after that.
+ghost use Rattle.std.specs.Prelude.{◌≡◌, ◌∷◌, [], IfOk};
+ghost use Rattle.rules_trees.specs.Trees.{wr_of, ex_of, exs_of, arms_of, links_of, sum_links_of, list_links_of};
+ghost use Rattle.rules_typing.specs.Typing.{of, bound, form_of_arms, row_unary, row_binary, row_choose, row_side};
+ghost use Rattle.typing_judge.specs.Judging.{after, needing, not_full, own, part, parts2, parts3, typed, written, unless_full, folded, judge, judges, judge_links, judge_arms, operand_faults, operand_types};
+ghost use Rattle.typing_table.specs.Meaning.{type_in};
+ghost use Rattle.typing_parts.specs.Views.{opt_ty, opt_tys, opts_of, part_of};
+ghost use Rattle.typing_parts.specs.Contexts.{ctx_of};
+ghost use Rattle.typing_parts.specs.Judged.{Judged, JudgedAll, Gathered, names};
+
+use crate::forms::{asked_form, compare_form, sum_form};
+use crate::leaves::{added, alone, constant_type, empty, enter, fitting};
+use hs_base::tree::forms::{BinaryForm, SideForm, UnaryForm};
+use hs_base::tree::{Expr, ExprArms, Link, ListLink, Name, SumLink, Written};
+use hs_base::{NoMemory, Pos};
+use hs_items::Items;
+use std::alloc::Global;
+use typing_parts::checker::Checker;
+use typing_parts::funs::Funs;
+use typing_parts::parts::Part;
+use typing_table::base::Base;
+use typing_table::ty::TypeTerm;
+
+/// The type of an expression, where it has one.
+#[cycle(walk)]
+#[tactic(auto, using(typing_parts::proofs::Noted::noted_rules))]
+pub fn type_of(
+    checker: &mut Checker,
+    alloc: Global,
+    funs: &Funs,
+    e: &Expr,
+) -> Result<Option<TypeTerm>, NoMemory>
+    ensures { IfOk result (λ t. Judged funs.now.types.nodes checker.old checker.new (opt_ty funs.now.types.nodes t) (judge (ctx_of funs.now) (names funs.now.types.nodes checker.old) (ex_of e.now))) }
+{
+    match e {
+        Expr::Int(_, _) => Ok(Some(TypeTerm::Base(Base::Int))),
+        Expr::Text(_, _) => Ok(Some(TypeTerm::Base(Base::Text))),
+        Expr::Constant(_, c) => Ok(Some(TypeTerm::Base(constant_type(*c)))),
+        Expr::Unit(_) => Ok(Some(TypeTerm::Base(Base::Unit))),
+        Expr::Empty(w, p, t) => empty(checker, alloc, &funs.types, *p, *w, t),
+        Expr::Unary(w, p, a) => unary(checker, alloc, funs, a.get(), *p, *w),
+        Expr::Side(w, p, s, t, a) => side(checker, alloc, funs, a.get(), *p, *w, s, t),
+        Expr::Compare(a, o, p, b) => {
+            let t = type_of(checker, alloc, funs, a.get())?;
+            let r = second(checker, alloc, funs, b.get(), *p, compare_form(*o), t)?;
+            Ok(r)
+        }
+        Expr::Div(p, a, b) => {
+            let t = type_of(checker, alloc, funs, a.get())?;
+            second(checker, alloc, funs, b.get(), *p, BinaryForm::Div, t)
+        }
+        Expr::Mod(p, a, b) => {
+            let t = type_of(checker, alloc, funs, a.get())?;
+            second(checker, alloc, funs, b.get(), *p, BinaryForm::Mod, t)
+        }
+        Expr::Pair(p, a, b) => {
+            let t = type_of(checker, alloc, funs, a.get())?;
+            second(checker, alloc, funs, b.get(), *p, BinaryForm::Pair, t)
+        }
+        Expr::Or(a, ks) => {
+            let t = type_of(checker, alloc, funs, a.get())?;
+            links(checker, alloc, funs, ks, BinaryForm::Or, t)
+        }
+        Expr::And(a, ks) => {
+            let t = type_of(checker, alloc, funs, a.get())?;
+            links(checker, alloc, funs, ks, BinaryForm::And, t)
+        }
+        Expr::Product(a, ks) => {
+            let t = type_of(checker, alloc, funs, a.get())?;
+            links(checker, alloc, funs, ks, BinaryForm::Times, t)
+        }
+        Expr::Sum(a, ks) => {
+            let t = type_of(checker, alloc, funs, a.get())?;
+            sum_links(checker, alloc, funs, ks, t)
+        }
+        Expr::Cons(a, ks) => {
+            let t = type_of(checker, alloc, funs, a.get())?;
+            conses(checker, alloc, funs, ks, t)
+        }
+        Expr::If(p, c, a, b) => {
+            let t = type_of(checker, alloc, funs, c.get())?;
+            let u = type_of(checker, alloc, funs, a.get())?;
+            third(checker, alloc, funs, b.get(), *p, t, u)
+        }
+        Expr::Let(_, x, a, b) => {
+            checker.check_room(&funs.types, x);
+            let t = type_of(checker, alloc, funs, a.get())?;
+            given(checker, alloc, funs, b.get(), x, t)
+        }
+        Expr::Case(p, a, arms) => {
+            let t = type_of(checker, alloc, funs, a.get())?;
+            case(checker, alloc, funs, arms.get(), *p, t)
+        }
+        Expr::Call(x, es) => {
+            let us = types_of(checker, alloc, funs, es)?;
+            let t = checker.close_call(alloc, funs, x, es.len(), us)?;
+            Ok(t)
+        }
+        Expr::List(p, es) => {
+            let ts = types_of(checker, alloc, funs, es)?;
+            let t = checker.close_items(alloc, &funs.types, *p, ts)?;
+            Ok(t)
+        }
+    }
+}
+
+/// A form with one part.
+#[cycle(walk)]
+#[tactic(auto, using(typing_parts::proofs::Noted::noted_rules))]
+fn unary(
+    checker: &mut Checker,
+    alloc: Global,
+    funs: &Funs,
+    a: &Expr,
+    p: Pos,
+    o: UnaryForm,
+) -> Result<Option<TypeTerm>, NoMemory>
+    ensures { IfOk result (λ t. Judged funs.now.types.nodes checker.old checker.new (opt_ty funs.now.types.nodes t) (part (judge (ctx_of funs.now) (names funs.now.types.nodes checker.old) (ex_of a.now)) (λ u. own p (row_unary o u)))) }
+{
+    let t = type_of(checker, alloc, funs, a)?;
+    let r = checker.close_unary(alloc, &funs.types, p, o, t)?;
+    Ok(r)
+}
+
+/// `Left` or `Right`.
+#[cycle(walk)]
+#[tactic(auto, using(typing_parts::proofs::Noted::noted_rules))]
+fn side(
+    checker: &mut Checker,
+    alloc: Global,
+    funs: &Funs,
+    a: &Expr,
+    p: Pos,
+    o: SideForm,
+    s: &Written,
+    t: &Written,
+) -> Result<Option<TypeTerm>, NoMemory>
+    ensures { IfOk result (λ r. Judged funs.now.types.nodes checker.old checker.new (opt_ty funs.now.types.nodes r) (parts3 (written (wr_of s.now)) (written (wr_of t.now)) (judge (ctx_of funs.now) (names funs.now.types.nodes checker.old) (ex_of a.now)) (λ u v w. own p (row_side o u v w)))) }
+{
+    let u = checker.written(alloc, &funs.types, s)?;
+    let v = checker.written(alloc, &funs.types, t)?;
+    let w = type_of(checker, alloc, funs, a)?;
+    let r = checker.close_side(alloc, &funs.types, p, o, u, v, w)?;
+    Ok(r)
+}
+
+/// A form with two parts, after its first.
+#[cycle(walk)]
+#[tactic(auto, using(typing_parts::proofs::Noted::noted_rules))]
+fn second(
+    checker: &mut Checker,
+    alloc: Global,
+    funs: &Funs,
+    b: &Expr,
+    p: Pos,
+    o: BinaryForm,
+    t: Option<TypeTerm>,
+) -> Result<Option<TypeTerm>, NoMemory>
+    ensures { IfOk result (λ r. Judged funs.now.types.nodes checker.old checker.new (opt_ty funs.now.types.nodes r) (parts2 (typed (opt_ty funs.now.types.nodes t)) (judge (ctx_of funs.now) (names funs.now.types.nodes checker.old) (ex_of b.now)) (λ u v. own p (row_binary o u v)))) }
+{
+    let u = type_of(checker, alloc, funs, b)?;
+    let r = checker.close_binary(alloc, &funs.types, p, o, t, u)?;
+    Ok(r)
+}
+
+/// `if`, after its condition and its first arm.
+#[cycle(walk)]
+#[tactic(auto, using(typing_parts::proofs::Noted::noted_rules))]
+fn third(
+    checker: &mut Checker,
+    alloc: Global,
+    funs: &Funs,
+    b: &Expr,
+    p: Pos,
+    t: Option<TypeTerm>,
+    u: Option<TypeTerm>,
+) -> Result<Option<TypeTerm>, NoMemory>
+    ensures { IfOk result (λ r. Judged funs.now.types.nodes checker.old checker.new (opt_ty funs.now.types.nodes r) (parts3 (typed (opt_ty funs.now.types.nodes t)) (typed (opt_ty funs.now.types.nodes u)) (judge (ctx_of funs.now) (names funs.now.types.nodes checker.old) (ex_of b.now)) (λ u v w. own p (row_choose u v w)))) }
+{
+    let v = type_of(checker, alloc, funs, b)?;
+    let r = checker.close_choose(alloc, &funs.types, p, t, u, v)?;
+    Ok(r)
+}
+
+/// The links of one operator, after what stands before them.
+#[cycle(walk)]
+#[tactic(auto, using(typing_parts::proofs::Noted::noted_rules))]
+fn links(
+    checker: &mut Checker,
+    alloc: Global,
+    funs: &Funs,
+    ks: &Items<Link>,
+    o: BinaryForm,
+    t: Option<TypeTerm>,
+) -> Result<Option<TypeTerm>, NoMemory>
+    ensures { IfOk result (λ r. Judged funs.now.types.nodes checker.old checker.new (opt_ty funs.now.types.nodes r) (judge_links (ctx_of funs.now) (names funs.now.types.nodes checker.old) (typed (opt_ty funs.now.types.nodes t)) (links_of o ks.now))) }
+{
+    let mut t = t;
+    'links: for k in ks.as_slice() {
+        t = second(checker, alloc, funs, &k.operand, k.pos, o, t)?;
+    }
+    Ok(t)
+}
+
+/// The links of a sum, after what stands before them.
+#[cycle(walk)]
+#[tactic(auto, using(typing_parts::proofs::Noted::noted_rules))]
+fn sum_links(
+    checker: &mut Checker,
+    alloc: Global,
+    funs: &Funs,
+    ks: &Items<SumLink>,
+    t: Option<TypeTerm>,
+) -> Result<Option<TypeTerm>, NoMemory>
+    ensures { IfOk result (λ r. Judged funs.now.types.nodes checker.old checker.new (opt_ty funs.now.types.nodes r) (judge_links (ctx_of funs.now) (names funs.now.types.nodes checker.old) (typed (opt_ty funs.now.types.nodes t)) (sum_links_of ks.now))) }
+{
+    let mut t = t;
+    'links: for k in ks.as_slice() {
+        t = second(checker, alloc, funs, &k.operand, k.pos, sum_form(k.op), t)?;
+    }
+    Ok(t)
+}
+
+/// The links of `:` and `++`, after the operand before them.
+#[cycle(walk)]
+#[tactic(auto, using(typing_parts::proofs::Noted::noted_rules))]
+fn conses(
+    checker: &mut Checker,
+    alloc: Global,
+    funs: &Funs,
+    ks: &Items<ListLink>,
+    t: Option<TypeTerm>,
+) -> Result<Option<TypeTerm>, NoMemory>
+    ensures { IfOk result (λ r. Judged funs.now.types.nodes checker.old checker.new (opt_ty funs.now.types.nodes r) (after (operand_faults (ctx_of funs.now) (names funs.now.types.nodes checker.old) (list_links_of ks.now)) (folded (opt_ty funs.now.types.nodes t ∷ operand_types (ctx_of funs.now) (names funs.now.types.nodes checker.old) (list_links_of ks.now)) (list_links_of ks.now)))) }
+{
+    let ts = operands(checker, alloc, funs, ks, t)?;
+    let r = checker.close_conses(alloc, &funs.types, &ts, ks)?;
+    Ok(r)
+}
+
+/// The types of all operands of `:` and `++`.
+#[cycle(walk)]
+#[tactic(auto, using(typing_parts::proofs::Noted::noted_rules))]
+fn operands(
+    checker: &mut Checker,
+    alloc: Global,
+    funs: &Funs,
+    ks: &Items<ListLink>,
+    t: Option<TypeTerm>,
+) -> Result<Items<Option<TypeTerm>>, NoMemory>
+    ensures { IfOk result (λ ts. Gathered funs.now.types.nodes (ctx_of funs.now) checker.old checker.new (opt_ty funs.now.types.nodes t) (opts_of funs.now.types.nodes ts) (list_links_of ks.now)) }
+{
+    let mut ts = alone(alloc, t)?;
+    'links: for k in ks.as_slice() {
+        let u = type_of(checker, alloc, funs, &k.operand)?;
+        ts.add(u)?;
+    }
+    Ok(ts)
+}
+
+/// The types of expressions, where each has one.
+#[cycle(walk)]
+#[tactic(auto, using(typing_parts::proofs::Noted::noted_rules))]
+pub fn types_of(
+    checker: &mut Checker,
+    alloc: Global,
+    funs: &Funs,
+    es: &Items<Expr>,
+) -> Result<Option<Items<TypeTerm>>, NoMemory>
+    ensures { IfOk result (λ ts. JudgedAll funs.now.types.nodes checker.old checker.new (opt_tys funs.now.types.nodes ts) (judges (ctx_of funs.now) (names funs.now.types.nodes checker.old) (exs_of es.now))) }
+{
+    let mut ts = Some(Items::new(alloc));
+    'parts: for e in es.as_slice() {
+        let t = type_of(checker, alloc, funs, e)?;
+        ts = added(ts, t)?;
+    }
+    Ok(ts)
+}
+
+/// `let`, after the expression that its name stands for.
+#[cycle(walk)]
+#[tactic(auto, using(typing_parts::proofs::Noted::noted_rules))]
+fn given(
+    checker: &mut Checker,
+    alloc: Global,
+    funs: &Funs,
+    b: &Expr,
+    x: &Name,
+    t: Option<TypeTerm>,
+) -> Result<Option<TypeTerm>, NoMemory>
+    ensures { IfOk result (λ r. Judged funs.now.types.nodes checker.old checker.new (opt_ty funs.now.types.nodes r) (part (not_full (names funs.now.types.nodes checker.old) (typed (opt_ty funs.now.types.nodes t))) (λ u. judge (ctx_of funs.now) (bound x.now u ∷ names funs.now.types.nodes checker.old) (ex_of b.now)))) }
+{
+    match checker.begin(alloc, &funs.types, x, t)? {
+        false => Ok(None),
+        true => {
+            let body = type_of(checker, alloc, funs, b)?;
+            checker.unbind(&funs.types);
+            Ok(body)
+        }
+    }
+}
+
+/// `case`, after what it looks at.
+#[cycle(walk)]
+#[tactic(auto, using(typing_parts::proofs::Noted::noted_rules))]
+fn case(
+    checker: &mut Checker,
+    alloc: Global,
+    funs: &Funs,
+    arms: &ExprArms,
+    p: Pos,
+    t: Option<TypeTerm>,
+) -> Result<Option<TypeTerm>, NoMemory>
+    ensures { IfOk result (λ r. Judged funs.now.types.nodes checker.old checker.new (opt_ty funs.now.types.nodes r) (part (typed (opt_ty funs.now.types.nodes t)) (λ u. needing p (of (form_of_arms (arms_of arms.now)) u ∷ []) (judge_arms (ctx_of funs.now) (names funs.now.types.nodes checker.old) p u (arms_of arms.now))))) }
+{
+    match fitting(checker, alloc, &funs.types, p, asked_form(arms), t)? {
+        None => Ok(None),
+        Some(u) => {
+            let r = alternatives(checker, alloc, funs, arms, p, &u)?;
+            Ok(r)
+        }
+    }
+}
+
+/// The alternatives of a `case`, where what it looks at is of their form.
+#[cycle(walk)]
+#[tactic(auto, using(typing_parts::proofs::Noted::noted_rules))]
+fn alternatives(
+    checker: &mut Checker,
+    alloc: Global,
+    funs: &Funs,
+    arms: &ExprArms,
+    p: Pos,
+    t: &TypeTerm,
+) -> Result<Option<TypeTerm>, NoMemory>
+    ensures { IfOk result (λ r. Judged funs.now.types.nodes checker.old checker.new (opt_ty funs.now.types.nodes r) (judge_arms (ctx_of funs.now) (names funs.now.types.nodes checker.old) p (type_in funs.now.types.nodes t.now) (arms_of arms.now))) }
+{
+    match arms {
+        ExprArms::OfMaybe(a, x, b) => {
+            let u = type_of(checker, alloc, funs, a)?;
+            let v = under(checker, alloc, funs, b, x, Part::Inner, t)?;
+            let r = checker.close_arms(alloc, &funs.types, p, u, v)?;
+            Ok(r)
+        }
+        ExprArms::OfEither(x, a, y, b) => {
+            let u = under(checker, alloc, funs, a, x, Part::First, t)?;
+            let v = under(checker, alloc, funs, b, y, Part::Second, t)?;
+            let r = checker.close_arms(alloc, &funs.types, p, u, v)?;
+            Ok(r)
+        }
+        ExprArms::OfList(a, x, y, b) => {
+            let u = type_of(checker, alloc, funs, a)?;
+            let v = under_two(checker, alloc, funs, b, x, Part::Inner, y, Part::Whole, t)?;
+            let r = checker.close_arms(alloc, &funs.types, p, u, v)?;
+            Ok(r)
+        }
+        ExprArms::OfPair(x, y, a) => {
+            let r = under_two(checker, alloc, funs, a, x, Part::First, y, Part::Second, t)?;
+            Ok(r)
+        }
+    }
+}
+
+/// An expression under one more name, which is bound to a part of a type.
+#[cycle(walk)]
+#[tactic(auto, using(typing_parts::proofs::Noted::noted_rules))]
+fn under(
+    checker: &mut Checker,
+    alloc: Global,
+    funs: &Funs,
+    e: &Expr,
+    x: &Name,
+    which: Part,
+    t: &TypeTerm,
+) -> Result<Option<TypeTerm>, NoMemory>
+    ensures { IfOk result (λ r. Judged funs.now.types.nodes checker.old checker.new (opt_ty funs.now.types.nodes r) (unless_full (names funs.now.types.nodes checker.old) x.now (judge (ctx_of funs.now) (bound x.now (part_of which (type_in funs.now.types.nodes t.now)) ∷ names funs.now.types.nodes checker.old) (ex_of e.now)))) }
+{
+    match enter(checker, alloc, &funs.types, x, which, t)? {
+        false => Ok(None),
+        true => {
+            let u = type_of(checker, alloc, funs, e)?;
+            checker.unbind(&funs.types);
+            Ok(u)
+        }
+    }
+}
+
+/// An expression under two more names.
+#[cycle(walk)]
+#[tactic(auto, using(typing_parts::proofs::Noted::noted_rules))]
+fn under_two(
+    checker: &mut Checker,
+    alloc: Global,
+    funs: &Funs,
+    e: &Expr,
+    x: &Name,
+    of_x: Part,
+    y: &Name,
+    of_y: Part,
+    t: &TypeTerm,
+) -> Result<Option<TypeTerm>, NoMemory>
+    ensures { IfOk result (λ r. Judged funs.now.types.nodes checker.old checker.new (opt_ty funs.now.types.nodes r) (unless_full (names funs.now.types.nodes checker.old) x.now (unless_full (bound x.now (part_of of_x (type_in funs.now.types.nodes t.now)) ∷ names funs.now.types.nodes checker.old) y.now (judge (ctx_of funs.now) (bound y.now (part_of of_y (type_in funs.now.types.nodes t.now)) ∷ bound x.now (part_of of_x (type_in funs.now.types.nodes t.now)) ∷ names funs.now.types.nodes checker.old) (ex_of e.now))))) }
+{
+    match enter(checker, alloc, &funs.types, x, of_x, t)? {
+        false => Ok(None),
+        true => {
+            let u = under(checker, alloc, funs, e, y, of_y, t)?;
+            checker.unbind(&funs.types);
+            Ok(u)
+        }
+    }
+}

@@ -1,0 +1,402 @@
+ghost use Rattle.std.specs.Prelude.{◌≡◌, [], ◌∷◌, IfOk};
+ghost use Rattle.typing_table.specs.Meaning.{base_of, type_in};
+ghost use Rattle.rules_typing.specs.Typing.{a_cell, inner_of, is, of, gives};
+ghost use Rattle.rules_typing.specs.TypingActions.{type_of_bare, row_unary_act, row_binary_act, row_throw, row_new_empty, row_scoped, row_masking, row_modify, row_guard, row_bracket, row_timeout};
+ghost use Rattle.typing_judge.specs.Judging.{own, with1, with2};
+ghost use Rattle.typing_parts.specs.Views.{opt_ty};
+ghost use Rattle.typing_parts.specs.Judged.{Judged};
+
+use crate::checker::Checker;
+use crate::fault::Form;
+use hs_base::tree::forms::{BareAction, BinaryAction, BlockAction, MaskingAction, UnaryAction};
+use hs_base::{NoMemory, Pos};
+use std::alloc::Global;
+use typing_table::base::Base;
+use typing_table::parts::inner_part;
+use typing_table::table::TypeTable;
+use typing_table::ty::{TypeTerm, cell_of, maybe_of};
+
+/// The type of an action without parts.
+pub fn bare_type(o: BareAction) -> Base
+    ensures { base_of result ≡ type_of_bare o }
+{
+    match o {
+        BareAction::MyThreadId => Base::Thread,
+        BareAction::ClockMicros => Base::Int,
+        BareAction::GetMaskingState => Base::Text,
+    }
+}
+
+#[tactic(auto, using(typing_table::proofs::Equations::type_rules))]
+impl Checker {
+    fn row_unary_act(
+        &mut self,
+        alloc: Global,
+        types: &TypeTable,
+        p: Pos,
+        o: UnaryAction,
+        a: &TypeTerm,
+    ) -> Result<Option<TypeTerm>, NoMemory>
+        ensures { IfOk result (λ t. Judged types.now.nodes self.old self.new (opt_ty types.now.nodes t) (own p (row_unary_act o (type_in types.now.nodes a.now)))) }
+    {
+        match o {
+            UnaryAction::Return => Ok(Some(a.copy(alloc)?)),
+            UnaryAction::PutStr => self.one(alloc, types, p, Base::Text, a, Base::Unit),
+            UnaryAction::PutStrLn => self.one(alloc, types, p, Base::Text, a, Base::Unit),
+            UnaryAction::HPutStrLn => self.one(alloc, types, p, Base::Text, a, Base::Unit),
+            UnaryAction::NewMVar => {
+                let t = cell_of(alloc, a)?;
+                Ok(self.unless_wide(types, p, t))
+            }
+            UnaryAction::TakeMVar => self.row_take(alloc, types, p, a),
+            UnaryAction::ReadMVar => self.row_take(alloc, types, p, a),
+            UnaryAction::TryTakeMVar => self.row_try_take(alloc, types, p, a),
+            UnaryAction::KillThread => self.one(alloc, types, p, Base::Thread, a, Base::Unit),
+            UnaryAction::ThreadDelay => self.one(alloc, types, p, Base::Int, a, Base::Unit),
+        }
+    }
+
+    fn row_take(
+        &mut self,
+        alloc: Global,
+        types: &TypeTable,
+        p: Pos,
+        a: &TypeTerm,
+    ) -> Result<Option<TypeTerm>, NoMemory>
+        ensures { IfOk result (λ t. Judged types.now.nodes self.old self.new (opt_ty types.now.nodes t) (own p (row_unary_act UnaryAction.TakeMVar (type_in types.now.nodes a.now)))) }
+    {
+        if self.fits(alloc, types, p, Form::Cell, a)? {
+            Ok(Some(inner_part(alloc, types, a)?))
+        } else {
+            Ok(None)
+        }
+    }
+
+    fn row_try_take(
+        &mut self,
+        alloc: Global,
+        types: &TypeTable,
+        p: Pos,
+        a: &TypeTerm,
+    ) -> Result<Option<TypeTerm>, NoMemory>
+        ensures { IfOk result (λ t. Judged types.now.nodes self.old self.new (opt_ty types.now.nodes t) (own p (row_unary_act UnaryAction.TryTakeMVar (type_in types.now.nodes a.now)))) }
+    {
+        if !self.fits(alloc, types, p, Form::Cell, a)? {
+            return Ok(None);
+        }
+        let part = inner_part(alloc, types, a)?;
+        let t = maybe_of(alloc, &part)?;
+        Ok(self.unless_wide(types, p, t))
+    }
+
+    fn row_binary_act(
+        &mut self,
+        alloc: Global,
+        types: &TypeTable,
+        p: Pos,
+        o: BinaryAction,
+        a: &TypeTerm,
+        b: &TypeTerm,
+    ) -> Result<Option<TypeTerm>, NoMemory>
+        ensures { IfOk result (λ t. Judged types.now.nodes self.old self.new (opt_ty types.now.nodes t) (own p (row_binary_act o (type_in types.now.nodes a.now) (type_in types.now.nodes b.now)))) }
+    {
+        match o {
+            BinaryAction::PutMVar => self.row_content(alloc, types, p, a, b, Base::Unit),
+            BinaryAction::TryPutMVar => self.row_content(alloc, types, p, a, b, Base::Bool),
+            BinaryAction::ThrowTo => self.row_throw_to(alloc, types, p, a, b),
+        }
+    }
+
+    fn row_throw_to(
+        &mut self,
+        alloc: Global,
+        types: &TypeTable,
+        p: Pos,
+        a: &TypeTerm,
+        b: &TypeTerm,
+    ) -> Result<Option<TypeTerm>, NoMemory>
+        ensures { IfOk result (λ t. Judged types.now.nodes self.old self.new (opt_ty types.now.nodes t) (own p (row_binary_act BinaryAction.ThrowTo (type_in types.now.nodes a.now) (type_in types.now.nodes b.now)))) }
+    {
+        if !self.is_base(alloc, types, p, Base::Thread, a)? {
+            return Ok(None);
+        }
+        if self.is_base(alloc, types, p, Base::Exn, b)? {
+            Ok(Some(TypeTerm::Base(Base::Unit)))
+        } else {
+            Ok(None)
+        }
+    }
+
+    fn row_throw(
+        &mut self,
+        alloc: Global,
+        types: &TypeTable,
+        p: Pos,
+        t: &TypeTerm,
+        a: &TypeTerm,
+    ) -> Result<Option<TypeTerm>, NoMemory>
+        ensures { IfOk result (λ r. Judged types.now.nodes self.old self.new (opt_ty types.now.nodes r) (own p (row_throw (type_in types.now.nodes t.now) (type_in types.now.nodes a.now)))) }
+    {
+        if self.is_base(alloc, types, p, Base::Exn, a)? {
+            Ok(Some(t.copy(alloc)?))
+        } else {
+            Ok(None)
+        }
+    }
+
+    fn row_timeout(
+        &mut self,
+        alloc: Global,
+        types: &TypeTable,
+        p: Pos,
+        a: &TypeTerm,
+        b: &TypeTerm,
+    ) -> Result<Option<TypeTerm>, NoMemory>
+        ensures { IfOk result (λ r. Judged types.now.nodes self.old self.new (opt_ty types.now.nodes r) (own p (row_timeout (type_in types.now.nodes a.now) (type_in types.now.nodes b.now)))) }
+    {
+        if !self.is_base(alloc, types, p, Base::Int, a)? {
+            return Ok(None);
+        }
+        let t = maybe_of(alloc, b)?;
+        Ok(self.unless_wide(types, p, t))
+    }
+
+    pub fn close_unary_act(
+        &mut self,
+        alloc: Global,
+        types: &TypeTable,
+        p: Pos,
+        o: UnaryAction,
+        a: Option<TypeTerm>,
+    ) -> Result<Option<TypeTerm>, NoMemory>
+        ensures { IfOk result (λ t. Judged types.now.nodes self.old self.new (opt_ty types.now.nodes t) (with1 (opt_ty types.now.nodes a) (λ u. own p (row_unary_act o u)))) }
+    {
+        match a {
+            None => Ok(None),
+            Some(a) => self.row_unary_act(alloc, types, p, o, &a),
+        }
+    }
+
+    pub fn close_binary_act(
+        &mut self,
+        alloc: Global,
+        types: &TypeTable,
+        p: Pos,
+        o: BinaryAction,
+        a: Option<TypeTerm>,
+        b: Option<TypeTerm>,
+    ) -> Result<Option<TypeTerm>, NoMemory>
+        ensures { IfOk result (λ t. Judged types.now.nodes self.old self.new (opt_ty types.now.nodes t) (with2 (opt_ty types.now.nodes a) (opt_ty types.now.nodes b) (λ u v. own p (row_binary_act o u v)))) }
+    {
+        match a {
+            None => Ok(None),
+            Some(a) => match b {
+                None => Ok(None),
+                Some(b) => self.row_binary_act(alloc, types, p, o, &a, &b),
+            },
+        }
+    }
+
+    pub fn close_throw(
+        &mut self,
+        alloc: Global,
+        types: &TypeTable,
+        p: Pos,
+        t: Option<TypeTerm>,
+        a: Option<TypeTerm>,
+    ) -> Result<Option<TypeTerm>, NoMemory>
+        ensures { IfOk result (λ r. Judged types.now.nodes self.old self.new (opt_ty types.now.nodes r) (with2 (opt_ty types.now.nodes t) (opt_ty types.now.nodes a) (λ u v. own p (row_throw u v)))) }
+    {
+        match t {
+            None => Ok(None),
+            Some(t) => match a {
+                None => Ok(None),
+                Some(a) => self.row_throw(alloc, types, p, &t, &a),
+            },
+        }
+    }
+
+    pub fn close_timeout(
+        &mut self,
+        alloc: Global,
+        types: &TypeTable,
+        p: Pos,
+        a: Option<TypeTerm>,
+        b: Option<TypeTerm>,
+    ) -> Result<Option<TypeTerm>, NoMemory>
+        ensures { IfOk result (λ r. Judged types.now.nodes self.old self.new (opt_ty types.now.nodes r) (with2 (opt_ty types.now.nodes a) (opt_ty types.now.nodes b) (λ u v. own p (row_timeout u v)))) }
+    {
+        match a {
+            None => Ok(None),
+            Some(a) => match b {
+                None => Ok(None),
+                Some(b) => self.row_timeout(alloc, types, p, &a, &b),
+            },
+        }
+    }
+
+    pub fn close_new_empty(
+        &mut self,
+        alloc: Global,
+        types: &TypeTable,
+        p: Pos,
+        t: Option<TypeTerm>,
+    ) -> Result<Option<TypeTerm>, NoMemory>
+        ensures { IfOk result (λ r. Judged types.now.nodes self.old self.new (opt_ty types.now.nodes r) (with1 (opt_ty types.now.nodes t) (λ u. own p (row_new_empty u)))) }
+    {
+        match t {
+            None => Ok(None),
+            Some(t) => {
+                let made = cell_of(alloc, &t)?;
+                Ok(self.unless_wide(types, p, made))
+            }
+        }
+    }
+
+    pub fn close_scoped(
+        &mut self,
+        alloc: Global,
+        types: &TypeTable,
+        p: Pos,
+        o: BlockAction,
+        a: Option<TypeTerm>,
+    ) -> Result<Option<TypeTerm>, NoMemory>
+        ensures { IfOk result (λ t. Judged types.now.nodes self.old self.new (opt_ty types.now.nodes t) (with1 (opt_ty types.now.nodes a) (λ u. own p (row_scoped o u)))) }
+    {
+        match a {
+            None => Ok(None),
+            Some(a) => match o {
+                BlockAction::ForkIo => self.one(alloc, types, p, Base::Unit, &a, Base::Thread),
+                BlockAction::MaskOnly => Ok(Some(a)),
+                BlockAction::UninterruptibleMaskOnly => Ok(Some(a)),
+            },
+        }
+    }
+
+    pub fn close_masking(
+        &mut self,
+        alloc: Global,
+        types: &TypeTable,
+        p: Pos,
+        o: MaskingAction,
+        a: Option<TypeTerm>,
+    ) -> Result<Option<TypeTerm>, NoMemory>
+        ensures { IfOk result (λ t. Judged types.now.nodes self.old self.new (opt_ty types.now.nodes t) (with1 (opt_ty types.now.nodes a) (λ u. own p (row_masking o u)))) }
+    {
+        match a {
+            None => Ok(None),
+            Some(a) => match o {
+                MaskingAction::ForkIoWithUnmask => self.one(
+                    alloc,
+                    types,
+                    p,
+                    Base::Unit,
+                    &a,
+                    Base::Thread,
+                ),
+                MaskingAction::Mask => Ok(Some(a)),
+                MaskingAction::UninterruptibleMask => Ok(Some(a)),
+            },
+        }
+    }
+
+    /// The block of a modification of a cell of type `m`: it gives the cell's content.
+    pub fn close_modify(
+        &mut self,
+        alloc: Global,
+        types: &TypeTable,
+        p: Pos,
+        m: &TypeTerm,
+        a: Option<TypeTerm>,
+    ) -> Result<Option<TypeTerm>, NoMemory>
+        ensures { IfOk result (λ t. Judged types.now.nodes self.old self.new (opt_ty types.now.nodes t) (with1 (opt_ty types.now.nodes a) (λ v. own p (row_modify (type_in types.now.nodes m.now) v)))) }
+    {
+        match a {
+            None => Ok(None),
+            Some(a) => {
+                let part = inner_part(alloc, types, m)?;
+                if self.is(alloc, types, p, &part, &a)? {
+                    Ok(Some(TypeTerm::Base(Base::Unit)))
+                } else {
+                    Ok(None)
+                }
+            }
+        }
+    }
+
+    /// The first block's type, where both have one.
+    pub fn close_guard(
+        &mut self,
+        _types: &TypeTable,
+        p: Pos,
+        a: Option<TypeTerm>,
+        b: Option<TypeTerm>,
+    ) -> Option<TypeTerm>
+        ensures { Judged _types.now.nodes self.old self.new (opt_ty _types.now.nodes result) (with2 (opt_ty _types.now.nodes a) (opt_ty _types.now.nodes b) (λ u v. own p (row_guard u v))) }
+    {
+        match a {
+            None => None,
+            Some(a) => match b {
+                None => None,
+                Some(_) => Some(a),
+            },
+        }
+    }
+
+    /// The type of the block that uses, where both have one.
+    pub fn close_bracket(
+        &mut self,
+        _types: &TypeTable,
+        p: Pos,
+        a: Option<TypeTerm>,
+        b: Option<TypeTerm>,
+    ) -> Option<TypeTerm>
+        ensures { Judged _types.now.nodes self.old self.new (opt_ty _types.now.nodes result) (with2 (opt_ty _types.now.nodes a) (opt_ty _types.now.nodes b) (λ u v. own p (row_bracket u v))) }
+    {
+        match a {
+            None => None,
+            Some(_) => match b {
+                None => None,
+                Some(b) => Some(b),
+            },
+        }
+    }
+
+    /// A cell of some type, and a value of that type.
+    fn row_content(
+        &mut self,
+        alloc: Global,
+        types: &TypeTable,
+        p: Pos,
+        a: &TypeTerm,
+        b: &TypeTerm,
+        t: Base,
+    ) -> Result<Option<TypeTerm>, NoMemory>
+        ensures { IfOk result (λ r. Judged types.now.nodes self.old self.new (opt_ty types.now.nodes r) (own p (gives (of a_cell (type_in types.now.nodes a.now) ∷ is (inner_of (type_in types.now.nodes a.now)) (type_in types.now.nodes b.now) ∷ []) (base_of t)))) }
+    {
+        if !self.fits(alloc, types, p, Form::Cell, a)? {
+            return Ok(None);
+        }
+        let part = inner_part(alloc, types, a)?;
+        let r = self.of_part(alloc, types, p, &part, b, t)?;
+        Ok(r)
+    }
+
+    fn of_part(
+        &mut self,
+        alloc: Global,
+        types: &TypeTable,
+        p: Pos,
+        want: &TypeTerm,
+        got: &TypeTerm,
+        t: Base,
+    ) -> Result<Option<TypeTerm>, NoMemory>
+        ensures { IfOk result (λ r. Judged types.now.nodes self.old self.new (opt_ty types.now.nodes r) (own p (gives (is (type_in types.now.nodes want.now) (type_in types.now.nodes got.now) ∷ []) (base_of t)))) }
+    {
+        if self.is(alloc, types, p, want, got)? {
+            Ok(Some(TypeTerm::Base(t)))
+        } else {
+            Ok(None)
+        }
+    }
+}

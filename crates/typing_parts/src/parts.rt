@@ -1,0 +1,76 @@
+ghost use Rattle.std.specs.Prelude.{◌≡◌, IfOk};
+ghost use Rattle.typing_judge.specs.Judging.{has};
+ghost use Rattle.typing_table.specs.Meaning.{type_in};
+ghost use Rattle.typing_parts.specs.Views.{form_of, kind_has, part_of};
+
+use crate::fault::Form;
+use hs_base::NoMemory;
+use std::alloc::Global;
+use typing_table::base::Base;
+use typing_table::kind::{Kind, kind_in};
+use typing_table::parts::{first_part, inner_part, second_part};
+use typing_table::table::TypeTable;
+use typing_table::ty::TypeTerm;
+
+/// Whether types of the kind are of the form.
+fn kind_has(form: Form, kind: Kind) -> bool
+    ensures { result ≡ kind_has (form_of form) kind }
+{
+    match form {
+        Form::Maybe => matches!(kind, Kind::Maybe),
+        Form::Either => matches!(kind, Kind::Either),
+        Form::List => matches!(kind, Kind::List),
+        Form::Pair => matches!(kind, Kind::Pair),
+        Form::Cell => matches!(kind, Kind::Cell),
+        Form::Equal => match kind {
+            Kind::Base(base) => base != Base::Unit,
+            _ => false,
+        },
+        Form::Order => match kind {
+            Kind::Base(base) => matches!(base, Base::Int | Base::Text),
+            _ => false,
+        },
+        Form::Show => match kind {
+            Kind::Base(base) => !matches!(base, Base::Unit | Base::Text),
+            _ => false,
+        },
+    }
+}
+
+/// Whether a type is of the form.
+#[tactic(auto, using(crate::proofs::Forms::has_kind))]
+pub fn is_form(types: &TypeTable, form: Form, a: &TypeTerm) -> bool
+    ensures { result ≡ has (form_of form) (type_in types.now.nodes a.now) }
+{
+    kind_has(form, kind_in(types, a))
+}
+
+/// A part of a type.
+#[derive(Clone, Copy, Debug, PartialEq, Eq)]
+pub enum Part {
+    /// the type itself
+    Whole,
+    /// what a `Maybe`, a list or an `MVar` is of
+    Inner,
+    /// the first of a pair or an `Either`
+    First,
+    /// the second of a pair or an `Either`
+    Second,
+}
+
+/// That part of a type.
+pub fn that_part(
+    alloc: Global,
+    types: &TypeTable,
+    which: Part,
+    t: &TypeTerm,
+) -> Result<TypeTerm, NoMemory>
+    ensures { IfOk result (λ b. type_in types.now.nodes b ≡ part_of which (type_in types.now.nodes t.now)) }
+{
+    match which {
+        Part::Whole => Ok(t.copy(alloc)?),
+        Part::Inner => inner_part(alloc, types, t),
+        Part::First => first_part(alloc, types, t),
+        Part::Second => second_part(alloc, types, t),
+    }
+}

@@ -1,0 +1,397 @@
+ghost use Rattle.std.specs.Prelude.{◌≡◌, IfOk};
+ghost use Rattle.rules_trees.specs.Trees.{wr_of};
+ghost use Rattle.typing_table.specs.Meaning.{type_in};
+ghost use Rattle.rules_typing.specs.Typing.{row_unary, row_binary, row_empty, row_side, row_choose, row_arms, row_items};
+ghost use Rattle.typing_judge.specs.Judging.{own, with1, with2, with3, with_all, written};
+ghost use Rattle.typing_parts.specs.Views.{opt_ty, opt_tys};
+ghost use Rattle.typing_parts.specs.Judged.{Judged};
+
+use crate::checker::Checker;
+use crate::fault::Form;
+use crate::first::Broken;
+use hs_base::tree::Written;
+use hs_base::tree::forms::{BinaryForm, EmptyForm, SideForm, UnaryForm};
+use hs_base::{NoMemory, Pos};
+use hs_items::Items;
+use std::alloc::Global;
+use typing_table::base::Base;
+use typing_table::parts::{first_part, second_part};
+use typing_table::table::TypeTable;
+use typing_table::ty::{TypeTerm, either_of, list_of, maybe_of, pair_of};
+use typing_table::widths::is_wide_written;
+use typing_table::written::from_written;
+
+#[tactic(auto, using(typing_table::proofs::Equations::type_rules))]
+impl Checker {
+    fn row_unary(
+        &mut self,
+        alloc: Global,
+        types: &TypeTable,
+        p: Pos,
+        o: UnaryForm,
+        a: &TypeTerm,
+    ) -> Result<Option<TypeTerm>, NoMemory>
+        ensures { IfOk result (λ t. Judged types.now.nodes self.old self.new (opt_ty types.now.nodes t) (own p (row_unary o (type_in types.now.nodes a.now)))) }
+    {
+        match o {
+            UnaryForm::Just => {
+                let t = maybe_of(alloc, a)?;
+                Ok(self.unless_wide(types, p, t))
+            }
+            UnaryForm::ErrorCall => self.one(alloc, types, p, Base::Text, a, Base::Exn),
+            UnaryForm::Not => self.one(alloc, types, p, Base::Bool, a, Base::Bool),
+            UnaryForm::Fst => self.row_first(alloc, types, p, a),
+            UnaryForm::Snd => self.row_second(alloc, types, p, a),
+            UnaryForm::Show => self.row_show(alloc, types, p, a),
+            UnaryForm::Negate => self.one(alloc, types, p, Base::Int, a, Base::Int),
+        }
+    }
+
+    fn row_first(
+        &mut self,
+        alloc: Global,
+        types: &TypeTable,
+        p: Pos,
+        a: &TypeTerm,
+    ) -> Result<Option<TypeTerm>, NoMemory>
+        ensures { IfOk result (λ t. Judged types.now.nodes self.old self.new (opt_ty types.now.nodes t) (own p (row_unary UnaryForm.Fst (type_in types.now.nodes a.now)))) }
+    {
+        if self.fits(alloc, types, p, Form::Pair, a)? {
+            Ok(Some(first_part(alloc, types, a)?))
+        } else {
+            Ok(None)
+        }
+    }
+
+    fn row_second(
+        &mut self,
+        alloc: Global,
+        types: &TypeTable,
+        p: Pos,
+        a: &TypeTerm,
+    ) -> Result<Option<TypeTerm>, NoMemory>
+        ensures { IfOk result (λ t. Judged types.now.nodes self.old self.new (opt_ty types.now.nodes t) (own p (row_unary UnaryForm.Snd (type_in types.now.nodes a.now)))) }
+    {
+        if self.fits(alloc, types, p, Form::Pair, a)? {
+            Ok(Some(second_part(alloc, types, a)?))
+        } else {
+            Ok(None)
+        }
+    }
+
+    fn row_show(
+        &mut self,
+        alloc: Global,
+        types: &TypeTable,
+        p: Pos,
+        a: &TypeTerm,
+    ) -> Result<Option<TypeTerm>, NoMemory>
+        ensures { IfOk result (λ t. Judged types.now.nodes self.old self.new (opt_ty types.now.nodes t) (own p (row_unary UnaryForm.Show (type_in types.now.nodes a.now)))) }
+    {
+        if self.fits(alloc, types, p, Form::Show, a)? {
+            Ok(Some(TypeTerm::Base(Base::Text)))
+        } else {
+            Ok(None)
+        }
+    }
+
+    pub fn row_binary(
+        &mut self,
+        alloc: Global,
+        types: &TypeTable,
+        p: Pos,
+        o: BinaryForm,
+        a: &TypeTerm,
+        b: &TypeTerm,
+    ) -> Result<Option<TypeTerm>, NoMemory>
+        ensures { IfOk result (λ t. Judged types.now.nodes self.old self.new (opt_ty types.now.nodes t) (own p (row_binary o (type_in types.now.nodes a.now) (type_in types.now.nodes b.now)))) }
+    {
+        match o {
+            BinaryForm::Pair => {
+                let t = pair_of(alloc, a, b)?;
+                Ok(self.unless_wide(types, p, t))
+            }
+            BinaryForm::Div => self.both(alloc, types, p, Base::Int, a, b, Base::Int),
+            BinaryForm::Mod => self.both(alloc, types, p, Base::Int, a, b, Base::Int),
+            BinaryForm::Equal => self.alike(alloc, types, p, Form::Equal, a, b, Base::Bool),
+            BinaryForm::Unequal => self.alike(alloc, types, p, Form::Equal, a, b, Base::Bool),
+            BinaryForm::Less => self.alike(alloc, types, p, Form::Order, a, b, Base::Bool),
+            BinaryForm::AtMost => self.alike(alloc, types, p, Form::Order, a, b, Base::Bool),
+            BinaryForm::Greater => self.alike(alloc, types, p, Form::Order, a, b, Base::Bool),
+            BinaryForm::AtLeast => self.alike(alloc, types, p, Form::Order, a, b, Base::Bool),
+            BinaryForm::Or => self.both(alloc, types, p, Base::Bool, a, b, Base::Bool),
+            BinaryForm::And => self.both(alloc, types, p, Base::Bool, a, b, Base::Bool),
+            BinaryForm::Plus => self.both(alloc, types, p, Base::Int, a, b, Base::Int),
+            BinaryForm::Minus => self.both(alloc, types, p, Base::Int, a, b, Base::Int),
+            BinaryForm::Times => self.both(alloc, types, p, Base::Int, a, b, Base::Int),
+            BinaryForm::Cons => self.row_cons(alloc, types, p, a, b),
+            BinaryForm::Append => self.both(alloc, types, p, Base::Text, a, b, Base::Text),
+        }
+    }
+
+    fn row_cons(
+        &mut self,
+        alloc: Global,
+        types: &TypeTable,
+        p: Pos,
+        a: &TypeTerm,
+        b: &TypeTerm,
+    ) -> Result<Option<TypeTerm>, NoMemory>
+        ensures { IfOk result (λ t. Judged types.now.nodes self.old self.new (opt_ty types.now.nodes t) (own p (row_binary BinaryForm.Cons (type_in types.now.nodes a.now) (type_in types.now.nodes b.now)))) }
+    {
+        let t = list_of(alloc, a)?;
+        if self.is(alloc, types, p, &t, b)? {
+            Ok(Some(t))
+        } else {
+            Ok(None)
+        }
+    }
+
+    fn row_choose(
+        &mut self,
+        alloc: Global,
+        types: &TypeTable,
+        p: Pos,
+        c: &TypeTerm,
+        a: &TypeTerm,
+        b: &TypeTerm,
+    ) -> Result<Option<TypeTerm>, NoMemory>
+        ensures { IfOk result (λ t. Judged types.now.nodes self.old self.new (opt_ty types.now.nodes t) (own p (row_choose (type_in types.now.nodes c.now) (type_in types.now.nodes a.now) (type_in types.now.nodes b.now)))) }
+    {
+        if !self.is_base(alloc, types, p, Base::Bool, c)? {
+            return Ok(None);
+        }
+        if self.is(alloc, types, p, a, b)? {
+            Ok(Some(a.copy(alloc)?))
+        } else {
+            Ok(None)
+        }
+    }
+
+    fn row_arms(
+        &mut self,
+        alloc: Global,
+        types: &TypeTable,
+        p: Pos,
+        a: &TypeTerm,
+        b: &TypeTerm,
+    ) -> Result<Option<TypeTerm>, NoMemory>
+        ensures { IfOk result (λ t. Judged types.now.nodes self.old self.new (opt_ty types.now.nodes t) (own p (row_arms (type_in types.now.nodes a.now) (type_in types.now.nodes b.now)))) }
+    {
+        if self.is(alloc, types, p, a, b)? {
+            Ok(Some(a.copy(alloc)?))
+        } else {
+            Ok(None)
+        }
+    }
+
+    fn row_empty(
+        &mut self,
+        alloc: Global,
+        types: &TypeTable,
+        p: Pos,
+        o: EmptyForm,
+        t: &TypeTerm,
+    ) -> Result<Option<TypeTerm>, NoMemory>
+        ensures { IfOk result (λ r. Judged types.now.nodes self.old self.new (opt_ty types.now.nodes r) (own p (row_empty o (type_in types.now.nodes t.now)))) }
+    {
+        match o {
+            EmptyForm::Nothing => {
+                let made = maybe_of(alloc, t)?;
+                Ok(self.unless_wide(types, p, made))
+            }
+            EmptyForm::EmptyList => {
+                let made = list_of(alloc, t)?;
+                Ok(self.unless_wide(types, p, made))
+            }
+        }
+    }
+
+    fn row_side(
+        &mut self,
+        alloc: Global,
+        types: &TypeTable,
+        p: Pos,
+        o: SideForm,
+        s: &TypeTerm,
+        t: &TypeTerm,
+        a: &TypeTerm,
+    ) -> Result<Option<TypeTerm>, NoMemory>
+        ensures { IfOk result (λ r. Judged types.now.nodes self.old self.new (opt_ty types.now.nodes r) (own p (row_side o (type_in types.now.nodes s.now) (type_in types.now.nodes t.now) (type_in types.now.nodes a.now)))) }
+    {
+        let part = match o {
+            SideForm::Left => s,
+            SideForm::Right => t,
+        };
+        if !self.is(alloc, types, p, part, a)? {
+            return Ok(None);
+        }
+        let made = either_of(alloc, s, t)?;
+        Ok(self.unless_wide(types, p, made))
+    }
+
+    /// A written type, where it isn't too wide.
+    pub fn written(
+        &mut self,
+        alloc: Global,
+        types: &TypeTable,
+        w: &Written,
+    ) -> Result<Option<TypeTerm>, NoMemory>
+        ensures { IfOk result (λ t. Judged types.now.nodes self.old self.new (opt_ty types.now.nodes t) (written (wr_of w.now))) }
+    {
+        if is_wide_written(&w.ty) {
+            self.first.note(types, Broken::Wide(w.pos));
+            return Ok(None);
+        }
+        Ok(Some(from_written(alloc, &w.ty)?))
+    }
+
+    pub fn close_unary(
+        &mut self,
+        alloc: Global,
+        types: &TypeTable,
+        p: Pos,
+        o: UnaryForm,
+        a: Option<TypeTerm>,
+    ) -> Result<Option<TypeTerm>, NoMemory>
+        ensures { IfOk result (λ t. Judged types.now.nodes self.old self.new (opt_ty types.now.nodes t) (with1 (opt_ty types.now.nodes a) (λ u. own p (row_unary o u)))) }
+    {
+        match a {
+            None => Ok(None),
+            Some(a) => self.row_unary(alloc, types, p, o, &a),
+        }
+    }
+
+    pub fn close_binary(
+        &mut self,
+        alloc: Global,
+        types: &TypeTable,
+        p: Pos,
+        o: BinaryForm,
+        a: Option<TypeTerm>,
+        b: Option<TypeTerm>,
+    ) -> Result<Option<TypeTerm>, NoMemory>
+        ensures { IfOk result (λ t. Judged types.now.nodes self.old self.new (opt_ty types.now.nodes t) (with2 (opt_ty types.now.nodes a) (opt_ty types.now.nodes b) (λ u v. own p (row_binary o u v)))) }
+    {
+        match a {
+            None => Ok(None),
+            Some(a) => match b {
+                None => Ok(None),
+                Some(b) => self.row_binary(alloc, types, p, o, &a, &b),
+            },
+        }
+    }
+
+    pub fn close_choose(
+        &mut self,
+        alloc: Global,
+        types: &TypeTable,
+        p: Pos,
+        c: Option<TypeTerm>,
+        a: Option<TypeTerm>,
+        b: Option<TypeTerm>,
+    ) -> Result<Option<TypeTerm>, NoMemory>
+        ensures { IfOk result (λ t. Judged types.now.nodes self.old self.new (opt_ty types.now.nodes t) (with3 (opt_ty types.now.nodes c) (opt_ty types.now.nodes a) (opt_ty types.now.nodes b) (λ u v w. own p (row_choose u v w)))) }
+    {
+        match c {
+            None => Ok(None),
+            Some(c) => match a {
+                None => Ok(None),
+                Some(a) => match b {
+                    None => Ok(None),
+                    Some(b) => self.row_choose(alloc, types, p, &c, &a, &b),
+                },
+            },
+        }
+    }
+
+    pub fn close_arms(
+        &mut self,
+        alloc: Global,
+        types: &TypeTable,
+        p: Pos,
+        a: Option<TypeTerm>,
+        b: Option<TypeTerm>,
+    ) -> Result<Option<TypeTerm>, NoMemory>
+        ensures { IfOk result (λ t. Judged types.now.nodes self.old self.new (opt_ty types.now.nodes t) (with2 (opt_ty types.now.nodes a) (opt_ty types.now.nodes b) (λ u v. own p (row_arms u v)))) }
+    {
+        match a {
+            None => Ok(None),
+            Some(a) => match b {
+                None => Ok(None),
+                Some(b) => self.row_arms(alloc, types, p, &a, &b),
+            },
+        }
+    }
+
+    pub fn close_empty(
+        &mut self,
+        alloc: Global,
+        types: &TypeTable,
+        p: Pos,
+        o: EmptyForm,
+        t: Option<TypeTerm>,
+    ) -> Result<Option<TypeTerm>, NoMemory>
+        ensures { IfOk result (λ r. Judged types.now.nodes self.old self.new (opt_ty types.now.nodes r) (with1 (opt_ty types.now.nodes t) (λ u. own p (row_empty o u)))) }
+    {
+        match t {
+            None => Ok(None),
+            Some(t) => self.row_empty(alloc, types, p, o, &t),
+        }
+    }
+
+    pub fn close_side(
+        &mut self,
+        alloc: Global,
+        types: &TypeTable,
+        p: Pos,
+        o: SideForm,
+        s: Option<TypeTerm>,
+        t: Option<TypeTerm>,
+        a: Option<TypeTerm>,
+    ) -> Result<Option<TypeTerm>, NoMemory>
+        ensures { IfOk result (λ r. Judged types.now.nodes self.old self.new (opt_ty types.now.nodes r) (with3 (opt_ty types.now.nodes s) (opt_ty types.now.nodes t) (opt_ty types.now.nodes a) (λ u v w. own p (row_side o u v w)))) }
+    {
+        match s {
+            None => Ok(None),
+            Some(s) => match t {
+                None => Ok(None),
+                Some(t) => match a {
+                    None => Ok(None),
+                    Some(a) => self.row_side(alloc, types, p, o, &s, &t, &a),
+                },
+            },
+        }
+    }
+
+    #[tactic(auto, using(typing_table::proofs::Equations::type_rules, crate::proofs::Noted::need_rules))]
+    pub fn close_items(
+        &mut self,
+        alloc: Global,
+        types: &TypeTable,
+        p: Pos,
+        ts: Option<Items<TypeTerm>>,
+    ) -> Result<Option<TypeTerm>, NoMemory>
+        ensures { IfOk result (λ t. Judged types.now.nodes self.old self.new (opt_ty types.now.nodes t) (with_all (opt_tys types.now.nodes ts) (λ us. own p (row_items us)))) }
+    {
+        match ts {
+            None => Ok(None),
+            Some(us) => {
+                match us.as_slice().split_first() {
+                    None => {
+                        let t = list_of(alloc, &TypeTerm::Base(Base::Unit))?;
+                        Ok(self.unless_wide(types, p, t))
+                    }
+                    Some((first, rest)) => {
+                        if self.all_are(alloc, types, p, first, rest)? {
+                            let t = list_of(alloc, first)?;
+                            Ok(self.unless_wide(types, p, t))
+                        } else {
+                            Ok(None)
+                        }
+                    }
+                }
+            }
+        }
+    }
+}

@@ -1,0 +1,25 @@
+use Rattle.std.proofs.Common.{◌∙◌, refl, ap}
+use Rattle.rules_trees.specs.Trees.{ex_of}
+use Rattle.rules_trees.specs.Programs.{act_of, bl_of}
+use Rattle.rules_trees.proofs.EquationsOfActions.{act-ModifyMVar, act-Bracket, act-Timeout}
+use Rattle.rules_expansion.specs.Core.{OfScript}
+use Rattle.rules_expansion.specs.Expansion.{on_bound, on_three, on_both, block_core}
+use Rattle.typing_sizes.proofs.nodes.+actions.Goals as goal
+
+pub act_nodes-returns-in-ModifyMVar : goal.act_nodes-returns-in-ModifyMVar
+act_nodes-returns-in-ModifyMVar t c =
+    rw (ap act_of c.in-ModifyMVar.is ∙ act-ModifyMVar _ _ _ _)
+    (c.derived_nodes.ensures (on_bound (OfScript (ex_of c.in-ModifyMVar.e)) c.in-ModifyMVar.field-2.text (block_core (bl_of c.in-ModifyMVar.b)))
+    (record { subject = c.ex_nodes-in-ModifyMVar.ensures; first = c.bl_nodes-n.ensures; second = c.bl_nodes-n.ensures; third = c.bl_nodes-n.ensures }))
+
+pub act_nodes-returns-in-Bracket : goal.act_nodes-returns-in-Bracket
+act_nodes-returns-in-Bracket t c =
+    rw (ap act_of c.in-Bracket.is ∙ act-Bracket _ _ _ _ _)
+    (c.derived_nodes-in-Bracket.ensures (on_three (block_core (bl_of c.in-Bracket.b)) c.in-Bracket.field-2.text (block_core (bl_of c.in-Bracket.d)) (block_core (bl_of c.in-Bracket.h)))
+    (record { subject = refl; first = c.bl_nodes-in-Bracket.ensures; second = c.bl_nodes-in-Bracket-2.ensures; third = c.bl_nodes-in-Bracket-3.ensures }))
+
+pub act_nodes-returns-in-Timeout : goal.act_nodes-returns-in-Timeout
+act_nodes-returns-in-Timeout t c =
+    rw (ap act_of c.in-Timeout.is ∙ act-Timeout _ _ _)
+    (c.derived_nodes-in-Timeout.ensures (on_both (OfScript (ex_of c.in-Timeout.e)) (block_core (bl_of c.in-Timeout.b)))
+    (record { subject = c.ex_nodes-in-Timeout.ensures; first = c.bl_nodes-n-in-Timeout.ensures; second = c.bl_nodes-n-in-Timeout.ensures; third = c.bl_nodes-n-in-Timeout.ensures }))
