@@ -10,3 +10,4 @@ pub mod Placing
 pub mod Winning
 pub mod Refilling
 pub mod Moving
+pub mod Dues

@@ -1,5 +1,5 @@
 -- What `Sleepers` means: the sleepers by due, and of one due by thread, and how many more fit.
-use Rattle.std.specs.Prelude.{◌≡◌, ◌-◌, ◌≤◌, ℕ, true, List, [], ◌∷◌, length, slice_index_or, Option, Some, None}
+use Rattle.std.specs.Prelude.{◌≡◌, ◌-◌, ◌≤◌, ℕ, ◌==◌, true, cond, List, [], ◌∷◌, length, slice_index_or, Option, Some, None}
 use Rattle.rules_waiting.specs.Waiting.{Sleeper, sleeper_before}
 
 pub record Asleep : Type 0 where
@@ -17,6 +17,11 @@ IsBeforeAll s (r ∷ rs) = (sleeper_before s r ≡ true) × IsBeforeAll s rs
 abbrev pub AreInOrder : List Sleeper → Type 0
 AreInOrder [] = Unit {0}
 AreInOrder (s ∷ ss) = IsBeforeAll s ss × AreInOrder ss
+
+-- when the thread may wake: the time of the first entry that is its own (own)
+abbrev pub due_of : ℕ → List Sleeper → Option ℕ
+due_of t [] = None
+due_of t (s ∷ ss) = cond (s.thread == t) (Some s.due) (due_of t ss)
 
 -- ---- sleepers by place
 abbrev pub with_sleeper : Option Sleeper → List Sleeper → List Sleeper

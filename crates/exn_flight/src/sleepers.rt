@@ -1,7 +1,7 @@
 ghost use Rattle.std.specs.Prelude.{◌≡◌, ◌+◌, ◌^◌, ◌<◌, ◌≤◌, [], false, length, IfOk, OnOk};
 ghost use Rattle.rules_waiting.specs.Waiting.{sleeper_added, still_asleep, is_sleeping, first_awake, earliest};
 ghost use Rattle.std.specs.Option.{option_copied};
-ghost use Rattle.exn_flight.specs.Asleep.{AreInOrder, with_sleeper};
+ghost use Rattle.exn_flight.specs.Asleep.{AreInOrder, due_of, with_sleeper};
 
 use crate::sleeping::Sleeping;
 use crate::table::{THREADS, Table, clear, place_of, put};
@@ -169,6 +169,15 @@ impl Sleepers {
         } else {
             None
         }
+    }
+
+    /// When the thread may wake, where it sleeps.
+    pub fn due_of(&self, t: u32) -> Option<u64>
+        ensures { result ≡ due_of t self.now.list }
+    {
+        let place = place_of(&self.places, t)?;
+        let sleeper = self.tournament.at(place)?;
+        Some(sleeper.due())
     }
 
     /// When the first sleeper may wake.

@@ -1,9 +1,11 @@
 -- What the sorted sleepers say of who is blocked until a time.
-use Rattle.std.proofs.Common.{◌≡◌, ℕ, ◌<◌, ◌==◌, nat_le, List, [], ◌∷◌, true, Option, Some, None, refl, sym, ◌∙◌, subst, ⊎_elim}
+use Rattle.std.proofs.Common.{◌≡◌, ℕ, ◌<◌, ◌≤◌, ◌==◌, nat_le, List, [], ◌∷◌, Bool, true, false, cond, Option, Some, None, refl, sym, ap, ◌∙◌, subst, arith, ⊎_elim}
 use Rattle.std.proofs.lemmas.Bool.Decides.{leb_tells}
 use Rattle.std.proofs.lemmas.Option.{same_Some}
 use Rattle.rules_meaning.specs.Values.{V}
-use Rattle.rules_waiting.specs.Waiting.{Reason, Taking, Reading, Putting, Throwing, Sleeping, Waiting, Sleeper, reason_of, with_sleeper, sleepers_of, sleeper_before, sleeper_added, sorted_sleepers, first_awake}
+use Rattle.rules_waiting.specs.Waiting.{Reason, Taking, Reading, Putting, Throwing, Sleeping, Waiting, Sleeper, reason_of, with_sleeper, sleepers_of, sleeper_before, sleeper_added, sorted_sleepers, first_awake, is_sleeping}
+use Rattle.exn_flight.specs.Asleep.{due_of}
+use Rattle.exn_flight.proofs.Order.{still_sorted}
 use Rattle.hs_laws.specs.Standing.{Once}
 use Rattle.hs_laws.proofs.Lists.{cond_cases, cond_true, cond_false, equal_or, Each, once_reason}
 
@@ -103,3 +105,68 @@ none_sleep (s ∷ ss) e = absurd (some (sorted_sleepers ss) e)
 -- so who is blocked until a time is blocked until a later one
 pub none_is_due : (now : ℕ) (ws : List (Waiting V)) → first_awake now (sorted_sleepers (sleepers_of ws)) ≡ None → (t due : ℕ) → reason_of t ws ≡ Some (Sleeping due) → now < due
 none_is_due now ws e t due q = sleeper_in (λ y. now < y.due) t due ws (was_sorted (λ y. now < y.due) (sleepers_of ws) (none_due now (sorted_sleepers (sleepers_of ws)) e)) q
+
+-- ---- when a thread may wake
+due_in : (P : Sleeper → Type 0) (t due : ℕ) (ss : List Sleeper) → AllAsleep P ss → due_of t ss ≡ Some due → P (record { thread = t; due = due })
+due_in P t due [] h e = absurd (cc e)
+due_in P t due (s ∷ ss) h e =
+    ⊎_elim
+    (λ q. (let same : s.due ≡ due = same_Some s.due due (sym (cond_true (s.thread == t) (Some s.due) (due_of t ss) q.0) ∙ e) in
+    subst (λ y. P (record { thread = y; due = due })) q.1 (subst (λ y. P (record { thread = s.thread; due = y })) same h.0)))
+    (λ q. due_in P t due ss h.1 (sym (cond_false (s.thread == t) (Some s.due) (due_of t ss) q.0) ∙ e))
+    (equal_or s.thread t)
+
+-- the time of a thread in the sorted list is that until which it is blocked
+pub sleeps_until : (t due : ℕ) (ws : List (Waiting V)) → Once ws → due_of t (sorted_sleepers (sleepers_of ws)) ≡ Some due → reason_of t ws ≡ Some (Sleeping due)
+sleeps_until t due ws o e = due_in (WaitsAsleep ws) t due (sorted_sleepers (sleepers_of ws)) (sorted_asleep (WaitsAsleep ws) (sleepers_of ws) (all_asleep ws ws (once_reason ws o))) e
+
+is_asleep : (t due : ℕ) (ws : List (Waiting V)) → reason_of t ws ≡ Some (Sleeping due) → is_sleeping t (sleepers_of ws) ≡ true
+is_asleep t due [] e = absurd (cc e)
+is_asleep t due (w ∷ ws) e =
+    ⊎_elim
+    (λ q. here w.reason q.0 (sym (cond_true (w.thread == t) (Some w.reason) (reason_of t ws) q.0) ∙ e))
+    (λ q. there w.reason (is_asleep t due ws (sym (cond_false (w.thread == t) (Some w.reason) (reason_of t ws) q.0) ∙ e)))
+    (equal_or w.thread t)
+  where
+    here : (r : Reason V) → w.thread == t ≡ true → Some r ≡ Some (Sleeping due) → is_sleeping t (with_sleeper w.thread r (sleepers_of ws)) ≡ true
+    here (Taking m) q k = absurd (cc k)
+    here (Reading m) q k = absurd (cc k)
+    here (Putting m a) q k = absurd (cc k)
+    here (Throwing u x) q k = absurd (cc k)
+    here (Sleeping d) q k = cond_true (w.thread == t) true (is_sleeping t (sleepers_of ws)) q
+
+    also : (b c : Bool) → c ≡ true → cond b true c ≡ true
+    also true c k = refl
+    also false c k = k
+
+    there : (r : Reason V) → is_sleeping t (sleepers_of ws) ≡ true → is_sleeping t (with_sleeper w.thread r (sleepers_of ws)) ≡ true
+    there (Taking m) k = k
+    there (Reading m) k = k
+    there (Putting m a) k = k
+    there (Throwing u x) k = k
+    there (Sleeping d) k = also (w.thread == t) (is_sleeping t (sleepers_of ws)) k
+
+some_due : (t : ℕ) (ss : List Sleeper) → is_sleeping t ss ≡ true → (due : ℕ) × (due_of t ss ≡ Some due)
+some_due t [] h = absurd (cc h)
+some_due t (s ∷ ss) h =
+    ⊎_elim
+    (λ q. (s.due, cond_true (s.thread == t) (Some s.due) (due_of t ss) q.0))
+    (λ q. (let k = some_due t ss (sym (cond_false (s.thread == t) true (is_sleeping t ss) q.0) ∙ h) in
+    (k.0, cond_false (s.thread == t) (Some s.due) (due_of t ss) q.0 ∙ k.1)))
+    (equal_or s.thread t)
+
+same_time : (d due : ℕ) → ◌≡◌ {A = Option (Reason V)} (Some (Sleeping d)) (Some (Sleeping due)) → d ≡ due
+same_time d due h = cc h
+
+-- and the other way round
+pub due_until : (t due : ℕ) (ws : List (Waiting V)) → Once ws → reason_of t ws ≡ Some (Sleeping due) → due_of t (sorted_sleepers (sleepers_of ws)) ≡ Some due
+due_until t due ws o e =
+    let k = some_due t (sorted_sleepers (sleepers_of ws)) (still_sorted t (sleepers_of ws) (is_asleep t due ws e)) in
+    k.1 ∙ ap Some (same_time k.0 due (sym (sleeps_until t k.0 ws o k.1) ∙ e))
+
+pub has_come : (due now : ℕ) → nat_le due now ≡ true → due ≤ now
+has_come due now e = grind arith
+
+-- who wakes first is due
+pub first_is_due : (now t : ℕ) (ws : List (Waiting V)) → Once ws → first_awake now (sorted_sleepers (sleepers_of ws)) ≡ Some t → (due : ℕ) × (due_of t (sorted_sleepers (sleepers_of ws)) ≡ Some due) × (due ≤ now)
+first_is_due now t ws o e = let k = first_due now t ws o e in (k.0, due_until t k.0 ws o k.1, has_come k.0 now k.2)

@@ -39,11 +39,11 @@ use Rattle.slot_states.proofs.AtRest.{same_receptive, none_works, nobody_sleeps}
 use Rattle.slot_states.proofs.StrandedAlike.{waits_slotted, stands_open}
 
 -- ---- tests that an entry has passed
-passed_not : (b : Bool) (o : Option State) (u : State) → cond b None o ≡ Some u → (b ≡ false) × (o ≡ Some u)
+pub passed_not : (b : Bool) (o : Option State) (u : State) → cond b None o ≡ Some u → (b ≡ false) × (o ≡ Some u)
 passed_not true o u e = absurd (cc e)
 passed_not false o u e = (refl, e)
 
-passed : (b : Bool) (o : Option State) (u : State) → cond b o None ≡ Some u → (b ≡ true) × (o ≡ Some u)
+pub passed : (b : Bool) (o : Option State) (u : State) → cond b o None ≡ Some u → (b ≡ true) × (o ≡ Some u)
 passed true o u e = (refl, e)
 passed false o u e = absurd (cc e)
 
@@ -59,7 +59,7 @@ local_free code t (suc k) th s u e = (passed_not (is_blocked t s.blocked) (moved
 no_operation : (k : Operation → Option State) (p : named.Part) (a : Core) (env : Env) (u : State) → p ≡ Do a env → at_operation p k ≡ Some u → ⊥
 no_operation k p a env u q e = let z : at_operation (Do a env) k ≡ Some u = subst (λ y. at_operation y k ≡ Some u) q e in cc z
 
-finish_result : (t : ℕ) (th : Thread) (fs : List named.Frame) (p : named.Part) (s u : State) → finish_entry t th fs p s ≡ Some u → IsResult p
+pub finish_result : (t : ℕ) (th : Thread) (fs : List named.Frame) (p : named.Part) (s u : State) → finish_entry t th fs p s ≡ Some u → IsResult p
 finish_result t th [] (Ret v) s u e = tt
 finish_result t th [] (Throw x) s u e = tt
 finish_result t th [] (Do a env) s u e = absurd (cc e)
@@ -67,13 +67,13 @@ finish_result t th [] (Performs op) s u e = absurd (cc e)
 finish_result t th (f ∷ fs) p s u e = absurd (cc e)
 
 -- a part that stands for an operation stands for no value and for no exception
-no_result : (cells : ℕ → T → Type 0) (ds : List Fn) {p : SlotPart} {q : named.Part} {op : Operation} {k : Sort} → PartStands cells ds p q k → PartStands cells ds p (Performs op) k → IsResult q → ⊥
+pub no_result : (cells : ℕ → T → Type 0) (ds : List Fn) {p : SlotPart} {q : named.Part} {op : Operation} {k : Sort} → PartStands cells ds p q k → PartStands cells ds p (Performs op) k → IsResult q → ⊥
 no_result cells ds (ret_stands h) g r = let z = (operation_is cells ds g).1 in cc z
 no_result cells ds throw_stands g r = let z = (operation_is cells ds g).1 in cc z
 no_result cells ds (do_stands h) g r = r
 no_result cells ds (op_stands h) g r = r
 
-woken_due : (t : ℕ) (o : Option (Reason V)) (s u : State) → woken t o s ≡ Some u → (due : ℕ) × (o ≡ Some (Sleeping due)) × (nat_le due s.clock ≡ true)
+pub woken_due : (t : ℕ) (o : Option (Reason V)) (s u : State) → woken t o s ≡ Some u → (due : ℕ) × (o ≡ Some (Sleeping due)) × (nat_le due s.clock ≡ true)
 woken_due t None s u e = absurd (cc e)
 woken_due t (Some (Taking m)) s u e = absurd (cc e)
 woken_due t (Some (Reading m)) s u e = absurd (cc e)

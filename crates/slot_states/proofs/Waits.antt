@@ -1,5 +1,5 @@
 -- Who waits, and for what, as a state with slots says it.
-use Rattle.std.proofs.Common.{◌≡◌, ℕ, ◌==◌, ℤ, true, false, List, [], ◌∷◌, Option, Some, None, refl, sym, ap, ◌∙◌, subst, slice_get, ⊎_elim}
+use Rattle.std.proofs.Common.{◌≡◌, ◌≤◌, ℕ, ◌==◌, ℤ, true, false, List, [], ◌∷◌, Option, Some, None, refl, sym, ap, ◌∙◌, subst, slice_get, ⊎_elim}
 use Rattle.hs_base.specs.declared.exn.Exn.{Exn}
 use Rattle.hs_base.specs.declared.tree.script.Script.{Script}
 use Rattle.hs_rules.specs.declared.entry.Entry.{Entry}
@@ -10,6 +10,7 @@ use Rattle.rules_expansion.specs.declared.primitive.Primitive.{Primitive}
 use Rattle.rules_expansion.specs.declared.primitive.Primitive.TheVariants.{ThreadDelay, ThrowTo}
 use Rattle.rules_typing.specs.TypingScripts.{Accepted}
 use Rattle.rules_waiting.specs.Waiting.{Reason, Taking, Reading, Putting, Throwing, Sleeping, Waiting, Sleeper, is_blocked, reason_of, flight_of, flying_to, first_thrown, Flying, Sleeper, has, without, leaves, is_throwing, sleepers_of, first_awake, is_sleeping, line_of}
+use Rattle.exn_flight.specs.Asleep.{due_of}
 use Rattle.hs_rules.specs.Terms.{Calls, Performs}
 use Rattle.hs_rules.specs.State.{Thread, State}
 use Rattle.hs_rules.specs.Primitives.{throw_at}
@@ -29,7 +30,7 @@ use Rattle.slot_states.specs.Resting.{NotThrowing, NotAsleep}
 use Rattle.slot_states.proofs.Reading.{BlockedAt, blocked_there, blocked_at, named_of, slotted_of, at_call, call_of, operation_is, line_stays}
 use Rattle.slot_states.proofs.Leaving.{Silent, Awake, flight_stays, sleepers_stay}
 use Rattle.slot_states.proofs.Lines.{not_throwing, not_asleep, lines_same}
-use Rattle.slot_states.proofs.Asleep.{first_due}
+use Rattle.slot_states.proofs.Asleep.{first_due, first_is_due, sleeps_until}
 
 -- ---- what was taken out of a list isn't in it
 module _ {A : Type 0} (number : A → ℕ) where
@@ -107,6 +108,17 @@ module _ (ds : List Fn) (x : SlotState) (s : State) (r : Represents ds x s) (sta
   sleeper_blocked t f =
       let k = first_due x.clock t s.blocked stands.once (ap (first_awake x.clock) (sym r.agrees.sleepers) ∙ f) in
       blocked_there ds x s r stands t (reason_blocked t s.blocked (Sleeping k.0) k.1)
+
+  -- who sleeps, due or not
+  pub sleeper_there : (t due : ℕ) → due_of t x.sleepers ≡ Some due → (h : SlotThread) × (slice_get x.threads t ≡ Some h) × (h.blocked ≡ true)
+  sleeper_there t due e =
+      blocked_there ds x s r stands t (reason_blocked t s.blocked (Sleeping due) (sleeps_until t due s.blocked stands.once (ap (due_of t) (sym r.agrees.sleepers) ∙ e)))
+
+  -- who wakes first is due
+  pub first_has_come : (t : ℕ) → first_awake x.clock x.sleepers ≡ Some t → (due : ℕ) × (due_of t x.sleepers ≡ Some due) × (due ≤ x.clock)
+  first_has_come t e =
+      let k = first_is_due x.clock t s.blocked stands.once (ap (first_awake x.clock) (sym r.agrees.sleepers) ∙ e) in
+      (k.0, ap (due_of t) r.agrees.sleepers ∙ k.1, k.2)
 
   module _ (t : ℕ) (h : SlotThread) (is : slice_get x.threads t ≡ Some h) (b : h.blocked ≡ true) where
     abbrev at : BlockedAt ds x s r t h

@@ -10,6 +10,7 @@ ghost use Rattle.rules_meaning.specs.Values.{V, UnitValue};
 ghost use Rattle.rules_typing.specs.TypingScripts.{Accepted};
 ghost use Rattle.rules_code.specs.CodeTrees.{code_trees};
 ghost use Rattle.rules_waiting.specs.Waiting.{flying_to, first_thrown, first_awake};
+ghost use Rattle.exn_flight.specs.Asleep.{due_of};
 ghost use Rattle.hs_rules.specs.Entries.{uncaught_line};
 ghost use Rattle.slot_laws.specs.SlotRules.{ret, throw, SlotTerm, locals};
 ghost use Rattle.slot_states.specs.SlotStates.{SlotThread, SlotState, moves, receives, wakes, finishes, strands, ticks, Enters, StandsBare, MainGoes};
@@ -25,9 +26,10 @@ pub fn receives_are_entered()
     ensures { (script : Script) → Accepted script → (x : SlotState) (t w : ℕ) (e : Exn) (th : SlotThread) → slice_get x.threads t ≡ Some th → th.finished ≡ false → is_receptive th ≡ true → first_thrown (flying_to t x.flight) ≡ Some (w, e) → MainGoes x → Enters script (Receive t) x (receives t w e x) }
 {}
 
-/// The first sleeper that is due.
+/// A sleeper that is due: the first one, and any.
 pub fn wakes_are_entered()
-    ensures { (script : Script) → Accepted script → (x : SlotState) (t : ℕ) → first_awake x.clock x.sleepers ≡ Some t → MainGoes x → Enters script (Wake t) x (wakes t x) }
+    ensures any { (script : Script) → Accepted script → (x : SlotState) (t due : ℕ) → due_of t x.sleepers ≡ Some due → due ≤ x.clock → MainGoes x → Enters script (Wake t) x (wakes t x) }
+    ensures first { (script : Script) → Accepted script → (x : SlotState) (t : ℕ) → first_awake x.clock x.sleepers ≡ Some t → MainGoes x → Enters script (Wake t) x (wakes t x) }
 {}
 
 /// The end of a thread, by a value or by an exception.
