@@ -33,11 +33,11 @@ use Rattle.frame_stack.specs.Slicing.{Fits, IsDoing, MayGo, Stops, Unfit}
 
 -- ---- no rule
 
-no_frames : (b : Body) (fs : List Frame) → frames_of b fs ≡ [] → fs ≡ []
+pub no_frames : (b : Body) (fs : List Frame) → frames_of b fs ≡ [] → fs ≡ []
 no_frames b [] e = refl
 no_frames b (f ∷ fs) e = absurd (let z : frame_of b f ∷ frames_of b fs ≡ [] = e in cc z)
 
-ret_none : (u : V) (ss : List SlotFrame) → ret_step u ss ≡ None → ss ≡ []
+pub ret_none : (u : V) (ss : List SlotFrame) → ret_step u ss ≡ None → ss ≡ []
 ret_none u [] e = refl
 ret_none u (f ∷ ss) e = absurd (by f e)
   where
@@ -47,7 +47,7 @@ ret_none u (f ∷ ss) e = absurd (by f e)
     by (slot.catch_by a vs) d = cc d
     by (slot.mask_in m) d = cc d
 
-throw_none : (s : Mask) (e : Exn) (ss : List SlotFrame) → throw_step s e ss ≡ None → ss ≡ []
+pub throw_none : (s : Mask) (e : Exn) (ss : List SlotFrame) → throw_step s e ss ≡ None → ss ≡ []
 throw_none s e [] d = refl
 throw_none s e (f ∷ ss) d = absurd (by f d)
   where
@@ -100,15 +100,15 @@ one_further b m below k start p q fs gs is h e = one_after (funs_of b) m k (k + 
 asks_fit : {ds : List Fn} {x : named.Part} {k : Sort} (p : Primitive) (vs : List V) → PartStands any_cell ds (performs (calls p vs)) x k → Unfit p vs → ⊥
 asks_fit p vs (op_stands (calls_stands {ks} {k} q h)) u = u ks k q h
 
-one_fits : (b : Body) (m : Mask) (p : Active) (fs : List SlotFrame) → MayGo b m (active_of b p) fs → Fits p
-one_fits b m (a.Asks p vs) fs may = asks_fit p (values_of vs) may.1.part
-one_fits b m (a.Doing i vs) fs may = tt
-one_fits b m (a.Ret v) fs may = tt
-one_fits b m (a.Throw e) fs may = tt
-one_fits b m (a.Forks i vs) fs may = tt
-one_fits b m (a.ForksUnmask i vs) fs may = tt
+pub part_fits : (b : Body) (p : Active) {x : named.Part} {k : Sort} → PartStands any_cell (script_of b.of.value) (active_of b p) x k → Fits p
+part_fits b (a.Asks p vs) h = asks_fit p (values_of vs) h
+part_fits b (a.Doing i vs) h = tt
+part_fits b (a.Ret v) h = tt
+part_fits b (a.Throw e) h = tt
+part_fits b (a.Forks i vs) h = tt
+part_fits b (a.ForksUnmask i vs) h = tt
 
-fits_prop : (p : Active) (f g : Fits p) → f ≡ g
+pub fits_prop : (p : Active) (f g : Fits p) → f ≡ g
 fits_prop (a.Asks p vs) f g = λ i u. (let e : f u ≡ g u = absurd (f u) in e) i
 fits_prop (a.Doing i vs) f g = refl
 fits_prop (a.Ret v) f g = refl
@@ -118,7 +118,7 @@ fits_prop (a.ForksUnmask i vs) f g = refl
 
 -- where a part stands for a named one, a primitive has values of its types
 pub fits : (b : Body) (m : Mask) (p : Active) (fs : List SlotFrame) → ∥ MayGo b m (active_of b p) fs ∥₁ → Fits p
-fits b m p fs may = ∥∥₁_elim may (fits_prop p) (λ w. one_fits b m p fs w)
+fits b m p fs may = ∥∥₁_elim may (fits_prop p) (λ w. part_fits b p w.1.part)
 
 -- ---- a job's start
 

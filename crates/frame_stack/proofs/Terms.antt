@@ -63,7 +63,7 @@ moves_as_term store b stands k s u t h e =
     (ap (λ z. locals z Unmasked k (term_of b s)) (sym stands.functions) ∙ e)
     (same_rules (cells_of store) b.of.value stands.accepted heads k (term_of b s) t h)
 
-frames_joined : (b : Body) (fs gs : List Frame) → frames_of b (fs ++ gs) ≡ frames_of b fs ++ frames_of b gs
+pub frames_joined : (b : Body) (fs gs : List Frame) → frames_of b (fs ++ gs) ≡ frames_of b fs ++ frames_of b gs
 frames_joined b [] gs = refl
 frames_joined b (f ∷ fs) gs = ap (λ z. frame_of b f ∷ z) (frames_joined b fs gs)
 

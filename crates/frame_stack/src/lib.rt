@@ -9,6 +9,7 @@
 //! thread goes on, is left to the desk.
 #![tactic(auto)]
 
+mod advancing;
 mod asking;
 mod control;
 mod fault;

@@ -13,7 +13,7 @@ use rules_code::{Body, Code};
 use std::alloc::Global;
 
 /// Lends what a code is.
-fn body(code: &Code) -> &Body
+pub fn body(code: &Code) -> &Body
     ensures { result.now ≡ codes.body_of code.now }
 {
     &code.body

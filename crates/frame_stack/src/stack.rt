@@ -1,9 +1,9 @@
-ghost use Rattle.std.specs.Prelude.{◌≡◌, ◌++◌, ◌∷◌, [], length, OnOk, OnErr, IfOk, IfErr, Some};
+ghost use Rattle.std.specs.Prelude.{◌≡◌, ◌≤◌, ◌++◌, ◌∷◌, [], drop, length, OnOk, OnErr, IfOk, IfErr, Some};
 ghost use Rattle.hs_base.specs.declared.mask.Mask.TheVariants.{Unmasked};
 ghost use Rattle.rules_code.specs.declared.code.Body.{Body};
 ghost use Rattle.slot_laws.specs.SlotRules.{mask_from, local, locals};
 ghost use Rattle.local_steps.specs.declared.active.Frame.TheVariants as frame;
-ghost use Rattle.local_steps.specs.Frames.{masking, mask_inside};
+ghost use Rattle.local_steps.specs.Frames.{framed, masking, mask_inside};
 ghost use Rattle.local_steps.specs.Machine.{frames_of, funs_of};
 ghost use Rattle.frame_stack.specs.declared.control.Control.TheVariants as control;
 ghost use Rattle.frame_stack.specs.Parts.{part_of, stacked, term_of, IsOp, IsThrow, Meets};
@@ -85,6 +85,13 @@ impl Stack {
         &self.control
     }
 
+    /// The frames, which stand in the unmasked state.
+    pub(crate) fn lent_frames(&self) -> &Frames
+        ensures { result.now ≡ framed Unmasked self.now.frames }
+    {
+        &self.frames
+    }
+
     /// How many frames there are.
     pub fn frames(&self) -> u32
         ensures { result ≡ length self.now.frames }
@@ -147,6 +154,24 @@ impl Stack {
             // No frame leads to an operation.
             _ => {}
         }
+    }
+
+    /// Puts a control in another's place, and frames that were made in the state outside of the innermost `gone` in theirs.
+    /// Where memory runs out the stack is as before.
+    pub(crate) fn put_over(
+        &mut self,
+        end: Control,
+        gone: u32,
+        inner: Frames,
+    ) -> Result<(), NoMemory>
+        requires gone { gone ≤ length self.old.frames }
+        requires fits { inner.below ≡ mask_inside Unmasked (drop gone self.old.frames) }
+        ensures ok { OnOk result (self.new ≡ stacked end (inner.list ++ drop gone self.old.frames)) }
+        ensures err { OnErr result (self.new ≡ self.old) }
+    {
+        self.frames.replace(gone, inner)?;
+        self.control = end;
+        Ok(())
     }
 
     /// Puts a value in an operation's place. It takes no memory.

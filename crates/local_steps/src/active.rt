@@ -1,8 +1,11 @@
 //! Active parts and frames.
 
-use hs_base::{Exn, Mask, Value, Values};
+ghost use Rattle.std.specs.Prelude.{◌≡◌, IfOk};
+
+use hs_base::{Exn, Mask, NoMemory, Value, Values};
 use rules_code::{ActId, Primitive};
 use slot_env::{Env, Waiting};
+use std::alloc::Global;
 
 /// The active part of a thread.
 #[derive(Drop)]
@@ -35,6 +38,20 @@ pub enum Frame {
     /// An exception takes the next slot of this handler.
     Catch(ActId, Waiting),
     Mask(Masking),
+}
+
+impl Frame {
+    /// An equal frame, which shares its values: it takes constant time.
+    pub fn copy(&self, alloc: Global) -> Result<Frame, NoMemory>
+        ensures { IfOk result (λ f. f ≡ self.now) }
+    {
+        match self {
+            Frame::Bind(at, env) => Ok(Frame::Bind(*at, env.copy(alloc)?)),
+            Frame::Then(at, env) => Ok(Frame::Then(*at, env.copy(alloc)?)),
+            Frame::Catch(at, env) => Ok(Frame::Catch(*at, env.copy(alloc)?)),
+            Frame::Mask(masking) => Ok(Frame::Mask(*masking)),
+        }
+    }
 }
 
 /// What follows a step.

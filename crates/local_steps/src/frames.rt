@@ -1,4 +1,4 @@
-ghost use Rattle.std.specs.Prelude.{◌≡◌, ◌++◌, ◌∷◌, [], List, drop, length, ◌↔◌, IsTrue, OnOk, OnErr, IfErr, MatchOption};
+ghost use Rattle.std.specs.Prelude.{◌≡◌, ◌≤◌, ◌+◌, ◌++◌, ◌∷◌, [], List, drop, length, ◌↔◌, IsTrue, IfOk, OnOk, OnErr, IfErr, MatchOption};
 ghost use Rattle.hs_base.specs.Masks.{join_of};
 ghost use Rattle.hs_base.specs.declared.mask.Mask.{Mask};
 ghost use Rattle.hs_base.specs.declared.mask.Mask.TheVariants.{Masked};
@@ -161,6 +161,52 @@ impl Frames {
         let few = self.frames.len() + inner.frames.len() <= u32::MAX as usize;
         if !few || self.frames.append(&mut inner.frames).is_err() {
             return Err(inner);
+        }
+        self.mask = inner.mask;
+        Ok(())
+    }
+
+    /// A copy of the frame that has so many others inside of it, alone in the masking state outside of it; none where there
+    /// are no so many. The masking state inside of it is handed in, so nothing is looked for.
+    pub fn alone(&self, alloc: Global, inner: u32, inside: Mask) -> Result<Option<Frames>, NoMemory>
+        requires { inside ≡ mask_inside self.now.below (drop inner self.now.list) }
+        ensures { IfOk result (λ found. MatchOption found (drop inner self.now.list ≡ []) (λ fs. (f : Frame) × (drop inner self.now.list ≡ f ∷ drop (inner + 1) self.now.list) × (fs ≡ framed (mask_inside self.now.below (drop (inner + 1) self.now.list)) (f ∷ [])))) }
+    {
+        let inner = inner as usize;
+        let count = self.frames.len();
+        if count <= inner {
+            return Ok(None);
+        }
+        let frame = self.frames[count - 1 - inner].copy(alloc)?;
+        let below = state_outside(&frame, inside);
+        let mut frames = Vec::with_capacity(alloc, 1)?;
+        frames.push_reserved(frame);
+        Ok(Some(Frames {
+            frames,
+            mask: inside,
+            below,
+        }))
+    }
+
+    /// Puts frames that were made in the state outside of the innermost `gone` in their place. Where memory runs out these
+    /// are as before.
+    pub fn replace(&mut self, gone: u32, inner: Frames) -> Result<(), NoMemory>
+        requires gone { gone ≤ length self.old.list }
+        requires fits { inner.below ≡ mask_inside self.old.below (drop gone self.old.list) }
+        ensures ok { OnOk result (self.new ≡ framed self.old.below (inner.list ++ drop gone self.old.list)) }
+        ensures err { OnErr result (self.new ≡ self.old) }
+    {
+        let mut inner = inner;
+        let gone = gone as usize;
+        let kept = self.frames.len() - gone;
+        let more = inner.frames.len();
+        if kept + more > u32::MAX as usize {
+            return Err(NoMemory);
+        }
+        self.frames.reserve(more.saturating_sub(gone))?;
+        self.frames.truncate(kept);
+        if self.frames.append(&mut inner.frames).is_err() {
+            unreachable!();
         }
         self.mask = inner.mask;
         Ok(())

@@ -176,6 +176,14 @@ impl Cells {
         Ok(Saw::Blocks)
     }
 
+    /// How many threads wait in the line.
+    pub fn waiting(&self, m: u32) -> usize
+        requires { m < length self.now.cells }
+        ensures { result ≡ length (cell_at m self.now).line }
+    {
+        self.lines.waiting(m as usize)
+    }
+
     /// How many threads of the line wait to read: nobody where the cell is full.
     pub fn readers(&self, m: u32) -> usize
         requires { m < length self.now.cells }

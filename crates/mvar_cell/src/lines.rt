@@ -251,6 +251,14 @@ impl Lines {
         self.ends.len()
     }
 
+    /// How many places a line has.
+    pub fn waiting(&self, line: usize) -> usize
+        requires { line < length self.now.lines }
+        ensures { result ≡ length (line_of self.now line) }
+    {
+        self.ends[line].len
+    }
+
     /// A new line, the last, with no place.
     pub fn fresh(&mut self)
         requires { 1 ≤ self.old.spare }

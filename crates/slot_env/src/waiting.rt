@@ -1,7 +1,7 @@
 ghost use Rattle.std.specs.Prelude.{◌≡◌, ◌<◌, ◌^◌, [], ◌∷◌, ◌++◌, length, IfOk};
 ghost use Rattle.slot_env.specs.Envs.{base_of};
 
-use crate::copied::copied;
+use crate::copied::{copied, shared};
 use crate::env::Env;
 use hs_base::{NoMemory, Value, Values};
 use hs_items::{Items, Shared};
@@ -52,6 +52,14 @@ impl Waiting {
     {
         let own = copied(alloc, own, 1)?;
         Ok(Waiting { base, own })
+    }
+
+    /// Equal values, which it shares, with room for one more.
+    pub fn copy(&self, alloc: Global) -> Result<Waiting, NoMemory>
+        ensures { IfOk result (λ w. w ≡ self.now) }
+    {
+        let base = shared(&self.base)?;
+        Waiting::of(alloc, base, self.own.as_slice())
     }
 
     /// The environment in which this value has the next slot. It takes no memory.

@@ -13,6 +13,7 @@
 //! do. Which change is right is left to the caller.
 #![tactic(auto)]
 
+mod having;
 mod kinds;
 mod listing;
 mod next;

@@ -1,12 +1,14 @@
-ghost use Rattle.std.specs.Prelude.{◌≡◌, ◌<◌, ◌≤◌, ◌+◌, ◌++◌, ◌∷◌, ◌^◌, [], length, Some, None, true, false, IfOk, IfErr, OnOk, OnErr, Bool, slice_get};
+ghost use Rattle.std.specs.Prelude.{◌≡◌, ◌<◌, ◌≤◌, ◌+◌, ◌++◌, ◌∷◌, ◌^◌, [], length, Some, None, true, false, IsTrue, IfOk, IfErr, OnOk, OnErr, Bool, slice_get};
 ghost use Rattle.rules_waiting.specs.Waiting.{flying_to, withdrawn, is_throwing, first_thrown};
 ghost use Rattle.exn_flight.specs.Flights.{after_delivery};
 ghost use Rattle.hs_base.specs.declared.mask.Mask.TheVariants.{Unmasked};
+ghost use Rattle.rules_code.specs.Codes.{body_of};
 ghost use Rattle.local_steps.specs.Frames.{mask_inside};
 ghost use Rattle.local_steps.specs.Machine.{funs_of, frames_of};
 ghost use Rattle.slot_laws.specs.SlotRules.{local, locals};
 ghost use Rattle.frame_stack.specs.declared.control.Control.TheVariants as control;
 ghost use Rattle.frame_stack.specs.Parts.{IsOp, IsThrow, Meets, Stacked, part_of, term_of};
+ghost use Rattle.frame_stack.specs.Advancing.{MayAdvance};
 ghost use Rattle.rules_code.specs.declared.code.Body.{Body};
 ghost use Rattle.thread_table.specs.declared.thread.Thread.{Thread};
 ghost use Rattle.thread_table.specs.Table.{changed, with_control, finishing, with_stack, with_queued, new_thread, IsAt, frames_over};
@@ -17,6 +19,7 @@ use crate::thread::Thread;
 use exn_flight::Flight;
 use frame_stack::{Slice, Stack};
 use hs_base::{Exn, NoMemory, Value};
+use rules_code::Code;
 use std::alloc::Global;
 use std::collections::VecDeque;
 
@@ -225,6 +228,33 @@ impl Threads {
         self.going = self.going - went + goes;
         self.work.push_back_reserved(t);
         Ok(())
+    }
+
+    /// So many local rules of the thread, as they come. Where there are no so many, or memory runs out, nothing has changed.
+    pub fn advance(&mut self, alloc: Global, code: &Code, t: u32, k: u32) -> Result<bool, NoMemory>
+        requires there { IsAt t (λ th. (th.blocked ≡ false) × MayAdvance (body_of code.now) th.stack) self.old.list.items }
+        requires few { self.old.frames < 2 ^ 62 }
+        requires work { 1 ≤ work_room self.old }
+        requires ready { 1 ≤ ready_room self.old }
+        ensures moved { IfOk result (λ done. IsTrue done → (s : Stacked) × (self.new.list.items ≡ changed t (with_stack s) self.old.list.items) × ((th : Thread) → slice_get self.old.list.items t ≡ Some th → locals (funs_of (body_of code.now)) Unmasked k (term_of (body_of code.now) th.stack) ≡ Some (term_of (body_of code.now) s))) }
+        ensures stuck { IfOk result (λ done. (done ≡ false) → (self.new.list.items ≡ self.old.list.items) × ((th : Thread) → slice_get self.old.list.items t ≡ Some th → locals (funs_of (body_of code.now)) Unmasked k (term_of (body_of code.now) th.stack) ≡ None)) }
+        ensures err { OnErr result (self.new.list.items ≡ self.old.list.items) }
+        ensures flight { self.new.flight ≡ self.old.flight }
+        ensures spends { Spends 1 1 0 0 self.old self.new }
+    {
+        let thread = &mut self.list[t as usize];
+        let had = counted_frames(thread);
+        let went = counted_going(thread);
+        if !thread.stack.advance(alloc, code, k)? {
+            return Ok(false);
+        }
+        let has = counted_frames(thread);
+        let goes = counted_going(thread);
+        queue(thread, &mut self.ready, t);
+        self.frames = self.frames - had + has;
+        self.going = self.going - went + goes;
+        self.work.push_back_reserved(t);
+        Ok(true)
     }
 
     /// A new thread with this stack; answers its number.

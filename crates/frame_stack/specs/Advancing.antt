@@ -1,0 +1,33 @@
+-- What a thread on its way over the frames of a stack is (own).
+use Rattle.std.specs.Prelude.{◌≡◌, ◌≤◌, List, [], ◌++◌, length, drop}
+use Rattle.hs_base.specs.declared.mask.Mask.{Mask}
+use Rattle.rules_trees.specs.Programs.{script_of}
+use Rattle.rules_sorts.specs.TypedMeaning.{any_cell}
+use Rattle.rules_code.specs.declared.code.Body.{Body}
+use Rattle.hs_rules.specs.Terms.{Term}
+use Rattle.slot_laws.specs.Standing.{Stands}
+use Rattle.slot_laws.specs.SlotRules.{SlotPart, ret, throw, doing, performs}
+use Rattle.local_steps.specs.declared.active.Frame.{Frame}
+use Rattle.local_steps.specs.Frames.{mask_inside}
+use Rattle.frame_stack.specs.declared.advancing.Walk.{Walk}
+use Rattle.frame_stack.specs.Parts.{Stacked, term_of}
+
+-- The stack stands for a term of the code's script with names, so where it comes to a primitive, that has values of its types.
+abbrev pub MayAdvance : Body → Stacked → Type 0
+MayAdvance b s = ∥ ((t : Term) × Stands any_cell (script_of b.of.value) (term_of b s) t) ∥₁
+
+-- a value or an exception with no frame of its own
+abbrev pub IsBare : SlotPart → List Frame → Type 0
+IsBare (doing a vs) fs = ⊥
+IsBare (ret v) fs = fs ≡ []
+IsBare (throw e) fs = fs ≡ []
+IsBare (performs p) fs = ⊥
+
+-- its frames: those of its own, and those of the stack that are left
+abbrev pub over_frames : Walk → List Frame → List Frame
+over_frames w fs = w.own.list ++ drop w.gone fs
+
+-- its own frames stand in the masking state inside the stack's frames that are left
+pub record IsOver (s : Mask) (fs : List Frame) (w : Walk) : Type 0 where
+  pub below : w.own.below ≡ mask_inside s (drop w.gone fs)
+  pub few : w.gone ≤ length fs
