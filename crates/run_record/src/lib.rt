@@ -24,5 +24,6 @@ mod ready;
 mod record;
 
 pub use acts::{Act, Next};
+pub use next::next_of;
 pub use pieces::{Piece, Stream};
 pub use record::Record;

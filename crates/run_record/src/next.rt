@@ -47,7 +47,7 @@ impl Record {
 }
 
 /// What can be done next where the main thread hasn't finished.
-fn next_of(world: &mut World) -> Next
+pub fn next_of(world: &mut World) -> Next
     requires goes { Goes world.old }
     ensures next { IsNextOf result world.new }
     ensures same { SameState world.old world.new }

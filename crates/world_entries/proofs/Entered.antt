@@ -12,13 +12,14 @@ use Rattle.rules_meaning.specs.CoreMeaning.{code_of}
 use Rattle.rules_typing.specs.TypingScripts.{Accepted}
 use Rattle.rules_code.specs.declared.code.Body.{Body}
 use Rattle.rules_code.specs.CodeTrees.{StandsFor}
-use Rattle.rules_waiting.specs.Waiting.{first_awake, still_asleep}
+use Rattle.rules_waiting.specs.Waiting.{still_asleep}
+use Rattle.exn_flight.specs.Asleep.{due_of}
 use Rattle.slot_laws.specs.SlotRules.{local, locals, on_term}
 use Rattle.hs_eval.proofs.Cases.{value_of-Unit}
 use Rattle.rules_meaning.specs.Values.{UnitValue}
 use Rattle.slot_states.specs.SlotStates.{SlotState, answered, ticks, wakes, moves, Represents, Enters}
 use Rattle.slot_states.proofs.Moving.{tick_entered, local_entered}
-use Rattle.slot_states.proofs.Waking.{wake_entered}
+use Rattle.slot_states.proofs.Waking.{due_wake_entered}
 use Rattle.local_steps.specs.Machine.{funs_of, frames_of}
 use Rattle.frame_stack.specs.declared.control.Control.TheVariants as c
 use Rattle.frame_stack.specs.Parts.{Stacked, part_of, term_of}
@@ -60,14 +61,14 @@ pub tick_makes : (old : World) (at : ℕ) → Goes old → old.clock ≤ at → 
 tick_makes old at goes later = made (entry.Tick at) old (record old { clock = at }) (λ b. ticks at (state_of b old)) (λ b. refl) (λ b accepted. tick_entered b.of.value accepted (state_of b old) at later (main_goes old goes b))
 
 -- ---- a sleeper wakes
-pub wake_makes : (old new : World) (t : ℕ) → Goes old → first_awake old.clock old.sleepers.list ≡ Some t
+pub wake_makes : (old new : World) (t due : ℕ) → Goes old → due_of t old.sleepers.list ≡ Some due → due ≤ old.clock
     → new.threads.list.items ≡ changed t (with_control (c.Ret value.Unit)) old.threads.list.items → new.cells.cells ≡ old.cells.cells → new.threads.flight.list ≡ old.threads.flight.list → new.sleepers.list ≡ still_asleep t old.sleepers.list
     → SameCounts old new → Makes (entry.Wake t) old new
-wake_makes old new t goes due list cells flight sleepers counts =
+wake_makes old new t due goes asleep come list cells flight sleepers counts =
     made (entry.Wake t) old new (λ b. wakes t (state_of b old))
     (λ b. same_state (state_of b new) (wakes t (state_of b old))
     (ap (slots_of b) list ∙ slots_unit b old.threads.list.items t) (ap slot_cells cells) flight sleepers counts.clock counts.instances counts.timeouts counts.printed)
-    (λ b accepted. wake_entered b.of.value accepted (state_of b old) t due (main_goes old goes b))
+    (λ b accepted. due_wake_entered b.of.value accepted (state_of b old) t due asleep come (main_goes old goes b))
 
 -- ---- local rules
 local_moves : (old new : World) (t k : ℕ) (b : Body) (u : Stacked) → new.threads.list.items ≡ changed t (with_stack u) old.threads.list.items → new.cells.cells ≡ old.cells.cells → new.threads.flight.list ≡ old.threads.flight.list → new.sleepers.list ≡ old.sleepers.list

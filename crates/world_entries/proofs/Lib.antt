@@ -3,6 +3,7 @@ pub mod Performing
 pub mod Forking
 pub mod CellsOf
 pub mod Readers
+pub mod Advancing
 pub mod Answering
 pub mod Standing
 pub mod Putting

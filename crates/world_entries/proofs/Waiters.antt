@@ -1,15 +1,18 @@
 -- Who waits in a world that stands for the state of a run, and where.
-use Rattle.std.proofs.Common.{◌≡◌, ℕ, List, true, Option, Some, None, option_map, refl, sym, ap, ◌∙◌, slice_get}
-use Rattle.std.proofs.Math.Logic.{∥∥₁_map}
+use Rattle.std.proofs.Common.{◌≡◌, ◌≤◌, ℕ, List, true, Option, Some, None, option_map, refl, sym, ap, ◌∙◌, arith, slice_get}
+use Rattle.std.proofs.Math.Bridge.{le_prop}
+use Rattle.std.proofs.Math.Logic.{∥∥₁_elim, ∥∥₁_map}
+use Rattle.std.proofs.lemmas.Option.{same_Some}
 use Rattle.hs_base.specs.declared.exn.Exn.{Exn}
 use Rattle.hs_rules.specs.declared.entry.Entry.{Entry}
 use Rattle.rules_trees.specs.Programs.{script_of}
 use Rattle.rules_code.specs.declared.code.Body.{Body}
 use Rattle.rules_waiting.specs.Waiting.{flying_to, first_thrown, first_awake}
+use Rattle.exn_flight.specs.Asleep.{due_of}
 use Rattle.slot_laws.specs.SlotRules.{SlotOp, performs}
 use Rattle.slot_states.specs.SlotStates.{SlotThread}
 use Rattle.hs_laws.proofs.Expanded.{standing_of}
-use Rattle.slot_states.proofs.Waits.{blocked_performs, thrower_blocked, sleeper_blocked}
+use Rattle.slot_states.proofs.Waits.{blocked_performs, thrower_blocked, sleeper_there, first_has_come}
 use Rattle.frame_stack.specs.declared.control.Control.{Control}
 use Rattle.frame_stack.specs.declared.control.Control.TheVariants as c
 use Rattle.frame_stack.specs.Parts.{IsOp, part_of}
@@ -55,10 +58,22 @@ thrower_op w live t u e f =
     let h = thrower_blocked (script_of p.0.of.value) (state_of p.0 w) p.2.state p.2.represents (standing_of (script_of p.0.of.value) p.1 p.2.state p.2.run) t u e f in
     blocked_op w p.0 p.1 p.2 u h.0 h.1 h.2))
 
--- and so does the first sleeper that is due
-pub sleeper_op : (w : World) → IsLive w → (t : ℕ) → first_awake w.clock w.sleepers.list ≡ Some t → IsAt t (λ (x : Thread). IsOp x.stack.control) w.threads.list.items
-sleeper_op w live t f =
+-- and so does a sleeper
+pub sleeper_op : (w : World) → IsLive w → (t due : ℕ) → due_of t w.sleepers.list ≡ Some due → IsAt t (λ (x : Thread). IsOp x.stack.control) w.threads.list.items
+sleeper_op w live t due e =
     op_shown w.threads.list.items t
     (∥∥₁_map live (λ p.
-    let h = sleeper_blocked (script_of p.0.of.value) (state_of p.0 w) p.2.state p.2.represents (standing_of (script_of p.0.of.value) p.1 p.2.state p.2.run) t f in
+    let h = sleeper_there (script_of p.0.of.value) (state_of p.0 w) p.2.state p.2.represents (standing_of (script_of p.0.of.value) p.1 p.2.state p.2.run) t due e in
     blocked_op w p.0 p.1 p.2 t h.0 h.1 h.2))
+
+-- the first sleeper that is due, is
+module _ (w : World) (live : IsLive w) (t : ℕ) (f : first_awake w.clock w.sleepers.list ≡ Some t) where
+  come : ∥ ((due : ℕ) × (due_of t w.sleepers.list ≡ Some due) × (due ≤ w.clock)) ∥₁
+  come = ∥∥₁_map live (λ p. first_has_come (script_of p.0.of.value) (state_of p.0 w) p.2.state p.2.represents (standing_of (script_of p.0.of.value) p.1 p.2.state p.2.run) t f)
+
+  come_by : (o : Option ℕ) → due_of t w.sleepers.list ≡ o → (due : ℕ) × (due_of t w.sleepers.list ≡ Some due) × (due ≤ w.clock)
+  come_by None e = absurd (∥∥₁_elim come (λ x y. absurd x) (λ k. let z : ◌≡◌ {A = Option ℕ} None (Some k.0) = sym e ∙ k.1 in cc z))
+  come_by (Some due) e = (due, e, ∥∥₁_elim come (hlevel le_prop) (λ k. let same : due ≡ k.0 = same_Some due k.0 (sym e ∙ k.1) in omega (arith, same, k.2)))
+
+  pub first_is_due : (due : ℕ) × (due_of t w.sleepers.list ≡ Some due) × (due ≤ w.clock)
+  first_is_due = come_by (due_of t w.sleepers.list) refl

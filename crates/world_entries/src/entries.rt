@@ -1,17 +1,24 @@
 //! Entries that are no Op.
-ghost use Rattle.std.specs.Prelude.{◌≡◌, ◌≤◌, [], OnOk, OnErr, IfErr, Some, slice_get};
+ghost use Rattle.std.specs.Prelude.{◌≡◌, ◌<◌, ◌≤◌, ℕ, [], List, None, false, IsTrue, IfOk, OnOk, OnErr, IfErr, Some, slice_get};
+ghost use Rattle.hs_base.specs.declared.mask.Mask.TheVariants.{Unmasked};
+ghost use Rattle.hs_rules.specs.declared.entry.Entry.{Entry};
 ghost use Rattle.hs_rules.specs.declared.entry.Entry.TheVariants as entry;
-ghost use Rattle.rules_waiting.specs.Waiting.{first_awake};
+ghost use Rattle.rules_code.specs.Codes.{body_of};
+ghost use Rattle.exn_flight.specs.Asleep.{due_of};
+ghost use Rattle.slot_laws.specs.SlotRules.{locals};
+ghost use Rattle.local_steps.specs.Machine.{funs_of};
+ghost use Rattle.frame_stack.specs.Parts.{term_of};
 ghost use Rattle.thread_table.specs.declared.thread.Thread.{Thread};
 ghost use Rattle.thread_table.specs.Table.{IsAt};
 ghost use Rattle.thread_table.specs.Rooms.{work_room};
 ghost use Rattle.thread_table.specs.Kinds.{IsKind};
 ghost use Rattle.thread_table.specs.declared.kinds.Kind.TheVariants as kind;
-ghost use Rattle.world_entries.specs.Worlds.{IsLive, Makes, MakesOf, SameState, Goes, HasRoom, Starts, Ends, IsAtRest, SomeWaitOpen, LeavesFrom, MayLeave, Left};
+ghost use Rattle.world_entries.specs.Worlds.{Live, IsLive, Makes, MakesOf, SameState, Goes, HasRoom, Starts, Ends, IsAtRest, SomeWaitOpen, LeavesFrom, MayLeave, Left};
 
 use crate::world::World;
 use frame_stack::{Control, Prim, Slice};
-use hs_base::{Exn, Value};
+use hs_base::{Exn, NoMemory, Value};
+use rules_code::Code;
 
 /// Who threw it. It is over.
 fn thrower(thrown: (u32, Exn)) -> u32
@@ -30,12 +37,12 @@ impl World {
         self.clock = at;
     }
 
-    /// The first sleeper that is due wakes.
+    /// A sleeper that is due wakes, the first or not.
     pub fn wake(&mut self, t: u32)
         requires live { IsLive self.old }
         requires goes { Goes self.old }
         requires room { HasRoom self.old }
-        requires due { first_awake self.old.clock self.old.sleepers.list ≡ Some t }
+        requires due { (due : ℕ) × (due_of t self.old.sleepers.list ≡ Some due) × (due ≤ self.old.clock) }
         ensures { Makes (entry.Wake t) self.old self.new }
     {
         let _ = self.sleepers.remove(t);
@@ -64,6 +71,20 @@ impl World {
         ensures back { IfErr result (λ s. s ≡ slice) }
     {
         self.threads.accept(slice)
+    }
+
+    /// So many local rules of a thread, as they come. Where there are no so many, or memory runs out, nothing has changed.
+    pub fn advance(&mut self, code: &Code, t: u32, k: u32) -> Result<bool, NoMemory>
+        requires live { ∥ ((es : List Entry) × Live (body_of code.now) es self.old) ∥₁ }
+        requires goes { Goes self.old }
+        requires room { HasRoom self.old }
+        requires free { (th : Thread) × (slice_get self.old.threads.list.items t ≡ Some th) × (th.finished ≡ false) × (th.blocked ≡ false) }
+        requires some { 0 < k }
+        ensures moves { IfOk result (λ done. IsTrue done → MakesOf (body_of code.now) (entry.Local t k) self.old self.new) }
+        ensures stuck { IfOk result (λ done. (done ≡ false) → SameState self.old self.new × ((th : Thread) → slice_get self.old.threads.list.items t ≡ Some th → locals (funs_of (body_of code.now)) Unmasked k (term_of (body_of code.now) th.stack) ≡ None)) }
+        ensures err { OnErr result (SameState self.old self.new) }
+    {
+        self.threads.advance(self.alloc, code, t, k)
     }
 
     /// The thread receives the first exception in flight to it.

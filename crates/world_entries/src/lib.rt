@@ -2,7 +2,7 @@
 //!
 //! To a contract a `World` is a state with slots (`slot_states`), by `state_of` of the code that its threads' actions belong to
 //! (`specs/Worlds`): the stacks of its threads, its cells with their lines, the exceptions in flight, the sleepers, the clock
-//! and the numbers given so far.
+//! and the numbers given so far. `lines` has what a thread writes that ends by an exception.
 //!
 //! The promise: where a world stands for the state that a run of an accepted script leaves, an entry that is legal there
 //! changes it to one that stands for the state that the entry leaves (`Makes`). Where memory runs out it stands for the same
@@ -11,6 +11,7 @@
 
 mod cells;
 mod entries;
+pub mod lines;
 mod operating;
 mod operations;
 mod reading;

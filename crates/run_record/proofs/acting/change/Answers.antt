@@ -1,5 +1,6 @@
 use Rattle.std.proofs.Common.{sym, subst}
 use Rattle.world_entries.specs.Worlds.{Makes}
+use Rattle.world_entries.proofs.Waiters.{first_is_due}
 use Rattle.run_record.specs.declared.acts.Act.{Act}
 use Rattle.run_record.specs.Acts.{entry_of}
 use Rattle.run_record.specs.Records.{Can, PrintsIn}
@@ -14,6 +15,9 @@ finish-requires-clause-ends c =
     let w = c.args.world.now in
     let b = c.requires.bytes.0 in
     ends_so w c.in-Finish.t c.args.bytes (subst (λ (a : Act). Can a w) c.in-Finish.is c.requires.can) b (subst (λ (a : Act). PrintsIn b c.args.bytes a w) c.in-Finish.is c.requires.bytes.1)
+
+pub wake-requires-clause-due : goal.wake-requires-clause-due
+wake-requires-clause-due c = first_is_due c.args.world.now c.requires.live c.in-Wake.t (subst (λ (a : Act). Can a c.args.world.now) c.in-Wake.is c.requires.can)
 
 pub returns-in_ok-op-in-Op-clause-ok : goal.returns-in_ok-op-in-Op-clause-ok
 returns-in_ok-op-in-Op-clause-ok c = subst (λ (a : Act). Makes (entry_of a) c.args.world.now c.op.new.self) (sym c.in-Op.is) c.in_ok-op-in-Op.ensures.ok
