@@ -1,0 +1,5 @@
+pub mod Runs
+pub mod Main
+pub mod Asked
+pub mod Ends
+pub mod Following
