@@ -8,6 +8,8 @@ conc_run: what interrupted and masked Concurrent Haskell code may really do
   ./conc_run run [FILE] [--caps N] [--fuel N] [--clock C]   checks a script and runs it
   ./conc_run check [FILE]                                   says whether it is accepted
   ./conc_run bench N [--caps N] [--fuel N]                  runs a ring of N threads (1 to 4000)
+  ./conc_run trace [FILE] [--caps N] [--fuel N] [--clock C] runs it and writes its history, in place of what it prints
+  ./conc_run verify [FILE]                                  says whether a written history is a run of its script
   ./conc_run test [--quick]                                 proves and tries everything; --quick: the rows alone
 
   --caps N     threads that evaluate at the same time, 1 to 16 (1)
@@ -24,12 +26,13 @@ begins with - is given behind --, or as ./-NAME.
 
 What the script prints goes to standard output, and the line of its ending to standard error. The status says how it ended:
 
-  0  done, or accepted           6  out of memory
-  1  main ended by an exception  7  a read failed
-  2  words not understood        8  a write failed
-  3  the script is refused       9  a limit
+  0  done, accepted, or a run    7  a read failed
+  1  main ended by an exception  8  a write failed
+  2  words not understood        9  a limit
+  3  the script is refused      10  not a run
   4  deadlock                   66  the file can't be read
   5  out of fuel                70  the program could not be built
+  6  out of memory
 
 examples/*.conc are scripts to begin with, and docs/TOUR.md leads through them; docs/LANGUAGE.md has the language and what
 each refusal means.

@@ -29,13 +29,14 @@ use std::sync::Wait;
 use std::thread::Threads;
 
 /// The files of rows, by topic.
-const FILES: [&str; 9] = [
+const FILES: [&str; 10] = [
     "tokens.rows",
     "grammar.rows",
     "typing.rows",
     "limits.rows",
     "plain.rows",
     "words.rows",
+    "traces.rows",
     "running.rows",
     "tour.rows",
     "capabilities.rows",

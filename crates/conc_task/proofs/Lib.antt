@@ -1,3 +1,4 @@
+mod Documents
 mod Reading
 mod Taking
 mod Tasks

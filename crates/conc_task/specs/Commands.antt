@@ -4,12 +4,9 @@ use Rattle.hs_base.specs.declared.clock_choice.ClockChoice.{ClockChoice}
 use Rattle.hs_base.specs.declared.clock_choice.ClockChoice.TheVariants.{Virtual}
 use Rattle.conc_gen.specs.Ring.{ring_text}
 use Rattle.conc_words.specs.declared.command.Command.{Command}
-use Rattle.conc_words.specs.declared.command.Command.TheVariants.{Run, Check, Bench}
-
--- These bytes are what a source had left, where it tells them.
-abbrev pub IsLeft : Option (List ℕ) → List ℕ → Type 0
-IsLeft None bytes = ⊤
-IsLeft (Some known) bytes = known ≡ bytes
+use Rattle.conc_words.specs.declared.command.Command.TheVariants.{Run, Check, Bench, Trace, Verify}
+use Rattle.hs_compile.specs.Verdicts.{script_limit}
+use Rattle.conc_task.specs.Documents.{document_limit, IsLeft, IsScriptOf}
 
 -- The command reads the source. No other words do.
 abbrev pub ReadsSource : Option Command → Type 0
@@ -17,13 +14,27 @@ ReadsSource None = ⊥
 ReadsSource (Some (Run capabilities fuel clock)) = ⊤
 ReadsSource (Some Check) = ⊤
 ReadsSource (Some (Bench threads capabilities fuel)) = ⊥
+ReadsSource (Some (Trace capabilities fuel clock)) = ⊤
+ReadsSource (Some Verify) = ⊤
 
--- These bytes are the input of the command: what the source had left, or for `bench N` the text of the ring.
+-- The most bytes of what the command reads from the source: a script, or for `verify` a document.
+abbrev pub source_limit : Option Command → ℕ
+source_limit None = script_limit
+source_limit (Some (Run capabilities fuel clock)) = script_limit
+source_limit (Some Check) = script_limit
+source_limit (Some (Bench threads capabilities fuel)) = script_limit
+source_limit (Some (Trace capabilities fuel clock)) = script_limit
+source_limit (Some Verify) = document_limit
+
+-- These bytes are the input of the command: what the source had left, for `bench N` the text of the ring, and for `verify` the
+-- script of the document that the source had left.
 abbrev pub IsInput : Option Command → (left : Option (List ℕ)) → List ℕ → Type 0
 IsInput None left bytes = ⊤
 IsInput (Some (Run capabilities fuel clock)) left bytes = IsLeft left bytes
 IsInput (Some Check) left bytes = IsLeft left bytes
 IsInput (Some (Bench threads capabilities fuel)) left bytes = bytes ≡ ring_text threads
+IsInput (Some (Trace capabilities fuel clock)) left bytes = IsLeft left bytes
+IsInput (Some Verify) left bytes = (document : List ℕ) × IsLeft left document × IsScriptOf document bytes
 
 -- The command runs its input with this fuel, by this clock.
 abbrev pub RunsWith : Option Command → (fuel : ℕ) → ClockChoice → Type 0
@@ -31,6 +42,8 @@ RunsWith None most choice = ⊥
 RunsWith (Some (Run capabilities fuel clock)) most choice = (most ≡ fuel) × (choice ≡ clock)
 RunsWith (Some Check) most choice = ⊥
 RunsWith (Some (Bench threads capabilities fuel)) most choice = (most ≡ fuel) × (choice ≡ Virtual)
+RunsWith (Some (Trace capabilities fuel clock)) most choice = (most ≡ fuel) × (choice ≡ clock)
+RunsWith (Some Verify) most choice = ⊥
 
 -- The command runs its input on so many capabilities.
 abbrev pub RunsOn : Option Command → ℕ → Type 0
@@ -38,6 +51,17 @@ RunsOn None count = ⊥
 RunsOn (Some (Run capabilities fuel clock)) count = count ≡ capabilities
 RunsOn (Some Check) count = ⊥
 RunsOn (Some (Bench threads capabilities fuel)) count = count ≡ capabilities
+RunsOn (Some (Trace capabilities fuel clock)) count = count ≡ capabilities
+RunsOn (Some Verify) count = ⊥
+
+-- The command writes the history of what it runs, in place of what that prints.
+abbrev pub Traces : Option Command → Type 0
+Traces None = ⊥
+Traces (Some (Run capabilities fuel clock)) = ⊥
+Traces (Some Check) = ⊥
+Traces (Some (Bench threads capabilities fuel)) = ⊥
+Traces (Some (Trace capabilities fuel clock)) = ⊤
+Traces (Some Verify) = ⊥
 
 -- the command runs its input
 abbrev pub Runs : Option Command → Type 0

@@ -1,3 +1,4 @@
+pub mod Documents
 pub mod Commands
 pub mod Inputs
 pub mod Stops

@@ -1,13 +1,15 @@
 -- What there is to do once the words and the input are read (own).
-use Rattle.std.specs.Prelude.{◌≡◌, ◌≤◌, ℕ, List, Option, Some, ⊤}
+use Rattle.std.specs.Prelude.{◌≡◌, ◌≤◌, ℕ, List, Option, Some, length, ⊤}
 use Rattle.rules_code.specs.Codes.{body_of}
 use Rattle.conc_words.specs.declared.command.Command.{Command}
-use Rattle.conc_words.specs.declared.command.Command.TheVariants.{Check}
-use Rattle.hs_compile.specs.Verdicts.{IsAccepted}
+use Rattle.conc_words.specs.declared.command.Command.TheVariants.{Check, Verify}
+use Rattle.hs_compile.specs.Verdicts.{IsAccepted, script_limit}
 use Rattle.conc_task.specs.declared.task.Program.{Program}
+use Rattle.conc_task.specs.declared.task.Claim.{Claim}
 use Rattle.conc_task.specs.declared.task.Task.{Task}
-use Rattle.conc_task.specs.declared.task.Task.TheVariants.{Run, Accept}
-use Rattle.conc_task.specs.Commands.{IsInput, ReadsSource, RunsOn, RunsWith}
+use Rattle.conc_task.specs.declared.task.Task.TheVariants.{Run, Accept, Trace, Verify as VerifyClaim}
+use Rattle.conc_task.specs.Documents.{document_limit, HasDocument, IsParted}
+use Rattle.conc_task.specs.Commands.{IsInput, ReadsSource, RunsOn, RunsWith, Traces}
 use Rattle.conc_task.specs.Inputs.{IsScript, ReadThrough}
 
 -- the command runs its input, which is the script that this program was made of
@@ -17,7 +19,7 @@ pub record HasProgram (command : Option Command) (before now : Option (List ℕ)
   pub bytes : List ℕ
   pub input : IsInput command before bytes
   pub accepted : IsAccepted bytes (body_of program.code).of.value
-  pub through : ReadsSource command → ReadThrough before now
+  pub through : ReadsSource command → ReadThrough script_limit before now
 
 -- the command checks its input, which is an accepted script
 pub record HasChecked (command : Option Command) (before now : Option (List ℕ)) : Type 0 where
@@ -25,19 +27,46 @@ pub record HasChecked (command : Option Command) (before now : Option (List ℕ)
   pub bytes : List ℕ
   pub input : IsInput command before bytes
   pub accepted : IsScript bytes
-  pub through : ReadThrough before now
+  pub through : ReadThrough script_limit before now
+
+-- the command writes the history of its input, which is the script that this program was made of, in these bytes
+pub record HasTraced (command : Option Command) (before now : Option (List ℕ)) (program : Program) (bytes : List ℕ) : Type 0 where
+  pub traces : Traces command
+  pub made : HasProgram command before now program
+  pub read : made.bytes ≡ bytes
+
+-- The document is parted into the trace of the claim and the script that its code was made of, which is accepted.
+pub record IsClaimed (document : List ℕ) (claim : Claim) : Type 0 where
+  pub short : length document ≤ document_limit
+  pub bytes : List ℕ
+  pub parted : IsParted document claim.trace.items bytes
+  pub accepted : IsAccepted bytes (body_of claim.code).of.value
+
+-- the command verifies the document of this claim
+pub record HasClaim (command : Option Command) (before now : Option (List ℕ)) (claim : Claim) : Type 0 where
+  pub verifies : command ≡ Some Verify
+  pub bytes : List ℕ
+  pub document : HasDocument before claim.trace.items bytes
+  pub accepted : IsAccepted bytes (body_of claim.code).of.value
+  pub through : ReadThrough document_limit before now
 
 -- what the words and the input ask for
 abbrev pub HasTask : Option Command → (before now : Option (List ℕ)) → Task → Type 0
-HasTask command before now (Run program) = HasProgram command before now program
+HasTask command before now (Run program) = HasProgram command before now program × ¬ Traces command
 HasTask command before now Accept = HasChecked command before now
+HasTask command before now (Trace program read) = HasTraced command before now program read.items
+HasTask command before now (VerifyClaim claim) = HasClaim command before now claim
 
 -- there is fuel for what is run, and not more than any run may have
 abbrev pub HasFuel : Task → Type 0
 HasFuel (Run program) = (1 ≤ program.fuel) × (program.fuel ≤ 4000000)
 HasFuel Accept = ⊤
+HasFuel (Trace program read) = (1 ≤ program.fuel) × (program.fuel ≤ 4000000)
+HasFuel (VerifyClaim claim) = ⊤
 
 -- what is run has a capability, and not more of them than any run may have
 abbrev pub HasCapabilities : Task → Type 0
 HasCapabilities (Run program) = (1 ≤ program.capabilities) × (program.capabilities ≤ 16)
 HasCapabilities Accept = ⊤
+HasCapabilities (Trace program read) = (1 ≤ program.capabilities) × (program.capabilities ≤ 16)
+HasCapabilities (VerifyClaim claim) = ⊤

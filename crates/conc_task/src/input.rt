@@ -5,25 +5,24 @@ ghost use Rattle.conc_task.specs.Inputs.{Adds, Reads};
 use hs_io::Source;
 use std::alloc::Global;
 
-const SCRIPT_LIMIT: usize = 1_048_576;
-
 /// What the source had.
 #[derive(Drop)]
 pub enum Input {
-    /// All its bytes, or the first ones where there are more than a script may have.
+    /// All its bytes, or the first ones where there are more than the limit.
     Bytes(Vec<u8>),
     /// A read failed.
     Fault,
     NoMemory,
 }
 
-pub fn read_input<S: Source>(alloc: Global, source: &mut S) -> Input
-    ensures { Reads result (S.left source.old) (S.left source.new) (S.faults source.old) (S.faults source.new) }
+pub fn read_input<S: Source>(alloc: Global, source: &mut S, limit: u32) -> Input
+    ensures { Reads limit result (S.left source.old) (S.left source.new) (S.faults source.old) (S.faults source.new) }
 {
+    let limit = limit as usize;
     let mut chunk = [0u8; 4096];
     let mut bytes = Vec::new(alloc);
-    while bytes.len() <= SCRIPT_LIMIT {
-        let most = chunk.len().min(SCRIPT_LIMIT + 1 - bytes.len());
+    while bytes.len() <= limit {
+        let most = chunk.len().min(limit + 1 - bytes.len());
         match read_more(source, &mut chunk[..most], &mut bytes) {
             More::Taken => {}
             More::End => return Input::Bytes(bytes),

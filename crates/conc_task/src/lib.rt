@@ -1,4 +1,4 @@
-//! What the words and the input come to: a script to run, word that one is accepted, or why there is neither.
+//! What the words and the input come to: a script to run, word that one is accepted, a document to verify, or why there is none.
 //!
 //! To a contract a task is the capabilities, the fuel, the clock and the script that it runs (`specs/Tasks`). The one promise is that
 //! of `task_of`: its answer is what the command that the words are asks for, of the bytes that the source had left, or of the ring that
@@ -11,4 +11,4 @@ mod stop;
 mod task;
 
 pub use stop::Stop;
-pub use task::{Program, Task, task_of};
+pub use task::{Claim, Program, Task, task_of};

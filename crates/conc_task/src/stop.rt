@@ -9,6 +9,8 @@ pub enum Stop {
     Refused(Refusal),
     /// A read of the source failed.
     Read,
+    /// No line of the document is `script`.
+    NoScript,
     /// Want of memory.
     Memory,
 }

@@ -4,21 +4,29 @@ ghost use Rattle.hs_io.specs.Causes.{Rose};
 ghost use Rattle.rules_code.specs.Codes.{body_of};
 ghost use Rattle.hs_compile.specs.Verdicts.{IsAccepted};
 ghost use Rattle.conc_gen.specs.Ring.{ring_text};
+ghost use Rattle.conc_words.specs.declared.command.Command.TheVariants.{Verify};
 ghost use Rattle.conc_words.specs.Commands.{command_of, IsWithin};
 ghost use Rattle.conc_task.specs.Commands.{ReadsSource};
-ghost use Rattle.conc_task.specs.Inputs.{HadScript, HadSome, IsScript, IsWhole};
-ghost use Rattle.conc_task.specs.Stops.{Counted, HadNone, HasNone, IsDenied, IsUnclear, stop_of};
-ghost use Rattle.conc_task.specs.Tasks.{HasCapabilities, HasFuel, HasTask};
+ghost use Rattle.conc_task.specs.Inputs.{HadBytes, HadScript, HadSome, IsScript, IsWhole};
+ghost use Rattle.conc_task.specs.Stops.{Counted, HadNone, HasNone, IsDenied, IsUnclaimed, IsUnclear, IsUnread, stop_of};
+ghost use Rattle.conc_task.specs.Tasks.{HasCapabilities, HasClaim, HasFuel, HasTask, IsClaimed};
 
 use crate::input::{Input, read_input};
 use crate::stop::Stop;
 use conc_gen::ring;
 use conc_words::{Command, WordsFault, read_words};
 use hs_base::ClockChoice;
-use hs_compile::{CompileFault, accept, compile};
+use hs_compile::{CompileFault, Refusal, accept, compile};
 use hs_io::Source;
 use rules_code::Code;
 use std::alloc::Global;
+use trace_text::split;
+
+/// The most bytes of a script.
+const SCRIPT_LIMIT: u32 = 1_048_576;
+
+/// The most bytes of a document.
+const DOCUMENT_LIMIT: u32 = 100_663_296;
 
 /// A script to run, and what it runs with.
 #[derive(Drop)]
@@ -31,6 +39,14 @@ pub struct Program {
     pub clock: ClockChoice,
 }
 
+/// A document that may be a run: its trace, and the code of its script.
+#[derive(Drop)]
+pub struct Claim {
+    pub code: Code,
+    /// The bytes before the line `script`.
+    pub trace: Vec<u8>,
+}
+
 /// What is left to do once the words and the input are read.
 #[derive(Drop)]
 pub enum Task {
@@ -38,12 +54,16 @@ pub enum Task {
     Run(Program),
     /// To say that the script is accepted.
     Accept,
+    /// To run a script and to write its history, and then the script, as it was read.
+    Trace(Program, Vec<u8>),
+    /// To say whether the trace is a run of the script beside it.
+    Verify(Claim),
 }
 
 /// What the words after the program's name ask for.
 ///
-/// `run` and `check` read the source to its end, or to the first byte that no script has; no other words read it. Want of memory
-/// is free.
+/// `run`, `check` and `trace` read the source to its end, or to the first byte that no script has, `verify` to the first that no
+/// document has; no other words read it. Want of memory is free.
 pub fn task_of<S: Source>(alloc: Global, words: &[String], source: &mut S) -> Result<Task, Stop>
     ensures comes { MatchResult result
         (HasTask (command_of (map (λ word. string_bytes word) words.now)) (S.left source.old) (S.left source.new))
@@ -89,6 +109,24 @@ pub fn task_of<S: Source>(alloc: Global, words: &[String], source: &mut S) -> Re
                 clock,
             }))
         }
+        Command::Trace {
+            capabilities,
+            fuel,
+            clock,
+        } => {
+            let (code, bytes) = read_traced(alloc, source)?;
+            let program = Program {
+                code,
+                capabilities,
+                fuel,
+                clock,
+            };
+            Ok(Task::Trace(program, bytes))
+        }
+        Command::Verify => {
+            let claim = read_claim(alloc, source)?;
+            Ok(Task::Verify(claim))
+        }
     }
 }
 
@@ -112,8 +150,29 @@ fn read_code<S: Source>(alloc: Global, source: &mut S) -> Result<Code, Stop>
         (HadNone (Rose (S.faults source.old) (S.faults source.new)) (S.left source.old) (S.left source.new)) }
     ensures counts { MatchResult result (λ code. S.faults source.new ≡ S.faults source.old) (λ stop. Counted stop (S.faults source.old) (S.faults source.new)) }
 {
-    let bytes = read_bytes(alloc, source)?;
+    let bytes = read_bytes(alloc, source, SCRIPT_LIMIT)?;
     code_of(alloc, &bytes)
+}
+
+// The code of the script that the source has, and its bytes.
+fn read_traced<S: Source>(alloc: Global, source: &mut S) -> Result<(Code, Vec<u8>), Stop>
+    ensures comes { MatchResult result (λ read. HadBytes (S.left source.old) (S.left source.new) (body_of read.0).of.value read.1.items)
+        (HadNone (Rose (S.faults source.old) (S.faults source.new)) (S.left source.old) (S.left source.new)) }
+    ensures counts { MatchResult result (λ read. S.faults source.new ≡ S.faults source.old) (λ stop. Counted stop (S.faults source.old) (S.faults source.new)) }
+{
+    let bytes = read_bytes(alloc, source, SCRIPT_LIMIT)?;
+    let code = code_of(alloc, &bytes)?;
+    Ok((code, bytes))
+}
+
+// The claim of the document that the source has.
+fn read_claim<S: Source>(alloc: Global, source: &mut S) -> Result<Claim, Stop>
+    ensures comes { MatchResult result (HasClaim (Some Verify) (S.left source.old) (S.left source.new))
+        (HasNone (Some Verify) (Rose (S.faults source.old) (S.faults source.new)) (S.left source.old) (S.left source.new)) }
+    ensures counts { MatchResult result (λ claim. S.faults source.new ≡ S.faults source.old) (λ stop. Counted stop (S.faults source.old) (S.faults source.new)) }
+{
+    let document = read_bytes(alloc, source, DOCUMENT_LIMIT)?;
+    claim_of(alloc, document)
 }
 
 // Whether the source has an accepted script.
@@ -122,21 +181,37 @@ fn read_checked<S: Source>(alloc: Global, source: &mut S) -> Result<(), Stop>
         (HadNone (Rose (S.faults source.old) (S.faults source.new)) (S.left source.old) (S.left source.new)) }
     ensures counts { MatchResult result (λ done. S.faults source.new ≡ S.faults source.old) (λ stop. Counted stop (S.faults source.old) (S.faults source.new)) }
 {
-    let bytes = read_bytes(alloc, source)?;
+    let bytes = read_bytes(alloc, source, SCRIPT_LIMIT)?;
     check_of(alloc, &bytes)
 }
 
-// All that the source has left, or the first bytes where there are more than a script may have.
-fn read_bytes<S: Source>(alloc: Global, source: &mut S) -> Result<Vec<u8>, Stop>
-    ensures read { MatchResult result (λ bytes. Consumes (S.left source.old) (S.left source.new) bytes.items × IsWhole bytes.items (S.left source.new))
-        (HadNone (Rose (S.faults source.old) (S.faults source.new)) (S.left source.old) (S.left source.new)) }
+// All that the source has left, or the first bytes where there are more than the limit.
+fn read_bytes<S: Source>(alloc: Global, source: &mut S, limit: u32) -> Result<Vec<u8>, Stop>
+    ensures read { MatchResult result (λ bytes. Consumes (S.left source.old) (S.left source.new) bytes.items × IsWhole limit bytes.items (S.left source.new))
+        (IsUnread limit (Rose (S.faults source.old) (S.faults source.new)) (S.left source.old) (S.left source.new)) }
     ensures counts { MatchResult result (λ bytes. S.faults source.new ≡ S.faults source.old) (λ stop. Counted stop (S.faults source.old) (S.faults source.new)) }
 {
-    match read_input(alloc, source) {
+    match read_input(alloc, source, limit) {
         Input::Bytes(bytes) => Ok(bytes),
         Input::Fault => Err(Stop::Read),
         Input::NoMemory => Err(Stop::Memory),
     }
+}
+
+// The claim of a document.
+fn claim_of(alloc: Global, document: Vec<u8>) -> Result<Claim, Stop>
+    ensures { MatchResult result (IsClaimed document.items) (IsUnclaimed document.items) }
+{
+    if document.len() > DOCUMENT_LIMIT as usize {
+        return Err(Stop::Refused(Refusal::TooLong));
+    }
+    let Some((at, script)) = split(&document) else {
+        return Err(Stop::NoScript);
+    };
+    let code = code_of(alloc, &document[script..])?;
+    let mut trace = document;
+    trace.truncate(at);
+    Ok(Claim { code, trace })
 }
 
 // The code of the ring of so many threads.

@@ -1,3 +1,5 @@
-mod Telling
+mod Answering
 mod Playing
+mod Histories
+mod Claims
 mod Complete

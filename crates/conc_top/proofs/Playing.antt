@@ -1,5 +1,5 @@
 -- What a run leaves and the put of its line come to.
-use Rattle.std.proofs.Common.{◌≡◌, ◌≤◌, ◌<◌, ◌+◌, ◌-◌, ◌^◌, ◌++◌, ◌⊎◌, ℕ, List, [], Bool, true, false, append-nil, take, refl, sym, ap, subst, ◌∙◌, inl, inr, arith, min}
+use Rattle.std.proofs.Common.{◌≡◌, ◌≤◌, ◌<◌, ◌+◌, ◌-◌, ◌^◌, ◌++◌, ◌⊎◌, ℕ, List, [], true, false, append-nil, take, refl, sym, ap, subst, ◌∙◌, inl, inr, arith, min}
 use Rattle.std.specs.Prelude.{Option, Some, None, IfSome, IsSome}
 use Rattle.std.specs.Io.KnownBytes.{Appends}
 use Rattle.std.proofs.KnownBytes.{Appends-trans}
@@ -22,21 +22,23 @@ use Rattle.run_course.specs.declared.ends.RunEnd.{RunEnd}
 use Rattle.run_course.specs.declared.ends.RunEnd.TheVariants as end
 use Rattle.run_course.specs.Told.{AppendsPart, IsCutOff, is_write, ToldOf}
 use Rattle.run_course.specs.Endings.{EndedBy}
+use Rattle.clocked_record.specs.Clocks.{TicksKept}
 use Rattle.conc_words.specs.declared.command.Command.{Command}
+use Rattle.conc_words.specs.declared.command.Command.TheVariants.{Run, Check, Bench, Trace, Verify}
 use Rattle.conc_world.specs.Runs.{IsRunOf, Shown, script}
-use Rattle.hs_compile.specs.Verdicts.{IsAccepted}
+use Rattle.hs_compile.specs.Verdicts.{IsAccepted, script_limit}
 use Rattle.conc_task.specs.declared.task.Program.{Program}
 use Rattle.conc_task.specs.declared.task.Task.{Task}
-use Rattle.conc_task.specs.declared.task.Task.TheVariants.{Run}
-use Rattle.conc_task.specs.Commands.{IsInput, Runs}
-use Rattle.conc_task.specs.Inputs.{IsScript}
+use Rattle.conc_task.specs.declared.task.Task.TheVariants.{Run as RunTask}
+use Rattle.conc_task.specs.Commands.{IsInput, ReadsSource, Runs, RunsWith, source_limit, Traces}
+use Rattle.conc_task.specs.Inputs.{IsScript, ReadThrough}
 use Rattle.conc_task.specs.Tasks.{HasProgram, HasTask}
 use Rattle.conc_top.specs.declared.ending.Ending.{Ending}
-use Rattle.conc_top.specs.declared.ending.Ending.TheVariants.{Ran, Accepted, Words, Refused, Read, Memory, Write}
+use Rattle.conc_top.specs.declared.ending.Ending.TheVariants.{Ran, Accepted, Words, Refused, Read, Memory, Write, Verified, NotRun}
 use Rattle.conc_top.specs.Lines.{line_of, run_line, run_status, status_of}
 use Rattle.conc_top.specs.Causes.{HasFault, IsDue, IsUnrun}
-use Rattle.conc_top.specs.Answers.{Call, IsPlayed, KeepsLaws, limits, Plays, RunsScript, TellsAnswer, TellsBy, TellsLine, WriteFault}
-use Rattle.conc_top.proofs.Telling.{few_through, idle, line_counted, never_rose}
+use Rattle.conc_top.specs.Answers.{Call, HasRun, IsPlayed, KeepsLaws, limits, Plays, RunsScript, Tells, TellsAnswer, TellsBy, TellsLine, WriteFault}
+use Rattle.conc_top.proofs.Answering.{few_through, idle, line_counted, never_rose}
 
 -- ---- counts of faults
 
@@ -137,7 +139,7 @@ tells (end.Limit kind e) given ds es lent now err_old faults le told line = whol
 
 -- ---- the run
 
-keeps_laws : (ds : List Fn) (es : List Entry) (s : State) → IsRun ds es s → KeepsLaws ds es s
+pub keeps_laws : (ds : List Fn) (es : List Entry) (s : State) → IsRun ds es s → KeepsLaws ds es s
 keeps_laws ds es s run = record { released = brackets_of ds es s run; brackets = brackets_law ds es s run; cells = cells_law ds es s run; masks = masks_law ds es s run }
 
 -- what is shown once the line of the ending was put on the error sink
@@ -168,7 +170,7 @@ module _ (p : Plan) (fuel : ℕ) (s : Script) (r : RunEnd) (given : Ending) (es 
   fault : HasFault r (WriteFault lent now)
   fault = has_fault r (script p) es p.fuel p.limits lent.out_faults lent.err_faults now.out_faults now.err_faults ended
 
-  runs : (bytes : List ℕ) → IsAccepted bytes s → IsRunOf p (Some r) es lent old → RunsScript fuel bytes r given es lent now
+  runs : (bytes : List ℕ) → IsAccepted bytes s → IsRunOf p (Some r) es lent old → RunsScript fuel bytes r es lent now (λ ds. TellsBy (is_write (Some r)) r given ds es lent now)
   runs bytes accepted run = record {
     script = p.body.of.value;
     accepted = subst (IsAccepted bytes) (sym closing.script) accepted;
@@ -248,6 +250,43 @@ counted_line : (final : Option RunEnd) (given : Ending) (told told_now : Option 
 counted_line None given told told_now faults faults_now some line = let none : false ≡ true = some in absurd (cc none)
 counted_line (Some r) given told told_now faults faults_now some line = line_counted (line_of (Ran r)) (Ran r) given told told_now faults faults_now line
 
+-- what was run and closed, once the line of the ending was put
+pub closing_of : (most : ℕ) (s : Script) (final : Option RunEnd) (given : Ending) (es es_now : List Entry) (lent old now : Shown) (has : HasRun most s final es lent old) → es_now ≡ es
+    → IfSome final (λ r. TellsLine (line_of (Ran r)) (Ran r) given old.errors now.errors old.err_faults now.err_faults) → Later old now
+    → Closing has.plan most s final given es_now lent old now
+closing_of most s final given es es_now lent old now has same line later = record {
+  script = has.script;
+  fuel = has.fuel;
+  limits = has.bounds;
+  ends = has.ended;
+  run = subst (λ z. ∥ IsRunOf has.plan final z lent old ∥₁) (sym same) has.run;
+  out_counted = has.out_counted;
+  err_counted = has.err_counted;
+  line = line;
+  line_counted = counted_line final given old.errors now.errors old.err_faults now.err_faults has.ended line;
+  later = later;
+}
+
+-- ---- the clock was told its choice before
+
+-- what is shown, but for the last reading of the clock and how many waits were early
+abbrev read_at : Shown → (last early : ℕ) → Shown
+read_at lent last early = record { output = lent.output; errors = lent.errors; out_faults = lent.out_faults; err_faults = lent.err_faults; last = last; early = early }
+
+run_since : (p : Plan) (final : Option RunEnd) (es : List Entry) (lent now : Shown) (last early : ℕ) → early ≡ lent.early → IsRunOf p final es (read_at lent last early) now → IsRunOf p final es lent now
+run_since p final es lent now last early same run = record {
+  accepted = run.accepted;
+  state = run.state;
+  run = run.run;
+  clock = run.clock;
+  within = run.within;
+  limited = run.limited;
+  ticks = subst (λ n. TicksKept (script p) es n now.early) same run.ticks;
+  told = run.told;
+  ended = run.ended;
+  calm = run.calm;
+}
+
 module _ {O E K : Type 0} (out_told : O → Option (List ℕ)) (out_faults : O → ℕ) (err_told : E → Option (List ℕ)) (err_faults : E → ℕ) (last early : K → ℕ) where
   abbrev pub shown : O → E → K → Shown
   shown o e k = record { output = out_told o; errors = err_told e; out_faults = out_faults o; err_faults = err_faults e; last = last k; early = early k }
@@ -256,46 +295,40 @@ module _ {O E K : Type 0} (out_told : O → Option (List ℕ)) (out_faults : O �
       → err_faults e_lent ≡ err_faults e → last k_lent ≡ last k → early k_lent ≡ early k → shown o_lent e_lent k_lent ≡ shown o e k
   same_shown o o_lent e e_lent k k_lent output errors output_faults errors_faults reading waits = rw (output, errors, output_faults, errors_faults, reading, waits) refl
 
-  -- What was lent shows what was handed in, and what is handed back was closed, but for the error sink.
-  pub closed : (p : Plan) (fuel : ℕ) (s : Script) (final : Option RunEnd) (given : Ending) (es es_now : List Entry)
-      (o o_lent o_old o_now : O) (e e_lent e_old e_now : E) (k k_lent k_old k_now : K)
-      → shown o_lent e_lent k_lent ≡ shown o e k → es_now ≡ es → o_now ≡ o_old → k_now ≡ k_old
+  -- What was lent shows what was handed in, once the clock had its choice, and what is handed back was closed.
+  pub has_run : (p : Plan) (fuel : ℕ) (s : Script) (final : Option RunEnd) (es : List Entry)
+      (o o_lent o_old : O) (e e_lent e_old : E) (k k_chosen k_lent k_old : K)
+      → shown o_lent e_lent k_lent ≡ shown o e k_chosen → early k_chosen ≡ early k
       → p.body.of.value ≡ s → p.fuel ≡ fuel → p.limits ≡ limits → IsSome final
       → ∥ IsRunOf p final es (shown o_lent e_lent k_lent) (shown o_old e_old k_old) ∥₁
-      → out_faults o_lent ≤ out_faults o_old → err_faults e_lent ≤ err_faults e_old
-      → IfSome final (λ r. TellsLine (line_of (Ran r)) (Ran r) given (err_told e_old) (err_told e_now) (err_faults e_old) (err_faults e_now))
-      → Closing p fuel s final given es_now (shown o e k) (shown o_old e_old k_old) (shown o_now e_now k_now)
-  closed p fuel s final given es es_now o o_lent o_old o_now e e_lent e_old e_now k k_lent k_old k_now lent_is es_is o_kept k_kept script_is fuel_is limits_is some run out_le err_le line = record {
+      → out_faults o_lent ≤ out_faults o_old → err_faults e_lent ≤ err_faults e_old → early k_lent ≤ early k_old
+      → HasRun fuel s final es (shown o e k) (shown o_old e_old k_old)
+  has_run p fuel s final es o o_lent o_old e e_lent e_old k k_chosen k_lent k_old lent_is chosen_is script_is fuel_is limits_is some run out_le err_le early_le = record {
+    plan = p;
     script = script_is;
     fuel = fuel_is;
-    limits = limits_is;
-    ends = some;
-    run = subst (λ z. ∥ IsRunOf p final z (shown o e k) (shown o_old e_old k_old) ∥₁) (sym es_is)
-        (subst (λ z. ∥ IsRunOf p final es z (shown o_old e_old k_old) ∥₁) lent_is run);
+    bounds = limits_is;
+    ended = some;
+    run = ∥∥₁_map (subst (λ z. ∥ IsRunOf p final es z (shown o_old e_old k_old) ∥₁) lent_is run)
+        (λ one. run_since p final es (shown o e k) (shown o_old e_old k_old) (last k_chosen) (early k_chosen) chosen_is one);
     out_counted = subst (λ z. z.out_faults ≤ out_faults o_old) lent_is out_le;
     err_counted = subst (λ z. z.err_faults ≤ err_faults e_old) lent_is err_le;
-    line = line;
-    line_counted = counted_line final given (err_told e_old) (err_told e_now) (err_faults e_old) (err_faults e_now) some line;
-    later = record { output = ap out_told o_kept; out_faults = ap out_faults o_kept; last = ap last k_kept; early = ap early k_kept };
+    waited = subst (λ n. n ≤ early k_old) chosen_is (subst (λ z. z.early ≤ early k_old) lent_is early_le);
   }
 
   -- no run began, and what was handed in came back
-  pub gave_up : (fuel : ℕ) (bytes : List ℕ) (given : Ending) (es : List Entry) (o o_now : O) (e e_back e_now : E) (k k_now : K) → o_now ≡ o → e_back ≡ e → k_now ≡ k → es ≡ []
+  pub gave_up : (fuel : ℕ) (bytes : List ℕ) (given : Ending) (es : List Entry) (o o_now : O) (e e_back e_now : E) (k k_now : K) → o_now ≡ o → e_back ≡ e → early k_now ≡ early k → es ≡ []
       → TellsAnswer Memory given (err_told e_back) (err_told e_now) (err_faults e_back) (err_faults e_now) → Plays fuel bytes given es (shown o e k) (shown o_now e_now k_now)
   gave_up fuel bytes given es o o_now e e_back e_now k k_now o_is e_is k_is none (inl line) =
-      inl (idle Memory given es (shown o e k) (shown o_now e_now k_now) none (ap out_told o_is) (ap out_faults o_is) (ap early k_is)
+      inl (idle Memory given es (shown o e k) (shown o_now e_now k_now) none (ap out_told o_is) (ap out_faults o_is) k_is
       (subst (λ z. TellsLine (line_of Memory) Memory given (err_told z) (err_told e_now) (err_faults z) (err_faults e_now)) e_is line))
   gave_up fuel bytes given es o o_now e e_back e_now k k_now o_is e_is k_is none (inr place) = absurd (place.0)
 
--- ---- the clock was told its choice before
+-- ---- what was told, by the command
 
--- what is shown, but for the last reading of the clock
-abbrev read_at : Shown → ℕ → Shown
-read_at lent last = record { output = lent.output; errors = lent.errors; out_faults = lent.out_faults; err_faults = lent.err_faults; last = last; early = lent.early }
-
-runs_since : (fuel : ℕ) (bytes : List ℕ) (r : RunEnd) (given : Ending) (es : List Entry) (lent now : Shown) (last : ℕ) → RunsScript fuel bytes r given es (read_at lent last) now
-    → RunsScript fuel bytes r given es lent now
-runs_since fuel bytes r given es lent now last runs = record {
+pub retold : {P Q : List Fn → Type 0} (fuel : ℕ) (bytes : List ℕ) (r : RunEnd) (es : List Entry) (lent now : Shown) → ((ds : List Fn) → P ds → Q ds) → RunsScript fuel bytes r es lent now P
+    → RunsScript fuel bytes r es lent now Q
+retold fuel bytes r es lent now change runs = record {
   script = runs.script;
   accepted = runs.accepted;
   state = runs.state;
@@ -306,54 +339,68 @@ runs_since fuel bytes r given es lent now last runs = record {
   laws = runs.laws;
   ticks = runs.ticks;
   ended = runs.ended;
-  told = told_since (is_write (Some r)) runs.told;
+  told = change (script_of runs.script) runs.told;
 }
-  where
-    told_since : (b : Bool) → TellsBy b r given (script_of runs.script) es (read_at lent last) now → TellsBy b r given (script_of runs.script) es lent now
-    told_since true told = told
-    told_since false told = told
 
-pub plays_since : (fuel : ℕ) (bytes : List ℕ) (given : Ending) (es : List Entry) (lent now : Shown) (last early : ℕ) → early ≡ lent.early
-    → Plays fuel bytes given es (record { output = lent.output; errors = lent.errors; out_faults = lent.out_faults; err_faults = lent.err_faults; last = last; early = early }) now
-    → Plays fuel bytes given es lent now
-plays_since fuel bytes given es lent now last early same plays =
-    since (subst (λ n. Plays fuel bytes given es (record { output = lent.output; errors = lent.errors; out_faults = lent.out_faults; err_faults = lent.err_faults; last = last; early = n }) now) same plays)
-  where
-    since : Plays fuel bytes given es (read_at lent last) now → Plays fuel bytes given es lent now
-    since (inl idle) = inl (record { no_entry = idle.no_entry; no_output = idle.no_output; no_wait = idle.no_wait; told = idle.told })
-    since (inr ran) = inr (ran.0, ran.1, runs_since fuel bytes ran.0 given es lent now last ran.2)
+tells_as : (command : Option Command) (fuel : ℕ) (clock : ClockChoice) (bytes : List ℕ) (r : RunEnd) (given : Ending) (es : List Entry) (lent now : Shown) (ds : List Fn) → RunsWith command fuel clock → (Traces command → ⊥)
+    → TellsBy (is_write (Some r)) r given ds es lent now → Tells command bytes r given es lent now ds
+tells_as None fuel clock bytes r given es lent now ds runs prints told = told
+tells_as (Some (Run capabilities most choice)) fuel clock bytes r given es lent now ds runs prints told = told
+tells_as (Some Check) fuel clock bytes r given es lent now ds runs prints told = told
+tells_as (Some (Bench threads capabilities most)) fuel clock bytes r given es lent now ds runs prints told = told
+tells_as (Some (Trace capabilities most choice)) fuel clock bytes r given es lent now ds runs prints told = absurd (prints tt)
+tells_as (Some Verify) fuel clock bytes r given es lent now ds runs prints told = told
+
+-- a command that runs its input reads a script
+pub limit_is : (command : Option Command) (fuel : ℕ) (clock : ClockChoice) → RunsWith command fuel clock → source_limit command ≡ script_limit
+limit_is None fuel clock runs = refl
+limit_is (Some (Run capabilities most choice)) fuel clock runs = refl
+limit_is (Some Check) fuel clock runs = refl
+limit_is (Some (Bench threads capabilities most)) fuel clock runs = refl
+limit_is (Some (Trace capabilities most choice)) fuel clock runs = refl
+limit_is (Some Verify) fuel clock runs = absurd runs
+
+pub program_through : (command : Option Command) (before now : Option (List ℕ)) (program : Program) → HasProgram command before now program → ReadsSource command → ReadThrough (source_limit command) before now
+program_through command before now program has reads =
+    subst (λ n. ReadThrough n before now) (sym (limit_is command program.fuel program.clock has.runs)) (has.through reads)
 
 -- ---- what the call came to
 
-pub has_program : (command : Option Command) (before now : Option (List ℕ)) (task : Task) (program : Program) → task ≡ Run program → HasTask command before now task → HasProgram command before now program
+pub has_program : (command : Option Command) (before now : Option (List ℕ)) (task : Task) (program : Program) → task ≡ RunTask program → HasTask command before now task → HasProgram command before now program × ¬ Traces command
 has_program command before now task program is has = subst (HasTask command before now) is has
 
 module _ (command : Option Command) (fault : Type 0) (a b : ℕ) (before left_now : Option (List ℕ)) (choice : Option ClockChoice) (program : Program) where
-  played_call : (given : Ending) (es : List Entry) (lent now : Shown) (has : HasProgram command before left_now program) → b ≡ a → choice ≡ Some program.clock
+  played_call : (given : Ending) (es : List Entry) (lent now : Shown) (has : HasProgram command before left_now program) → ¬ Traces command → b ≡ a → choice ≡ Some program.clock
       → Plays program.fuel has.bytes given es lent now → Call command fault (a < b) before left_now choice given es lent now
-  played_call given es lent now has same chosen (inl idle) = record {
+  played_call given es lent now has prints same chosen (inl idle) = record {
     bytes = has.bytes;
     input = has.input;
     came = Memory;
     due = tt;
     faulty = λ rose. absurd (never_rose a b same rose);
-    through = λ reads. few_through before left_now (has.through reads);
-    kept = idle;
+    through = λ reads. few_through (source_limit command) before left_now (program_through command before left_now program has reads);
+    kept = inl idle;
   }
-  played_call given es lent now has same chosen (inr ran) = record {
+  played_call given es lent now has prints same chosen (inr ran) = record {
     bytes = has.bytes;
     input = has.input;
     came = Ran ran.0;
     due = ((program.fuel, program.clock, has.runs), ((body_of program.code).of.value, has.accepted), ran.1);
     faulty = λ rose. absurd (never_rose a b same rose);
-    through = has.through;
-    kept = (program.fuel, program.clock, has.runs, chosen, ran.2);
+    through = program_through command before left_now program has;
+    kept = (
+      program.fuel,
+      program.clock,
+      has.runs,
+      chosen,
+      retold program.fuel has.bytes ran.0 es lent now (λ ds told. tells_as command program.fuel program.clock has.bytes ran.0 given es lent now ds has.runs prints told) ran.2,
+    );
   }
 
-  pub program_call : (given : Ending) (es : List Entry) (lent now : Shown) → HasProgram command before left_now program → b ≡ a → choice ≡ Some program.clock
+  pub program_call : (given : Ending) (es : List Entry) (lent now : Shown) → HasProgram command before left_now program × ¬ Traces command → b ≡ a → choice ≡ Some program.clock
       → ((bytes : List ℕ) → IsAccepted bytes (body_of program.code).of.value → ∥ Plays program.fuel bytes given es lent now ∥₁)
       → ∥ Call command fault (a < b) before left_now choice given es lent now ∥₁
-  program_call given es lent now has same chosen plays = ∥∥₁_map (plays has.bytes has.accepted) (played_call given es lent now has same chosen)
+  program_call given es lent now (has, prints) same chosen plays = ∥∥₁_map (plays has.bytes has.accepted) (played_call given es lent now has prints same chosen)
 
 -- a played script has no answer that comes without a run
 pub played_ran : (write_fault : Type 0) (given : Ending) → IsPlayed write_fault given → IsUnrun given → ⊥
@@ -364,19 +411,23 @@ played_ran write_fault (Refused r) played unrun = played
 played_ran write_fault Accepted played unrun = played
 played_ran write_fault Words played unrun = played
 played_ran write_fault Read played unrun = played
+played_ran write_fault (Verified v) played unrun = played
+played_ran write_fault (NotRun why) played unrun = played
 
 -- the cause of the answer
-played_due : (command : Option Command) (bytes : List ℕ) (read_fault write_fault : Type 0) (given : Ending) → Runs command → IsScript bytes → IsPlayed write_fault given
-    → IsDue command bytes read_fault write_fault given
-played_due command bytes read_fault write_fault (Ran r) asked found played = (asked, found, played)
-played_due command bytes read_fault write_fault Memory asked found played = tt
-played_due command bytes read_fault write_fault Write asked found played = played
-played_due command bytes read_fault write_fault (Refused r) asked found played = absurd played
-played_due command bytes read_fault write_fault Accepted asked found played = absurd played
-played_due command bytes read_fault write_fault Words asked found played = absurd played
-played_due command bytes read_fault write_fault Read asked found played = absurd played
+played_due : (command : Option Command) (before : Option (List ℕ)) (bytes : List ℕ) (read_fault write_fault : Type 0) (given : Ending) → Runs command → IsScript bytes → IsPlayed write_fault given
+    → IsDue command before bytes read_fault write_fault given
+played_due command before bytes read_fault write_fault (Ran r) asked found played = (asked, found, played)
+played_due command before bytes read_fault write_fault Memory asked found played = tt
+played_due command before bytes read_fault write_fault Write asked found played = played
+played_due command before bytes read_fault write_fault (Refused r) asked found played = absurd played
+played_due command before bytes read_fault write_fault Accepted asked found played = absurd played
+played_due command before bytes read_fault write_fault Words asked found played = absurd played
+played_due command before bytes read_fault write_fault Read asked found played = absurd played
+played_due command before bytes read_fault write_fault (Verified v) asked found played = absurd played
+played_due command before bytes read_fault write_fault (NotRun why) asked found played = absurd played
 
 pub program_due : (command : Option Command) (read_fault write_fault : Type 0) (before left_now : Option (List ℕ)) (program : Program) (given : Ending) → HasProgram command before left_now program
-    → IsPlayed write_fault given → (bytes : List ℕ) × IsInput command before bytes × IsDue command bytes read_fault write_fault given
+    → IsPlayed write_fault given → (bytes : List ℕ) × IsInput command before bytes × IsDue command before bytes read_fault write_fault given
 program_due command read_fault write_fault before left_now program given has played =
-    (has.bytes, has.input, played_due command has.bytes read_fault write_fault given (program.fuel, program.clock, has.runs) ((body_of program.code).of.value, has.accepted) played)
+    (has.bytes, has.input, played_due command before has.bytes read_fault write_fault given (program.fuel, program.clock, has.runs) ((body_of program.code).of.value, has.accepted) played)

@@ -1,15 +1,17 @@
 -- What a call of the top call keeps and tells (own).
-use Rattle.std.specs.Prelude.{◌≡◌, ◌≢◌, ◌⊎◌, ◌≤◌, ◌++◌, ℕ, Bool, true, false, List, [], take, Option, Some, IfSome, ⊤}
+use Rattle.std.specs.Prelude.{◌≡◌, ◌≢◌, ◌⊎◌, ◌≤◌, ◌++◌, ℕ, Bool, true, false, List, [], take, Option, Some, None, IfSome, IsSome, Result, Ok, Err, ⊤}
 use Rattle.std.specs.Io.KnownBytes.{Appends}
 use Rattle.hs_base.specs.declared.clock_choice.ClockChoice.{ClockChoice}
 use Rattle.hs_base.specs.declared.limits.Limits.{Limits}
 use Rattle.hs_base.specs.declared.tree.script.Script.{Script}
 use Rattle.hs_io.specs.Causes.{Rose}
 use Rattle.hs_rules.specs.declared.entry.Entry.{Entry}
+use Rattle.hs_rules.specs.declared.kept.Plan.{Plan}
 use Rattle.hs_rules.specs.State.{State}
 use Rattle.hs_rules.specs.Histories.{steps_of}
 use Rattle.hs_rules.specs.Runs.{IsRun, out, err}
 use Rattle.rules_trees.specs.Programs.{Fn, script_of}
+use Rattle.rules_traces.specs.Traces.{document_of}
 use Rattle.hs_laws.specs.BracketLaw.{Brackets}
 use Rattle.hs_laws.specs.BracketPhases.{BracketsKept}
 use Rattle.hs_laws.specs.CellLaw.{CellsKept}
@@ -19,14 +21,17 @@ use Rattle.clocked_record.specs.Clocks.{TicksKept}
 use Rattle.run_course.specs.declared.ends.RunEnd.{RunEnd}
 use Rattle.run_course.specs.Told.{AppendsPart, IsCutOff, is_write}
 use Rattle.run_course.specs.Endings.{EndedBy}
-use Rattle.conc_world.specs.Runs.{Shown}
+use Rattle.conc_world.specs.Runs.{IsRunOf, Shown}
 use Rattle.conc_words.specs.declared.command.Command.{Command}
+use Rattle.conc_words.specs.declared.command.Command.TheVariants.{Run, Check, Bench, Trace, Verify}
 use Rattle.hs_compile.specs.Verdicts.{IsAccepted}
-use Rattle.conc_task.specs.Commands.{IsInput, ReadsSource, RunsWith}
+use Rattle.conc_task.specs.Commands.{IsInput, ReadsSource, RunsWith, source_limit, Traces}
+use Rattle.trace_checker.specs.declared.verdict.Verified.{Verified as VerifiedRun}
+use Rattle.trace_checker.specs.declared.verdict.RunFault.{RunFault}
 use Rattle.conc_top.specs.declared.ending.Ending.{Ending}
-use Rattle.conc_top.specs.declared.ending.Ending.TheVariants.{Ran, Accepted, Words, Refused, Read, Memory, Write}
-use Rattle.conc_top.specs.Causes.{HasFault, IsDue, IsReadThrough}
-use Rattle.conc_top.specs.Lines.{accepted_line, HasPlace, line_of, run_line}
+use Rattle.conc_top.specs.declared.ending.Ending.TheVariants.{Ran, Accepted, Words, Refused, Read, Memory, Write, Verified, NotRun}
+use Rattle.conc_top.specs.Causes.{HasFault, IsDue, IsReadThrough, unverified}
+use Rattle.conc_top.specs.Lines.{accepted_line, HasPlace, line_of, run_line, verified_line}
 
 -- the limits of a run: threads and cells ever made, frames over all unfinished threads, bytes of output and error output
 abbrev pub limits : Limits
@@ -49,9 +54,27 @@ TellsBy false r given ds es lent now = Appends lent.output now.output (out ds es
     × (((given ≡ Ran r) × Appends lent.errors now.errors (err ds es ++ run_line r))
     ⊎ ((given ≡ Write) × AppendsPart lent.errors now.errors (err ds es) (err ds es ++ run_line r) × (run_line r ≢ []) × Rose lent.err_faults now.err_faults))
 
+-- What `trace` told: the document of the history and of the bytes that were read, and then the line of the ending; where a put
+-- failed, a part of the one and nothing of the other, or all of the one and a part of the other, and the answer is Write.
+abbrev pub TellsTrace : (bytes : List ℕ) → RunEnd → (given : Ending) → List Entry → (lent now : Shown) → Type 0
+TellsTrace bytes r given es lent now =
+    (Appends lent.output now.output (document_of es bytes)
+    × (((given ≡ Ran r) × Appends lent.errors now.errors (run_line r))
+    ⊎ ((given ≡ Write) × ((n : ℕ) × Appends lent.errors now.errors (take n (run_line r))) × (run_line r ≢ []) × Rose lent.err_faults now.err_faults)))
+    ⊎ ((given ≡ Write) × ((n : ℕ) × Appends lent.output now.output (take n (document_of es bytes))) × (now.errors ≡ lent.errors) × Rose lent.out_faults now.out_faults)
+
+-- what the command told of a run
+abbrev pub Tells : Option Command → (bytes : List ℕ) → RunEnd → (given : Ending) → List Entry → (lent now : Shown) → List Fn → Type 0
+Tells None bytes r given es lent now ds = TellsBy (is_write (Some r)) r given ds es lent now
+Tells (Some (Run capabilities fuel clock)) bytes r given es lent now ds = TellsBy (is_write (Some r)) r given ds es lent now
+Tells (Some Check) bytes r given es lent now ds = TellsBy (is_write (Some r)) r given ds es lent now
+Tells (Some (Bench threads capabilities fuel)) bytes r given es lent now ds = TellsBy (is_write (Some r)) r given ds es lent now
+Tells (Some (Trace capabilities fuel clock)) bytes r given es lent now ds = TellsTrace bytes r given es lent now
+Tells (Some Verify) bytes r given es lent now ds = TellsBy (is_write (Some r)) r given ds es lent now
+
 -- This history is a run of the script that these bytes are, from its first state to its ending, which came for its cause. Its
--- clock never passed the last reading of the clock that was handed in.
-pub record RunsScript (fuel : ℕ) (bytes : List ℕ) (r : RunEnd) (given : Ending) (es : List Entry) (lent now : Shown) : Type 0 where
+-- clock never passed the last reading of the clock that was handed in. What was told is so of the script's definitions.
+pub record RunsScript (fuel : ℕ) (bytes : List ℕ) (r : RunEnd) (es : List Entry) (lent now : Shown) (Told : List Fn → Type 0) : Type 0 where
   pub script : Script
   pub accepted : IsAccepted bytes script
   pub state : State
@@ -62,7 +85,7 @@ pub record RunsScript (fuel : ℕ) (bytes : List ℕ) (r : RunEnd) (given : Endi
   pub laws : KeepsLaws (script_of script) es state
   pub ticks : TicksKept (script_of script) es lent.early now.early
   pub ended : ∥ EndedBy (Some r) (script_of script) es fuel limits lent.out_faults lent.err_faults now.out_faults now.err_faults ∥₁
-  pub told : TellsBy (is_write (Some r)) r given (script_of script) es lent now
+  pub told : Told (script_of script)
 
 -- A line was put on a sink: whole, or a part of it where the put failed, and the answer is Write then.
 abbrev pub TellsLine : List ℕ → (came given : Ending) → (told told_now : Option (List ℕ)) → (faults faults_now : ℕ) → Type 0
@@ -88,16 +111,32 @@ pub record IsChecked (given : Ending) (es : List Entry) (lent now : Shown) : Typ
   pub no_wait : now.early ≡ lent.early
   pub told : TellsLine accepted_line Accepted given lent.output now.output lent.out_faults now.out_faults
 
+-- The document is a run and nothing ran: the line that says so was put on the output sink, and the clock waited for nothing.
+pub record IsVerified (v : VerifiedRun) (given : Ending) (es : List Entry) (lent now : Shown) : Type 0 where
+  pub no_entry : es ≡ []
+  pub no_errors : (now.errors ≡ lent.errors) × (now.err_faults ≡ lent.err_faults)
+  pub no_wait : now.early ≡ lent.early
+  pub told : TellsLine (verified_line v) (Verified v) given lent.output now.output lent.out_faults now.out_faults
+
+-- No document was written for want of memory: its line was put on the error sink. Something may have run, which the clock alone
+-- shows.
+pub record IsUnwritten (given : Ending) (es : List Entry) (lent now : Shown) : Type 0 where
+  pub no_entry : es ≡ []
+  pub no_output : (now.output ≡ lent.output) × (now.out_faults ≡ lent.out_faults)
+  pub told : TellsLine (line_of Memory) Memory given lent.errors now.errors lent.err_faults now.err_faults
+
 -- what the answer keeps and tells: a run by the clock of the command, or a line
 abbrev pub Keeps : Option Command → List ℕ → (choice : Option ClockChoice) → (came given : Ending) → List Entry → (lent now : Shown) → Type 0
 Keeps command bytes choice (Ran r) given es lent now =
-    (fuel : ℕ) × (clock : ClockChoice) × RunsWith command fuel clock × (choice ≡ Some clock) × RunsScript fuel bytes r given es lent now
+    (fuel : ℕ) × (clock : ClockChoice) × RunsWith command fuel clock × (choice ≡ Some clock) × RunsScript fuel bytes r es lent now (Tells command bytes r given es lent now)
 Keeps command bytes choice Accepted given es lent now = IsChecked given es lent now
 Keeps command bytes choice Words given es lent now = IsIdle Words given es lent now
 Keeps command bytes choice (Refused r) given es lent now = IsIdle (Refused r) given es lent now
 Keeps command bytes choice Read given es lent now = IsIdle Read given es lent now
-Keeps command bytes choice Memory given es lent now = IsIdle Memory given es lent now
+Keeps command bytes choice Memory given es lent now = IsIdle Memory given es lent now ⊎ (Traces command × IsUnwritten given es lent now)
 Keeps command bytes choice Write given es lent now = ⊥
+Keeps command bytes choice (Verified v) given es lent now = IsVerified v given es lent now
+Keeps command bytes choice (NotRun why) given es lent now = IsIdle (NotRun why) given es lent now
 
 -- some put failed
 abbrev pub WriteFault : (lent now : Shown) → Type 0
@@ -106,7 +145,38 @@ WriteFault lent now = Rose lent.out_faults now.out_faults ⊎ Rose lent.err_faul
 -- What is kept and told where a script is to run: its run, or want of memory before it began.
 abbrev pub Plays : (fuel : ℕ) → List ℕ → (given : Ending) → List Entry → (lent now : Shown) → Type 0
 Plays fuel bytes given es lent now = IsIdle Memory given es lent now
-    ⊎ ((r : RunEnd) × HasFault r (WriteFault lent now) × RunsScript fuel bytes r given es lent now)
+    ⊎ ((r : RunEnd) × HasFault r (WriteFault lent now) × RunsScript fuel bytes r es lent now (λ ds. TellsBy (is_write (Some r)) r given ds es lent now))
+
+-- The same where the history is to be written.
+abbrev pub Writes : (fuel : ℕ) → List ℕ → (given : Ending) → List Entry → (lent now : Shown) → Type 0
+Writes fuel bytes given es lent now = IsUnwritten given es lent now
+    ⊎ ((r : RunEnd) × HasFault r (WriteFault lent now) × RunsScript fuel bytes r es lent now (λ ds. TellsTrace bytes r given es lent now))
+
+-- Under the answer of `trace` the output sink was told the document where something ran, a part of it after a failed put, and else
+-- nothing.
+abbrev pub IsWritten : (document : List ℕ) → (given : Ending) → (told told_now : Option (List ℕ)) → Type 0
+IsWritten document (Ran r) told told_now = Appends told told_now document
+IsWritten document Write told told_now = (n : ℕ) × Appends told told_now (take n document)
+IsWritten document Accepted told told_now = told_now ≡ told
+IsWritten document Words told told_now = told_now ≡ told
+IsWritten document (Refused r) told told_now = told_now ≡ told
+IsWritten document Read told told_now = told_now ≡ told
+IsWritten document Memory told told_now = told_now ≡ told
+IsWritten document (Verified v) told told_now = told_now ≡ told
+IsWritten document (NotRun why) told told_now = told_now ≡ told
+
+-- What a desk leaves that was run to its ending: this script ran with so much fuel and within the limits, since the sinks and the
+-- clock showed the first until they showed the second.
+pub record HasRun (most : ℕ) (s : Script) (final : Option RunEnd) (es : List Entry) (lent now : Shown) : Type 0 where
+  pub plan : Plan
+  pub script : plan.body.of.value ≡ s
+  pub fuel : plan.fuel ≡ most
+  pub bounds : plan.limits ≡ limits
+  pub ended : IsSome final
+  pub run : ∥ IsRunOf plan final es lent now ∥₁
+  pub out_counted : lent.out_faults ≤ now.out_faults
+  pub err_counted : lent.err_faults ≤ now.err_faults
+  pub waited : lent.early ≤ now.early
 
 -- the answers of a call that has a script to run, and the cause of each
 abbrev pub IsPlayed : (write_fault : Type 0) → Ending → Type 0
@@ -117,6 +187,8 @@ IsPlayed write_fault (Refused r) = ⊥
 IsPlayed write_fault Accepted = ⊥
 IsPlayed write_fault Words = ⊥
 IsPlayed write_fault Read = ⊥
+IsPlayed write_fault (Verified v) = ⊥
+IsPlayed write_fault (NotRun why) = ⊥
 
 -- What a call came to, one answer that is due, and what it kept and told; where the put of its line failed, Write stands in the
 -- answer's place.
@@ -125,12 +197,43 @@ pub record Call (command : Option Command) (read_fault read_rose : Type 0) (befo
   pub bytes : List ℕ
   pub input : IsInput command before bytes
   pub came : Ending
-  pub due : IsDue command bytes read_fault (WriteFault lent now) came
+  pub due : IsDue command before bytes read_fault (WriteFault lent now) came
   -- where the source's count of faults rose
   pub faulty : read_rose → came ≡ Read
-  pub through : ReadsSource command → IsReadThrough came before left_now
+  pub through : ReadsSource command → IsReadThrough (source_limit command) came before left_now
   pub kept : Keeps command bytes choice came given es lent now
 
 -- a sink that tells its bytes was told nothing yet
 abbrev pub WasToldNothing : Option (List ℕ) → Type 0
 WasToldNothing told = IfSome told (λ bytes. bytes ≡ [])
+
+-- ---- the steps of it
+
+-- A document was put on one sink, and then the line of the ending on the other, unless the first put failed.
+abbrev pub PutsDocument : (document : List ℕ) → RunEnd → (given : Ending) → (told told_now : Option (List ℕ)) → (faults faults_now : ℕ)
+    → (errors errors_now : Option (List ℕ)) → (err_faults err_faults_now : ℕ) → Type 0
+PutsDocument document r given told told_now faults faults_now errors errors_now err_faults err_faults_now =
+    (Appends told told_now document × (faults_now ≡ faults) × TellsLine (run_line r) (Ran r) given errors errors_now err_faults err_faults_now)
+    ⊎ ((given ≡ Write) × ((n : ℕ) × Appends told told_now (take n document)) × Rose faults faults_now × (faults ≤ faults_now) × (errors_now ≡ errors) × (err_faults_now ≡ err_faults))
+
+-- The document of a history was put and the history is kept, or there was no memory for it.
+abbrev pub WritesRun : (bytes : List ℕ) → RunEnd → (given : Ending) → (es es_now : List Entry) → (told told_now : Option (List ℕ)) → (faults faults_now : ℕ)
+    → (errors errors_now : Option (List ℕ)) → (err_faults err_faults_now : ℕ) → Type 0
+WritesRun bytes r given es es_now told told_now faults faults_now errors errors_now err_faults err_faults_now =
+    ((es_now ≡ es) × PutsDocument (document_of es bytes) r given told told_now faults faults_now errors errors_now err_faults err_faults_now)
+    ⊎ ((es_now ≡ []) × (told_now ≡ told) × (faults_now ≡ faults) × TellsLine (line_of Memory) Memory given errors errors_now err_faults err_faults_now)
+
+-- The line of a run that was found was put on the output sink, or there was no memory for it.
+abbrev pub TellsVerified : VerifiedRun → (given : Ending) → (told told_now : Option (List ℕ)) → (faults faults_now : ℕ)
+    → (errors errors_now : Option (List ℕ)) → (err_faults err_faults_now : ℕ) → Type 0
+TellsVerified v given told told_now faults faults_now errors errors_now err_faults err_faults_now =
+    (TellsLine (verified_line v) (Verified v) given told told_now faults faults_now × (errors_now ≡ errors) × (err_faults_now ≡ err_faults))
+    ⊎ ((told_now ≡ told) × (faults_now ≡ faults) × TellsLine (line_of Memory) Memory given errors errors_now err_faults err_faults_now)
+
+-- what is told of the answer of a check
+abbrev pub TellsCheck : Result VerifiedRun RunFault → (given : Ending) → (told told_now : Option (List ℕ)) → (faults faults_now : ℕ)
+    → (errors errors_now : Option (List ℕ)) → (err_faults err_faults_now : ℕ) → Type 0
+TellsCheck (Ok v) given told told_now faults faults_now errors errors_now err_faults err_faults_now =
+    TellsVerified v given told told_now faults faults_now errors errors_now err_faults err_faults_now
+TellsCheck (Err fault) given told told_now faults faults_now errors errors_now err_faults err_faults_now =
+    (told_now ≡ told) × (faults_now ≡ faults) × TellsAnswer (unverified fault) given errors errors_now err_faults err_faults_now

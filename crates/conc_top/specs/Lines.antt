@@ -14,10 +14,15 @@ use Rattle.run_course.specs.declared.ends.RunEnd.{RunEnd}
 use Rattle.run_course.specs.declared.ends.RunEnd.TheVariants as end
 use Rattle.hs_compile.specs.declared.refusal.Refusal.{Refusal}
 use Rattle.hs_compile.specs.declared.refusal.Refusal.TheVariants as refusal
+use Rattle.trace_checker.specs.declared.verdict.Verified.{Verified as VerifiedRun}
+use Rattle.history_player.specs.declared.player.Reached.{Reached}
+use Rattle.history_player.specs.declared.player.Reached.TheVariants as reached
+use Rattle.conc_top.specs.declared.ending.NotRun.{NotRun as NoRun}
+use Rattle.conc_top.specs.declared.ending.NotRun.TheVariants as norun
 use Rattle.conc_top.specs.declared.ending.Line.{Line}
 use Rattle.conc_top.specs.declared.ending.Line.TheVariants.{Fixed, Made}
 use Rattle.conc_top.specs.declared.ending.Ending.{Ending}
-use Rattle.conc_top.specs.declared.ending.Ending.TheVariants.{Ran, Accepted, Words, Refused, Read, Memory, Write}
+use Rattle.conc_top.specs.declared.ending.Ending.TheVariants.{Ran, Accepted, Words, Refused, Read, Memory, Write, Verified, NotRun}
 
 abbrev pub run_status : RunEnd → ℕ
 run_status end.Done = 0
@@ -37,6 +42,8 @@ status_of (Refused r) = 3
 status_of Memory = 6
 status_of Read = 7
 status_of Write = 8
+status_of (Verified v) = 0
+status_of (NotRun why) = 10
 
 abbrev pub run_line : RunEnd → List ℕ
 run_line end.Done = []
@@ -90,6 +97,27 @@ refusal_line (refusal.Types fault) = types_line fault
 abbrev pub accepted_line : List ℕ
 accepted_line = codes "accepted" ++ line_feed
 
+-- what a run came to that is verified
+abbrev pub reached_word : Reached → List ℕ
+reached_word reached.Done = codes "done"
+reached_word reached.Uncaught = codes "uncaught"
+reached_word reached.Deadlock = codes "deadlock"
+reached_word reached.Open = codes "open"
+
+-- the line that goes to the output sink where `verify` finds a run
+abbrev pub verified_line : VerifiedRun → List ℕ
+verified_line v = codes "a run: " ++ decimal v.entries ++ codes " entries, " ++ decimal v.steps ++ codes " steps, " ++ reached_word v.end ++ line_feed
+
+-- not a run: KIND at line N
+abbrev pub numbered_line : List ℕ → ℕ → List ℕ
+numbered_line kind number = kind ++ decimal number ++ line_feed
+
+abbrev pub norun_line : NoRun → List ℕ
+norun_line norun.NoScript = codes "not a run: NoScript" ++ line_feed
+norun_line (norun.Spelling number) = numbered_line (codes "not a run: Spelling at line ") number
+norun_line (norun.Long number) = numbered_line (codes "not a run: Long at line ") number
+norun_line (norun.Illegal number) = numbered_line (codes "not a run: Illegal at line ") number
+
 -- the line that goes to the error sink, or nothing
 abbrev pub line_of : Ending → List ℕ
 line_of (Ran r) = run_line r
@@ -99,6 +127,8 @@ line_of (Refused r) = refusal_line r
 line_of Memory = memory_line
 line_of Read = codes "read fault" ++ line_feed
 line_of Write = []
+line_of (Verified v) = []
+line_of (NotRun why) = norun_line why
 
 -- the line has a place in it; that of a missing `main` is the same text each time
 abbrev pub PlacesLexFault : LexFault → Type 0
@@ -132,6 +162,12 @@ RefusesAPlace (refusal.Lex fault) = PlacesLexFault fault
 RefusesAPlace (refusal.Parse fault) = PlacesParseFault fault
 RefusesAPlace (refusal.Types fault) = PlacesTypeFault fault
 
+abbrev pub NumbersALine : NoRun → Type 0
+NumbersALine norun.NoScript = ⊥
+NumbersALine (norun.Spelling number) = ⊤
+NumbersALine (norun.Long number) = ⊤
+NumbersALine (norun.Illegal number) = ⊤
+
 abbrev pub HasPlace : Ending → Type 0
 HasPlace (Ran r) = ⊥
 HasPlace Accepted = ⊥
@@ -140,6 +176,8 @@ HasPlace (Refused r) = RefusesAPlace r
 HasPlace Memory = ⊥
 HasPlace Read = ⊥
 HasPlace Write = ⊥
+HasPlace (Verified v) = ⊥
+HasPlace (NotRun why) = NumbersALine why
 
 -- the bytes of a line as it is told
 abbrev pub text_of : Line → List ℕ

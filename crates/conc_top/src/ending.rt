@@ -1,5 +1,5 @@
-ghost use Rattle.std.specs.Prelude.{◌≡◌, IfOk, OnErr};
-ghost use Rattle.conc_top.specs.Lines.{HasPlace, line_of, placed_line, PlacesTypeFault, refusal_line, RefusesAPlace, run_line, run_status, status_of, text_of, types_line};
+ghost use Rattle.std.specs.Prelude.{◌≡◌, IfOk, OnErr, string_bytes};
+ghost use Rattle.conc_top.specs.Lines.{HasPlace, line_of, norun_line, numbered_line, NumbersALine, placed_line, PlacesTypeFault, reached_word, refusal_line, RefusesAPlace, run_line, run_status, status_of, text_of, types_line, verified_line};
 
 use conc_world::RunEnd;
 use hs_base::{NoMemory, Pos};
@@ -9,6 +9,7 @@ use hs_parse::ParseFault;
 use hs_rules::{History, LimitKind};
 use hs_types::TypeFault;
 use std::alloc::Global;
+use trace_checker::{Reached, Verified};
 
 /// What `check` puts on the output sink where the script is accepted.
 pub const ACCEPTED: &str = "accepted\n";
@@ -33,6 +34,23 @@ pub enum Ending {
     Memory,
     /// A put failed.
     Write,
+    /// A document is a run of its script.
+    Verified(Verified),
+    /// A document is none.
+    NotRun(NotRun),
+}
+
+/// Why a document is no run of its script.
+#[derive(Clone, Copy, Debug, PartialEq, Eq)]
+pub enum NotRun {
+    /// No line of it is `script`.
+    NoScript,
+    /// The line with this number isn't as a trace has it.
+    Spelling(u32),
+    /// With the line of this number there are more steps than a run may have.
+    Long(u32),
+    /// The entry of the line with this number isn't legal after those before it.
+    Illegal(u32),
 }
 
 /// What a call of `run` leaves: its ending with its status, the history, and what was handed in.
@@ -53,28 +71,30 @@ impl Ending {
     {
         match self {
             Ending::Ran(end) => run_status(end),
-            Ending::Accepted => 0,
+            Ending::Accepted | Ending::Verified(_) => 0,
             Ending::Words => 2,
             Ending::Refused(_) => 3,
             Ending::Memory => 6,
             Ending::Read => 7,
             Ending::Write => 8,
+            Ending::NotRun(_) => 10,
         }
     }
 
-    /// The line that goes to the error sink, with its line feed, or an empty text. Only a line with a place in it takes
-    /// memory.
+    /// The line that goes to the error sink, with its line feed, or an empty text. Only a line with a place or a
+    /// number in it takes memory.
     pub fn line(&self, alloc: Global) -> Result<Line, NoMemory>
         ensures line { IfOk result (λ line. text_of line ≡ line_of self.now) }
         ensures err { OnErr result (HasPlace self.now) }
     {
         match self {
             Ending::Ran(end) => Ok(Line::Fixed(run_line(end))),
-            Ending::Accepted | Ending::Write => Ok(Line::Fixed("")),
+            Ending::Accepted | Ending::Verified(_) | Ending::Write => Ok(Line::Fixed("")),
             Ending::Words => Ok(Line::Fixed("words not understood\n")),
             Ending::Refused(refusal) => refusal_line(alloc, refusal),
             Ending::Memory => Ok(Line::Fixed(OUT_OF_MEMORY)),
             Ending::Read => Ok(Line::Fixed("read fault\n")),
+            Ending::NotRun(why) => norun_line(alloc, why),
         }
     }
 }
@@ -125,6 +145,49 @@ pub fn run_line(end: &RunEnd) -> &'static str
         RunEnd::Limit(LimitKind::Frames, _) => "limit: frames\n",
         RunEnd::Limit(LimitKind::Output, _) => "limit: output\n",
     }
+}
+
+/// The line that goes to the output sink where `verify` finds a run.
+pub fn verified_line(alloc: Global, verified: &Verified) -> Result<String, NoMemory>
+    ensures { IfOk result (λ line. string_bytes line ≡ verified_line verified.now) }
+{
+    let word = reached_word(verified.end);
+    let line = format!(in alloc;
+        "a run: {} entries, {} steps, {}\n",
+        verified.entries, verified.steps, word
+    )?;
+    Ok(line)
+}
+
+fn reached_word(end: Reached) -> &'static str
+    ensures { result.now ≡ reached_word end }
+{
+    match end {
+        Reached::Done => "done",
+        Reached::Uncaught => "uncaught",
+        Reached::Deadlock => "deadlock",
+        Reached::Open => "open",
+    }
+}
+
+fn norun_line(alloc: Global, why: &NotRun) -> Result<Line, NoMemory>
+    ensures line { IfOk result (λ line. text_of line ≡ norun_line why.now) }
+    ensures err { OnErr result (NumbersALine why.now) }
+{
+    match why {
+        NotRun::NoScript => Ok(Line::Fixed("not a run: NoScript\n")),
+        NotRun::Spelling(number) => line_numbered(alloc, "not a run: Spelling at line ", *number),
+        NotRun::Long(number) => line_numbered(alloc, "not a run: Long at line ", *number),
+        NotRun::Illegal(number) => line_numbered(alloc, "not a run: Illegal at line ", *number),
+    }
+}
+
+// not a run: KIND at line N
+fn line_numbered(alloc: Global, kind: &str, number: u32) -> Result<Line, NoMemory>
+    ensures { IfOk result (λ line. text_of line ≡ numbered_line kind.now number) }
+{
+    let line = format!(in alloc; "{}{}\n", kind, number)?;
+    Ok(Line::Made(line))
 }
 
 fn refusal_line(alloc: Global, refusal: &Refusal) -> Result<Line, NoMemory>

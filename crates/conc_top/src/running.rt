@@ -1,16 +1,58 @@
-//! A desk run to its ending, alone or by several capabilities.
-ghost use Rattle.std.specs.Prelude.{◌≡◌, ◌≤◌, IsSome};
+//! A script run to its ending, alone or by several capabilities.
+ghost use Rattle.std.specs.Prelude.{◌≡◌, ◌≤◌, IfErr, IfOk, IsSome, Some};
+ghost use Rattle.rules_code.specs.Codes.{body_of};
+ghost use Rattle.conc_top.specs.Answers.{HasRun};
 
 use conc_caps::run_caps;
-use conc_world::{Desk, alone};
+use conc_task::Program;
+use conc_world::{Closed, Desk, Parts, alone};
+use hs_base::Limits;
 use hs_io::{Clock, Gate, Sink};
 use hs_rules::Kept;
 use std::alloc::Global;
 use std::sync::Wait;
 use std::thread::Threads;
 
+/// Runs the program by the clock that it chooses, or hands back what it was given where there is no memory to begin.
+pub(crate) fn run_program<
+    O: Sink + Send,
+    E: Sink + Send,
+    K: Clock + Send,
+    G: Gate + Sync,
+    R: Threads + Wait + Sync,
+>(
+    alloc: Global,
+    rt: &R,
+    program: Program,
+    gate: &G,
+    out: O,
+    err: E,
+    clock: K,
+) -> Result<Closed<O, E, K>, Parts<O, E, K>>
+    requires fuel { 1 ≤ program.fuel }
+    requires capabilities { (1 ≤ program.capabilities) × (program.capabilities ≤ 16) }
+    ensures run { IfOk result (λ closed. HasRun program.fuel (body_of program.code).of.value closed.end closed.history.list
+        (record { output = O.told out; errors = E.told err; out_faults = O.faults out; err_faults = E.faults err; last = K.last clock; early = K.early_waits clock })
+        (record { output = O.told closed.parts.out; errors = E.told closed.parts.err; out_faults = O.faults closed.parts.out; err_faults = E.faults closed.parts.err; last = K.last closed.parts.clock; early = K.early_waits closed.parts.clock })) }
+    ensures choice { IfOk result (λ closed. K.choice closed.parts.clock ≡ Some program.clock) }
+    ensures err { IfErr result (λ parts. (parts.out ≡ out) × (parts.err ≡ err) × (K.choice parts.clock ≡ Some program.clock) × (K.early_waits parts.clock ≡ K.early_waits clock)) }
+{
+    let Program {
+        code,
+        capabilities,
+        fuel,
+        clock: choice,
+    } = program;
+    let mut clock = clock;
+    clock.choose(choice);
+    match Desk::begin(alloc, code, fuel, Limits::shipped(), out, err, clock) {
+        Ok(desk) => Ok(run_desk(alloc, rt, desk, capabilities, gate).close()),
+        Err(parts) => Err(parts),
+    }
+}
+
 /// Runs the desk to an ending. One capability has no thread of its own, and calls no gate.
-pub(crate) fn run_desk<
+fn run_desk<
     O: Sink + Send,
     E: Sink + Send,
     K: Clock + Send,

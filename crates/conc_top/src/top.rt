@@ -1,24 +1,26 @@
-ghost use Rattle.std.specs.Prelude.{◌≡◌, ◌<◌, ◌≤◌, ◌⊎◌, ℕ, List, Some, IfSome, IsSome, IsOk, [], map, string_bytes};
-ghost use Rattle.hs_io.specs.Causes.{HasCause, Rose};
-ghost use Rattle.hs_io.specs.Outside.{Puts};
+ghost use Rattle.std.specs.Prelude.{◌≡◌, ◌<◌, ◌≤◌, ◌⊎◌, ℕ, List, Some, IfSome, IsSome, map, string_bytes};
+ghost use Rattle.hs_io.specs.Causes.{Rose};
 ghost use Rattle.rules_code.specs.Codes.{body_of};
 ghost use Rattle.hs_compile.specs.declared.refusal.Refusal.{Refusal};
 ghost use Rattle.hs_compile.specs.Verdicts.{IsAccepted, IsRefused};
+ghost use Rattle.conc_words.specs.declared.command.Command.TheVariants.{Verify};
 ghost use Rattle.conc_words.specs.Commands.{command_of};
-ghost use Rattle.conc_task.specs.Commands.{IsChosen, IsInput, ReadsSource, Runs};
+ghost use Rattle.conc_task.specs.Commands.{IsChosen, IsInput, ReadsSource, Runs, Traces};
 ghost use Rattle.conc_task.specs.Inputs.{IsScript};
-ghost use Rattle.conc_top.specs.declared.ending.Ending.TheVariants.{Accepted, Memory, Ran};
-ghost use Rattle.conc_top.specs.Answers.{Call, IsPlayed, Plays, TellsAnswer, TellsLine, WasToldNothing};
-ghost use Rattle.conc_top.specs.Causes.{ending_of, IsDue, IsExpected, IsFault, IsRefusal, IsUnrun};
-ghost use Rattle.conc_top.specs.Lines.{accepted_line, HasPlace, line_of, status_of, text_of};
+ghost use Rattle.rules_traces.specs.Traces.{document_of};
+ghost use Rattle.conc_top.specs.declared.ending.Ending.TheVariants.{Ran};
+ghost use Rattle.conc_top.specs.Answers.{Call, IsPlayed, IsWritten, Plays, TellsLine, WasToldNothing};
+ghost use Rattle.conc_top.specs.Causes.{ending_of, IsDue, IsExpected, IsFault, IsRefusal, IsUnrun, IsVerdict};
+ghost use Rattle.conc_top.specs.Lines.{line_of, status_of};
 
-use crate::ending::{ACCEPTED, Done, Ending, Line, OUT_OF_MEMORY, run_line};
-use crate::running::run_desk;
+use crate::ending::{Done, Ending, NotRun, run_line};
+use crate::running::run_program;
+use crate::telling::{put_line, tell, tell_accepted};
+use crate::tracing::trace;
+use crate::verifying::verify;
 use conc_task::{Program, Stop, Task, task_of};
-use conc_world::{Closed, Desk, Parts};
-use hs_base::Limits;
-use hs_io::{Clock, Failed, Gate, Sink, Source};
-use hs_rules::{Code, History};
+use conc_world::{Closed, Parts};
+use hs_io::{Clock, Gate, Sink, Source};
 use std::alloc::Global;
 use std::sync::Wait;
 use std::thread::Threads;
@@ -27,8 +29,9 @@ use std::thread::Threads;
 /// printed and how it ended.
 ///
 /// `words` are the words after the program's name (`conc_words`). What a run prints goes to `out` and to `err` while it runs,
-/// each entry's as one piece, and then the line of the ending to `err` as one piece; `check` puts `accepted` on `out`. An empty
-/// piece is not put, and nothing is put after a failed put. The clock is told its choice before a run begins. Want of memory is
+/// each entry's as one piece, and then the line of the ending to `err` as one piece; `check` puts `accepted` on `out`. `trace` prints
+/// nothing of that: once the run is over it puts its document on `out` as one piece. `verify` puts what it found on `out`, where the
+/// document is a run. An empty piece is not put, and nothing is put after a failed put. The clock is told its choice before a run begins. Want of memory is
 /// free.
 ///
 /// A run on one capability needs no other thread and calls no gate. One on more starts threads by `rt`, waits for all of them
@@ -56,23 +59,33 @@ pub fn run<
 
     // The table of answers and their causes. Want of memory alone is free.
     ensures cause { (bytes : List ℕ) × IsInput (command_of (map (λ word. string_bytes word) words.now)) (S.left source.old) bytes
-        × IsDue (command_of (map (λ word. string_bytes word) words.now)) bytes
+        × IsDue (command_of (map (λ word. string_bytes word) words.now)) (S.left source.old) bytes
         (Rose (S.faults source.old) (S.faults source.new))
         (Rose (O.faults out) (O.faults result.out) ⊎ Rose (E.faults err) (E.faults result.err)) result.ending }
 
-    // Where nothing fails and the input is an accepted script, the answer is the run's ending, or `accepted`, or want of memory.
+    // Where nothing fails and the input is an accepted script, the answer is the run's ending, or `accepted`, or what the document
+    // comes to, or want of memory.
     ensures complete { (bytes : List ℕ) → IsSome (command_of (map (λ word. string_bytes word) words.now))
         → (ReadsSource (command_of (map (λ word. string_bytes word) words.now)) → IsSome (S.left source.old))
         → IsInput (command_of (map (λ word. string_bytes word) words.now)) (S.left source.old) bytes → IsScript bytes
         → ¬ Rose (S.faults source.old) (S.faults source.new) → ¬ Rose (O.faults out) (O.faults result.out) → ¬ Rose (E.faults err) (E.faults result.err)
-        → IsExpected (command_of (map (λ word. string_bytes word) words.now)) result.ending }
+        → IsExpected (command_of (map (λ word. string_bytes word) words.now)) (S.left source.old) bytes result.ending }
 
     // Where nothing fails and the input is refused, the answer is a refusal of it, or want of memory.
     ensures refusal { (bytes : List ℕ) (r : Refusal) → IsSome (command_of (map (λ word. string_bytes word) words.now))
         → (ReadsSource (command_of (map (λ word. string_bytes word) words.now)) → IsSome (S.left source.old))
         → IsInput (command_of (map (λ word. string_bytes word) words.now)) (S.left source.old) bytes → IsRefused r bytes
         → ¬ Rose (S.faults source.old) (S.faults source.new) → ¬ Rose (O.faults out) (O.faults result.out) → ¬ Rose (E.faults err) (E.faults result.err)
-        → IsRefusal bytes result.ending }
+        → IsRefusal (command_of (map (λ word. string_bytes word) words.now)) (S.left source.old) bytes result.ending }
+
+    // Where nothing fails `verify` answers what the document comes to, or want of memory.
+    ensures verdict { (document : List ℕ) → command_of (map (λ word. string_bytes word) words.now) ≡ Some Verify → S.left source.old ≡ Some document
+        → ¬ Rose (S.faults source.old) (S.faults source.new) → ¬ Rose (O.faults out) (O.faults result.out) → ¬ Rose (E.faults err) (E.faults result.err)
+        → IsVerdict document result.ending }
+
+    // What `trace` writes: the document of the history and of the bytes that the source had.
+    ensures written { (bytes : List ℕ) → Traces (command_of (map (λ word. string_bytes word) words.now)) → S.left source.old ≡ Some bytes
+        → IsWritten (document_of result.history.list bytes) result.ending (O.told out) (O.told result.out) }
 
     // The answer that the call came to, the run that it kept, and what it told.
     ensures call { ∥ Call (command_of (map (λ word. string_bytes word) words.now)) (Rose (S.faults source.old) (S.faults source.new)) (S.faults source.old < S.faults source.new)
@@ -99,6 +112,10 @@ pub fn run<
     match task_of(alloc, words, source) {
         Ok(Task::Run(program)) => play(alloc, rt, program, gate, out, err, clock),
         Ok(Task::Accept) => tell_accepted(alloc, out, err, clock),
+        Ok(Task::Trace(program, bytes)) => {
+            trace(alloc, rt, program, &bytes, gate, out, err, clock)
+        }
+        Ok(Task::Verify(claim)) => verify(alloc, &claim, out, err, clock),
         Err(stop) => tell(alloc, ending_of(stop), out, err, clock),
     }
 }
@@ -124,48 +141,8 @@ fn play<O: Sink + Send, E: Sink + Send, K: Clock + Send, G: Gate + Sync, R: Thre
     ensures calm { (result.status ≡ 8 → ⊥) → (O.faults result.out ≡ O.faults out) × (E.faults result.err ≡ E.faults err) }
     ensures choice { K.choice result.clock ≡ Some program.clock }
 {
-    let Program {
-        code,
-        capabilities,
-        fuel,
-        clock: choice,
-    } = program;
-    let mut clock = clock;
-    clock.choose(choice);
-    play_code(alloc, rt, code, capabilities, fuel, gate, out, err, clock)
-}
-
-// Runs the code on so many capabilities with so much fuel, and tells how it ended.
-fn play_code<
-    O: Sink + Send,
-    E: Sink + Send,
-    K: Clock + Send,
-    G: Gate + Sync,
-    R: Threads + Wait + Sync,
->(
-    alloc: Global,
-    rt: &R,
-    code: Code,
-    capabilities: u8,
-    fuel: u32,
-    gate: &G,
-    out: O,
-    err: E,
-    clock: K,
-) -> Done<O, E, K>
-    requires fuel { 1 ≤ fuel }
-    requires capabilities { (1 ≤ capabilities) × (capabilities ≤ 16) }
-    ensures status { result.status ≡ status_of result.ending }
-    ensures cause { IsPlayed (Rose (O.faults out) (O.faults result.out) ⊎ Rose (E.faults err) (E.faults result.err)) result.ending }
-    ensures plays { (bytes : List ℕ) → IsAccepted bytes (body_of code).of.value → ∥ Plays fuel bytes result.ending result.history.list
-        (record { output = O.told out; errors = E.told err; out_faults = O.faults out; err_faults = E.faults err; last = K.last clock; early = K.early_waits clock })
-        (record { output = O.told result.out; errors = E.told result.err; out_faults = O.faults result.out; err_faults = E.faults result.err; last = K.last result.clock; early = K.early_waits result.clock }) ∥₁ }
-    ensures counts { (O.faults out ≤ O.faults result.out) × (E.faults err ≤ E.faults result.err) × (K.early_waits clock ≤ K.early_waits result.clock) }
-    ensures calm { (result.status ≡ 8 → ⊥) → (O.faults result.out ≡ O.faults out) × (E.faults result.err ≡ E.faults err) }
-    ensures choice { K.choice result.clock ≡ K.choice clock }
-{
-    match Desk::begin(alloc, code, fuel, Limits::shipped(), out, err, clock) {
-        Ok(desk) => end(run_desk(alloc, rt, desk, capabilities, gate).close()),
+    match run_program(alloc, rt, program, gate, out, err, clock) {
+        Ok(closed) => end(closed),
         Err(Parts { out, err, clock }) => tell(alloc, Ending::Memory, out, err, clock),
     }
 }
@@ -207,86 +184,7 @@ fn ending_of(stop: Stop) -> Ending
         Stop::Words => Ending::Words,
         Stop::Refused(refusal) => Ending::Refused(refusal),
         Stop::Read => Ending::Read,
+        Stop::NoScript => Ending::NotRun(NotRun::NoScript),
         Stop::Memory => Ending::Memory,
     }
-}
-
-// Tells the line of an answer where nothing ran.
-fn tell<O: Sink, E: Sink, K: Clock>(
-    alloc: Global,
-    came: Ending,
-    out: O,
-    mut err: E,
-    clock: K,
-) -> Done<O, E, K>
-    ensures status { result.status ≡ status_of result.ending }
-    ensures tells { TellsAnswer came result.ending (E.told err) (E.told result.err) (E.faults err) (E.faults result.err) }
-    ensures history { result.history.list ≡ [] }
-    ensures kept { (result.out ≡ out) × (result.clock ≡ clock) }
-{
-    let (came, line) = with_line(alloc, came);
-    let ending = put_line(came, line.as_str().as_bytes(), &mut err);
-    Done {
-        status: ending.status(),
-        ending,
-        history: History::new(alloc),
-        out,
-        err,
-        clock,
-    }
-}
-
-// Tells that the script is accepted, on the output sink.
-fn tell_accepted<O: Sink, E: Sink, K: Clock>(
-    alloc: Global,
-    mut out: O,
-    err: E,
-    clock: K,
-) -> Done<O, E, K>
-    ensures status { result.status ≡ status_of result.ending }
-    ensures tells { TellsLine accepted_line Accepted result.ending (O.told out) (O.told result.out) (O.faults out) (O.faults result.out) }
-    ensures history { result.history.list ≡ [] }
-    ensures kept { (result.err ≡ err) × (result.clock ≡ clock) }
-{
-    let ending = put_line(Ending::Accepted, ACCEPTED.as_bytes(), &mut out);
-    Done {
-        status: ending.status(),
-        ending,
-        history: History::new(alloc),
-        out,
-        err,
-        clock,
-    }
-}
-
-// The answer and its line, or want of memory where there is none for a line with a place in it.
-fn with_line(alloc: Global, came: Ending) -> (Ending, Line)
-    ensures line { text_of result.1 ≡ line_of result.0 }
-    ensures came { (result.0 ≡ came) ⊎ (HasPlace came × (result.0 ≡ Memory)) }
-{
-    match came.line(alloc) {
-        Ok(line) => (came, line),
-        Err(_) => (Ending::Memory, Line::Fixed(OUT_OF_MEMORY)),
-    }
-}
-
-// Puts the line of an answer; the answer is Write after a failed put.
-fn put_line<O: Sink>(came: Ending, line: &[u8], sink: &mut O) -> Ending
-    ensures { TellsLine line.now came result (O.told sink.old) (O.told sink.new) (O.faults sink.old) (O.faults sink.new) }
-{
-    match put_piece(sink, line) {
-        Ok(()) => came,
-        Err(Failed) => Ending::Write,
-    }
-}
-
-fn put_piece<O: Sink>(sink: &mut O, piece: &[u8]) -> Result<(), Failed>
-    ensures told { Puts (O.told sink.old) (O.told sink.new) result piece.now }
-    ensures cause { HasCause (O.faults sink.old) (O.faults sink.new) result }
-    ensures silent { piece.now ≡ [] → (sink.new ≡ sink.old) × IsOk result }
-{
-    if piece.is_empty() {
-        return Ok(());
-    }
-    sink.put(piece)
 }

@@ -2,7 +2,7 @@
 use Rattle.std.proofs.Common.{◌≡◌, [], ◌∷◌, Some, None, codes, refl}
 use Rattle.clap.proofs.OnLiterals.{clap_on_literals}
 use Rattle.hs_base.specs.declared.clock_choice.ClockChoice.TheVariants.{Real, Virtual}
-use Rattle.conc_words.specs.declared.command.Command.TheVariants.{Run, Check, Bench}
+use Rattle.conc_words.specs.declared.command.Command.TheVariants.{Run, Check, Bench, Trace, Verify}
 use Rattle.conc_words.specs.Commands.{command_of}
 
 pub run_alone : command_of (codes "run" ∷ []) ≡ Some (Run 1 1000000 Real)
@@ -36,6 +36,18 @@ bench_caps = refl
 pub bench_most : command_of (codes "bench" ∷ codes "4000" ∷ []) ≡ Some (Bench 4000 1 1000000)
 unfolding clap_on_literals
 bench_most = refl
+
+pub trace_alone : command_of (codes "trace" ∷ []) ≡ Some (Trace 1 1000000 Real)
+unfolding clap_on_literals
+trace_alone = refl
+
+pub trace_all : command_of (codes "trace" ∷ codes "--caps" ∷ codes "4" ∷ codes "--fuel" ∷ codes "1000" ∷ codes "--clock" ∷ codes "virtual" ∷ []) ≡ Some (Trace 4 1000 Virtual)
+unfolding clap_on_literals
+trace_all = refl
+
+pub verify_alone : command_of (codes "verify" ∷ []) ≡ Some Verify
+unfolding clap_on_literals
+verify_alone = refl
 
 -- ---- words that are none
 
@@ -78,6 +90,14 @@ run_twice = refl
 pub run_other_clock : command_of (codes "run" ∷ codes "--clock" ∷ codes "wall" ∷ []) ≡ None
 unfolding clap_on_literals
 run_other_clock = refl
+
+pub trace_other_clock : command_of (codes "trace" ∷ codes "--clock" ∷ codes "wall" ∷ []) ≡ None
+unfolding clap_on_literals
+trace_other_clock = refl
+
+pub verify_fuel : command_of (codes "verify" ∷ codes "--fuel" ∷ codes "5" ∷ []) ≡ None
+unfolding clap_on_literals
+verify_fuel = refl
 
 pub check_fuel : command_of (codes "check" ∷ codes "--fuel" ∷ codes "5" ∷ []) ≡ None
 unfolding clap_on_literals

@@ -12,9 +12,9 @@ use Rattle.clap.specs.Simple.{App, Shape, argument_words, built, built_leaf, ent
 use Rattle.clap.specs.Takes.{default_passes, entered_passes, is_given, level_passes, settle_passes, takes, walk_passes}
 use Rattle.hs_base.specs.declared.clock_choice.ClockChoice.{ClockChoice}
 use Rattle.conc_words.specs.declared.command.Command.{Command}
-use Rattle.conc_words.specs.declared.command.Command.TheVariants.{Run, Check, Bench}
-use Rattle.conc_words.specs.Program.{bench, capabilities_option, check, clock_option, from_to, fuel_option, program, run, threads_place}
-use Rattle.conc_words.specs.Commands.{IsRefused, IsWithin, clock_of, command_in, command_of, number_of, written}
+use Rattle.conc_words.specs.declared.command.Command.TheVariants.{Run, Check, Bench, Trace, Verify}
+use Rattle.conc_words.specs.Program.{bench, capabilities_option, check, clock_option, from_to, fuel_option, program, run, threads_place, trace, verify}
+use Rattle.conc_words.specs.Commands.{ChoosesClock, IsRefused, IsWithin, clock_of, command_in, command_of, number_of, written}
 use Rattle.conc_words.proofs.Tests.{both}
 use Rattle.conc_words.proofs.Numbers.{range_is}
 use Rattle.conc_words.proofs.Entries.{IsGood, TakesOne, default_stays, default_there, entry_passes, level_keeps}
@@ -84,7 +84,7 @@ threads_rule = with_index 1 (filled threads_place)
 -- the matches of a subcommand are a command, or name another clock
 abbrev Reads : Option (Text × List Row) → Type 0
 Reads sub = ((c : Command) × (command_in sub ≡ Some c) × IsWithin c)
-    ⊎ ((rows : List Row) × (sub ≡ Some (codes "run", rows)) × (clock_of rows ≡ None) × (command_in sub ≡ None))
+    ⊎ ((name : Text) × (rows : List Row) × ChoosesClock name × (sub ≡ Some (name, rows)) × (clock_of rows ≡ None) × (command_in sub ≡ None))
 
 run_ones : AllByRecursion (TakesOne (leaf run).rules) (leaf run).rules
 run_ones = ((refl, omega arith, refl, refl), ((refl, omega arith, refl, refl), ((refl, omega arith, refl, refl), tt)))
@@ -117,10 +117,48 @@ run_reads words e =
       (caps.2, caps.3, fuel.2, fuel.3),
     )
     go rows caps fuel None is = inr (
+      codes "run",
       rows,
+      inl refl,
       refl,
       is,
       (λ i. option_and_then (λ n. option_and_then (λ m. option_map (λ k. Run n m k) (is i)) (fuel.1 i)) (caps.1 i)),
+    )
+
+trace_ones : AllByRecursion (TakesOne (leaf trace).rules) (leaf trace).rules
+trace_ones = ((refl, omega arith, refl, refl), ((refl, omega arith, refl, refl), ((refl, omega arith, refl, refl), tt)))
+
+trace_reads : (words : List Text) → level_passes (leaf trace) [] nothing_held words false ≡ true → Reads (Some (codes "trace", rows_after (leaf trace).rules [] words))
+trace_reads words e =
+    let rows = rows_after (leaf trace).rules [] words in
+    let start = (settled (leaf trace).rules (walk (leaf trace).rules [] nothing_held words).held).rows in
+    let good = level_keeps (leaf trace) trace_ones [] words false e in
+    let first = with_default start capabilities_rule in
+    let second = with_default first fuel_rule in
+    let caps_there : has_row (codes "caps") rows ≡ true =
+    default_stays (codes "caps") second clock_rule (default_stays (codes "caps") first fuel_rule (default_there start capabilities_rule (codes "1") [] refl)) in
+    let fuel_there : has_row (codes "fuel") rows ≡ true =
+    default_stays (codes "fuel") second clock_rule (default_there first fuel_rule (codes "1000000") [] refl) in
+    go rows
+    (number_is (leaf trace).rules (codes "caps") capabilities_rule 8 1 16 refl rows good caps_there (omega arith) refl)
+    (number_is (leaf trace).rules (codes "fuel") fuel_rule 32 1 4000000 refl rows good fuel_there (omega arith) refl)
+    (clock_of rows) refl
+  where
+    go : (rows : List Row) → (n : ℕ) × (number_of 8 (codes "caps") rows ≡ Some n) × (1 ≤ n) × (n ≤ 16)
+        → (n : ℕ) × (number_of 32 (codes "fuel") rows ≡ Some n) × (1 ≤ n) × (n ≤ 4000000)
+        → (o : Option ClockChoice) → clock_of rows ≡ o → Reads (Some (codes "trace", rows))
+    go rows caps fuel (Some clock) is = inl (
+      Trace caps.0 fuel.0 clock,
+      (λ i. option_and_then (λ n. option_and_then (λ m. option_map (λ k. Trace n m k) (is i)) (fuel.1 i)) (caps.1 i)),
+      (caps.2, caps.3, fuel.2, fuel.3),
+    )
+    go rows caps fuel None is = inr (
+      codes "trace",
+      rows,
+      inr refl,
+      refl,
+      is,
+      (λ i. option_and_then (λ n. option_and_then (λ m. option_map (λ k. Trace n m k) (is i)) (fuel.1 i)) (caps.1 i)),
     )
 
 bench_reads : (words : List Text) → level_passes (leaf bench) [] nothing_held words false ≡ true → Reads (Some (codes "bench", rows_after (leaf bench).rules [] words))
@@ -151,20 +189,28 @@ bench_reads words e =
 
 -- ---- the words
 
+-- the subcommand that a name is
+abbrev chosen : (is_run is_check is_bench is_trace is_verify : Bool) → Option Shape
+chosen is_run is_check is_bench is_trace is_verify =
+    cond is_run (Some (leaf run)) (cond is_check (Some (leaf check)) (cond is_bench (Some (leaf bench)) (cond is_trace (Some (leaf trace)) (cond is_verify (Some (leaf verify)) None))))
+
 -- whichever subcommand a name is
-named_reads : (is_run is_check is_bench : Bool) (words : List Text)
-    → option_map_or (λ s. level_passes s [] nothing_held words false) (cond is_run (Some (leaf run)) (cond is_check (Some (leaf check)) (cond is_bench (Some (leaf bench)) None))) true ≡ true
-    → is_some (option_map (λ s. rows_at s words) (cond is_run (Some (leaf run)) (cond is_check (Some (leaf check)) (cond is_bench (Some (leaf bench)) None)))) ≡ true
-    → Reads (option_map (λ s. rows_at s words) (cond is_run (Some (leaf run)) (cond is_check (Some (leaf check)) (cond is_bench (Some (leaf bench)) None))))
-named_reads true is_check is_bench words e there = run_reads words e
-named_reads false true is_bench words e there = inl (Check, refl, tt)
-named_reads false false true words e there = bench_reads words e
-named_reads false false false words e there = absurd (true≢false (sym there))
+named_reads : (is_run is_check is_bench is_trace is_verify : Bool) (words : List Text)
+    → option_map_or (λ s. level_passes s [] nothing_held words false) (chosen is_run is_check is_bench is_trace is_verify) true ≡ true
+    → is_some (option_map (λ s. rows_at s words) (chosen is_run is_check is_bench is_trace is_verify)) ≡ true
+    → Reads (option_map (λ s. rows_at s words) (chosen is_run is_check is_bench is_trace is_verify))
+named_reads true is_check is_bench is_trace is_verify words e there = run_reads words e
+named_reads false true is_bench is_trace is_verify words e there = inl (Check, refl, tt)
+named_reads false false true is_trace is_verify words e there = bench_reads words e
+named_reads false false false true is_verify words e there = trace_reads words e
+named_reads false false false false true words e there = inl (Verify, refl, tt)
+named_reads false false false false false words e there = absurd (true≢false (sym there))
 
 stop_reads : (stop : Option (Text × List Text)) → entered_passes (built program) stop ≡ true → is_some (entered (built program) stop) ≡ true → Reads (entered (built program) stop)
 stop_reads None e there = absurd (true≢false (sym there))
 stop_reads (Some p) e there =
-    named_reads (answers_to p.0 (label_of run.top)) (answers_to p.0 (label_of check.top)) (answers_to p.0 (label_of bench.top)) p.1 e there
+    named_reads (answers_to p.0 (label_of run.top)) (answers_to p.0 (label_of check.top)) (answers_to p.0 (label_of bench.top))
+    (answers_to p.0 (label_of trace.top)) (answers_to p.0 (label_of verify.top)) p.1 e there
 
 taken_reads : (words : List Text) → takes program words ≡ true → Reads (subcommand_of program words)
 taken_reads words e =
@@ -183,7 +229,7 @@ within words c e = go (takes program words) refl e
 
     read : Reads (subcommand_of program words) → command_in (subcommand_of program words) ≡ Some c → IsWithin c
     read (inl r) p = subst IsWithin (some_same r.0 c (sym r.1 ∙ p)) r.2
-    read (inr r) p = absurd (none_some (sym r.3 ∙ p))
+    read (inr r) p = absurd (none_some (sym r.5 ∙ p))
 
     go : (b : Bool) → takes program words ≡ b → cond b (command_in (subcommand_of program words)) None ≡ Some c → IsWithin c
     go true taken p = read (taken_reads words taken) p
@@ -198,7 +244,7 @@ refused words e = go (takes program words) refl e
 
     read : Reads (subcommand_of program words) → command_in (subcommand_of program words) ≡ None → IsRefused words
     read (inl r) p = absurd (none_some r.0 (sym p ∙ r.1))
-    read (inr r) p = inr (r.0, r.1, r.2)
+    read (inr r) p = inr (r.0, r.1, r.2, r.3, r.4)
 
     go : (b : Bool) → takes program words ≡ b → cond b (command_in (subcommand_of program words)) None ≡ None → IsRefused words
     go true taken p = read (taken_reads words taken) p

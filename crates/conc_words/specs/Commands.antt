@@ -9,7 +9,7 @@ use Rattle.clap.specs.Takes.{takes}
 use Rattle.hs_base.specs.declared.clock_choice.ClockChoice.{ClockChoice}
 use Rattle.hs_base.specs.declared.clock_choice.ClockChoice.TheVariants.{Real, Virtual}
 use Rattle.conc_words.specs.declared.command.Command.{Command}
-use Rattle.conc_words.specs.declared.command.Command.TheVariants.{Run, Check, Bench}
+use Rattle.conc_words.specs.declared.command.Command.TheVariants.{Run, Check, Bench, Trace, Verify}
 use Rattle.conc_words.specs.declared.command.WordsFault.{WordsFault}
 use Rattle.conc_words.specs.declared.command.WordsFault.TheVariants.{NotUnderstood, NoMemory}
 use Rattle.conc_words.specs.Program.{program}
@@ -47,12 +47,20 @@ bench_of rows =
     option_and_then (λ threads. option_and_then (λ capabilities. option_map (λ fuel. Bench threads capabilities fuel)
     (number_of 32 (codes "fuel") rows)) (number_of 8 (codes "caps") rows)) (number_of 32 (codes "threads") rows)
 
+-- `trace`, by its entries, which are those of `run`
+abbrev pub trace_of : List Row → Option Command
+trace_of rows =
+    option_and_then (λ capabilities. option_and_then (λ fuel. option_map (λ clock. Trace capabilities fuel clock)
+    (clock_of rows)) (number_of 32 (codes "fuel") rows)) (number_of 8 (codes "caps") rows)
+
 -- the command of a subcommand, by its name and its entries
 abbrev pub named : Text × List Row → Option Command
 named sub =
     if bytes_eq sub.0 (codes "run") then run_of sub.1
     else if bytes_eq sub.0 (codes "check") then Some Check
     else if bytes_eq sub.0 (codes "bench") then bench_of sub.1
+    else if bytes_eq sub.0 (codes "trace") then trace_of sub.1
+    else if bytes_eq sub.0 (codes "verify") then Some Verify
     else None
 
 abbrev pub command_in : Option (Text × List Row) → Option Command
@@ -73,11 +81,17 @@ IsWithin (Run capabilities fuel clock) = (1 ≤ capabilities) × (capabilities �
 IsWithin Check = Unit {0}
 IsWithin (Bench threads capabilities fuel) =
     (1 ≤ threads) × (threads ≤ 4000) × (1 ≤ capabilities) × (capabilities ≤ 16) × (1 ≤ fuel) × (fuel ≤ 4000000)
+IsWithin (Trace capabilities fuel clock) = (1 ≤ capabilities) × (capabilities ≤ 16) × (1 ≤ fuel) × (fuel ≤ 4000000)
+IsWithin Verify = Unit {0}
 
--- the words give `run` a clock of another name
+-- a command of this name goes by a clock that its words choose
+abbrev pub ChoosesClock : Text → Type 0
+ChoosesClock name = (name ≡ codes "run") ⊎ (name ≡ codes "trace")
+
+-- the words give `run` or `trace` a clock of another name
 abbrev pub NamesOtherClock : List Text → Type 0
 NamesOtherClock words =
-    (rows : List Row) × (subcommand_of program words ≡ Some (codes "run", rows)) × (clock_of rows ≡ None)
+    (name : Text) × (rows : List Row) × ChoosesClock name × (subcommand_of program words ≡ Some (name, rows)) × (clock_of rows ≡ None)
 
 -- the words are refused: the program does not take them, or it does, and their clock has another name
 abbrev pub IsRefused : List Text → Type 0

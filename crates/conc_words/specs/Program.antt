@@ -2,7 +2,9 @@
 --     run      --caps N --fuel N --clock C
 --     check
 --     bench N  --caps N --fuel N
--- One of the three has to stand. An option that is left out has its default.
+--     trace    --caps N --fuel N --clock C
+--     verify
+-- One of the five has to stand. An option that is left out has its default.
 use Rattle.std.specs.Prelude.{ℕ, [], ◌∷◌, Some, codes, pos, true}
 use Rattle.clap.specs.Simple.{App, new_app, new_rule, on_top, with_rule, with_subcommand}
 use Rattle.clap.specs.Walk.{Rule}
@@ -52,6 +54,12 @@ check = new_app (codes "check")
 abbrev pub bench : App
 bench = with_rule (with_rule (with_rule (new_app (codes "bench")) threads_place) capabilities_option) fuel_option
 
+abbrev pub trace : App
+trace = with_rule (with_rule (with_rule (new_app (codes "trace")) capabilities_option) fuel_option) clock_option
+
+abbrev pub verify : App
+verify = new_app (codes "verify")
+
 -- the program before its subcommands: the words begin after its name, it has no help, and a subcommand has to stand
 abbrev pub alone : App
 alone = on_top (λ s. record s {
@@ -63,4 +71,5 @@ alone = on_top (λ s. record s {
 
 -- the program with its subcommands
 abbrev pub program : App
-program = with_subcommand (with_subcommand (with_subcommand alone run.top) check.top) bench.top
+program =
+    with_subcommand (with_subcommand (with_subcommand (with_subcommand (with_subcommand alone run.top) check.top) bench.top) trace.top) verify.top

@@ -29,6 +29,16 @@ pub enum Command {
         /// How many steps the run may take, 1 to 4,000,000.
         fuel: u32,
     },
+    /// `trace`: runs the script on the source as `run` does, and writes its history in place of what it prints.
+    Trace {
+        /// How many threads may evaluate at a time, 1 to 16.
+        capabilities: u8,
+        /// How many steps the run may take, 1 to 4,000,000.
+        fuel: u32,
+        clock: ClockChoice,
+    },
+    /// `verify`: says whether the document on the source is a run.
+    Verify,
 }
 
 /// Why the words gave no command.

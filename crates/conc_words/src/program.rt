@@ -2,7 +2,7 @@
 ghost use Rattle.std.specs.Prelude.{◌≡◌, IfOk, false};
 ghost use Rattle.clap.specs.Words.{app_of, rule_of};
 ghost use Rattle.clap.specs.declared.builder.command.Command.TheViews.{out-Command as fields_of};
-ghost use Rattle.conc_words.specs.Program.{bench, capabilities_option, check, clock_option, fuel_option, program, run, threads_place};
+ghost use Rattle.conc_words.specs.Program.{bench, capabilities_option, check, clock_option, fuel_option, program, run, threads_place, trace, verify};
 
 use clap::{Arg, Command, value_parser};
 use std::alloc::{AllocError, Global};
@@ -79,6 +79,23 @@ fn bench<'a>(alloc: Global) -> Result<Command<'a>, AllocError>
         .arg(fuel_option(alloc))
 }
 
+fn trace<'a>(alloc: Global) -> Result<Command<'a>, AllocError>
+    ensures shape { IfOk result (λ c. app_of c ≡ trace) }
+    ensures local { IfOk result (λ c. (fields_of c).has_globals ≡ false) }
+{
+    Command::new(alloc, "trace")
+        .arg(capabilities_option(alloc))?
+        .arg(fuel_option(alloc))?
+        .arg(clock_option(alloc))
+}
+
+fn verify<'a>(alloc: Global) -> Command<'a>
+    ensures shape { app_of result ≡ verify }
+    ensures local { (fields_of result).has_globals ≡ false }
+{
+    Command::new(alloc, "verify")
+}
+
 /// The program, which takes the words after its name and one of its subcommands among them.
 pub(crate) fn program<'a>(alloc: Global) -> Result<Command<'a>, AllocError>
     ensures { IfOk result (λ c. app_of c ≡ program) }
@@ -90,5 +107,7 @@ pub(crate) fn program<'a>(alloc: Global) -> Result<Command<'a>, AllocError>
         .subcommand_required(true)
         .subcommand(run(alloc)?)?
         .subcommand(check(alloc))?
-        .subcommand(bench(alloc)?)
+        .subcommand(bench(alloc)?)?
+        .subcommand(trace(alloc)?)?
+        .subcommand(verify(alloc))
 }

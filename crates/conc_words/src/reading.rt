@@ -1,7 +1,7 @@
 ghost use Rattle.std.specs.Prelude.{◌≡◌, IfErr, IfOk, MatchResult, None, Some, codes, false, map, string_bytes, true};
 ghost use Rattle.clap.specs.Words.{found_of, rows_of, subcommand_of, subcommand_rows_of, takes};
 ghost use Rattle.conc_words.specs.Program.{program};
-ghost use Rattle.conc_words.specs.Commands.{IsRefused, IsWithin, bench_of, command_in, command_of, number_of, run_of, WhenNotUnderstood, clock_of};
+ghost use Rattle.conc_words.specs.Commands.{IsRefused, IsWithin, bench_of, command_in, command_of, number_of, run_of, trace_of, WhenNotUnderstood, clock_of};
 
 use crate::program::{CAPABILITIES, CLOCK, FUEL, THREADS, program};
 use crate::{Command, WordsFault};
@@ -44,6 +44,8 @@ fn command_in(matches: &ArgMatches<'_>) -> Option<Command>
         "run" => run_in(entries),
         "check" => Some(Command::Check),
         "bench" => bench_in(entries),
+        "trace" => trace_in(entries),
+        "verify" => Some(Command::Verify),
         _ => None,
     }
 }
@@ -65,6 +67,16 @@ fn bench_in(entries: &ArgMatches<'_>) -> Option<Command>
         threads: threads_in(entries)?,
         capabilities: capabilities_in(entries)?,
         fuel: fuel_in(entries)?,
+    })
+}
+
+fn trace_in(entries: &ArgMatches<'_>) -> Option<Command>
+    ensures { result ≡ trace_of (rows_of (found_of entries.now)) }
+{
+    Some(Command::Trace {
+        capabilities: capabilities_in(entries)?,
+        fuel: fuel_in(entries)?,
+        clock: clock_in(entries)?,
     })
 }
 

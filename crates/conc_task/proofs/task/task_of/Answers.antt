@@ -1,8 +1,8 @@
 use Rattle.std.proofs.Common.{ap, refl, ◌∙◌}
 use Rattle.std.specs.Prelude.{Some}
 use Rattle.std.proofs.lemmas.Result.{err_from_is_err_and}
-use Rattle.conc_words.specs.declared.command.Command.TheVariants.{Check, Run}
-use Rattle.conc_task.proofs.Tasks.{checked, ring_none, source_none, unclear}
+use Rattle.conc_words.specs.declared.command.Command.TheVariants.{Check, Run, Trace}
+use Rattle.conc_task.proofs.Tasks.{checked, claim_none, claimed, ring_none, ring_task, run_task, source_none, traced_program, unclear}
 use Rattle.conc_task.proofs.task.task_of.Goals as goal
 
 pub returns-in_err-capabilities-clause-comes : goal.returns-in_err-capabilities-clause-comes
@@ -29,3 +29,29 @@ returns-in_err-code-in-Bench-clause-comes g c =
     let p = err_from_is_err_and c.from_residual-in_err-code-in-Bench.result c.from_residual-in_err-code-in-Bench.ensures.1 in
     rw (p.1, p.2)
     (ring_none _ c.in-Bench.threads c.in-Bench.capabilities c.in-Bench.fuel _ _ _ c.in_err-code-in-Bench.field-0.0 (c.in_ok-capabilities.ensures.exact ∙ ap Some c.in-Bench.is) c.in_err-code-in-Bench.ensures)
+
+pub returns-in_ok-code-in-Run-clause-comes : goal.returns-in_ok-code-in-Run-clause-comes
+returns-in_ok-code-in-Run-clause-comes g c =
+    run_task _ c.in-Run.capabilities c.in-Run.fuel c.in-Run.clock _ _ _ (c.in_ok-capabilities.ensures.exact ∙ ap Some c.in-Run.is) c.in_ok-code-in-Run.ensures.comes
+
+pub returns-in_ok-code-in-Bench-clause-comes : goal.returns-in_ok-code-in-Bench-clause-comes
+returns-in_ok-code-in-Bench-clause-comes g c =
+    ring_task _ c.in-Bench.threads c.in-Bench.capabilities c.in-Bench.fuel _ _ _ (c.in_ok-capabilities.ensures.exact ∙ ap Some c.in-Bench.is) c.in_ok-code-in-Bench.ensures
+
+pub returns-in_ok-code-in-Trace-clause-comes : goal.returns-in_ok-code-in-Trace-clause-comes
+returns-in_ok-code-in-Trace-clause-comes g c =
+    traced_program _ c.in-Trace.capabilities c.in-Trace.fuel c.in-Trace.clock _ _ _ _ (c.in_ok-capabilities.ensures.exact ∙ ap Some c.in-Trace.is) c.in_ok-code-in-Trace.ensures.comes
+
+pub returns-in_err-code-in-Trace-clause-comes : goal.returns-in_err-code-in-Trace-clause-comes
+returns-in_err-code-in-Trace-clause-comes g c =
+    let p = err_from_is_err_and c.from_residual-in_err-code-in-Trace.result c.from_residual-in_err-code-in-Trace.ensures.1 in
+    rw (p.1, p.2)
+    (source_none _ (Trace c.in-Trace.capabilities c.in-Trace.fuel c.in-Trace.clock) _ _ _ c.in_err-code-in-Trace.field-0.0 (c.in_ok-capabilities.ensures.exact ∙ ap Some c.in-Trace.is) tt c.in_err-code-in-Trace.ensures.comes)
+
+pub returns-in_ok-claim-in-Verify-clause-comes : goal.returns-in_ok-claim-in-Verify-clause-comes
+returns-in_ok-claim-in-Verify-clause-comes g c = claimed _ _ _ c.in_ok-claim-in-Verify.claim (c.in_ok-capabilities.ensures.exact ∙ ap Some c.in-Verify.is) c.in_ok-claim-in-Verify.ensures.comes
+
+pub returns-in_err-claim-in-Verify-clause-comes : goal.returns-in_err-claim-in-Verify-clause-comes
+returns-in_err-claim-in-Verify-clause-comes g c =
+    let p = err_from_is_err_and c.from_residual-in_err-claim-in-Verify.result c.from_residual-in_err-claim-in-Verify.ensures.1 in
+    rw (p.1, p.2) (claim_none _ _ _ _ c.in_err-claim-in-Verify.field-0.0 (c.in_ok-capabilities.ensures.exact ∙ ap Some c.in-Verify.is) c.in_err-claim-in-Verify.ensures.comes)

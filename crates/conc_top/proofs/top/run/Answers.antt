@@ -1,29 +1,40 @@
-use Rattle.std.proofs.Common.{ap, inr}
-use Rattle.conc_top.proofs.Complete.{is_expected, is_refusal}
+use Rattle.std.proofs.Common.{ap, inr, subst}
+use Rattle.conc_task.specs.Commands.{Traces}
+use Rattle.conc_top.proofs.Complete.{is_expected, is_refusal, is_verdict}
 use Rattle.conc_top.proofs.Playing.{has_program, played_ran, program_call, program_due}
-use Rattle.conc_top.proofs.Telling.{answer_call, answer_due, answer_fault, answer_steady, checked_call, checked_due, has_checked, never_rose}
+use Rattle.conc_top.proofs.Answering.{answer_call, answer_due, answer_fault, answer_steady, answer_written, checked_call, checked_due, has_checked, never_rose}
+use Rattle.conc_top.proofs.Histories.{has_traced, trace_call, trace_written}
+use Rattle.conc_top.proofs.Claims.{claim_call, claim_due, claim_traces, has_claim}
 use Rattle.conc_top.proofs.top.run.Goals as goal
 
 -- ---- a script runs
 
 pub returns-in-Ok-Run-clause-cause : goal.returns-in-Ok-Run-clause-cause
 returns-in-Ok-Run-clause-cause g c =
-    program_due _ _ _ _ _ c.in-Ok-Run.program c.play.result.ending (has_program _ _ _ _ _ c.in-Ok-Run.field-0-is c.in-Ok-Run.ensures.comes) c.play.ensures.cause
+    program_due _ _ _ _ _ c.in-Ok-Run.program c.play.result.ending (has_program _ _ _ _ _ c.in-Ok-Run.field-0-is c.in-Ok-Run.ensures.comes).0 c.play.ensures.cause
 
 pub returns-in-Ok-Run-clause-complete : goal.returns-in-Ok-Run-clause-complete
 returns-in-Ok-Run-clause-complete g c =
     is_expected _ _ _ _ _ c.play.result.ending
-    (program_due _ _ _ _ _ c.in-Ok-Run.program c.play.result.ending (has_program _ _ _ _ _ c.in-Ok-Run.field-0-is c.in-Ok-Run.ensures.comes) c.play.ensures.cause)
+    (program_due _ _ _ _ _ c.in-Ok-Run.program c.play.result.ending (has_program _ _ _ _ _ c.in-Ok-Run.field-0-is c.in-Ok-Run.ensures.comes).0 c.play.ensures.cause)
 
 pub returns-in-Ok-Run-clause-refusal : goal.returns-in-Ok-Run-clause-refusal
 returns-in-Ok-Run-clause-refusal g c =
     is_refusal _ _ _ _ _ c.play.result.ending
-    (program_due _ _ _ _ _ c.in-Ok-Run.program c.play.result.ending (has_program _ _ _ _ _ c.in-Ok-Run.field-0-is c.in-Ok-Run.ensures.comes) c.play.ensures.cause)
+    (program_due _ _ _ _ _ c.in-Ok-Run.program c.play.result.ending (has_program _ _ _ _ _ c.in-Ok-Run.field-0-is c.in-Ok-Run.ensures.comes).0 c.play.ensures.cause)
+
+pub returns-in-Ok-Run-clause-verdict : goal.returns-in-Ok-Run-clause-verdict
+returns-in-Ok-Run-clause-verdict g c =
+    is_verdict _ _ _ _ _ c.play.result.ending
+    (program_due _ _ _ _ _ c.in-Ok-Run.program c.play.result.ending (has_program _ _ _ _ _ c.in-Ok-Run.field-0-is c.in-Ok-Run.ensures.comes).0 c.play.ensures.cause)
 
 pub returns-in-Ok-Run-clause-call : goal.returns-in-Ok-Run-clause-call
 returns-in-Ok-Run-clause-call g c =
     program_call _ _ _ _ _ _ _ c.in-Ok-Run.program c.play.result.ending c.play.result.history.list _ _ (has_program _ _ _ _ _ c.in-Ok-Run.field-0-is c.in-Ok-Run.ensures.comes)
     c.in-Ok-Run.ensures.counts c.play.ensures.choice c.play.ensures.plays
+
+pub returns-in-Ok-Run-clause-written : goal.returns-in-Ok-Run-clause-written
+returns-in-Ok-Run-clause-written g c = λ bytes traces left. absurd ((has_program _ _ _ _ _ c.in-Ok-Run.field-0-is c.in-Ok-Run.ensures.comes).1 traces)
 
 pub returns-in-Ok-Run-clause-rose : goal.returns-in-Ok-Run-clause-rose
 returns-in-Ok-Run-clause-rose g c = λ rose. absurd (never_rose _ _ c.in-Ok-Run.ensures.counts rose)
@@ -33,14 +44,14 @@ returns-in-Ok-Run-clause-steady g c = λ none. c.in-Ok-Run.ensures.counts
 
 pub returns-in-Ok-Run-clause-unclocked : goal.returns-in-Ok-Run-clause-unclocked
 returns-in-Ok-Run-clause-unclocked g c = λ none.
-    absurd (none (c.in-Ok-Run.program.fuel, c.in-Ok-Run.program.clock, (has_program _ _ _ _ _ c.in-Ok-Run.field-0-is c.in-Ok-Run.ensures.comes).runs))
+    absurd (none (c.in-Ok-Run.program.fuel, c.in-Ok-Run.program.clock, (has_program _ _ _ _ _ c.in-Ok-Run.field-0-is c.in-Ok-Run.ensures.comes).0.runs))
 
 pub returns-in-Ok-Run-clause-unrun : goal.returns-in-Ok-Run-clause-unrun
 returns-in-Ok-Run-clause-unrun g c = λ unrun. absurd (played_ran _ c.play.result.ending c.play.ensures.cause unrun)
 
 pub returns-in-Ok-Run-clause-choice : goal.returns-in-Ok-Run-clause-choice
 returns-in-Ok-Run-clause-choice g c =
-    inr (c.in-Ok-Run.program.fuel, c.in-Ok-Run.program.clock, (has_program _ _ _ _ _ c.in-Ok-Run.field-0-is c.in-Ok-Run.ensures.comes).runs, c.play.ensures.choice)
+    inr (c.in-Ok-Run.program.fuel, c.in-Ok-Run.program.clock, (has_program _ _ _ _ _ c.in-Ok-Run.field-0-is c.in-Ok-Run.ensures.comes).0.runs, c.play.ensures.choice)
 
 -- ---- a script is accepted
 
@@ -58,11 +69,20 @@ returns-in-Ok-Accept-clause-refusal g c =
     is_refusal _ _ _ _ _ c.tell_accepted.result.ending
     (checked_due _ _ _ _ c.tell_accepted.result.ending _ _ _ _ _ _ (has_checked _ _ _ _ c.in-Ok-Accept.field-0-is c.in-Ok-Accept.ensures.comes) c.tell_accepted.ensures.tells)
 
+pub returns-in-Ok-Accept-clause-verdict : goal.returns-in-Ok-Accept-clause-verdict
+returns-in-Ok-Accept-clause-verdict g c =
+    is_verdict _ _ _ _ _ c.tell_accepted.result.ending
+    (checked_due _ _ _ _ c.tell_accepted.result.ending _ _ _ _ _ _ (has_checked _ _ _ _ c.in-Ok-Accept.field-0-is c.in-Ok-Accept.ensures.comes) c.tell_accepted.ensures.tells)
+
 pub returns-in-Ok-Accept-clause-call : goal.returns-in-Ok-Accept-clause-call
 returns-in-Ok-Accept-clause-call g c =
     ∣ checked_call _ _ _ _ _ _ _ c.tell_accepted.result.ending c.tell_accepted.result.history.list _ _ (has_checked _ _ _ _ c.in-Ok-Accept.field-0-is c.in-Ok-Accept.ensures.comes)
     c.in-Ok-Accept.ensures.counts c.tell_accepted.ensures.history
     (ap g.E.Sink.told c.tell_accepted.ensures.kept.0) (ap g.E.Sink.faults c.tell_accepted.ensures.kept.0) (ap g.K.Clock.early_waits c.tell_accepted.ensures.kept.1) c.tell_accepted.ensures.tells ∣₁
+
+pub returns-in-Ok-Accept-clause-written : goal.returns-in-Ok-Accept-clause-written
+returns-in-Ok-Accept-clause-written g c = λ bytes traces left.
+    absurd (subst Traces (has_checked _ _ _ _ c.in-Ok-Accept.field-0-is c.in-Ok-Accept.ensures.comes).checks traces)
 
 pub returns-in-Ok-Accept-clause-rose : goal.returns-in-Ok-Accept-clause-rose
 returns-in-Ok-Accept-clause-rose g c = λ rose. absurd (never_rose _ _ c.in-Ok-Accept.ensures.counts rose)
@@ -76,10 +96,101 @@ returns-in-Ok-Accept-clause-unclocked g c = λ none. c.tell_accepted.ensures.kep
 pub returns-in-Ok-Accept-clause-unrun : goal.returns-in-Ok-Accept-clause-unrun
 returns-in-Ok-Accept-clause-unrun g c = λ unrun. c.tell_accepted.ensures.kept.1
 
+-- ---- a history is written
+
+pub returns-in-Ok-Trace-clause-cause : goal.returns-in-Ok-Trace-clause-cause
+returns-in-Ok-Trace-clause-cause g c =
+    program_due _ _ _ _ _ c.in-Ok-Trace.program c.trace.result.ending (has_traced _ _ _ _ _ _ c.in-Ok-Trace.field-0-is c.in-Ok-Trace.ensures.comes).made c.trace.ensures.cause
+
+pub returns-in-Ok-Trace-clause-complete : goal.returns-in-Ok-Trace-clause-complete
+returns-in-Ok-Trace-clause-complete g c =
+    is_expected _ _ _ _ _ c.trace.result.ending
+    (program_due _ _ _ _ _ c.in-Ok-Trace.program c.trace.result.ending (has_traced _ _ _ _ _ _ c.in-Ok-Trace.field-0-is c.in-Ok-Trace.ensures.comes).made c.trace.ensures.cause)
+
+pub returns-in-Ok-Trace-clause-refusal : goal.returns-in-Ok-Trace-clause-refusal
+returns-in-Ok-Trace-clause-refusal g c =
+    is_refusal _ _ _ _ _ c.trace.result.ending
+    (program_due _ _ _ _ _ c.in-Ok-Trace.program c.trace.result.ending (has_traced _ _ _ _ _ _ c.in-Ok-Trace.field-0-is c.in-Ok-Trace.ensures.comes).made c.trace.ensures.cause)
+
+pub returns-in-Ok-Trace-clause-verdict : goal.returns-in-Ok-Trace-clause-verdict
+returns-in-Ok-Trace-clause-verdict g c =
+    is_verdict _ _ _ _ _ c.trace.result.ending
+    (program_due _ _ _ _ _ c.in-Ok-Trace.program c.trace.result.ending (has_traced _ _ _ _ _ _ c.in-Ok-Trace.field-0-is c.in-Ok-Trace.ensures.comes).made c.trace.ensures.cause)
+
+pub returns-in-Ok-Trace-clause-call : goal.returns-in-Ok-Trace-clause-call
+returns-in-Ok-Trace-clause-call g c =
+    trace_call _ _ _ _ _ _ _ c.in-Ok-Trace.program c.in-Ok-Trace.bytes.items (has_traced _ _ _ _ _ _ c.in-Ok-Trace.field-0-is c.in-Ok-Trace.ensures.comes)
+    c.trace.result.ending c.trace.result.history.list _ _ c.deref.result.now c.deref.ensures.value c.in-Ok-Trace.ensures.counts c.trace.ensures.choice c.trace.ensures.writes
+
+pub returns-in-Ok-Trace-clause-written : goal.returns-in-Ok-Trace-clause-written
+returns-in-Ok-Trace-clause-written g c =
+    trace_written _ _ _ c.in-Ok-Trace.program c.in-Ok-Trace.bytes.items c.deref.result.now c.trace.result.ending c.trace.result.history.list _ _
+    (has_traced _ _ _ _ _ _ c.in-Ok-Trace.field-0-is c.in-Ok-Trace.ensures.comes) c.deref.ensures.value c.trace.ensures.written
+
+pub returns-in-Ok-Trace-clause-rose : goal.returns-in-Ok-Trace-clause-rose
+returns-in-Ok-Trace-clause-rose g c = λ rose. absurd (never_rose _ _ c.in-Ok-Trace.ensures.counts rose)
+
+pub returns-in-Ok-Trace-clause-steady : goal.returns-in-Ok-Trace-clause-steady
+returns-in-Ok-Trace-clause-steady g c = λ none. c.in-Ok-Trace.ensures.counts
+
+pub returns-in-Ok-Trace-clause-unclocked : goal.returns-in-Ok-Trace-clause-unclocked
+returns-in-Ok-Trace-clause-unclocked g c = λ none.
+    absurd (none (c.in-Ok-Trace.program.fuel, c.in-Ok-Trace.program.clock, (has_traced _ _ _ _ _ _ c.in-Ok-Trace.field-0-is c.in-Ok-Trace.ensures.comes).made.runs))
+
+pub returns-in-Ok-Trace-clause-unrun : goal.returns-in-Ok-Trace-clause-unrun
+returns-in-Ok-Trace-clause-unrun g c = λ unrun. absurd (played_ran _ c.trace.result.ending c.trace.ensures.cause unrun)
+
+pub returns-in-Ok-Trace-clause-choice : goal.returns-in-Ok-Trace-clause-choice
+returns-in-Ok-Trace-clause-choice g c =
+    inr (c.in-Ok-Trace.program.fuel, c.in-Ok-Trace.program.clock, (has_traced _ _ _ _ _ _ c.in-Ok-Trace.field-0-is c.in-Ok-Trace.ensures.comes).made.runs, c.trace.ensures.choice)
+
+-- ---- a document is verified
+
+pub returns-in-Ok-Verify-clause-cause : goal.returns-in-Ok-Verify-clause-cause
+returns-in-Ok-Verify-clause-cause g c =
+    claim_due _ _ _ c.in-Ok-Verify.claim (has_claim _ _ _ _ _ c.in-Ok-Verify.field-0-is c.in-Ok-Verify.ensures.comes) _ c.verify.result.ending _ _ _ _ _ _ _ _ c.verify.ensures.tells
+
+pub returns-in-Ok-Verify-clause-complete : goal.returns-in-Ok-Verify-clause-complete
+returns-in-Ok-Verify-clause-complete g c =
+    is_expected _ _ _ _ _ c.verify.result.ending
+    (claim_due _ _ _ c.in-Ok-Verify.claim (has_claim _ _ _ _ _ c.in-Ok-Verify.field-0-is c.in-Ok-Verify.ensures.comes) _ c.verify.result.ending _ _ _ _ _ _ _ _ c.verify.ensures.tells)
+
+pub returns-in-Ok-Verify-clause-refusal : goal.returns-in-Ok-Verify-clause-refusal
+returns-in-Ok-Verify-clause-refusal g c =
+    is_refusal _ _ _ _ _ c.verify.result.ending
+    (claim_due _ _ _ c.in-Ok-Verify.claim (has_claim _ _ _ _ _ c.in-Ok-Verify.field-0-is c.in-Ok-Verify.ensures.comes) _ c.verify.result.ending _ _ _ _ _ _ _ _ c.verify.ensures.tells)
+
+pub returns-in-Ok-Verify-clause-verdict : goal.returns-in-Ok-Verify-clause-verdict
+returns-in-Ok-Verify-clause-verdict g c =
+    is_verdict _ _ _ _ _ c.verify.result.ending
+    (claim_due _ _ _ c.in-Ok-Verify.claim (has_claim _ _ _ _ _ c.in-Ok-Verify.field-0-is c.in-Ok-Verify.ensures.comes) _ c.verify.result.ending _ _ _ _ _ _ _ _ c.verify.ensures.tells)
+
+pub returns-in-Ok-Verify-clause-call : goal.returns-in-Ok-Verify-clause-call
+returns-in-Ok-Verify-clause-call g c =
+    ∣ claim_call _ _ _ c.in-Ok-Verify.claim (has_claim _ _ _ _ _ c.in-Ok-Verify.field-0-is c.in-Ok-Verify.ensures.comes) _ _ _ _ c.verify.result.ending c.verify.result.history.list _ _
+    c.in-Ok-Verify.ensures.counts c.verify.ensures.history (ap g.K.Clock.early_waits c.verify.ensures.clock) c.verify.ensures.tells ∣₁
+
+pub returns-in-Ok-Verify-clause-written : goal.returns-in-Ok-Verify-clause-written
+returns-in-Ok-Verify-clause-written g c = λ bytes traces left.
+    absurd (claim_traces _ _ _ c.in-Ok-Verify.claim (has_claim _ _ _ _ _ c.in-Ok-Verify.field-0-is c.in-Ok-Verify.ensures.comes) traces)
+
+pub returns-in-Ok-Verify-clause-rose : goal.returns-in-Ok-Verify-clause-rose
+returns-in-Ok-Verify-clause-rose g c = λ rose. absurd (never_rose _ _ c.in-Ok-Verify.ensures.counts rose)
+
+pub returns-in-Ok-Verify-clause-steady : goal.returns-in-Ok-Verify-clause-steady
+returns-in-Ok-Verify-clause-steady g c = λ none. c.in-Ok-Verify.ensures.counts
+
+pub returns-in-Ok-Verify-clause-unclocked : goal.returns-in-Ok-Verify-clause-unclocked
+returns-in-Ok-Verify-clause-unclocked g c = λ none. c.verify.ensures.clock
+
+pub returns-in-Ok-Verify-clause-unrun : goal.returns-in-Ok-Verify-clause-unrun
+returns-in-Ok-Verify-clause-unrun g c = λ unrun. c.verify.ensures.clock
+
 -- ---- nothing runs, and nothing is accepted
 
 pub returns-in-Err-clause-cause : goal.returns-in-Err-clause-cause
-returns-in-Err-clause-cause g c = answer_due _ _ _ _ c.in-Err.stop c.ending_of.result c.tell.result.ending _ _ _ _ _ _ c.in-Err.ensures.comes c.ending_of.ensures c.tell.ensures.tells
+returns-in-Err-clause-cause g c =
+    answer_due _ _ _ _ c.in-Err.stop c.ending_of.result c.tell.result.ending _ _ _ _ _ _ c.in-Err.ensures.comes c.ending_of.ensures c.tell.ensures.tells
 
 pub returns-in-Err-clause-complete : goal.returns-in-Err-clause-complete
 returns-in-Err-clause-complete g c =
@@ -91,10 +202,19 @@ returns-in-Err-clause-refusal g c =
     is_refusal _ _ _ _ _ c.tell.result.ending
     (answer_due _ _ _ _ c.in-Err.stop c.ending_of.result c.tell.result.ending _ _ _ _ _ _ c.in-Err.ensures.comes c.ending_of.ensures c.tell.ensures.tells)
 
+pub returns-in-Err-clause-verdict : goal.returns-in-Err-clause-verdict
+returns-in-Err-clause-verdict g c =
+    is_verdict _ _ _ _ _ c.tell.result.ending
+    (answer_due _ _ _ _ c.in-Err.stop c.ending_of.result c.tell.result.ending _ _ _ _ _ _ c.in-Err.ensures.comes c.ending_of.ensures c.tell.ensures.tells)
+
 pub returns-in-Err-clause-call : goal.returns-in-Err-clause-call
 returns-in-Err-clause-call g c =
     ∣ answer_call _ _ _ _ _ _ _ c.in-Err.stop c.ending_of.result c.tell.result.ending c.tell.result.history.list _ _ c.in-Err.ensures.comes c.in-Err.ensures.counts c.ending_of.ensures
     c.tell.ensures.history (ap g.O.Sink.told c.tell.ensures.kept.0) (ap g.O.Sink.faults c.tell.ensures.kept.0) (ap g.K.Clock.early_waits c.tell.ensures.kept.1) c.tell.ensures.tells ∣₁
+
+pub returns-in-Err-clause-written : goal.returns-in-Err-clause-written
+returns-in-Err-clause-written g c = λ bytes traces left.
+    answer_written _ c.in-Err.stop c.ending_of.result c.tell.result.ending _ _ _ _ _ _ c.ending_of.ensures (ap g.O.Sink.told c.tell.ensures.kept.0) c.tell.ensures.tells
 
 pub returns-in-Err-clause-rose : goal.returns-in-Err-clause-rose
 returns-in-Err-clause-rose g c =
