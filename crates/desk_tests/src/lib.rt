@@ -9,4 +9,8 @@ pub use desks::{Quiet, at, job_of, ran};
 #[cfg(test)]
 mod calls;
 #[cfg(test)]
+mod cutting;
+#[cfg(test)]
 mod overtaken;
+#[cfg(test)]
+mod reading;

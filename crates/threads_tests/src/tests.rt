@@ -1,6 +1,6 @@
 use crate::{
-    a_body, a_code, a_log, close_two, one_hand_cuts, run_four, ticket_of, tries_while_held,
-    two_hands,
+    a_body, a_code, a_log, close_four, close_two, four_hands, one_hand_cuts, run_four, ticket_of,
+    tries_while_held, two_hands,
 };
 use std::test::Fail;
 
@@ -44,6 +44,34 @@ fn two_hands_push_pop_and_steal(rt: HostRuntime) -> Result<(), Fail> {
     assert_eq!(rt; left.jobs.next().map(|job| job.number), Some(4));
     assert!(rt; left.jobs.next().is_none());
     assert!(rt; left.slices.next(&rt).is_none());
+    Ok(())
+}
+
+#[test]
+fn a_steal_takes_the_oldest_job_of_the_hand_that_it_names(rt: HostRuntime) -> Result<(), Fail> {
+    let alloc = rt.alloc();
+    let code = a_code(alloc)?;
+    let (hands, list, (mut zero, mut one), (mut two, mut three)) = four_hands(alloc, &code)?;
+    assert!(rt; hands.push(&mut zero, ticket_of(&code, 1)).is_ok());
+    assert!(rt; hands.push(&mut one, ticket_of(&code, 2)).is_ok());
+    assert!(rt; hands.push(&mut one, ticket_of(&code, 3)).is_ok());
+    assert!(rt; hands.push(&mut two, ticket_of(&code, 4)).is_ok());
+    assert_eq!(rt;
+        hands.steal(&rt, &mut three, 1).map(|job| job.number),
+        Some(2)
+    );
+    assert_eq!(rt;
+        hands.steal(&rt, &mut three, 2).map(|job| job.number),
+        Some(4)
+    );
+    assert!(rt; hands.steal(&rt, &mut three, 2).is_none());
+    assert_eq!(rt;
+        hands.steal(&rt, &mut zero, 1).map(|job| job.number),
+        Some(3)
+    );
+    let mut left = close_four(hands, list, (zero, one), (two, three));
+    assert_eq!(rt; left.jobs.next().map(|job| job.number), Some(1));
+    assert!(rt; left.jobs.next().is_none());
     Ok(())
 }
 
