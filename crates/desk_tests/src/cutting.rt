@@ -76,7 +76,7 @@ fn a_ticket_of_another_job_cuts_nobody(rt: HostRuntime) -> Result<(), Fail> {
     let Some(job) = job_of(&mut desk, 0) else {
         return Err(Fail::new("no job"));
     };
-    let mut cutter = Names::after(0, job.ticket + 1);
+    let mut cutter = Names::after(0, job.ticket.wrapping_add(1));
     match slice(rt.alloc(), desk.code(), job, &mut cutter) {
         Ok(slice) => assert_eq!(rt; slice.steps, 1_024),
         Err(_) => return Err(Fail::new("it is cut")),
@@ -103,8 +103,9 @@ fn a_slice_that_is_longer_than_the_fuel_left_is_short(rt: HostRuntime) -> Result
     let second = ran(&desk, of_other)?;
     assert_eq!(rt; second.steps, 1_024);
     assert_eq!(rt; desk.commit(first), Committed::Taken);
-    let left = 1_500 - desk.history().steps();
+    let taken = desk.history().steps();
+    let left = 1_500u64.saturating_sub(taken);
     assert_eq!(rt; desk.commit(second), Committed::Short(left));
-    assert_eq!(rt; desk.history().steps(), 1_500 - left);
+    assert_eq!(rt; desk.history().steps(), taken);
     Ok(())
 }

@@ -73,10 +73,10 @@ fn the_clock_is_read_before_each_operation_that_speaks_of_time(
     alone(&mut desk);
     assert_eq!(rt; desk.ended().copied(), Some(RunEnd::Done));
     let history = desk.history();
-    let mut operations = 0;
+    let mut operations = 0u32;
     for place in 1..history.len() {
         if history.at(place) == Some(Entry::Op { t: 0 }) {
-            operations += 1;
+            operations = operations.saturating_add(1);
             assert!(rt; tick_at(history, place - 1).is_some());
         }
     }
