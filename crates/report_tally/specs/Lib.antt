@@ -1,0 +1,4 @@
+pub mod Reporting
+pub mod Touching
+pub mod Tallying
+pub mod Words

@@ -1,0 +1,4 @@
+pub mod Shown
+pub mod Seeing
+pub mod Written
+pub mod Counted
