@@ -1,0 +1,7 @@
+use Rattle.std.proofs.Common.{append_assoc}
+use Rattle.lane_picture.specs.Drawing.{opening_size}
+use Rattle.lane_picture.proofs.document.write_opening_size.Goals as goal
+
+pub returns : goal.returns
+unfolding opening_size
+returns c = simp append_assoc c.write.ensures.bytes
