@@ -1,12 +1,12 @@
 -- Parts of runs and of texts: their last entry.
-use Rattle.std.proofs.Common.{◌≡◌, ℕ, zero, suc, ◌+◌, ◌<◌, ◌≤◌, List, [], ◌∷◌, ◌++◌, length, Option, Some, None, true, false, Bool, cond, sym, ap, ◌∙◌, subst, arith, append_assoc, slice_get}
+use Rattle.std.proofs.Common.{◌≡◌, ℕ, zero, suc, ◌≤◌, List, [], ◌∷◌, ◌++◌, Option, Some, None, true, false, Bool, cond, sym, ap, ◌∙◌, subst, arith, append_assoc, slice_get}
 use Rattle.std.specs.List.{flat_map, AllByRecursion}
 use Rattle.std.proofs.lemmas.List.Concat.{flat_map-append}
 use Rattle.std.proofs.lemmas.List.{append-nil}
 use Rattle.hs_rules.specs.declared.entry.Entry.{Entry}
 use Rattle.hs_rules.specs.declared.entry.Entry.TheVariants as entry
 use Rattle.hs_rules.specs.Entries.{next, Leads, on_thread}
-use Rattle.hs_rules.specs.Histories.{cost_of, steps_of}
+use Rattle.hs_rules.specs.Histories.{cost_of}
 use Rattle.hs_rules.specs.Runs.{IsRun}
 use Rattle.hs_rules.specs.State.{Thread, State}
 use Rattle.hs_laws.proofs.RunParts.{run_before}
@@ -60,7 +60,7 @@ fit_before : (es : List Entry) (e : Entry) → AllByRecursion Fits (es ++ e ∷ 
 fit_before [] e p = (tt, p.0)
 fit_before (f ∷ es) e p = let k = fit_before es e p.1 in ((p.0, k.0), k.1)
 
-last_spelled : (es : List Entry) (e : Entry) (rest : List ℕ) → trace_of (es ++ e ∷ []) ++ rest ≡ trace_of es ++ (line_of e ++ rest)
+pub last_spelled : (es : List Entry) (e : Entry) (rest : List ℕ) → trace_of (es ++ e ∷ []) ++ rest ≡ trace_of es ++ (line_of e ++ rest)
 last_spelled es e rest =
     ap (λ z. (header ++ z) ++ rest) (flat_map-append line_of es (e ∷ []) ∙ ap (λ z. flat_map line_of es ++ z) (append-nil (line_of e)))
     ∙ (ap (λ z. z ++ rest) (sym (append_assoc header (flat_map line_of es) (line_of e))) ∙ append_assoc (trace_of es) (line_of e) rest)

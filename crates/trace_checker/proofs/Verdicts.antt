@@ -1,13 +1,13 @@
 -- A text has one verdict.
 use Rattle.std.proofs.Props.{props}
 use Rattle.std.proofs.Math.Logic.{∥∥₁_elim}
-use Rattle.std.proofs.Common.{◌≡◌, ◌≢◌, ℕ, ◌+◌, ◌<◌, ◌≤◌, List, [], ◌∷◌, ◌++◌, length, Result, Ok, Err, sym, ap, ◌∙◌, subst, arith, append_assoc, inl, inr, ◌⊎◌, ⊎_elim, refl}
+use Rattle.std.proofs.Common.{◌≡◌, ◌≢◌, ℕ, ◌<◌, ◌≤◌, List, [], ◌∷◌, ◌++◌, length, Result, Ok, Err, sym, ap, ◌∙◌, subst, arith, append_assoc, inl, inr, ◌⊎◌, ⊎_elim, refl}
 use Rattle.std.specs.List.{flat_map, AllByRecursion}
 use Rattle.std.proofs.lemmas.Bool.{cases_lt}
 use Rattle.std.proofs.lemmas.List.{append-nil}
 use Rattle.hs_rules.specs.declared.entry.Entry.{Entry}
 use Rattle.hs_rules.specs.Histories.{steps_of}
-use Rattle.hs_rules.proofs.Histories.{steps_of_append, steps_of_last}
+use Rattle.hs_rules.proofs.Histories.{steps_of_append}
 use Rattle.hs_rules.specs.Runs.{IsRun}
 use Rattle.hs_rules.specs.State.{State}
 use Rattle.hs_laws.proofs.RunParts.{is_after, same_after, run_before}
@@ -22,7 +22,7 @@ use Rattle.history_player.specs.Playing.{ReachedAs}
 use Rattle.trace_checker.specs.declared.verdict.Verified.{Verified}
 use Rattle.trace_checker.specs.declared.verdict.RunFault.{RunFault}
 use Rattle.trace_checker.specs.declared.verdict.RunFault.TheVariants as fault
-use Rattle.trace_checker.specs.Checking.{most_steps, Runs, line_behind, Row, IsVerdict, Judges, OneVerdict}
+use Rattle.trace_checker.specs.Checking.{most_steps, Runs, line_behind, Row, IsVerdict, OneVerdict}
 use Rattle.trace_checker.proofs.Parts.{read_before}
 
 -- ---- what ends the check behind these entries, before these bytes

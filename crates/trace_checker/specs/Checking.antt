@@ -84,3 +84,13 @@ IsVerdict (Err fault.NoMemory) = ⊥
 -- a text has one verdict for a script
 abbrev pub OneVerdict : Type 0
 OneVerdict = (ds : List Fn) (text : List ℕ) (a b : Result Verified RunFault) → IsVerdict a → IsVerdict b → Judges ds text a → Judges ds text b → a ≡ b
+
+-- ---- what is told of a run
+
+-- The text is the trace of a run of the script, of no more steps than may be.
+abbrev pub IsRunText : List Fn → List ℕ → Type 0
+IsRunText ds text = ∥ ((es : List Entry) × (s : State) × Spells text es × RunsTo ds es s) ∥₁
+
+-- The text is one, and this is told of that run.
+abbrev pub TellsOfRun : (List Fn → List Entry → State → List ℕ) → List Fn → (text told : List ℕ) → Type 0
+TellsOfRun telling ds text told = ∥ ((es : List Entry) × (s : State) × Spells text es × RunsTo ds es s × (told ≡ telling ds es s)) ∥₁

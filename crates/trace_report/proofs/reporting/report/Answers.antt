@@ -1,48 +1,50 @@
-use Rattle.std.proofs.Common.{◌≡◌, arith}
-use Rattle.hs_rules.specs.Histories.{cost_of}
+use Rattle.std.proofs.Common.{ap, ◌∙◌}
+use Rattle.std.specs.declared.snapshot.Snapshot.{Snapshot}
+use Rattle.std.proofs.lemmas.Result.{err_from_is_err_and}
+use Rattle.rules_code.specs.declared.code.Body.{Body}
 use Rattle.rules_code.specs.Codes.{body_of}
-use Rattle.trace_checker.proofs.Following.{misspelled, long, illegal}
-use Rattle.trace_report.proofs.Counted.{counts_begun, reported, counts_on}
+use Rattle.trace_checker.proofs.Following.{fewer_bytes, none_read, some_read}
+use Rattle.trace_report.proofs.Counted.{counts_begun, counts_on, few, reported}
 use Rattle.trace_report.proofs.reporting.report.Goals as goal
 
-pub loop-alloc-init : goal.loop-alloc-init
-loop-alloc-init c =
-    counts_begun (body_of c.args.code.now) c.args.text.now c.in-Some.lines.rest c.in_ok-player.player c.new-tally.result c.in-Some.ensures.1 c.in_ok-player.ensures.0 c.in_ok-player.ensures.1 c.new-tally.ensures.first c.new-tally.ensures.within
+pub loop-tally-init : goal.loop-tally-init
+loop-tally-init c =
+    counts_begun (body_of c.args.code.now) c.args.text.now c.in_ok-walk.walk c.new-tally.result c.in_ok-walk.ensures.ok c.new-tally.ensures.first c.new-tally.ensures.within
 
-pub returns-in-End-clause-ok : goal.returns-in-End-clause-ok
-returns-in-End-clause-ok c =
-    let l = c.loop-alloc in
-    reported (body_of c.args.code.now) c.args.text.now l.lines.rest l.player l.tally l.entries l.invariant c.in_ok-write-in-End.field-0 c.in-End.ensures.0 c.in_ok-write-in-End.ensures
+pub play-requires : goal.play-requires
+play-requires c = ap (λ (z : Snapshot Body). z.value) c.next.ensures.of ∙ c.loop-tally.invariant.far.of
 
-pub returns-in-Spelling-clause-err : goal.returns-in-Spelling-clause-err
-returns-in-Spelling-clause-err c =
-    let l = c.loop-alloc in
-    misspelled (body_of c.args.code.now) c.args.text.now l.lines.rest l.player l.entries l.tally.steps l.invariant.far c.in-Spelling.ensures.1 c.in-Spelling.ensures.0
+pub returns-in_err-play-clause-err : goal.returns-in_err-play-clause-err
+returns-in_err-play-clause-err c =
+    let h = c.loop-tally.invariant in
+    let read = some_read (body_of c.args.code.now) c.args.text.now h.list c.next.new.self c.in_ok-entry.field-0 c.in-Some.entry c.in-Some.is (c.in_ok-entry.ensures.ok (body_of c.args.code.now) c.args.text.now h.list h.far) in
+    let p = err_from_is_err_and c.from_residual-in_err-play.result c.from_residual-in_err-play.ensures.1 in
+    rw (p.1, p.2) (c.in_err-play.ensures.err (body_of c.args.code.now) c.args.text.now h.list read)
 
-pub returns-then-cost-tally-clause-err : goal.returns-then-cost-tally-clause-err
-returns-then-cost-tally-clause-err c =
-    let l = c.loop-alloc in
-    let e = c.in-Entry.ensures in
-    let within = l.invariant.far.within in
-    let cost : c.cost.result ≡ cost_of c.in-Entry.entry = c.cost.ensures in
-    long (body_of c.args.code.now) c.args.text.now l.lines.rest l.player l.entries l.tally.steps l.invariant.far c.in-Entry.entry c.next.new.self.rest e.0 e.1 (omega (arith, within, cost, c.if-cost-tally.true))
+pub count-requires-clause-few : goal.count-requires-clause-few
+count-requires-clause-few c =
+    let h = c.loop-tally.invariant in
+    let read = some_read (body_of c.args.code.now) c.args.text.now h.list c.next.new.self c.in_ok-entry.field-0 c.in-Some.entry c.in-Some.is (c.in_ok-entry.ensures.ok (body_of c.args.code.now) c.args.text.now h.list h.far) in
+    let on = c.in_ok-play.ensures.ok (body_of c.args.code.now) c.args.text.now h.list read in
+    few (body_of c.args.code.now) c.args.text.now h.list c.loop-tally.tally c.in-Some.entry c.next.new.self c.play.new.self read on h.tallies h.steps
 
-pub returns-then-not-branch-clause-err : goal.returns-then-not-branch-clause-err
-returns-then-not-branch-clause-err c =
-    let l = c.loop-alloc in
-    let e = c.in-Entry.ensures in
-    let within = l.invariant.far.within in
-    let cost : c.cost.result ≡ cost_of c.in-Entry.entry = c.cost.ensures in
-    illegal (body_of c.args.code.now) c.args.text.now l.lines.rest l.player l.entries l.tally.steps l.invariant.far c.in-Entry.entry c.next.new.self.rest e.0 e.1 (omega (arith, within, cost, c.if-cost-tally.false))
-    ((c.in_ok-play-in-Entry.ensures.illegal c.if-not-branch.true).1 l.invariant.far.list l.invariant.far.played)
+pub loop-tally-smaller : goal.loop-tally-smaller
+loop-tally-smaller c =
+    let h = c.loop-tally.invariant in
+    let read = some_read (body_of c.args.code.now) c.args.text.now h.list c.next.new.self c.in_ok-entry.field-0 c.in-Some.entry c.in-Some.is (c.in_ok-entry.ensures.ok (body_of c.args.code.now) c.args.text.now h.list h.far) in
+    let on = c.in_ok-play.ensures.ok (body_of c.args.code.now) c.args.text.now h.list read in
+    fewer_bytes c.args.text.now c.loop-tally.walk.lines.rest c.play.new.self.lines.rest h.list c.in-Some.entry h.far.read on.read
 
-pub loop-alloc-preserved : goal.loop-alloc-preserved
-loop-alloc-preserved c =
-    let l = c.loop-alloc in
-    let e = c.in-Entry.ensures in
-    let within = l.invariant.far.within in
-    let cost : c.cost.result ≡ cost_of c.in-Entry.entry = c.cost.ensures in
-    counts_on (body_of c.args.code.now) c.args.text.now l.lines.rest l.player l.tally l.entries l.invariant c.in-Entry.entry c.next.new.self.rest e.0 e.1 c.play.new.self
-    (c.in_ok-play-in-Entry.ensures.legal c.if-not-branch.false l.invariant.far.list l.invariant.far.played)
-    c.play.ensures.of c.count.new.self c.seen-seen.result c.before-before.result c.cost.result cost (omega (arith, within, c.if-cost-tally.false)) c.before-before.ensures c.seen-seen.ensures
-    c.in_ok-count-in-Entry.ensures.counted c.in_ok-count-in-Entry.ensures.within
+pub loop-tally-preserved : goal.loop-tally-preserved
+loop-tally-preserved c =
+    let h = c.loop-tally.invariant in
+    let read = some_read (body_of c.args.code.now) c.args.text.now h.list c.next.new.self c.in_ok-entry.field-0 c.in-Some.entry c.in-Some.is (c.in_ok-entry.ensures.ok (body_of c.args.code.now) c.args.text.now h.list h.far) in
+    let on = c.in_ok-play.ensures.ok (body_of c.args.code.now) c.args.text.now h.list read in
+    counts_on (body_of c.args.code.now) c.args.text.now h.list c.loop-tally.tally c.in-Some.entry c.next.new.self c.play.new.self read on h.tallies h.steps c.count.new.self
+    c.seen-seen.result c.before-before.result c.before-before.ensures c.seen-seen.ensures c.in_ok-count.ensures.counted c.in_ok-count.ensures.within
+
+pub returns-clause-ok : goal.returns-clause-ok
+returns-clause-ok c =
+    let h = c.loop-tally.invariant in
+    let end = none_read (body_of c.args.code.now) c.args.text.now h.list c.next.new.self c.in_ok-entry.field-0 c.in_default.not-Some (c.in_ok-entry.ensures.ok (body_of c.args.code.now) c.args.text.now h.list h.far) in
+    reported (body_of c.args.code.now) c.args.text.now h.list c.next.new.self c.loop-tally.tally c.in_ok-write.field-0 end.1 end.0 h.tallies c.in_ok-write.ensures
