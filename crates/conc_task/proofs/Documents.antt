@@ -10,7 +10,8 @@ use Rattle.std.proofs.lemmas.Slice.Eq.{bytes_eq-Decides}
 use Rattle.std.proofs.Math.Seq.{take-length}
 use Rattle.rules_code.specs.Codes.{body_of}
 use Rattle.rules_traces.specs.Traces.{IsScriptLine, script_line}
-use Rattle.conc_words.specs.declared.command.Command.TheVariants.{Verify}
+use Rattle.conc_words.specs.declared.command.Command.TheVariants.{Ask}
+use Rattle.conc_words.specs.declared.command.Question.{Question}
 use Rattle.hs_compile.specs.declared.refusal.Refusal.{Refusal}
 use Rattle.hs_compile.specs.declared.refusal.Refusal.TheVariants.{TooLong}
 use Rattle.hs_compile.specs.Verdicts.{IsAccepted, IsRefused}
@@ -99,8 +100,8 @@ script_of document = go (searched document (length document))
 
 -- ---- what the source had
 
-module _ (fault : Type 0) (before now : Option (List ℕ)) where
-  pub document_unread : (e : Stop) → IsUnread document_limit fault before now e → HasNone (Some Verify) fault before now e
+module _ (question : Question) (fault : Type 0) (before now : Option (List ℕ)) where
+  pub document_unread : (e : Stop) → IsUnread document_limit fault before now e → HasNone (Some (Ask question)) fault before now e
   document_unread Read why =
       let (document, left) = any_left before in
       let (bytes, is) = script_of document in
@@ -113,9 +114,9 @@ module _ (fault : Type 0) (before now : Option (List ℕ)) where
   document_unread Words why = absurd why
   document_unread NoScript why = absurd why
 
-  pub document_had : (taken : List ℕ) (claim : Claim) → Consumes before now taken → IsWhole document_limit taken now → IsClaimed taken claim → HasClaim (Some Verify) before now claim
+  pub document_had : (taken : List ℕ) (claim : Claim) → Consumes before now taken → IsWhole document_limit taken now → IsClaimed taken claim → HasClaim (Some (Ask question)) before now question claim
   document_had taken claim consumed (inl all) is = record {
-    verifies = refl;
+    asks = refl;
     bytes = is.bytes;
     document = record { document = taken; left = known_left before now taken consumed all.1; short = is.short; parted = is.parted };
     accepted = is.accepted;
@@ -124,7 +125,7 @@ module _ (fault : Type 0) (before now : Option (List ℕ)) where
   document_had taken claim consumed (inr long) is = absurd (omega (arith, is.short, long))
 
   script_refused : (taken : List ℕ) (r : Refusal) (trace bytes : List ℕ) → Consumes before now taken → IsWhole document_limit taken now → length taken ≤ document_limit → IsParted taken trace bytes → IsRefused r bytes
-      → HasNone (Some Verify) fault before now (Refused r)
+      → HasNone (Some (Ask question)) fault before now (Refused r)
   script_refused taken r trace bytes consumed (inl all) short parted why =
       let left = known_left before now taken consumed all.1 in
       record {
@@ -135,7 +136,7 @@ module _ (fault : Type 0) (before now : Option (List ℕ)) where
       }
   script_refused taken r trace bytes consumed (inr long) short parted why = absurd (omega (arith, short, long))
 
-  document_long : (taken : List ℕ) (r : Refusal) → Consumes before now taken → IsWhole document_limit taken now → r ≡ TooLong → document_limit < length taken → HasNone (Some Verify) fault before now (Refused r)
+  document_long : (taken : List ℕ) (r : Refusal) → Consumes before now taken → IsWhole document_limit taken now → r ≡ TooLong → document_limit < length taken → HasNone (Some (Ask question)) fault before now (Refused r)
   document_long taken r consumed (inl all) is long = absurd (omega (arith, all.0, long))
   document_long taken r consumed (inr cut) is long =
       let found = long_left document_limit before now taken cut consumed in
@@ -147,18 +148,18 @@ module _ (fault : Type 0) (before now : Option (List ℕ)) where
         through = λ reads. cut_through document_limit before now taken cut consumed;
       }
 
-  document_bare : (taken : List ℕ) → Consumes before now taken → IsWhole document_limit taken now → length taken ≤ document_limit → HasNoScript taken → HasNone (Some Verify) fault before now NoScript
+  document_bare : (taken : List ℕ) → Consumes before now taken → IsWhole document_limit taken now → length taken ≤ document_limit → HasNoScript taken → HasNone (Some (Ask question)) fault before now NoScript
   document_bare taken consumed (inl all) short none =
       let left = known_left before now taken consumed all.1 in
       record {
         bytes = [];
         input = (taken, left, inr (none, refl));
-        stopped = (refl, record { document = taken; left = left; short = short; none = none });
+        stopped = ((question, refl), record { document = taken; left = left; short = short; none = none });
         through = λ reads. end_through document_limit before now taken all.0 consumed all.1;
       }
   document_bare taken consumed (inr long) short none = absurd (omega (arith, short, long))
 
-  pub document_none : (taken : List ℕ) (e : Stop) → Consumes before now taken → IsWhole document_limit taken now → IsUnclaimed taken e → HasNone (Some Verify) fault before now e
+  pub document_none : (taken : List ℕ) (e : Stop) → Consumes before now taken → IsWhole document_limit taken now → IsUnclaimed taken e → HasNone (Some (Ask question)) fault before now e
   document_none taken (Refused r) consumed read (inl why) = script_refused taken r why.1 why.2 consumed read why.0 why.3 why.4
   document_none taken (Refused r) consumed read (inr why) = document_long taken r consumed read why.0 why.1
   document_none taken NoScript consumed read why = document_bare taken consumed read why.0 why.1
@@ -168,7 +169,7 @@ module _ (fault : Type 0) (before now : Option (List ℕ)) where
 
   -- what is made of the document that was read
   pub claim_had : (answer : Result Claim Stop) (taken : List ℕ) → Consumes before now taken → IsWhole document_limit taken now → MatchResult answer (IsClaimed taken) (IsUnclaimed taken)
-      → MatchResult answer (HasClaim (Some Verify) before now) (HasNone (Some Verify) fault before now)
+      → MatchResult answer (HasClaim (Some (Ask question)) before now question) (HasNone (Some (Ask question)) fault before now)
   claim_had (Ok claim) taken consumed read is = document_had taken claim consumed read is
   claim_had (Err e) taken consumed read why = document_none taken e consumed read why
 

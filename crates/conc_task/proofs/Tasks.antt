@@ -7,7 +7,8 @@ use Rattle.rules_code.specs.declared.code.Code.{Code}
 use Rattle.rules_code.specs.Codes.{body_of}
 use Rattle.conc_gen.specs.Ring.{ring_text}
 use Rattle.conc_words.specs.declared.command.Command.{Command}
-use Rattle.conc_words.specs.declared.command.Command.TheVariants.{Run, Check, Bench, Trace, Verify}
+use Rattle.conc_words.specs.declared.command.Command.TheVariants.{Run, Check, Bench, Trace, Ask}
+use Rattle.conc_words.specs.declared.command.Question.{Question}
 use Rattle.hs_compile.specs.declared.refusal.Refusal.{Refusal}
 use Rattle.hs_compile.specs.Verdicts.{IsAccepted, IsRefused, script_limit}
 use Rattle.conc_task.specs.declared.stop.Stop.{Stop}
@@ -65,11 +66,13 @@ traced_program command capabilities fuel clock before now code read is (had, sam
       read = same;
     }
 
-pub claimed : (command : Option Command) (before now : Option (List ℕ)) (claim : Claim) → command ≡ Some Verify → HasClaim (Some Verify) before now claim → HasClaim command before now claim
-claimed command before now claim is has = subst (λ c. HasClaim c before now claim) (sym is) has
+pub claimed : (command : Option Command) (before now : Option (List ℕ)) (question : Question) (claim : Claim) → command ≡ Some (Ask question) → HasClaim (Some (Ask question)) before now question claim
+    → HasClaim command before now question claim
+claimed command before now question claim is has = subst (λ c. HasClaim c before now question claim) (sym is) has
 
-pub claim_none : (command : Option Command) (fault : Type 0) (before now : Option (List ℕ)) (e : Stop) → command ≡ Some Verify → HasNone (Some Verify) fault before now e → HasNone command fault before now e
-claim_none command fault before now e is has = subst (λ c. HasNone c fault before now e) (sym is) has
+pub claim_none : (command : Option Command) (question : Question) (fault : Type 0) (before now : Option (List ℕ)) (e : Stop) → command ≡ Some (Ask question) → HasNone (Some (Ask question)) fault before now e
+    → HasNone command fault before now e
+claim_none command question fault before now e is has = subst (λ c. HasNone c fault before now e) (sym is) has
 
 -- ---- no script
 
@@ -79,28 +82,28 @@ ReadsScript (Run capabilities fuel clock) = Unit {0}
 ReadsScript Check = Unit {0}
 ReadsScript (Bench threads capabilities fuel) = ⊥
 ReadsScript (Trace capabilities fuel clock) = Unit {0}
-ReadsScript Verify = ⊥
+ReadsScript (Ask question) = ⊥
 
 reads_source : (c : Command) → ReadsScript c → ReadsSource (Some c)
 reads_source (Run capabilities fuel clock) reads = tt
 reads_source Check reads = tt
 reads_source (Trace capabilities fuel clock) reads = tt
 reads_source (Bench threads capabilities fuel) reads = absurd reads
-reads_source Verify reads = absurd reads
+reads_source (Ask question) reads = absurd reads
 
 limit_is : (c : Command) → ReadsScript c → source_limit (Some c) ≡ script_limit
 limit_is (Run capabilities fuel clock) reads = refl
 limit_is Check reads = refl
 limit_is (Trace capabilities fuel clock) reads = refl
 limit_is (Bench threads capabilities fuel) reads = refl
-limit_is Verify reads = absurd reads
+limit_is (Ask question) reads = absurd reads
 
 refused_input : (c : Command) (before : Option (List ℕ)) (bytes : List ℕ) (r : Refusal) → ReadsScript c → IsRefused r bytes → RefusesInput (Some c) before bytes r
 refused_input (Run capabilities fuel clock) before bytes r reads why = why
 refused_input Check before bytes r reads why = why
 refused_input (Trace capabilities fuel clock) before bytes r reads why = why
 refused_input (Bench threads capabilities fuel) before bytes r reads why = why
-refused_input Verify before bytes r reads why = absurd reads
+refused_input (Ask question) before bytes r reads why = absurd reads
 
 was_read : (c : Command) (e : Stop) (before now : Option (List ℕ)) → ReadsScript c → WasRead script_limit e before now → WasRead (source_limit (Some c)) e before now
 was_read c e before now reads through = subst (λ n. WasRead n e before now) (sym (limit_is c reads)) through
@@ -110,7 +113,7 @@ left_input (Run capabilities fuel clock) before bytes reads left = left
 left_input Check before bytes reads left = left
 left_input (Trace capabilities fuel clock) before bytes reads left = left
 left_input (Bench threads capabilities fuel) before bytes reads left = absurd reads
-left_input Verify before bytes reads left = absurd reads
+left_input (Ask question) before bytes reads left = absurd reads
 
 none_of : (c : Command) (fault : Type 0) (before now : Option (List ℕ)) (e : Stop) → ReadsScript c → HadNone fault before now e → HasNone (Some c) fault before now e
 none_of c fault before now (Refused r) reads (bytes, left, why, through) = record {
@@ -161,7 +164,7 @@ any_input (Some (Run capabilities fuel clock)) before = any_left before
 any_input (Some Check) before = any_left before
 any_input (Some (Bench threads capabilities fuel)) before = (ring_text threads, refl)
 any_input (Some (Trace capabilities fuel clock)) before = any_left before
-any_input (Some Verify) before =
+any_input (Some (Ask question)) before =
     let (document, left) = any_left before in
     let (bytes, is) = script_of document in
     (bytes, (document, left, is))

@@ -4,7 +4,8 @@ use Rattle.hs_base.specs.declared.clock_choice.ClockChoice.{ClockChoice}
 use Rattle.hs_base.specs.declared.clock_choice.ClockChoice.TheVariants.{Virtual}
 use Rattle.conc_gen.specs.Ring.{ring_text}
 use Rattle.conc_words.specs.declared.command.Command.{Command}
-use Rattle.conc_words.specs.declared.command.Command.TheVariants.{Run, Check, Bench, Trace, Verify}
+use Rattle.conc_words.specs.declared.command.Command.TheVariants.{Run, Check, Bench, Trace, Ask}
+use Rattle.conc_words.specs.declared.command.Question.{Question}
 use Rattle.hs_compile.specs.Verdicts.{script_limit}
 use Rattle.conc_task.specs.Documents.{document_limit, IsLeft, IsScriptOf}
 
@@ -15,26 +16,26 @@ ReadsSource (Some (Run capabilities fuel clock)) = ⊤
 ReadsSource (Some Check) = ⊤
 ReadsSource (Some (Bench threads capabilities fuel)) = ⊥
 ReadsSource (Some (Trace capabilities fuel clock)) = ⊤
-ReadsSource (Some Verify) = ⊤
+ReadsSource (Some (Ask question)) = ⊤
 
--- The most bytes of what the command reads from the source: a script, or for `verify` a document.
+-- The most bytes of what the command reads from the source: a script, or a document where something is asked of one.
 abbrev pub source_limit : Option Command → ℕ
 source_limit None = script_limit
 source_limit (Some (Run capabilities fuel clock)) = script_limit
 source_limit (Some Check) = script_limit
 source_limit (Some (Bench threads capabilities fuel)) = script_limit
 source_limit (Some (Trace capabilities fuel clock)) = script_limit
-source_limit (Some Verify) = document_limit
+source_limit (Some (Ask question)) = document_limit
 
--- These bytes are the input of the command: what the source had left, for `bench N` the text of the ring, and for `verify` the
--- script of the document that the source had left.
+-- These bytes are the input of the command: what the source had left, for `bench N` the text of the ring, and where
+-- something is asked of a document, the script of the one that the source had left.
 abbrev pub IsInput : Option Command → (left : Option (List ℕ)) → List ℕ → Type 0
 IsInput None left bytes = ⊤
 IsInput (Some (Run capabilities fuel clock)) left bytes = IsLeft left bytes
 IsInput (Some Check) left bytes = IsLeft left bytes
 IsInput (Some (Bench threads capabilities fuel)) left bytes = bytes ≡ ring_text threads
 IsInput (Some (Trace capabilities fuel clock)) left bytes = IsLeft left bytes
-IsInput (Some Verify) left bytes = (document : List ℕ) × IsLeft left document × IsScriptOf document bytes
+IsInput (Some (Ask question)) left bytes = (document : List ℕ) × IsLeft left document × IsScriptOf document bytes
 
 -- The command runs its input with this fuel, by this clock.
 abbrev pub RunsWith : Option Command → (fuel : ℕ) → ClockChoice → Type 0
@@ -43,7 +44,7 @@ RunsWith (Some (Run capabilities fuel clock)) most choice = (most ≡ fuel) × (
 RunsWith (Some Check) most choice = ⊥
 RunsWith (Some (Bench threads capabilities fuel)) most choice = (most ≡ fuel) × (choice ≡ Virtual)
 RunsWith (Some (Trace capabilities fuel clock)) most choice = (most ≡ fuel) × (choice ≡ clock)
-RunsWith (Some Verify) most choice = ⊥
+RunsWith (Some (Ask question)) most choice = ⊥
 
 -- The command runs its input on so many capabilities.
 abbrev pub RunsOn : Option Command → ℕ → Type 0
@@ -52,7 +53,7 @@ RunsOn (Some (Run capabilities fuel clock)) count = count ≡ capabilities
 RunsOn (Some Check) count = ⊥
 RunsOn (Some (Bench threads capabilities fuel)) count = count ≡ capabilities
 RunsOn (Some (Trace capabilities fuel clock)) count = count ≡ capabilities
-RunsOn (Some Verify) count = ⊥
+RunsOn (Some (Ask question)) count = ⊥
 
 -- The command writes the history of what it runs, in place of what that prints.
 abbrev pub Traces : Option Command → Type 0
@@ -61,7 +62,15 @@ Traces (Some (Run capabilities fuel clock)) = ⊥
 Traces (Some Check) = ⊥
 Traces (Some (Bench threads capabilities fuel)) = ⊥
 Traces (Some (Trace capabilities fuel clock)) = ⊤
-Traces (Some Verify) = ⊥
+Traces (Some (Ask question)) = ⊥
+
+-- the command asks this of a document
+abbrev pub Asks : Option Command → Question → Type 0
+Asks command question = command ≡ Some (Ask question)
+
+-- it asks something of a document
+abbrev pub AsksSomething : Option Command → Type 0
+AsksSomething command = (question : Question) × Asks command question
 
 -- the command runs its input
 abbrev pub Runs : Option Command → Type 0

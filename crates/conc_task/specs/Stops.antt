@@ -1,7 +1,7 @@
 -- Why there is nothing to run, and nothing is accepted (own).
 use Rattle.std.specs.Prelude.{◌≡◌, ◌≤◌, ◌<◌, ◌⊎◌, ℕ, List, Option, Some, None, IsSome, length, ⊤}
 use Rattle.conc_words.specs.declared.command.Command.{Command}
-use Rattle.conc_words.specs.declared.command.Command.TheVariants.{Run, Check, Bench, Trace, Verify}
+use Rattle.conc_words.specs.declared.command.Command.TheVariants.{Run, Check, Bench, Trace, Ask}
 use Rattle.hs_compile.specs.declared.refusal.Refusal.{Refusal}
 use Rattle.hs_compile.specs.declared.refusal.Refusal.TheVariants as refusal
 use Rattle.hs_compile.specs.declared.refusal.CompileFault.{CompileFault}
@@ -10,7 +10,7 @@ use Rattle.hs_compile.specs.Verdicts.{IsRefused, script_limit}
 use Rattle.conc_task.specs.declared.stop.Stop.{Stop}
 use Rattle.conc_task.specs.declared.stop.Stop.TheVariants.{Words, Refused, Read, NoScript, Memory}
 use Rattle.conc_task.specs.Documents.{document_limit, HasBareDocument, HasDocument, HasLongDocument, HasNoScript, IsLeft, IsParted}
-use Rattle.conc_task.specs.Commands.{IsInput, ReadsSource, source_limit}
+use Rattle.conc_task.specs.Commands.{AsksSomething, IsInput, ReadsSource, source_limit}
 use Rattle.conc_task.specs.Inputs.{ReadThrough, TookFew}
 
 -- A document is refused: it is too long, or it is not, and its script is refused.
@@ -24,7 +24,7 @@ RefusesInput (Some (Run capabilities fuel clock)) before bytes r = IsRefused r b
 RefusesInput (Some Check) before bytes r = IsRefused r bytes
 RefusesInput (Some (Bench threads capabilities fuel)) before bytes r = IsRefused r bytes
 RefusesInput (Some (Trace capabilities fuel clock)) before bytes r = IsRefused r bytes
-RefusesInput (Some Verify) before bytes r = RefusesDocument before bytes r
+RefusesInput (Some (Ask question)) before bytes r = RefusesDocument before bytes r
 
 -- The cause of each, by the command that the words are, if they are one, what the source had left, and the bytes of the input.
 -- Want of memory is free.
@@ -32,7 +32,7 @@ abbrev pub IsStopped : Option Command → (before : Option (List ℕ)) → (byte
 IsStopped command before bytes read_fault Words = command ≡ None
 IsStopped command before bytes read_fault (Refused r) = IsSome command × RefusesInput command before bytes r
 IsStopped command before bytes read_fault Read = ReadsSource command × read_fault
-IsStopped command before bytes read_fault NoScript = (command ≡ Some Verify) × HasBareDocument before
+IsStopped command before bytes read_fault NoScript = AsksSomething command × HasBareDocument before
 IsStopped command before bytes read_fault Memory = ⊤
 
 -- How much of the source was taken: all of it where a script was refused or a document has none, and never more than one byte

@@ -2,14 +2,15 @@
 use Rattle.std.specs.Prelude.{◌≡◌, ◌≤◌, ℕ, List, Option, Some, length, ⊤}
 use Rattle.rules_code.specs.Codes.{body_of}
 use Rattle.conc_words.specs.declared.command.Command.{Command}
-use Rattle.conc_words.specs.declared.command.Command.TheVariants.{Check, Verify}
+use Rattle.conc_words.specs.declared.command.Command.TheVariants.{Check}
+use Rattle.conc_words.specs.declared.command.Question.{Question}
 use Rattle.hs_compile.specs.Verdicts.{IsAccepted, script_limit}
 use Rattle.conc_task.specs.declared.task.Program.{Program}
 use Rattle.conc_task.specs.declared.task.Claim.{Claim}
 use Rattle.conc_task.specs.declared.task.Task.{Task}
-use Rattle.conc_task.specs.declared.task.Task.TheVariants.{Run, Accept, Trace, Verify as VerifyClaim}
+use Rattle.conc_task.specs.declared.task.Task.TheVariants.{Run, Accept, Trace, Ask}
 use Rattle.conc_task.specs.Documents.{document_limit, HasDocument, IsParted}
-use Rattle.conc_task.specs.Commands.{IsInput, ReadsSource, RunsOn, RunsWith, Traces}
+use Rattle.conc_task.specs.Commands.{Asks, IsInput, ReadsSource, RunsOn, RunsWith, Traces}
 use Rattle.conc_task.specs.Inputs.{IsScript, ReadThrough}
 
 -- the command runs its input, which is the script that this program was made of
@@ -42,9 +43,9 @@ pub record IsClaimed (document : List ℕ) (claim : Claim) : Type 0 where
   pub parted : IsParted document claim.trace.items bytes
   pub accepted : IsAccepted bytes (body_of claim.code).of.value
 
--- the command verifies the document of this claim
-pub record HasClaim (command : Option Command) (before now : Option (List ℕ)) (claim : Claim) : Type 0 where
-  pub verifies : command ≡ Some Verify
+-- the command asks this of the document of this claim
+pub record HasClaim (command : Option Command) (before now : Option (List ℕ)) (question : Question) (claim : Claim) : Type 0 where
+  pub asks : Asks command question
   pub bytes : List ℕ
   pub document : HasDocument before claim.trace.items bytes
   pub accepted : IsAccepted bytes (body_of claim.code).of.value
@@ -55,18 +56,18 @@ abbrev pub HasTask : Option Command → (before now : Option (List ℕ)) → Tas
 HasTask command before now (Run program) = HasProgram command before now program × ¬ Traces command
 HasTask command before now Accept = HasChecked command before now
 HasTask command before now (Trace program read) = HasTraced command before now program read.items
-HasTask command before now (VerifyClaim claim) = HasClaim command before now claim
+HasTask command before now (Ask question claim) = HasClaim command before now question claim
 
 -- there is fuel for what is run, and not more than any run may have
 abbrev pub HasFuel : Task → Type 0
 HasFuel (Run program) = (1 ≤ program.fuel) × (program.fuel ≤ 4000000)
 HasFuel Accept = ⊤
 HasFuel (Trace program read) = (1 ≤ program.fuel) × (program.fuel ≤ 4000000)
-HasFuel (VerifyClaim claim) = ⊤
+HasFuel (Ask question claim) = ⊤
 
 -- what is run has a capability, and not more of them than any run may have
 abbrev pub HasCapabilities : Task → Type 0
 HasCapabilities (Run program) = (1 ≤ program.capabilities) × (program.capabilities ≤ 16)
 HasCapabilities Accept = ⊤
 HasCapabilities (Trace program read) = (1 ≤ program.capabilities) × (program.capabilities ≤ 16)
-HasCapabilities (VerifyClaim claim) = ⊤
+HasCapabilities (Ask question claim) = ⊤

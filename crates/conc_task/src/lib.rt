@@ -1,4 +1,4 @@
-//! What the words and the input come to: a script to run, word that one is accepted, a document to verify, or why there is none.
+//! What the words and the input come to: a script to run, word that one is accepted, a question about a document, or why there is none.
 //!
 //! To a contract a task is the capabilities, the fuel, the clock and the script that it runs (`specs/Tasks`). The one promise is that
 //! of `task_of`: its answer is what the command that the words are asks for, of the bytes that the source had left, or of the ring that

@@ -4,7 +4,8 @@ ghost use Rattle.hs_io.specs.Causes.{Rose};
 ghost use Rattle.rules_code.specs.Codes.{body_of};
 ghost use Rattle.hs_compile.specs.Verdicts.{IsAccepted};
 ghost use Rattle.conc_gen.specs.Ring.{ring_text};
-ghost use Rattle.conc_words.specs.declared.command.Command.TheVariants.{Verify};
+ghost use Rattle.conc_words.specs.declared.command.Command.TheVariants.{Ask};
+ghost use Rattle.conc_words.specs.declared.command.Question.{Question as AQuestion};
 ghost use Rattle.conc_words.specs.Commands.{command_of, IsWithin};
 ghost use Rattle.conc_task.specs.Commands.{ReadsSource};
 ghost use Rattle.conc_task.specs.Inputs.{HadBytes, HadScript, HadSome, IsScript, IsWhole};
@@ -14,7 +15,7 @@ ghost use Rattle.conc_task.specs.Tasks.{HasCapabilities, HasClaim, HasFuel, HasT
 use crate::input::{Input, read_input};
 use crate::stop::Stop;
 use conc_gen::ring;
-use conc_words::{Command, WordsFault, read_words};
+use conc_words::{Command, Question, WordsFault, read_words};
 use hs_base::ClockChoice;
 use hs_compile::{CompileFault, Refusal, accept, compile};
 use hs_io::Source;
@@ -56,14 +57,14 @@ pub enum Task {
     Accept,
     /// To run a script and to write its history, and then the script, as it was read.
     Trace(Program, Vec<u8>),
-    /// To say whether the trace is a run of the script beside it.
-    Verify(Claim),
+    /// To answer a question about a trace and the script beside it.
+    Ask(Question, Claim),
 }
 
 /// What the words after the program's name ask for.
 ///
-/// `run`, `check` and `trace` read the source to its end, or to the first byte that no script has, `verify` to the first that no
-/// document has; no other words read it. Want of memory is free.
+/// `run`, `check` and `trace` read the source to its end, or to the first byte that no script has, `verify` and `report` to the
+/// first that no document has; no other words read it. Want of memory is free.
 pub fn task_of<S: Source>(alloc: Global, words: &[String], source: &mut S) -> Result<Task, Stop>
     ensures comes { MatchResult result
         (HasTask (command_of (map (λ word. string_bytes word) words.now)) (S.left source.old) (S.left source.new))
@@ -123,9 +124,9 @@ pub fn task_of<S: Source>(alloc: Global, words: &[String], source: &mut S) -> Re
             };
             Ok(Task::Trace(program, bytes))
         }
-        Command::Verify => {
+        Command::Ask(question) => {
             let claim = read_claim(alloc, source)?;
-            Ok(Task::Verify(claim))
+            Ok(Task::Ask(question, claim))
         }
     }
 }
@@ -165,10 +166,10 @@ fn read_traced<S: Source>(alloc: Global, source: &mut S) -> Result<(Code, Vec<u8
     Ok((code, bytes))
 }
 
-// The claim of the document that the source has.
+// The claim of the document that the source has, whatever is asked of it.
 fn read_claim<S: Source>(alloc: Global, source: &mut S) -> Result<Claim, Stop>
-    ensures comes { MatchResult result (HasClaim (Some Verify) (S.left source.old) (S.left source.new))
-        (HasNone (Some Verify) (Rose (S.faults source.old) (S.faults source.new)) (S.left source.old) (S.left source.new)) }
+    ensures comes { (question : AQuestion) → MatchResult result (HasClaim (Some (Ask question)) (S.left source.old) (S.left source.new) question)
+        (HasNone (Some (Ask question)) (Rose (S.faults source.old) (S.faults source.new)) (S.left source.old) (S.left source.new)) }
     ensures counts { MatchResult result (λ claim. S.faults source.new ≡ S.faults source.old) (λ stop. Counted stop (S.faults source.old) (S.faults source.new)) }
 {
     let document = read_bytes(alloc, source, DOCUMENT_LIMIT)?;

@@ -118,13 +118,13 @@ pub idle : (came given : Ending) (es : List Entry) (lent now : Shown) → es ≡
     → now.early ≡ lent.early → TellsLine (line_of came) came given lent.errors now.errors lent.err_faults now.err_faults → IsIdle came given es lent now
 idle came given es lent now none output faults early line = record { no_entry = none; no_output = (output, faults); no_wait = early; told = line }
 
-keeps_idle : (command : Option Command) (bytes : List ℕ) (choice : Option ClockChoice) (s : Stop) (given : Ending) (es : List Entry) (lent now : Shown) → IsIdle (ending_of s) given es lent now
-    → Keeps command bytes choice (ending_of s) given es lent now
-keeps_idle command bytes choice stop.Words given es lent now kept = kept
-keeps_idle command bytes choice (stop.Refused r) given es lent now kept = kept
-keeps_idle command bytes choice stop.Read given es lent now kept = kept
-keeps_idle command bytes choice stop.NoScript given es lent now kept = kept
-keeps_idle command bytes choice stop.Memory given es lent now kept = inl kept
+keeps_idle : (command : Option Command) (before : Option (List ℕ)) (bytes : List ℕ) (choice : Option ClockChoice) (s : Stop) (given : Ending) (es : List Entry) (lent now : Shown) → IsIdle (ending_of s) given es lent now
+    → Keeps command before bytes choice (ending_of s) given es lent now
+keeps_idle command before bytes choice stop.Words given es lent now kept = kept
+keeps_idle command before bytes choice (stop.Refused r) given es lent now kept = kept
+keeps_idle command before bytes choice stop.Read given es lent now kept = kept
+keeps_idle command before bytes choice stop.NoScript given es lent now kept = kept
+keeps_idle command before bytes choice stop.Memory given es lent now kept = inl kept
 
 pub few_through : (limit : ℕ) (before now : Option (List ℕ)) → ReadThrough limit before now → TookFew limit before now
 few_through limit None now through = tt
@@ -159,7 +159,7 @@ module _ (command : Option Command) (fault rose : Type 0) (before left_now : Opt
     due = stop_due command fault (WriteFault lent now) before has.bytes s has.stopped;
     faulty = λ found. ap ending_of (read found);
     through = λ reads. stop_through (source_limit command) before left_now s (has.through reads);
-    kept = keeps_idle command has.bytes choice s given es lent now (idle (ending_of s) given es lent now none output faults early line);
+    kept = keeps_idle command before has.bytes choice s given es lent now (idle (ending_of s) given es lent now none output faults early line);
   }
   answered_call s given es lent now has read none output faults early (inr memory) = record {
     bytes = has.bytes;

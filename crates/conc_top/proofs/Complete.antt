@@ -4,7 +4,9 @@ use Rattle.std.specs.Prelude.{Option, Some, None, IsSome, Result, Ok, Err}
 use Rattle.run_course.specs.declared.ends.RunEnd.{RunEnd}
 use Rattle.run_course.specs.declared.ends.RunEnd.TheVariants as end
 use Rattle.conc_words.specs.declared.command.Command.{Command}
-use Rattle.conc_words.specs.declared.command.Command.TheVariants.{Run, Check, Bench, Trace, Verify}
+use Rattle.conc_words.specs.declared.command.Command.TheVariants.{Run, Check, Bench, Trace, Ask}
+use Rattle.conc_words.specs.declared.command.Question.{Question}
+use Rattle.conc_words.specs.declared.command.Question.TheVariants.{Verify, Report, Picture}
 use Rattle.hs_compile.specs.declared.refusal.Refusal.{Refusal}
 use Rattle.hs_compile.specs.Verdicts.{IsRefused}
 use Rattle.hs_compile.proofs.Verdicts.{not_both}
@@ -13,14 +15,14 @@ use Rattle.trace_checker.specs.declared.verdict.Verified.{Verified as VerifiedRu
 use Rattle.trace_checker.specs.declared.verdict.RunFault.{RunFault}
 use Rattle.trace_checker.specs.declared.verdict.RunFault.TheVariants as fault
 use Rattle.conc_task.specs.Documents.{document_limit, HasBareDocument, HasDocument, HasLongDocument, HasNoScript, IsLeft, IsParted, IsScriptOf}
-use Rattle.conc_task.specs.Commands.{IsInput, ReadsSource}
+use Rattle.conc_task.specs.Commands.{Asks, AsksSomething, IsInput, ReadsSource}
 use Rattle.conc_task.specs.Inputs.{IsScript}
 use Rattle.conc_task.specs.Stops.{RefusesDocument, RefusesInput}
 use Rattle.conc_top.specs.declared.ending.NotRun.{NotRun as NoRun}
 use Rattle.conc_top.specs.declared.ending.NotRun.TheVariants as norun
 use Rattle.conc_top.specs.declared.ending.Ending.{Ending}
-use Rattle.conc_top.specs.declared.ending.Ending.TheVariants.{Ran, Accepted, Words, Refused, Read, Memory, Write, Verified, NotRun}
-use Rattle.conc_top.specs.Causes.{HasFault, HasVerdict, IsDue, IsExpected, IsJudged, IsNotRun, IsRefusal, IsVerdict}
+use Rattle.conc_top.specs.declared.ending.Ending.TheVariants.{Ran, Accepted, Words, Refused, Read, Memory, Write, Verified, Reported, Pictured, NotRun, NotDrawn}
+use Rattle.conc_top.specs.Causes.{HasFault, HasIn, HasPicture, HasRunIn, HasTooMany, HasVerdict, IsDue, IsExpected, IsIn, IsJudged, IsNotRun, IsRefusal, IsRunIn, IsVerdict}
 
 -- a source that tells its bytes had one list of them
 one_left : (left : Option (List ℕ)) (x y : List ℕ) → IsSome left → IsLeft left x → IsLeft left y → x ≡ y
@@ -45,7 +47,7 @@ one_input (Some (Run capabilities fuel clock)) left x y good some h k = one_left
 one_input (Some Check) left x y good some h k = one_left left x y (some tt) h k
 one_input (Some (Bench threads capabilities fuel)) left x y good some h k = h ∙ sym k
 one_input (Some (Trace capabilities fuel clock)) left x y good some h k = one_left left x y (some tt) h k
-one_input (Some Verify) left x y good some h k =
+one_input (Some (Ask question)) left x y good some h k =
     one_script k.0 x y (subst (λ d. IsScriptOf d x) (one_left left h.0 k.0 (some tt) h.1 k.1) h.2) k.2
 
 no_fault : (r : RunEnd) (write_fault : Type 0) → (write_fault → ⊥) → HasFault r write_fault → r ≡ end.Write → ⊥
@@ -53,14 +55,14 @@ no_fault r write_fault none has is = none (subst (λ z. HasFault z write_fault) 
 
 -- where the input is an accepted script, it is refused only where it stands in a document that is too long
 long_alone : (command : Option Command) (left : Option (List ℕ)) (bytes : List ℕ) (r : Refusal) → IsScript bytes → RefusesInput command left bytes r
-    → (command ≡ Some Verify) × (r ≡ refusal.TooLong) × HasLongDocument left
+    → AsksSomething command × (r ≡ refusal.TooLong) × HasLongDocument left
 long_alone None left bytes r script refused = absurd (not_both bytes script.0 r script.1 refused)
 long_alone (Some (Run capabilities fuel clock)) left bytes r script refused = absurd (not_both bytes script.0 r script.1 refused)
 long_alone (Some Check) left bytes r script refused = absurd (not_both bytes script.0 r script.1 refused)
 long_alone (Some (Bench threads capabilities fuel)) left bytes r script refused = absurd (not_both bytes script.0 r script.1 refused)
 long_alone (Some (Trace capabilities fuel clock)) left bytes r script refused = absurd (not_both bytes script.0 r script.1 refused)
-long_alone (Some Verify) left bytes r script (inl refused) = absurd (not_both bytes script.0 r script.1 refused.2)
-long_alone (Some Verify) left bytes r script (inr long) = (refl, long.0, long.1)
+long_alone (Some (Ask question)) left bytes r script (inl refused) = absurd (not_both bytes script.0 r script.1 refused.2)
+long_alone (Some (Ask question)) left bytes r script (inr long) = ((question, refl), long.0, long.1)
 
 expected : (command : Option Command) (left : Option (List ℕ)) (bytes : List ℕ) (read_fault write_fault : Type 0) (e : Ending) → IsSome command → IsScript bytes → (read_fault → ⊥) → (write_fault → ⊥)
     → IsDue command left bytes read_fault write_fault e → IsExpected command left bytes e
@@ -72,6 +74,9 @@ expected command left bytes read_fault write_fault Words good script read write 
 expected command left bytes read_fault write_fault Read good script read write due = read due.1
 expected command left bytes read_fault write_fault Write good script read write due = write due
 expected command left bytes read_fault write_fault (Verified v) good script read write due = due
+expected command left bytes read_fault write_fault Reported good script read write due = due
+expected command left bytes read_fault write_fault Pictured good script read write due = due
+expected command left bytes read_fault write_fault (NotDrawn n) good script read write due = due
 expected command left bytes read_fault write_fault (NotRun why) good script read write due = due
 
 pub is_expected : (command : Option Command) (left : Option (List ℕ)) (read_fault out_fault err_fault : Type 0) (e : Ending)
@@ -103,6 +108,9 @@ module _ (left : Option (List ℕ)) (bytes : List ℕ) (r : Refusal) (refused : 
   is_refused command read_fault write_fault Read good read write due = read due.1
   is_refused command read_fault write_fault Write good read write due = write due
   is_refused command read_fault write_fault (Verified v) good read write due = no_verdict (Ok v) due.1
+  is_refused command read_fault write_fault Reported good read write due = not_both bytes due.1.2 r due.1.3 refused
+  is_refused command read_fault write_fault Pictured good read write due = not_both bytes due.1.2 r due.1.3 refused
+  is_refused command read_fault write_fault (NotDrawn n) good read write due = not_both bytes due.1.2 r due.1.3 refused
   is_refused command read_fault write_fault (NotRun why) good read write due = let (same, bare) = bare_alone why due.1 in (due.0, same, bare)
 
 pub is_refusal : (command : Option Command) (left : Option (List ℕ)) (read_fault out_fault err_fault : Type 0) (e : Ending)
@@ -115,37 +123,61 @@ is_refusal command left read_fault out_fault err_fault e (found, input, due) byt
 
 -- ---- what a document comes to
 
-module _ (document bytes : List ℕ) where
+-- the question that a command asks
+abbrev question_in : Option Command → Question
+question_in (Some (Ask question)) = question
+question_in (Some (Run capabilities fuel clock)) = Verify
+question_in (Some Check) = Verify
+question_in (Some (Bench threads capabilities fuel)) = Verify
+question_in (Some (Trace capabilities fuel clock)) = Verify
+question_in None = Verify
+
+module _ (question : Question) (document bytes : List ℕ) where
+  asks_this : (other : Question) → Asks (Some (Ask question)) other → question ≡ other
+  asks_this other same = ap question_in same
+
   whole : {trace : List ℕ} (has : HasDocument (Some document) trace bytes) → (length document ≤ document_limit) × IsParted document trace bytes
   whole has = (omega (arith, has.short, ap length has.left), subst (λ d. IsParted d _ bytes) (sym has.left) has.parted)
 
   judged : (answer : Result VerifiedRun RunFault) → HasVerdict (Some document) bytes answer → (length document ≤ document_limit) × (found : List ℕ) × IsJudged document found answer
   judged answer has = let (short, parted) = whole has.1 in (short, bytes, (has.0, parted, has.2, has.3, has.4))
 
-  no_run : (why : NoRun) → IsNotRun (Some document) bytes why → IsVerdict document (NotRun why)
+  run_in : HasRunIn (Some document) bytes → (length document ≤ document_limit) × (found : List ℕ) × IsRunIn document found
+  run_in has = let (short, parted) = whole has.1 in (short, bytes, (has.0, parted, has.2, has.3, has.4))
+
+  picture_in : HasIn HasPicture (Some document) bytes → (length document ≤ document_limit) × (found : List ℕ) × IsIn HasPicture document found
+  picture_in has = let (short, parted) = whole has.1 in (short, bytes, (has.0, parted, has.2, has.3, has.4))
+
+  large_in : (n : ℕ) → HasIn (HasTooMany n) (Some document) bytes → (length document ≤ document_limit) × (found : List ℕ) × IsIn (HasTooMany n) document found
+  large_in n has = let (short, parted) = whole has.1 in (short, bytes, (has.0, parted, has.2, has.3, has.4))
+
+  no_run : (why : NoRun) → IsNotRun (Some document) bytes why → IsVerdict question document (NotRun why)
   no_run norun.NoScript has = (omega (arith, has.short, ap length has.left), subst HasNoScript (sym has.left) has.none)
   no_run (norun.Spelling number) has = judged (Err (fault.Spelling number)) has
   no_run (norun.Long number) has = judged (Err (fault.Long number)) has
   no_run (norun.Illegal number) has = judged (Err (fault.Illegal number)) has
 
-  refused_document : (r : Refusal) → RefusesDocument (Some document) bytes r → IsVerdict document (Refused r)
+  refused_document : (r : Refusal) → RefusesDocument (Some document) bytes r → IsVerdict question document (Refused r)
   refused_document r (inl has) = let (short, parted) = whole has.1 in inl (short, has.0, bytes, parted, has.2)
   refused_document r (inr has) = inr (has.0, omega (arith, has.1.long, ap length has.1.left))
 
-  verdict : (read_fault write_fault : Type 0) (e : Ending) → (read_fault → ⊥) → (write_fault → ⊥) → IsDue (Some Verify) (Some document) bytes read_fault write_fault e → IsVerdict document e
+  verdict : (read_fault write_fault : Type 0) (e : Ending) → (read_fault → ⊥) → (write_fault → ⊥) → IsDue (Some (Ask question)) (Some document) bytes read_fault write_fault e → IsVerdict question document e
   verdict read_fault write_fault (Ran ran) read write due = due.0.2
-  verdict read_fault write_fault Accepted read write due = let same : Some Verify ≡ Some Check = due.0 in cc
+  verdict read_fault write_fault Accepted read write due = let same : Some (Ask question) ≡ Some Check = due.0 in cc
   verdict read_fault write_fault Memory read write due = tt
   verdict read_fault write_fault (Refused q) read write due = refused_document q due.1
-  verdict read_fault write_fault Words read write due = let same : Some Verify ≡ None = due in cc
+  verdict read_fault write_fault Words read write due = let same : Some (Ask question) ≡ None = due in cc
   verdict read_fault write_fault Read read write due = read due.1
   verdict read_fault write_fault Write read write due = write due
-  verdict read_fault write_fault (Verified v) read write due = judged (Ok v) due.1
+  verdict read_fault write_fault (Verified v) read write due = let found = judged (Ok v) due.1 in (asks_this Verify due.0, found.0, found.1, found.2)
+  verdict read_fault write_fault Reported read write due = let found = run_in due.1 in (asks_this Report due.0, found.0, found.1, found.2)
+  verdict read_fault write_fault Pictured read write due = let found = picture_in due.1 in (asks_this Picture due.0, found.0, found.1, found.2)
+  verdict read_fault write_fault (NotDrawn n) read write due = let found = large_in n due.1 in (asks_this Picture due.0, found.0, found.1, found.2)
   verdict read_fault write_fault (NotRun why) read write due = no_run why due.1
 
 pub is_verdict : (command : Option Command) (left : Option (List ℕ)) (read_fault out_fault err_fault : Type 0) (e : Ending)
     → (bytes : List ℕ) × IsInput command left bytes × IsDue command left bytes read_fault (out_fault ⊎ err_fault) e
-    → (document : List ℕ) → command ≡ Some Verify → left ≡ Some document → (read_fault → ⊥) → (out_fault → ⊥) → (err_fault → ⊥) → IsVerdict document e
-is_verdict command left read_fault out_fault err_fault e (found, input, due) document is known read out err =
-    verdict document found read_fault (out_fault ⊎ err_fault) e read (λ failed. elim failed [ inl h ↦ out h | inr h ↦ err h ])
-    (subst (λ z. IsDue (Some Verify) z found read_fault (out_fault ⊎ err_fault) e) known (subst (λ c. IsDue c left found read_fault (out_fault ⊎ err_fault) e) is due))
+    → (question : Question) (document : List ℕ) → Asks command question → left ≡ Some document → (read_fault → ⊥) → (out_fault → ⊥) → (err_fault → ⊥) → IsVerdict question document e
+is_verdict command left read_fault out_fault err_fault e (found, input, due) question document is known read out err =
+    verdict question document found read_fault (out_fault ⊎ err_fault) e read (λ failed. elim failed [ inl h ↦ out h | inr h ↦ err h ])
+    (subst (λ z. IsDue (Some (Ask question)) z found read_fault (out_fault ⊎ err_fault) e) known (subst (λ c. IsDue c left found read_fault (out_fault ⊎ err_fault) e) is due))

@@ -225,7 +225,7 @@ tells_as (Some (command.Run capabilities fuel clock)) bytes r given es lent now 
 tells_as (Some command.Check) bytes r given es lent now ds traces told = absurd traces
 tells_as (Some (command.Bench threads capabilities fuel)) bytes r given es lent now ds traces told = absurd traces
 tells_as (Some (command.Trace capabilities fuel clock)) bytes r given es lent now ds traces told = told
-tells_as (Some command.Verify) bytes r given es lent now ds traces told = absurd traces
+tells_as (Some (command.Ask question)) bytes r given es lent now ds traces told = absurd traces
 
 module _ (command : Option Command) (fault : Type 0) (a b : ℕ) (before left_now : Option (List ℕ)) (choice : Option ClockChoice) (program : Program) (read : List ℕ) (has : HasTraced command before left_now program read) where
   traced_call : (given : Ending) (es : List Entry) (lent now : Shown) → b ≡ a → choice ≡ Some program.clock → Writes program.fuel read given es lent now
@@ -268,7 +268,7 @@ left_of (Some (command.Run capabilities fuel clock)) left bytes traces input = a
 left_of (Some command.Check) left bytes traces input = absurd traces
 left_of (Some (command.Bench threads capabilities fuel)) left bytes traces input = absurd traces
 left_of (Some (command.Trace capabilities fuel clock)) left bytes traces input = input
-left_of (Some command.Verify) left bytes traces input = absurd traces
+left_of (Some (command.Ask question)) left bytes traces input = absurd traces
 
 pub trace_written : (command : Option Command) (before left_now : Option (List ℕ)) (program : Program) (read lent_bytes : List ℕ) (given : Ending) (es : List Entry) (told told_now : Option (List ℕ))
     → HasTraced command before left_now program read → lent_bytes ≡ read → IsWritten (document_of es lent_bytes) given told told_now

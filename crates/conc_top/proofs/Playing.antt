@@ -24,7 +24,7 @@ use Rattle.run_course.specs.Told.{AppendsPart, IsCutOff, is_write, ToldOf}
 use Rattle.run_course.specs.Endings.{EndedBy}
 use Rattle.clocked_record.specs.Clocks.{TicksKept}
 use Rattle.conc_words.specs.declared.command.Command.{Command}
-use Rattle.conc_words.specs.declared.command.Command.TheVariants.{Run, Check, Bench, Trace, Verify}
+use Rattle.conc_words.specs.declared.command.Command.TheVariants.{Run, Check, Bench, Trace, Ask}
 use Rattle.conc_world.specs.Runs.{IsRunOf, Shown, script}
 use Rattle.hs_compile.specs.Verdicts.{IsAccepted, script_limit}
 use Rattle.conc_task.specs.declared.task.Program.{Program}
@@ -34,7 +34,7 @@ use Rattle.conc_task.specs.Commands.{IsInput, ReadsSource, Runs, RunsWith, sourc
 use Rattle.conc_task.specs.Inputs.{IsScript, ReadThrough}
 use Rattle.conc_task.specs.Tasks.{HasProgram, HasTask}
 use Rattle.conc_top.specs.declared.ending.Ending.{Ending}
-use Rattle.conc_top.specs.declared.ending.Ending.TheVariants.{Ran, Accepted, Words, Refused, Read, Memory, Write, Verified, NotRun}
+use Rattle.conc_top.specs.declared.ending.Ending.TheVariants.{Ran, Accepted, Words, Refused, Read, Memory, Write, Verified, Reported, Pictured, NotRun, NotDrawn}
 use Rattle.conc_top.specs.Lines.{line_of, run_line, run_status, status_of}
 use Rattle.conc_top.specs.Causes.{HasFault, IsDue, IsUnrun}
 use Rattle.conc_top.specs.Answers.{Call, HasRun, IsPlayed, KeepsLaws, limits, Plays, RunsScript, Tells, TellsAnswer, TellsBy, TellsLine, WriteFault}
@@ -349,7 +349,7 @@ tells_as (Some (Run capabilities most choice)) fuel clock bytes r given es lent 
 tells_as (Some Check) fuel clock bytes r given es lent now ds runs prints told = told
 tells_as (Some (Bench threads capabilities most)) fuel clock bytes r given es lent now ds runs prints told = told
 tells_as (Some (Trace capabilities most choice)) fuel clock bytes r given es lent now ds runs prints told = absurd (prints tt)
-tells_as (Some Verify) fuel clock bytes r given es lent now ds runs prints told = told
+tells_as (Some (Ask question)) fuel clock bytes r given es lent now ds runs prints told = told
 
 -- a command that runs its input reads a script
 pub limit_is : (command : Option Command) (fuel : ℕ) (clock : ClockChoice) → RunsWith command fuel clock → source_limit command ≡ script_limit
@@ -358,7 +358,7 @@ limit_is (Some (Run capabilities most choice)) fuel clock runs = refl
 limit_is (Some Check) fuel clock runs = refl
 limit_is (Some (Bench threads capabilities most)) fuel clock runs = refl
 limit_is (Some (Trace capabilities most choice)) fuel clock runs = refl
-limit_is (Some Verify) fuel clock runs = absurd runs
+limit_is (Some (Ask question)) fuel clock runs = absurd runs
 
 pub program_through : (command : Option Command) (before now : Option (List ℕ)) (program : Program) → HasProgram command before now program → ReadsSource command → ReadThrough (source_limit command) before now
 program_through command before now program has reads =
@@ -412,6 +412,9 @@ played_ran write_fault Accepted played unrun = played
 played_ran write_fault Words played unrun = played
 played_ran write_fault Read played unrun = played
 played_ran write_fault (Verified v) played unrun = played
+played_ran write_fault Reported played unrun = played
+played_ran write_fault Pictured played unrun = played
+played_ran write_fault (NotDrawn n) played unrun = played
 played_ran write_fault (NotRun why) played unrun = played
 
 -- the cause of the answer
@@ -425,6 +428,9 @@ played_due command before bytes read_fault write_fault Accepted asked found play
 played_due command before bytes read_fault write_fault Words asked found played = absurd played
 played_due command before bytes read_fault write_fault Read asked found played = absurd played
 played_due command before bytes read_fault write_fault (Verified v) asked found played = absurd played
+played_due command before bytes read_fault write_fault Reported asked found played = absurd played
+played_due command before bytes read_fault write_fault Pictured asked found played = absurd played
+played_due command before bytes read_fault write_fault (NotDrawn n) asked found played = absurd played
 played_due command before bytes read_fault write_fault (NotRun why) asked found played = absurd played
 
 pub program_due : (command : Option Command) (read_fault write_fault : Type 0) (before left_now : Option (List ℕ)) (program : Program) (given : Ending) → HasProgram command before left_now program

@@ -1,5 +1,5 @@
 -- What a call of the top call keeps and tells (own).
-use Rattle.std.specs.Prelude.{◌≡◌, ◌≢◌, ◌⊎◌, ◌≤◌, ◌++◌, ℕ, Bool, true, false, List, [], take, Option, Some, None, IfSome, IsSome, Result, Ok, Err, ⊤}
+use Rattle.std.specs.Prelude.{◌≡◌, ◌≢◌, ◌⊎◌, ◌≤◌, ◌++◌, ℕ, Bool, true, false, List, [], take, Option, Some, None, IfSome, IsSome, Ok, Err, ⊤}
 use Rattle.std.specs.Io.KnownBytes.{Appends}
 use Rattle.hs_base.specs.declared.clock_choice.ClockChoice.{ClockChoice}
 use Rattle.hs_base.specs.declared.limits.Limits.{Limits}
@@ -23,14 +23,19 @@ use Rattle.run_course.specs.Told.{AppendsPart, IsCutOff, is_write}
 use Rattle.run_course.specs.Endings.{EndedBy}
 use Rattle.conc_world.specs.Runs.{IsRunOf, Shown}
 use Rattle.conc_words.specs.declared.command.Command.{Command}
-use Rattle.conc_words.specs.declared.command.Command.TheVariants.{Run, Check, Bench, Trace, Verify}
+use Rattle.conc_words.specs.declared.command.Command.TheVariants.{Run, Check, Bench, Trace, Ask}
+use Rattle.conc_words.specs.declared.command.Question.{Question}
+use Rattle.conc_words.specs.declared.command.Question.TheVariants.{Verify, Report, Picture}
 use Rattle.hs_compile.specs.Verdicts.{IsAccepted}
 use Rattle.conc_task.specs.Commands.{IsInput, ReadsSource, RunsWith, source_limit, Traces}
 use Rattle.trace_checker.specs.declared.verdict.Verified.{Verified as VerifiedRun}
-use Rattle.trace_checker.specs.declared.verdict.RunFault.{RunFault}
+use Rattle.trace_picture.specs.declared.fault.PictureFault.{PictureFault}
+use Rattle.trace_picture.specs.declared.fault.PictureFault.TheVariants as picture
+use Rattle.trace_checker.specs.Checking.{Judges, TellsOfRun}
+use Rattle.report_tally.specs.Reporting.{report_of}
 use Rattle.conc_top.specs.declared.ending.Ending.{Ending}
-use Rattle.conc_top.specs.declared.ending.Ending.TheVariants.{Ran, Accepted, Words, Refused, Read, Memory, Write, Verified, NotRun}
-use Rattle.conc_top.specs.Causes.{HasFault, IsDue, IsReadThrough, unverified}
+use Rattle.conc_top.specs.declared.ending.Ending.TheVariants.{Ran, Accepted, Words, Refused, Read, Memory, Write, Verified, Reported, Pictured, NotRun, NotDrawn}
+use Rattle.conc_top.specs.Causes.{HasFault, HasIn, HasTelling, HasTooMany, IsDue, IsPictureOf, IsReadThrough, unfound}
 use Rattle.conc_top.specs.Lines.{accepted_line, HasPlace, line_of, run_line, verified_line}
 
 -- the limits of a run: threads and cells ever made, frames over all unfinished threads, bytes of output and error output
@@ -70,7 +75,7 @@ Tells (Some (Run capabilities fuel clock)) bytes r given es lent now ds = TellsB
 Tells (Some Check) bytes r given es lent now ds = TellsBy (is_write (Some r)) r given ds es lent now
 Tells (Some (Bench threads capabilities fuel)) bytes r given es lent now ds = TellsBy (is_write (Some r)) r given ds es lent now
 Tells (Some (Trace capabilities fuel clock)) bytes r given es lent now ds = TellsTrace bytes r given es lent now
-Tells (Some Verify) bytes r given es lent now ds = TellsBy (is_write (Some r)) r given ds es lent now
+Tells (Some (Ask question)) bytes r given es lent now ds = TellsBy (is_write (Some r)) r given ds es lent now
 
 -- This history is a run of the script that these bytes are, from its first state to its ending, which came for its cause. Its
 -- clock never passed the last reading of the clock that was handed in. What was told is so of the script's definitions.
@@ -118,6 +123,15 @@ pub record IsVerified (v : VerifiedRun) (given : Ending) (es : List Entry) (lent
   pub no_wait : now.early ≡ lent.early
   pub told : TellsLine (verified_line v) (Verified v) given lent.output now.output lent.out_faults now.out_faults
 
+-- Nothing ran: a text of which this holds was put on the output sink, and the clock waited for nothing.
+pub record IsShown (Shows : List ℕ → Type 0) (came given : Ending) (es : List Entry) (lent now : Shown) : Type 0 where
+  pub no_entry : es ≡ []
+  pub no_errors : (now.errors ≡ lent.errors) × (now.err_faults ≡ lent.err_faults)
+  pub no_wait : now.early ≡ lent.early
+  pub text : List ℕ
+  pub shows : Shows text
+  pub told : TellsLine text came given lent.output now.output lent.out_faults now.out_faults
+
 -- No document was written for want of memory: its line was put on the error sink. Something may have run, which the clock alone
 -- shows.
 pub record IsUnwritten (given : Ending) (es : List Entry) (lent now : Shown) : Type 0 where
@@ -125,18 +139,21 @@ pub record IsUnwritten (given : Ending) (es : List Entry) (lent now : Shown) : T
   pub no_output : (now.output ≡ lent.output) × (now.out_faults ≡ lent.out_faults)
   pub told : TellsLine (line_of Memory) Memory given lent.errors now.errors lent.err_faults now.err_faults
 
--- what the answer keeps and tells: a run by the clock of the command, or a line
-abbrev pub Keeps : Option Command → List ℕ → (choice : Option ClockChoice) → (came given : Ending) → List Entry → (lent now : Shown) → Type 0
-Keeps command bytes choice (Ran r) given es lent now =
+-- what the answer keeps and tells: a run by the clock of the command, a line, or what is shown of a document
+abbrev pub Keeps : Option Command → (before : Option (List ℕ)) → List ℕ → (choice : Option ClockChoice) → (came given : Ending) → List Entry → (lent now : Shown) → Type 0
+Keeps command before bytes choice (Ran r) given es lent now =
     (fuel : ℕ) × (clock : ClockChoice) × RunsWith command fuel clock × (choice ≡ Some clock) × RunsScript fuel bytes r es lent now (Tells command bytes r given es lent now)
-Keeps command bytes choice Accepted given es lent now = IsChecked given es lent now
-Keeps command bytes choice Words given es lent now = IsIdle Words given es lent now
-Keeps command bytes choice (Refused r) given es lent now = IsIdle (Refused r) given es lent now
-Keeps command bytes choice Read given es lent now = IsIdle Read given es lent now
-Keeps command bytes choice Memory given es lent now = IsIdle Memory given es lent now ⊎ (Traces command × IsUnwritten given es lent now)
-Keeps command bytes choice Write given es lent now = ⊥
-Keeps command bytes choice (Verified v) given es lent now = IsVerified v given es lent now
-Keeps command bytes choice (NotRun why) given es lent now = IsIdle (NotRun why) given es lent now
+Keeps command before bytes choice Accepted given es lent now = IsChecked given es lent now
+Keeps command before bytes choice Words given es lent now = IsIdle Words given es lent now
+Keeps command before bytes choice (Refused r) given es lent now = IsIdle (Refused r) given es lent now
+Keeps command before bytes choice Read given es lent now = IsIdle Read given es lent now
+Keeps command before bytes choice Memory given es lent now = IsIdle Memory given es lent now ⊎ (Traces command × IsUnwritten given es lent now)
+Keeps command before bytes choice Write given es lent now = ⊥
+Keeps command before bytes choice (Verified v) given es lent now = IsVerified v given es lent now
+Keeps command before bytes choice Reported given es lent now = IsShown (HasTelling report_of before bytes) Reported given es lent now
+Keeps command before bytes choice Pictured given es lent now = IsShown (λ text. HasIn (IsPictureOf text) before bytes) Pictured given es lent now
+Keeps command before bytes choice (NotRun why) given es lent now = IsIdle (NotRun why) given es lent now
+Keeps command before bytes choice (NotDrawn n) given es lent now = IsIdle (NotDrawn n) given es lent now
 
 -- some put failed
 abbrev pub WriteFault : (lent now : Shown) → Type 0
@@ -163,6 +180,9 @@ IsWritten document (Refused r) told told_now = told_now ≡ told
 IsWritten document Read told told_now = told_now ≡ told
 IsWritten document Memory told told_now = told_now ≡ told
 IsWritten document (Verified v) told told_now = told_now ≡ told
+IsWritten document Reported told told_now = told_now ≡ told
+IsWritten document Pictured told told_now = told_now ≡ told
+IsWritten document (NotDrawn n) told told_now = told_now ≡ told
 IsWritten document (NotRun why) told told_now = told_now ≡ told
 
 -- What a desk leaves that was run to its ending: this script ran with so much fuel and within the limits, since the sinks and the
@@ -188,6 +208,9 @@ IsPlayed write_fault Accepted = ⊥
 IsPlayed write_fault Words = ⊥
 IsPlayed write_fault Read = ⊥
 IsPlayed write_fault (Verified v) = ⊥
+IsPlayed write_fault Reported = ⊥
+IsPlayed write_fault Pictured = ⊥
+IsPlayed write_fault (NotDrawn n) = ⊥
 IsPlayed write_fault (NotRun why) = ⊥
 
 -- What a call came to, one answer that is due, and what it kept and told; where the put of its line failed, Write stands in the
@@ -201,7 +224,7 @@ pub record Call (command : Option Command) (read_fault read_rose : Type 0) (befo
   -- where the source's count of faults rose
   pub faulty : read_rose → came ≡ Read
   pub through : ReadsSource command → IsReadThrough (source_limit command) came before left_now
-  pub kept : Keeps command bytes choice came given es lent now
+  pub kept : Keeps command before bytes choice came given es lent now
 
 -- a sink that tells its bytes was told nothing yet
 abbrev pub WasToldNothing : Option (List ℕ) → Type 0
@@ -223,17 +246,21 @@ WritesRun bytes r given es es_now told told_now faults faults_now errors errors_
     ((es_now ≡ es) × PutsDocument (document_of es bytes) r given told told_now faults faults_now errors errors_now err_faults err_faults_now)
     ⊎ ((es_now ≡ []) × (told_now ≡ told) × (faults_now ≡ faults) × TellsLine (line_of Memory) Memory given errors errors_now err_faults err_faults_now)
 
--- The line of a run that was found was put on the output sink, or there was no memory for it.
-abbrev pub TellsVerified : VerifiedRun → (given : Ending) → (told told_now : Option (List ℕ)) → (faults faults_now : ℕ)
-    → (errors errors_now : Option (List ℕ)) → (err_faults err_faults_now : ℕ) → Type 0
-TellsVerified v given told told_now faults faults_now errors errors_now err_faults err_faults_now =
-    (TellsLine (verified_line v) (Verified v) given told told_now faults faults_now × (errors_now ≡ errors) × (err_faults_now ≡ err_faults))
-    ⊎ ((told_now ≡ told) × (faults_now ≡ faults) × TellsLine (line_of Memory) Memory given errors errors_now err_faults err_faults_now)
+-- What is asked of a trace and the script beside it has this answer, with this text.
+abbrev pub IsFound : Question → List Fn → (trace : List ℕ) → (came : Ending) → (text : List ℕ) → Type 0
+IsFound Verify ds trace came text = (v : VerifiedRun) × (came ≡ Verified v) × (text ≡ verified_line v) × Judges ds trace (Ok v)
+IsFound Report ds trace came text = (came ≡ Reported) × TellsOfRun report_of ds trace text
+IsFound Picture ds trace came text = (came ≡ Pictured) × IsPictureOf text ds trace
 
--- what is told of the answer of a check
-abbrev pub TellsCheck : Result VerifiedRun RunFault → (given : Ending) → (told told_now : Option (List ℕ)) → (faults faults_now : ℕ)
+-- It has none, for this cause.
+abbrev pub IsUnfound : Question → List Fn → (trace : List ℕ) → PictureFault → Type 0
+IsUnfound question ds trace (picture.Run f) = Judges ds trace (Err f)
+IsUnfound question ds trace (picture.Large n) = (question ≡ Picture) × HasTooMany n ds trace
+
+-- What is told where something is asked of a trace: the text of the answer on the output sink, or the line of why it has none on
+-- the error sink.
+abbrev pub TellsAsked : Question → List Fn → (trace : List ℕ) → (given : Ending) → (told told_now : Option (List ℕ)) → (faults faults_now : ℕ)
     → (errors errors_now : Option (List ℕ)) → (err_faults err_faults_now : ℕ) → Type 0
-TellsCheck (Ok v) given told told_now faults faults_now errors errors_now err_faults err_faults_now =
-    TellsVerified v given told told_now faults faults_now errors errors_now err_faults err_faults_now
-TellsCheck (Err fault) given told told_now faults faults_now errors errors_now err_faults err_faults_now =
-    (told_now ≡ told) × (faults_now ≡ faults) × TellsAnswer (unverified fault) given errors errors_now err_faults err_faults_now
+TellsAsked question ds trace given told told_now faults faults_now errors errors_now err_faults err_faults_now =
+    ((came : Ending) × (text : List ℕ) × IsFound question ds trace came text × TellsLine text came given told told_now faults faults_now × (errors_now ≡ errors) × (err_faults_now ≡ err_faults))
+    ⊎ ((f : PictureFault) × IsUnfound question ds trace f × (told_now ≡ told) × (faults_now ≡ faults) × TellsAnswer (unfound f) given errors errors_now err_faults err_faults_now)

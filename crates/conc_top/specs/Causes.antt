@@ -1,27 +1,34 @@
 -- When each answer of the top call comes (own).
 use Rattle.std.specs.Prelude.{◌≡◌, ◌≤◌, ◌<◌, ◌⊎◌, ℕ, List, Option, Some, None, IsSome, Result, Ok, Err, length, ⊤}
 use Rattle.hs_base.specs.declared.tree.script.Script.{Script}
-use Rattle.rules_trees.specs.Programs.{script_of}
+use Rattle.hs_rules.specs.declared.entry.Entry.{Entry}
+use Rattle.hs_rules.specs.State.{State}
+use Rattle.rules_trees.specs.Programs.{Fn, script_of}
 use Rattle.run_course.specs.declared.ends.RunEnd.{RunEnd}
 use Rattle.run_course.specs.declared.ends.RunEnd.TheVariants as end
 use Rattle.conc_words.specs.declared.command.Command.{Command}
-use Rattle.conc_words.specs.declared.command.Command.TheVariants.{Check, Verify}
+use Rattle.conc_words.specs.declared.command.Command.TheVariants.{Check}
+use Rattle.conc_words.specs.declared.command.Question.{Question}
+use Rattle.conc_words.specs.declared.command.Question.TheVariants.{Verify, Report, Picture}
 use Rattle.hs_compile.specs.Verdicts as verdict
 use Rattle.hs_compile.specs.declared.refusal.Refusal.TheVariants as refusal
 use Rattle.trace_checker.specs.declared.verdict.Verified.{Verified as VerifiedRun}
 use Rattle.trace_checker.specs.declared.verdict.RunFault.{RunFault}
 use Rattle.trace_checker.specs.declared.verdict.RunFault.TheVariants as fault
-use Rattle.trace_checker.specs.Checking.{Judges}
+use Rattle.trace_checker.specs.Checking.{IsRunText, Judges, TellsOfRun}
+use Rattle.trace_picture.specs.declared.fault.PictureFault.{PictureFault}
+use Rattle.trace_picture.specs.declared.fault.PictureFault.TheVariants as picture
+use Rattle.trace_picture.specs.Picturing.{IsLarge, Pictures}
 use Rattle.conc_task.specs.declared.stop.Stop.{Stop}
 use Rattle.conc_task.specs.declared.stop.Stop.TheVariants as stop
 use Rattle.conc_task.specs.Documents.{document_limit, HasBareDocument, HasDocument, HasLongDocument, HasNoScript, IsParted}
-use Rattle.conc_task.specs.Commands.{ReadsSource, Runs}
+use Rattle.conc_task.specs.Commands.{Asks, AsksSomething, ReadsSource, Runs}
 use Rattle.conc_task.specs.Inputs.{IsScript, ReadThrough, TookFew}
 use Rattle.conc_task.specs.Stops.{RefusesInput}
 use Rattle.conc_top.specs.declared.ending.NotRun.{NotRun as NoRun}
 use Rattle.conc_top.specs.declared.ending.NotRun.TheVariants as norun
 use Rattle.conc_top.specs.declared.ending.Ending.{Ending}
-use Rattle.conc_top.specs.declared.ending.Ending.TheVariants.{Ran, Accepted, Words, Refused, Read, Memory, Write, Verified, NotRun}
+use Rattle.conc_top.specs.declared.ending.Ending.TheVariants.{Ran, Accepted, Words, Refused, Read, Memory, Write, Verified, Reported, Pictured, NotRun, NotDrawn}
 
 -- How much of the source was taken: all of it where a script was refused, accepted or run, or a document looked at, and never
 -- more than one byte past the limit.
@@ -34,7 +41,10 @@ IsReadThrough limit Read before now = TookFew limit before now
 IsReadThrough limit Memory before now = TookFew limit before now
 IsReadThrough limit Write before now = ⊤
 IsReadThrough limit (Verified v) before now = ReadThrough limit before now
+IsReadThrough limit Reported before now = ReadThrough limit before now
+IsReadThrough limit Pictured before now = ReadThrough limit before now
 IsReadThrough limit (NotRun why) before now = ReadThrough limit before now
+IsReadThrough limit (NotDrawn n) before now = ReadThrough limit before now
 
 -- a run ends by a failed put only where one failed
 abbrev pub HasFault : RunEnd → (write_fault : Type 0) → Type 0
@@ -46,13 +56,43 @@ HasFault end.Memory write_fault = ⊤
 HasFault end.Write write_fault = write_fault
 HasFault (end.Limit kind entry) write_fault = ⊤
 
--- The check of the trace of this document, beside the script that it has, an accepted one, gives this answer.
-abbrev pub IsJudged : (document : List ℕ) → (bytes : List ℕ) → Result VerifiedRun RunFault → Type 0
-IsJudged document bytes answer = (trace : List ℕ) × IsParted document trace bytes × (s : Script) × verdict.IsAccepted bytes s × Judges (script_of s) trace answer
+-- This holds of the definitions of the script in this document, an accepted one, and of the trace beside it.
+abbrev pub IsIn : (List Fn → List ℕ → Type 0) → (document : List ℕ) → (bytes : List ℕ) → Type 0
+IsIn P document bytes = (trace : List ℕ) × IsParted document trace bytes × (s : Script) × verdict.IsAccepted bytes s × P (script_of s) trace
 
--- The document is not too long, and its check gives this answer.
+-- The same of the document that the source had, which is not too long.
+abbrev pub HasIn : (List Fn → List ℕ → Type 0) → (before : Option (List ℕ)) → (bytes : List ℕ) → Type 0
+HasIn P before bytes = (trace : List ℕ) × HasDocument before trace bytes × (s : Script) × verdict.IsAccepted bytes s × P (script_of s) trace
+
+-- the check of the trace gives this answer
+abbrev pub IsJudged : (document : List ℕ) → (bytes : List ℕ) → Result VerifiedRun RunFault → Type 0
+IsJudged document bytes answer = IsIn (λ ds trace. Judges ds trace answer) document bytes
+
 abbrev pub HasVerdict : (before : Option (List ℕ)) → (bytes : List ℕ) → Result VerifiedRun RunFault → Type 0
-HasVerdict before bytes answer = (trace : List ℕ) × HasDocument before trace bytes × (s : Script) × verdict.IsAccepted bytes s × Judges (script_of s) trace answer
+HasVerdict before bytes answer = HasIn (λ ds trace. Judges ds trace answer) before bytes
+
+-- the trace is that of a run
+abbrev pub IsRunIn : (document : List ℕ) → (bytes : List ℕ) → Type 0
+IsRunIn document bytes = IsIn IsRunText document bytes
+
+abbrev pub HasRunIn : (before : Option (List ℕ)) → (bytes : List ℕ) → Type 0
+HasRunIn before bytes = HasIn IsRunText before bytes
+
+-- this is what is told of that run
+abbrev pub HasTelling : (List Fn → List Entry → State → List ℕ) → (before : Option (List ℕ)) → (bytes told : List ℕ) → Type 0
+HasTelling telling before bytes told = HasIn (λ ds trace. TellsOfRun telling ds trace told) before bytes
+
+-- this text is the picture of a run that is the trace's
+abbrev pub IsPictureOf : (text : List ℕ) → List Fn → (trace : List ℕ) → Type 0
+IsPictureOf text ds trace = ∥ Pictures ds trace text ∥₁
+
+-- it has a picture
+abbrev pub HasPicture : List Fn → (trace : List ℕ) → Type 0
+HasPicture ds trace = (text : List ℕ) × IsPictureOf text ds trace
+
+-- it has so many entries, which are more than are drawn
+abbrev pub HasTooMany : ℕ → List Fn → (trace : List ℕ) → Type 0
+HasTooMany n ds trace = ∥ IsLarge ds trace n ∥₁
 
 -- why a document is no run
 abbrev pub IsNotRun : (before : Option (List ℕ)) → (bytes : List ℕ) → NoRun → Type 0
@@ -71,24 +111,30 @@ IsDue command before bytes read_fault write_fault Accepted = (command ≡ Some C
 IsDue command before bytes read_fault write_fault (Ran r) = Runs command × IsScript bytes × HasFault r write_fault
 IsDue command before bytes read_fault write_fault Memory = ⊤
 IsDue command before bytes read_fault write_fault Write = write_fault
-IsDue command before bytes read_fault write_fault (Verified v) = (command ≡ Some Verify) × HasVerdict before bytes (Ok v)
-IsDue command before bytes read_fault write_fault (NotRun why) = (command ≡ Some Verify) × IsNotRun before bytes why
+IsDue command before bytes read_fault write_fault (Verified v) = Asks command Verify × HasVerdict before bytes (Ok v)
+IsDue command before bytes read_fault write_fault Reported = Asks command Report × HasRunIn before bytes
+IsDue command before bytes read_fault write_fault Pictured = Asks command Picture × HasIn HasPicture before bytes
+IsDue command before bytes read_fault write_fault (NotRun why) = AsksSomething command × IsNotRun before bytes why
+IsDue command before bytes read_fault write_fault (NotDrawn n) = Asks command Picture × HasIn (HasTooMany n) before bytes
 
 -- Where the words are a command, nothing fails and the input is an accepted script, only these answers come: a run's ending but
--- for that of a failed put, the word of `check`, what the document of `verify` comes to, and want of memory, which is free.
+-- for that of a failed put, the word of `check`, what a document comes to of which something is asked, and want of memory, which is free.
 abbrev pub IsExpected : Option Command → (before : Option (List ℕ)) → (bytes : List ℕ) → Ending → Type 0
 IsExpected command before bytes (Ran r) = Runs command × (r ≡ end.Write → ⊥)
 IsExpected command before bytes Accepted = command ≡ Some Check
 IsExpected command before bytes Memory = ⊤
-IsExpected command before bytes (Refused r) = (command ≡ Some Verify) × (r ≡ refusal.TooLong) × HasLongDocument before
+IsExpected command before bytes (Refused r) = AsksSomething command × (r ≡ refusal.TooLong) × HasLongDocument before
 IsExpected command before bytes Words = ⊥
 IsExpected command before bytes Read = ⊥
 IsExpected command before bytes Write = ⊥
-IsExpected command before bytes (Verified v) = (command ≡ Some Verify) × HasVerdict before bytes (Ok v)
-IsExpected command before bytes (NotRun why) = (command ≡ Some Verify) × IsNotRun before bytes why
+IsExpected command before bytes (Verified v) = Asks command Verify × HasVerdict before bytes (Ok v)
+IsExpected command before bytes Reported = Asks command Report × HasRunIn before bytes
+IsExpected command before bytes Pictured = Asks command Picture × HasIn HasPicture before bytes
+IsExpected command before bytes (NotDrawn n) = Asks command Picture × HasIn (HasTooMany n) before bytes
+IsExpected command before bytes (NotRun why) = AsksSomething command × IsNotRun before bytes why
 
--- Where the words are a command, nothing fails and the input is refused, only a refusal of it comes, or want of memory; for
--- `verify` also that no line of the document is `script`.
+-- Where the words are a command, nothing fails and the input is refused, only a refusal of it comes, or want of memory; where
+-- something is asked of a document, also that no line of it is `script`.
 abbrev pub IsRefusal : Option Command → (before : Option (List ℕ)) → (bytes : List ℕ) → Ending → Type 0
 IsRefusal command before bytes (Refused r) = RefusesInput command before bytes r
 IsRefusal command before bytes Memory = ⊤
@@ -98,25 +144,32 @@ IsRefusal command before bytes Words = ⊥
 IsRefusal command before bytes Read = ⊥
 IsRefusal command before bytes Write = ⊥
 IsRefusal command before bytes (Verified v) = ⊥
-IsRefusal command before bytes (NotRun why) = (command ≡ Some Verify) × (why ≡ norun.NoScript) × HasBareDocument before
+IsRefusal command before bytes Reported = ⊥
+IsRefusal command before bytes Pictured = ⊥
+IsRefusal command before bytes (NotDrawn n) = ⊥
+IsRefusal command before bytes (NotRun why) = AsksSomething command × (why ≡ norun.NoScript) × HasBareDocument before
 
--- A document comes to this: it is too long; or no line of it is `script`; or its script is refused; or else what the check of its
--- trace answers. Each holds only where none before it does. Want of memory is free.
-abbrev pub IsVerdict : (document : List ℕ) → Ending → Type 0
-IsVerdict document (Refused r) =
+-- A document of which this is asked comes to this: it is too long; or no line of it is `script`; or its script is refused; or else what the check of its
+-- trace answers, where `report` and `picture` answer in the place of a run what is told of it, or that it is too long to
+-- be drawn. Each holds only where none before it does. Want of memory is free.
+abbrev pub IsVerdict : Question → (document : List ℕ) → Ending → Type 0
+IsVerdict question document (Refused r) =
     ((length document ≤ document_limit) × (trace : List ℕ) × (bytes : List ℕ) × IsParted document trace bytes × verdict.IsRefused r bytes)
     ⊎ ((r ≡ refusal.TooLong) × (document_limit < length document))
-IsVerdict document (NotRun norun.NoScript) = (length document ≤ document_limit) × HasNoScript document
-IsVerdict document (NotRun (norun.Spelling number)) = (length document ≤ document_limit) × (bytes : List ℕ) × IsJudged document bytes (Err (fault.Spelling number))
-IsVerdict document (NotRun (norun.Long number)) = (length document ≤ document_limit) × (bytes : List ℕ) × IsJudged document bytes (Err (fault.Long number))
-IsVerdict document (NotRun (norun.Illegal number)) = (length document ≤ document_limit) × (bytes : List ℕ) × IsJudged document bytes (Err (fault.Illegal number))
-IsVerdict document (Verified v) = (length document ≤ document_limit) × (bytes : List ℕ) × IsJudged document bytes (Ok v)
-IsVerdict document Memory = ⊤
-IsVerdict document (Ran r) = ⊥
-IsVerdict document Accepted = ⊥
-IsVerdict document Words = ⊥
-IsVerdict document Read = ⊥
-IsVerdict document Write = ⊥
+IsVerdict question document (NotRun norun.NoScript) = (length document ≤ document_limit) × HasNoScript document
+IsVerdict question document (NotRun (norun.Spelling number)) = (length document ≤ document_limit) × (bytes : List ℕ) × IsJudged document bytes (Err (fault.Spelling number))
+IsVerdict question document (NotRun (norun.Long number)) = (length document ≤ document_limit) × (bytes : List ℕ) × IsJudged document bytes (Err (fault.Long number))
+IsVerdict question document (NotRun (norun.Illegal number)) = (length document ≤ document_limit) × (bytes : List ℕ) × IsJudged document bytes (Err (fault.Illegal number))
+IsVerdict question document (Verified v) = (question ≡ Verify) × (length document ≤ document_limit) × (bytes : List ℕ) × IsJudged document bytes (Ok v)
+IsVerdict question document Reported = (question ≡ Report) × (length document ≤ document_limit) × (bytes : List ℕ) × IsRunIn document bytes
+IsVerdict question document Pictured = (question ≡ Picture) × (length document ≤ document_limit) × (bytes : List ℕ) × IsIn HasPicture document bytes
+IsVerdict question document (NotDrawn n) = (question ≡ Picture) × (length document ≤ document_limit) × (bytes : List ℕ) × IsIn (HasTooMany n) document bytes
+IsVerdict question document Memory = ⊤
+IsVerdict question document (Ran r) = ⊥
+IsVerdict question document Accepted = ⊥
+IsVerdict question document Words = ⊥
+IsVerdict question document Read = ⊥
+IsVerdict question document Write = ⊥
 
 -- a fault of the source or of a sink is told
 abbrev pub IsFault : Ending → Type 0
@@ -128,6 +181,9 @@ IsFault Accepted = ⊥
 IsFault Words = ⊥
 IsFault Memory = ⊥
 IsFault (Verified v) = ⊥
+IsFault Reported = ⊥
+IsFault Pictured = ⊥
+IsFault (NotDrawn n) = ⊥
 IsFault (NotRun why) = ⊥
 
 -- these answers come without a run
@@ -140,6 +196,9 @@ IsUnrun (Ran r) = ⊥
 IsUnrun Memory = ⊥
 IsUnrun Write = ⊥
 IsUnrun (Verified v) = ⊤
+IsUnrun Reported = ⊤
+IsUnrun Pictured = ⊤
+IsUnrun (NotDrawn n) = ⊤
 IsUnrun (NotRun why) = ⊤
 
 -- the answer where there is nothing to run and nothing is accepted
@@ -156,3 +215,8 @@ unverified (fault.Spelling number) = NotRun (norun.Spelling number)
 unverified (fault.Long number) = NotRun (norun.Long number)
 unverified (fault.Illegal number) = NotRun (norun.Illegal number)
 unverified fault.NoMemory = Memory
+
+-- the answer where there is nothing to tell of a trace
+abbrev pub unfound : PictureFault → Ending
+unfound (picture.Run f) = unverified f
+unfound (picture.Large n) = NotDrawn n

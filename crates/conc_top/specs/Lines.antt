@@ -22,7 +22,7 @@ use Rattle.conc_top.specs.declared.ending.NotRun.TheVariants as norun
 use Rattle.conc_top.specs.declared.ending.Line.{Line}
 use Rattle.conc_top.specs.declared.ending.Line.TheVariants.{Fixed, Made}
 use Rattle.conc_top.specs.declared.ending.Ending.{Ending}
-use Rattle.conc_top.specs.declared.ending.Ending.TheVariants.{Ran, Accepted, Words, Refused, Read, Memory, Write, Verified, NotRun}
+use Rattle.conc_top.specs.declared.ending.Ending.TheVariants.{Ran, Accepted, Words, Refused, Read, Memory, Write, Verified, Reported, Pictured, NotRun, NotDrawn}
 
 abbrev pub run_status : RunEnd → ℕ
 run_status end.Done = 0
@@ -43,7 +43,10 @@ status_of Memory = 6
 status_of Read = 7
 status_of Write = 8
 status_of (Verified v) = 0
+status_of Reported = 0
+status_of Pictured = 0
 status_of (NotRun why) = 10
+status_of (NotDrawn n) = 13
 
 abbrev pub run_line : RunEnd → List ℕ
 run_line end.Done = []
@@ -118,6 +121,10 @@ norun_line (norun.Spelling number) = numbered_line (codes "not a run: Spelling a
 norun_line (norun.Long number) = numbered_line (codes "not a run: Long at line ") number
 norun_line (norun.Illegal number) = numbered_line (codes "not a run: Illegal at line ") number
 
+-- not drawn: N entries, at most 10000
+abbrev pub undrawn_line : ℕ → List ℕ
+undrawn_line n = codes "not drawn: " ++ decimal n ++ codes " entries, at most 10000\n"
+
 -- the line that goes to the error sink, or nothing
 abbrev pub line_of : Ending → List ℕ
 line_of (Ran r) = run_line r
@@ -128,7 +135,10 @@ line_of Memory = memory_line
 line_of Read = codes "read fault" ++ line_feed
 line_of Write = []
 line_of (Verified v) = []
+line_of Reported = []
+line_of Pictured = []
 line_of (NotRun why) = norun_line why
+line_of (NotDrawn n) = undrawn_line n
 
 -- the line has a place in it; that of a missing `main` is the same text each time
 abbrev pub PlacesLexFault : LexFault → Type 0
@@ -177,7 +187,10 @@ HasPlace Memory = ⊥
 HasPlace Read = ⊥
 HasPlace Write = ⊥
 HasPlace (Verified v) = ⊥
+HasPlace Reported = ⊥
+HasPlace Pictured = ⊥
 HasPlace (NotRun why) = NumbersALine why
+HasPlace (NotDrawn n) = ⊤
 
 -- the bytes of a line as it is told
 abbrev pub text_of : Line → List ℕ

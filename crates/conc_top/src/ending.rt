@@ -1,5 +1,5 @@
 ghost use Rattle.std.specs.Prelude.{◌≡◌, IfOk, OnErr, string_bytes};
-ghost use Rattle.conc_top.specs.Lines.{HasPlace, line_of, norun_line, numbered_line, NumbersALine, placed_line, PlacesTypeFault, reached_word, refusal_line, RefusesAPlace, run_line, run_status, status_of, text_of, types_line, verified_line};
+ghost use Rattle.conc_top.specs.Lines.{HasPlace, line_of, norun_line, numbered_line, NumbersALine, placed_line, PlacesTypeFault, reached_word, refusal_line, RefusesAPlace, run_line, run_status, status_of, text_of, types_line, undrawn_line, verified_line};
 
 use conc_world::RunEnd;
 use hs_base::{NoMemory, Pos};
@@ -36,8 +36,14 @@ pub enum Ending {
     Write,
     /// A document is a run of its script.
     Verified(Verified),
+    /// A document is one, and its report was written.
+    Reported,
+    /// A document is one, and it was drawn.
+    Pictured,
     /// A document is none.
     NotRun(NotRun),
+    /// A document is a run with so many entries, and these are too many for a picture.
+    NotDrawn(u32),
 }
 
 /// Why a document is no run of its script.
@@ -71,13 +77,14 @@ impl Ending {
     {
         match self {
             Ending::Ran(end) => run_status(end),
-            Ending::Accepted | Ending::Verified(_) => 0,
+            Ending::Accepted | Ending::Verified(_) | Ending::Reported | Ending::Pictured => 0,
             Ending::Words => 2,
             Ending::Refused(_) => 3,
             Ending::Memory => 6,
             Ending::Read => 7,
             Ending::Write => 8,
             Ending::NotRun(_) => 10,
+            Ending::NotDrawn(_) => 13,
         }
     }
 
@@ -89,12 +96,17 @@ impl Ending {
     {
         match self {
             Ending::Ran(end) => Ok(Line::Fixed(run_line(end))),
-            Ending::Accepted | Ending::Verified(_) | Ending::Write => Ok(Line::Fixed("")),
+            Ending::Accepted
+            | Ending::Verified(_)
+            | Ending::Reported
+            | Ending::Pictured
+            | Ending::Write => Ok(Line::Fixed("")),
             Ending::Words => Ok(Line::Fixed("words not understood\n")),
             Ending::Refused(refusal) => refusal_line(alloc, refusal),
             Ending::Memory => Ok(Line::Fixed(OUT_OF_MEMORY)),
             Ending::Read => Ok(Line::Fixed("read fault\n")),
             Ending::NotRun(why) => norun_line(alloc, why),
+            Ending::NotDrawn(entries) => undrawn_line(alloc, *entries),
         }
     }
 }
@@ -180,6 +192,13 @@ fn norun_line(alloc: Global, why: &NotRun) -> Result<Line, NoMemory>
         NotRun::Long(number) => line_numbered(alloc, "not a run: Long at line ", *number),
         NotRun::Illegal(number) => line_numbered(alloc, "not a run: Illegal at line ", *number),
     }
+}
+
+fn undrawn_line(alloc: Global, entries: u32) -> Result<Line, NoMemory>
+    ensures { IfOk result (λ line. text_of line ≡ undrawn_line entries) }
+{
+    let line = format!(in alloc; "not drawn: {} entries, at most 10000\n", entries)?;
+    Ok(Line::Made(line))
 }
 
 // not a run: KIND at line N

@@ -36,19 +36,21 @@ pub(crate) fn tell<O: Sink, E: Sink, K: Clock>(
     }
 }
 
-/// Tells that the script is accepted, on the output sink.
-pub(crate) fn tell_accepted<O: Sink, E: Sink, K: Clock>(
+/// Tells a text on the output sink, where nothing ran or no history is kept.
+pub(crate) fn tell_text<O: Sink, E: Sink, K: Clock>(
     alloc: Global,
+    came: Ending,
+    text: &[u8],
     mut out: O,
     err: E,
     clock: K,
 ) -> Done<O, E, K>
     ensures status { result.status ≡ status_of result.ending }
-    ensures tells { TellsLine accepted_line Accepted result.ending (O.told out) (O.told result.out) (O.faults out) (O.faults result.out) }
+    ensures tells { TellsLine text.now came result.ending (O.told out) (O.told result.out) (O.faults out) (O.faults result.out) }
     ensures history { result.history.list ≡ [] }
     ensures kept { (result.err ≡ err) × (result.clock ≡ clock) }
 {
-    let ending = put_line(Ending::Accepted, ACCEPTED.as_bytes(), &mut out);
+    let ending = put_line(came, text, &mut out);
     Done {
         status: ending.status(),
         ending,
@@ -57,6 +59,28 @@ pub(crate) fn tell_accepted<O: Sink, E: Sink, K: Clock>(
         err,
         clock,
     }
+}
+
+/// Tells that the script is accepted, on the output sink.
+pub(crate) fn tell_accepted<O: Sink, E: Sink, K: Clock>(
+    alloc: Global,
+    out: O,
+    err: E,
+    clock: K,
+) -> Done<O, E, K>
+    ensures status { result.status ≡ status_of result.ending }
+    ensures tells { TellsLine accepted_line Accepted result.ending (O.told out) (O.told result.out) (O.faults out) (O.faults result.out) }
+    ensures history { result.history.list ≡ [] }
+    ensures kept { (result.err ≡ err) × (result.clock ≡ clock) }
+{
+    tell_text(
+        alloc,
+        Ending::Accepted,
+        ACCEPTED.as_bytes(),
+        out,
+        err,
+        clock,
+    )
 }
 
 // The answer and its line, or want of memory where there is none for a line with a place in it.

@@ -3,9 +3,9 @@ ghost use Rattle.hs_io.specs.Causes.{Rose};
 ghost use Rattle.rules_code.specs.Codes.{body_of};
 ghost use Rattle.hs_compile.specs.declared.refusal.Refusal.{Refusal};
 ghost use Rattle.hs_compile.specs.Verdicts.{IsAccepted, IsRefused};
-ghost use Rattle.conc_words.specs.declared.command.Command.TheVariants.{Verify};
+ghost use Rattle.conc_words.specs.declared.command.Question.{Question};
 ghost use Rattle.conc_words.specs.Commands.{command_of};
-ghost use Rattle.conc_task.specs.Commands.{IsChosen, IsInput, ReadsSource, Runs, Traces};
+ghost use Rattle.conc_task.specs.Commands.{Asks, IsChosen, IsInput, ReadsSource, Runs, Traces};
 ghost use Rattle.conc_task.specs.Inputs.{IsScript};
 ghost use Rattle.rules_traces.specs.Traces.{document_of};
 ghost use Rattle.conc_top.specs.declared.ending.Ending.TheVariants.{Ran};
@@ -13,11 +13,11 @@ ghost use Rattle.conc_top.specs.Answers.{Call, IsPlayed, IsWritten, Plays, Tells
 ghost use Rattle.conc_top.specs.Causes.{ending_of, IsDue, IsExpected, IsFault, IsRefusal, IsUnrun, IsVerdict};
 ghost use Rattle.conc_top.specs.Lines.{line_of, status_of};
 
+use crate::asking::answer;
 use crate::ending::{Done, Ending, NotRun, run_line};
 use crate::running::run_program;
 use crate::telling::{put_line, tell, tell_accepted};
 use crate::tracing::trace;
-use crate::verifying::verify;
 use conc_task::{Program, Stop, Task, task_of};
 use conc_world::{Closed, Parts};
 use hs_io::{Clock, Gate, Sink, Source};
@@ -30,8 +30,8 @@ use std::thread::Threads;
 ///
 /// `words` are the words after the program's name (`conc_words`). What a run prints goes to `out` and to `err` while it runs,
 /// each entry's as one piece, and then the line of the ending to `err` as one piece; `check` puts `accepted` on `out`. `trace` prints
-/// nothing of that: once the run is over it puts its document on `out` as one piece. `verify` puts what it found on `out`, where the
-/// document is a run. An empty piece is not put, and nothing is put after a failed put. The clock is told its choice before a run begins. Want of memory is
+/// nothing of that: once the run is over it puts its document on `out` as one piece. `verify` puts what it found on `out`,
+/// and `report` its lines and `picture` its document as one piece, where the document is a run. An empty piece is not put, and nothing is put after a failed put. The clock is told its choice before a run begins. Want of memory is
 /// free.
 ///
 /// A run on one capability needs no other thread and calls no gate. One on more starts threads by `rt`, waits for all of them
@@ -78,10 +78,10 @@ pub fn run<
         → ¬ Rose (S.faults source.old) (S.faults source.new) → ¬ Rose (O.faults out) (O.faults result.out) → ¬ Rose (E.faults err) (E.faults result.err)
         → IsRefusal (command_of (map (λ word. string_bytes word) words.now)) (S.left source.old) bytes result.ending }
 
-    // Where nothing fails `verify` answers what the document comes to, or want of memory.
-    ensures verdict { (document : List ℕ) → command_of (map (λ word. string_bytes word) words.now) ≡ Some Verify → S.left source.old ≡ Some document
+    // Where nothing fails, what is asked of a document is answered by what it comes to, or there is want of memory.
+    ensures verdict { (question : Question) (document : List ℕ) → Asks (command_of (map (λ word. string_bytes word) words.now)) question → S.left source.old ≡ Some document
         → ¬ Rose (S.faults source.old) (S.faults source.new) → ¬ Rose (O.faults out) (O.faults result.out) → ¬ Rose (E.faults err) (E.faults result.err)
-        → IsVerdict document result.ending }
+        → IsVerdict question document result.ending }
 
     // What `trace` writes: the document of the history and of the bytes that the source had.
     ensures written { (bytes : List ℕ) → Traces (command_of (map (λ word. string_bytes word) words.now)) → S.left source.old ≡ Some bytes
@@ -115,7 +115,7 @@ pub fn run<
         Ok(Task::Trace(program, bytes)) => {
             trace(alloc, rt, program, &bytes, gate, out, err, clock)
         }
-        Ok(Task::Verify(claim)) => verify(alloc, &claim, out, err, clock),
+        Ok(Task::Ask(question, claim)) => answer(alloc, question, &claim, out, err, clock),
         Err(stop) => tell(alloc, ending_of(stop), out, err, clock),
     }
 }

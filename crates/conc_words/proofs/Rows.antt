@@ -2,7 +2,8 @@
 use Rattle.std.proofs.Common.{◌≡◌, [], ◌∷◌, Some, None, codes, refl}
 use Rattle.clap.proofs.OnLiterals.{clap_on_literals}
 use Rattle.hs_base.specs.declared.clock_choice.ClockChoice.TheVariants.{Real, Virtual}
-use Rattle.conc_words.specs.declared.command.Command.TheVariants.{Run, Check, Bench, Trace, Verify}
+use Rattle.conc_words.specs.declared.command.Command.TheVariants.{Run, Check, Bench, Trace, Ask}
+use Rattle.conc_words.specs.declared.command.Question.TheVariants.{Verify, Report, Picture}
 use Rattle.conc_words.specs.Commands.{command_of}
 
 pub run_alone : command_of (codes "run" ∷ []) ≡ Some (Run 1 1000000 Real)
@@ -45,9 +46,17 @@ pub trace_all : command_of (codes "trace" ∷ codes "--caps" ∷ codes "4" ∷ c
 unfolding clap_on_literals
 trace_all = refl
 
-pub verify_alone : command_of (codes "verify" ∷ []) ≡ Some Verify
+pub verify_alone : command_of (codes "verify" ∷ []) ≡ Some (Ask Verify)
 unfolding clap_on_literals
 verify_alone = refl
+
+pub report_alone : command_of (codes "report" ∷ []) ≡ Some (Ask Report)
+unfolding clap_on_literals
+report_alone = refl
+
+pub picture_alone : command_of (codes "picture" ∷ []) ≡ Some (Ask Picture)
+unfolding clap_on_literals
+picture_alone = refl
 
 -- ---- words that are none
 
@@ -98,6 +107,10 @@ trace_other_clock = refl
 pub verify_fuel : command_of (codes "verify" ∷ codes "--fuel" ∷ codes "5" ∷ []) ≡ None
 unfolding clap_on_literals
 verify_fuel = refl
+
+pub report_fuel : command_of (codes "report" ∷ codes "--fuel" ∷ codes "5" ∷ []) ≡ None
+unfolding clap_on_literals
+report_fuel = refl
 
 pub check_fuel : command_of (codes "check" ∷ codes "--fuel" ∷ codes "5" ∷ []) ≡ None
 unfolding clap_on_literals

@@ -12,9 +12,10 @@ use Rattle.clap.specs.Simple.{App, Shape, argument_words, built, built_leaf, ent
 use Rattle.clap.specs.Takes.{default_passes, entered_passes, is_given, level_passes, settle_passes, takes, walk_passes}
 use Rattle.hs_base.specs.declared.clock_choice.ClockChoice.{ClockChoice}
 use Rattle.conc_words.specs.declared.command.Command.{Command}
-use Rattle.conc_words.specs.declared.command.Command.TheVariants.{Run, Check, Bench, Trace, Verify}
-use Rattle.conc_words.specs.Program.{bench, capabilities_option, check, clock_option, from_to, fuel_option, program, run, threads_place, trace, verify}
-use Rattle.conc_words.specs.Commands.{ChoosesClock, IsRefused, IsWithin, clock_of, command_in, command_of, number_of, written}
+use Rattle.conc_words.specs.declared.command.Command.TheVariants.{Run, Check, Bench, Trace, Ask}
+use Rattle.conc_words.specs.declared.command.Question.TheVariants.{Verify, Report, Picture}
+use Rattle.conc_words.specs.Program.{bench, capabilities_option, check, clock_option, from_to, fuel_option, picture, program, report, run, runner, threads_place, trace, verify}
+use Rattle.conc_words.specs.Commands.{ChoosesClock, IsRefused, IsWithin, clock_of, command_in, command_of, number_of, runner_of, written}
 use Rattle.conc_words.proofs.Tests.{both}
 use Rattle.conc_words.proofs.Numbers.{range_is}
 use Rattle.conc_words.proofs.Entries.{IsGood, TakesOne, default_stays, default_there, entry_passes, level_keeps}
@@ -86,80 +87,57 @@ abbrev Reads : Option (Text × List Row) → Type 0
 Reads sub = ((c : Command) × (command_in sub ≡ Some c) × IsWithin c)
     ⊎ ((name : Text) × (rows : List Row) × ChoosesClock name × (sub ≡ Some (name, rows)) × (clock_of rows ≡ None) × (command_in sub ≡ None))
 
-run_ones : AllByRecursion (TakesOne (leaf run).rules) (leaf run).rules
-run_ones = ((refl, omega arith, refl, refl), ((refl, omega arith, refl, refl), ((refl, omega arith, refl, refl), tt)))
-
 bench_ones : AllByRecursion (TakesOne (leaf bench).rules) (leaf bench).rules
 bench_ones = ((refl, omega arith, refl, refl), ((refl, omega arith, refl, refl), ((refl, omega arith, refl, refl), tt)))
 
-run_reads : (words : List Text) → level_passes (leaf run) [] nothing_held words false ≡ true → Reads (Some (codes "run", rows_after (leaf run).rules [] words))
-run_reads words e =
-    let rows = rows_after (leaf run).rules [] words in
-    let start = (settled (leaf run).rules (walk (leaf run).rules [] nothing_held words).held).rows in
-    let good = level_keeps (leaf run) run_ones [] words false e in
-    let first = with_default start capabilities_rule in
-    let second = with_default first fuel_rule in
-    let caps_there : has_row (codes "caps") rows ≡ true =
-    default_stays (codes "caps") second clock_rule (default_stays (codes "caps") first fuel_rule (default_there start capabilities_rule (codes "1") [] refl)) in
-    let fuel_there : has_row (codes "fuel") rows ≡ true =
-    default_stays (codes "fuel") second clock_rule (default_there first fuel_rule (codes "1000000") [] refl) in
-    go rows
-    (number_is (leaf run).rules (codes "caps") capabilities_rule 8 1 16 refl rows good caps_there (omega arith) refl)
-    (number_is (leaf run).rules (codes "fuel") fuel_rule 32 1 4000000 refl rows good fuel_there (omega arith) refl)
-    (clock_of rows) refl
-  where
-    go : (rows : List Row) → (n : ℕ) × (number_of 8 (codes "caps") rows ≡ Some n) × (1 ≤ n) × (n ≤ 16)
-        → (n : ℕ) × (number_of 32 (codes "fuel") rows ≡ Some n) × (1 ≤ n) × (n ≤ 4000000)
-        → (o : Option ClockChoice) → clock_of rows ≡ o → Reads (Some (codes "run", rows))
-    go rows caps fuel (Some clock) is = inl (
-      Run caps.0 fuel.0 clock,
-      (λ i. option_and_then (λ n. option_and_then (λ m. option_map (λ k. Run n m k) (is i)) (fuel.1 i)) (caps.1 i)),
-      (caps.2, caps.3, fuel.2, fuel.3),
-    )
-    go rows caps fuel None is = inr (
-      codes "run",
-      rows,
-      inl refl,
-      refl,
-      is,
-      (λ i. option_and_then (λ n. option_and_then (λ m. option_map (λ k. Run n m k) (is i)) (fuel.1 i)) (caps.1 i)),
-    )
+-- a command that runs a script: its name chooses a clock, and its numbers have the ranges of all of them
+module _ (name : Text) (make : ℕ → ℕ → ClockChoice → Command) (chooses : ChoosesClock name)
+    (is : (rows : List Row) → command_in (Some (name, rows)) ≡ runner_of make rows)
+    (ranges : (caps fuel : ℕ) (clock : ClockChoice) → 1 ≤ caps → caps ≤ 16 → 1 ≤ fuel → fuel ≤ 4000000 → IsWithin (make caps fuel clock)) where
+  abbrev its : Shape
+  its = leaf (runner name)
 
-trace_ones : AllByRecursion (TakesOne (leaf trace).rules) (leaf trace).rules
-trace_ones = ((refl, omega arith, refl, refl), ((refl, omega arith, refl, refl), ((refl, omega arith, refl, refl), tt)))
+  ones : AllByRecursion (TakesOne its.rules) its.rules
+  ones = ((refl, omega arith, refl, refl), ((refl, omega arith, refl, refl), ((refl, omega arith, refl, refl), tt)))
+
+  go : (rows : List Row) → (n : ℕ) × (number_of 8 (codes "caps") rows ≡ Some n) × (1 ≤ n) × (n ≤ 16)
+      → (n : ℕ) × (number_of 32 (codes "fuel") rows ≡ Some n) × (1 ≤ n) × (n ≤ 4000000)
+      → (o : Option ClockChoice) → clock_of rows ≡ o → Reads (Some (name, rows))
+  go rows caps fuel (Some clock) found = inl (
+    make caps.0 fuel.0 clock,
+    is rows ∙ (λ i. option_and_then (λ n. option_and_then (λ m. option_map (λ k. make n m k) (found i)) (fuel.1 i)) (caps.1 i)),
+    ranges caps.0 fuel.0 clock caps.2 caps.3 fuel.2 fuel.3,
+  )
+  go rows caps fuel None found = inr (
+    name,
+    rows,
+    chooses,
+    refl,
+    found,
+    is rows ∙ (λ i. option_and_then (λ n. option_and_then (λ m. option_map (λ k. make n m k) (found i)) (fuel.1 i)) (caps.1 i)),
+  )
+
+  runner_reads : (words : List Text) → level_passes its [] nothing_held words false ≡ true → Reads (Some (name, rows_after its.rules [] words))
+  runner_reads words e =
+      let rows = rows_after its.rules [] words in
+      let start = (settled its.rules (walk its.rules [] nothing_held words).held).rows in
+      let good = level_keeps its ones [] words false e in
+      let first = with_default start capabilities_rule in
+      let second = with_default first fuel_rule in
+      let caps_there : has_row (codes "caps") rows ≡ true =
+      default_stays (codes "caps") second clock_rule (default_stays (codes "caps") first fuel_rule (default_there start capabilities_rule (codes "1") [] refl)) in
+      let fuel_there : has_row (codes "fuel") rows ≡ true =
+      default_stays (codes "fuel") second clock_rule (default_there first fuel_rule (codes "1000000") [] refl) in
+      go rows
+      (number_is its.rules (codes "caps") capabilities_rule 8 1 16 refl rows good caps_there (omega arith) refl)
+      (number_is its.rules (codes "fuel") fuel_rule 32 1 4000000 refl rows good fuel_there (omega arith) refl)
+      (clock_of rows) refl
+
+run_reads : (words : List Text) → level_passes (leaf run) [] nothing_held words false ≡ true → Reads (Some (codes "run", rows_after (leaf run).rules [] words))
+run_reads = runner_reads (codes "run") Run (inl refl) (λ rows. refl) (λ caps fuel clock a b c d. (a, b, c, d))
 
 trace_reads : (words : List Text) → level_passes (leaf trace) [] nothing_held words false ≡ true → Reads (Some (codes "trace", rows_after (leaf trace).rules [] words))
-trace_reads words e =
-    let rows = rows_after (leaf trace).rules [] words in
-    let start = (settled (leaf trace).rules (walk (leaf trace).rules [] nothing_held words).held).rows in
-    let good = level_keeps (leaf trace) trace_ones [] words false e in
-    let first = with_default start capabilities_rule in
-    let second = with_default first fuel_rule in
-    let caps_there : has_row (codes "caps") rows ≡ true =
-    default_stays (codes "caps") second clock_rule (default_stays (codes "caps") first fuel_rule (default_there start capabilities_rule (codes "1") [] refl)) in
-    let fuel_there : has_row (codes "fuel") rows ≡ true =
-    default_stays (codes "fuel") second clock_rule (default_there first fuel_rule (codes "1000000") [] refl) in
-    go rows
-    (number_is (leaf trace).rules (codes "caps") capabilities_rule 8 1 16 refl rows good caps_there (omega arith) refl)
-    (number_is (leaf trace).rules (codes "fuel") fuel_rule 32 1 4000000 refl rows good fuel_there (omega arith) refl)
-    (clock_of rows) refl
-  where
-    go : (rows : List Row) → (n : ℕ) × (number_of 8 (codes "caps") rows ≡ Some n) × (1 ≤ n) × (n ≤ 16)
-        → (n : ℕ) × (number_of 32 (codes "fuel") rows ≡ Some n) × (1 ≤ n) × (n ≤ 4000000)
-        → (o : Option ClockChoice) → clock_of rows ≡ o → Reads (Some (codes "trace", rows))
-    go rows caps fuel (Some clock) is = inl (
-      Trace caps.0 fuel.0 clock,
-      (λ i. option_and_then (λ n. option_and_then (λ m. option_map (λ k. Trace n m k) (is i)) (fuel.1 i)) (caps.1 i)),
-      (caps.2, caps.3, fuel.2, fuel.3),
-    )
-    go rows caps fuel None is = inr (
-      codes "trace",
-      rows,
-      inr refl,
-      refl,
-      is,
-      (λ i. option_and_then (λ n. option_and_then (λ m. option_map (λ k. Trace n m k) (is i)) (fuel.1 i)) (caps.1 i)),
-    )
+trace_reads = runner_reads (codes "trace") Trace (inr refl) (λ rows. refl) (λ caps fuel clock a b c d. (a, b, c, d))
 
 bench_reads : (words : List Text) → level_passes (leaf bench) [] nothing_held words false ≡ true → Reads (Some (codes "bench", rows_after (leaf bench).rules [] words))
 bench_reads words e =
@@ -190,27 +168,29 @@ bench_reads words e =
 -- ---- the words
 
 -- the subcommand that a name is
-abbrev chosen : (is_run is_check is_bench is_trace is_verify : Bool) → Option Shape
-chosen is_run is_check is_bench is_trace is_verify =
-    cond is_run (Some (leaf run)) (cond is_check (Some (leaf check)) (cond is_bench (Some (leaf bench)) (cond is_trace (Some (leaf trace)) (cond is_verify (Some (leaf verify)) None))))
+abbrev chosen : (is_run is_check is_bench is_trace is_verify is_report is_picture : Bool) → Option Shape
+chosen is_run is_check is_bench is_trace is_verify is_report is_picture =
+    cond is_run (Some (leaf run)) (cond is_check (Some (leaf check)) (cond is_bench (Some (leaf bench)) (cond is_trace (Some (leaf trace)) (cond is_verify (Some (leaf verify)) (cond is_report (Some (leaf report)) (cond is_picture (Some (leaf picture)) None))))))
 
 -- whichever subcommand a name is
-named_reads : (is_run is_check is_bench is_trace is_verify : Bool) (words : List Text)
-    → option_map_or (λ s. level_passes s [] nothing_held words false) (chosen is_run is_check is_bench is_trace is_verify) true ≡ true
-    → is_some (option_map (λ s. rows_at s words) (chosen is_run is_check is_bench is_trace is_verify)) ≡ true
-    → Reads (option_map (λ s. rows_at s words) (chosen is_run is_check is_bench is_trace is_verify))
-named_reads true is_check is_bench is_trace is_verify words e there = run_reads words e
-named_reads false true is_bench is_trace is_verify words e there = inl (Check, refl, tt)
-named_reads false false true is_trace is_verify words e there = bench_reads words e
-named_reads false false false true is_verify words e there = trace_reads words e
-named_reads false false false false true words e there = inl (Verify, refl, tt)
-named_reads false false false false false words e there = absurd (true≢false (sym there))
+named_reads : (is_run is_check is_bench is_trace is_verify is_report is_picture : Bool) (words : List Text)
+    → option_map_or (λ s. level_passes s [] nothing_held words false) (chosen is_run is_check is_bench is_trace is_verify is_report is_picture) true ≡ true
+    → is_some (option_map (λ s. rows_at s words) (chosen is_run is_check is_bench is_trace is_verify is_report is_picture)) ≡ true
+    → Reads (option_map (λ s. rows_at s words) (chosen is_run is_check is_bench is_trace is_verify is_report is_picture))
+named_reads true is_check is_bench is_trace is_verify is_report is_picture words e there = run_reads words e
+named_reads false true is_bench is_trace is_verify is_report is_picture words e there = inl (Check, refl, tt)
+named_reads false false true is_trace is_verify is_report is_picture words e there = bench_reads words e
+named_reads false false false true is_verify is_report is_picture words e there = trace_reads words e
+named_reads false false false false true is_report is_picture words e there = inl (Ask Verify, refl, tt)
+named_reads false false false false false true is_picture words e there = inl (Ask Report, refl, tt)
+named_reads false false false false false false true words e there = inl (Ask Picture, refl, tt)
+named_reads false false false false false false false words e there = absurd (true≢false (sym there))
 
 stop_reads : (stop : Option (Text × List Text)) → entered_passes (built program) stop ≡ true → is_some (entered (built program) stop) ≡ true → Reads (entered (built program) stop)
 stop_reads None e there = absurd (true≢false (sym there))
 stop_reads (Some p) e there =
     named_reads (answers_to p.0 (label_of run.top)) (answers_to p.0 (label_of check.top)) (answers_to p.0 (label_of bench.top))
-    (answers_to p.0 (label_of trace.top)) (answers_to p.0 (label_of verify.top)) p.1 e there
+    (answers_to p.0 (label_of trace.top)) (answers_to p.0 (label_of verify.top)) (answers_to p.0 (label_of report.top)) (answers_to p.0 (label_of picture.top)) p.1 e there
 
 taken_reads : (words : List Text) → takes program words ≡ true → Reads (subcommand_of program words)
 taken_reads words e =

@@ -9,7 +9,8 @@ use Rattle.clap.specs.Takes.{takes}
 use Rattle.hs_base.specs.declared.clock_choice.ClockChoice.{ClockChoice}
 use Rattle.hs_base.specs.declared.clock_choice.ClockChoice.TheVariants.{Real, Virtual}
 use Rattle.conc_words.specs.declared.command.Command.{Command}
-use Rattle.conc_words.specs.declared.command.Command.TheVariants.{Run, Check, Bench, Trace, Verify}
+use Rattle.conc_words.specs.declared.command.Command.TheVariants.{Run, Check, Bench, Trace, Ask}
+use Rattle.conc_words.specs.declared.command.Question.TheVariants.{Verify, Report, Picture}
 use Rattle.conc_words.specs.declared.command.WordsFault.{WordsFault}
 use Rattle.conc_words.specs.declared.command.WordsFault.TheVariants.{NotUnderstood, NoMemory}
 use Rattle.conc_words.specs.Program.{program}
@@ -35,23 +36,25 @@ named_clock text =
 abbrev pub clock_of : List Row → Option ClockChoice
 clock_of rows = option_and_then named_clock (first_of (codes "clock") rows)
 
+-- a command that runs a script, by its entries
+abbrev pub runner_of : (ℕ → ℕ → ClockChoice → Command) → List Row → Option Command
+runner_of make rows =
+    option_and_then (λ capabilities. option_and_then (λ fuel. option_map (λ clock. make capabilities fuel clock)
+    (clock_of rows)) (number_of 32 (codes "fuel") rows)) (number_of 8 (codes "caps") rows)
+
 -- `run`, by its entries
 abbrev pub run_of : List Row → Option Command
-run_of rows =
-    option_and_then (λ capabilities. option_and_then (λ fuel. option_map (λ clock. Run capabilities fuel clock)
-    (clock_of rows)) (number_of 32 (codes "fuel") rows)) (number_of 8 (codes "caps") rows)
+run_of rows = runner_of Run rows
+
+-- `trace`, by its entries, which are those of `run`
+abbrev pub trace_of : List Row → Option Command
+trace_of rows = runner_of Trace rows
 
 -- `bench`, by its entries
 abbrev pub bench_of : List Row → Option Command
 bench_of rows =
     option_and_then (λ threads. option_and_then (λ capabilities. option_map (λ fuel. Bench threads capabilities fuel)
     (number_of 32 (codes "fuel") rows)) (number_of 8 (codes "caps") rows)) (number_of 32 (codes "threads") rows)
-
--- `trace`, by its entries, which are those of `run`
-abbrev pub trace_of : List Row → Option Command
-trace_of rows =
-    option_and_then (λ capabilities. option_and_then (λ fuel. option_map (λ clock. Trace capabilities fuel clock)
-    (clock_of rows)) (number_of 32 (codes "fuel") rows)) (number_of 8 (codes "caps") rows)
 
 -- the command of a subcommand, by its name and its entries
 abbrev pub named : Text × List Row → Option Command
@@ -60,7 +63,9 @@ named sub =
     else if bytes_eq sub.0 (codes "check") then Some Check
     else if bytes_eq sub.0 (codes "bench") then bench_of sub.1
     else if bytes_eq sub.0 (codes "trace") then trace_of sub.1
-    else if bytes_eq sub.0 (codes "verify") then Some Verify
+    else if bytes_eq sub.0 (codes "verify") then Some (Ask Verify)
+    else if bytes_eq sub.0 (codes "report") then Some (Ask Report)
+    else if bytes_eq sub.0 (codes "picture") then Some (Ask Picture)
     else None
 
 abbrev pub command_in : Option (Text × List Row) → Option Command
@@ -82,7 +87,7 @@ IsWithin Check = Unit {0}
 IsWithin (Bench threads capabilities fuel) =
     (1 ≤ threads) × (threads ≤ 4000) × (1 ≤ capabilities) × (capabilities ≤ 16) × (1 ≤ fuel) × (fuel ≤ 4000000)
 IsWithin (Trace capabilities fuel clock) = (1 ≤ capabilities) × (capabilities ≤ 16) × (1 ≤ fuel) × (fuel ≤ 4000000)
-IsWithin Verify = Unit {0}
+IsWithin (Ask question) = Unit {0}
 
 -- a command of this name goes by a clock that its words choose
 abbrev pub ChoosesClock : Text → Type 0

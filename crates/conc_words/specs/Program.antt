@@ -4,8 +4,10 @@
 --     bench N  --caps N --fuel N
 --     trace    --caps N --fuel N --clock C
 --     verify
--- One of the five has to stand. An option that is left out has its default.
-use Rattle.std.specs.Prelude.{ℕ, [], ◌∷◌, Some, codes, pos, true}
+--     report
+--     picture
+-- One of the seven has to stand. An option that is left out has its default.
+use Rattle.std.specs.Prelude.{ℕ, List, [], ◌∷◌, Some, codes, pos, true}
 use Rattle.clap.specs.Simple.{App, new_app, new_rule, on_top, with_rule, with_subcommand}
 use Rattle.clap.specs.Walk.{Rule}
 use Rattle.clap.specs.declared.builder.value_parser.ValueParser.{ValueParser}
@@ -45,8 +47,12 @@ threads_place = record (new_rule (codes "threads")) {
   required = true;
 }
 
+-- a command that runs a script, by its name
+abbrev pub runner : List ℕ → App
+runner name = with_rule (with_rule (with_rule (new_app name) capabilities_option) fuel_option) clock_option
+
 abbrev pub run : App
-run = with_rule (with_rule (with_rule (new_app (codes "run")) capabilities_option) fuel_option) clock_option
+run = runner (codes "run")
 
 abbrev pub check : App
 check = new_app (codes "check")
@@ -55,10 +61,16 @@ abbrev pub bench : App
 bench = with_rule (with_rule (with_rule (new_app (codes "bench")) threads_place) capabilities_option) fuel_option
 
 abbrev pub trace : App
-trace = with_rule (with_rule (with_rule (new_app (codes "trace")) capabilities_option) fuel_option) clock_option
+trace = runner (codes "trace")
 
 abbrev pub verify : App
 verify = new_app (codes "verify")
+
+abbrev pub report : App
+report = new_app (codes "report")
+
+abbrev pub picture : App
+picture = new_app (codes "picture")
 
 -- the program before its subcommands: the words begin after its name, it has no help, and a subcommand has to stand
 abbrev pub alone : App
@@ -72,4 +84,4 @@ alone = on_top (λ s. record s {
 -- the program with its subcommands
 abbrev pub program : App
 program =
-    with_subcommand (with_subcommand (with_subcommand (with_subcommand (with_subcommand alone run.top) check.top) bench.top) trace.top) verify.top
+    with_subcommand (with_subcommand (with_subcommand (with_subcommand (with_subcommand (with_subcommand (with_subcommand alone run.top) check.top) bench.top) trace.top) verify.top) report.top) picture.top

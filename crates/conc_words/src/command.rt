@@ -37,8 +37,19 @@ pub enum Command {
         fuel: u32,
         clock: ClockChoice,
     },
-    /// `verify`: says whether the document on the source is a run.
+    /// `verify`, `report` and `picture`: answers a question about the document on the source.
+    Ask(Question),
+}
+
+/// What is asked of a document.
+#[derive(Clone, Copy, Debug, PartialEq, Eq)]
+pub enum Question {
+    /// `verify`: whether it is a run of its script.
     Verify,
+    /// `report`: what each thread and each cell of that run did, in numbers.
+    Report,
+    /// `picture`: that run, drawn.
+    Picture,
 }
 
 /// Why the words gave no command.

@@ -9,5 +9,5 @@ mod command;
 mod program;
 mod reading;
 
-pub use command::{Command, WordsFault};
+pub use command::{Command, Question, WordsFault};
 pub use reading::read_words;

@@ -1,8 +1,9 @@
 //! The command line that the program takes.
 ghost use Rattle.std.specs.Prelude.{◌≡◌, IfOk, false};
+ghost use Rattle.clap.specs.Simple.{new_app};
 ghost use Rattle.clap.specs.Words.{app_of, rule_of};
 ghost use Rattle.clap.specs.declared.builder.command.Command.TheViews.{out-Command as fields_of};
-ghost use Rattle.conc_words.specs.Program.{bench, capabilities_option, check, clock_option, fuel_option, program, run, threads_place, trace, verify};
+ghost use Rattle.conc_words.specs.Program.{bench, capabilities_option, clock_option, fuel_option, program, runner, threads_place};
 
 use clap::{Arg, Command, value_parser};
 use std::alloc::{AllocError, Global};
@@ -52,21 +53,23 @@ fn threads_place<'a>(alloc: Global) -> Arg<'a>
         .required(true)
 }
 
-fn run<'a>(alloc: Global) -> Result<Command<'a>, AllocError>
-    ensures shape { IfOk result (λ c. app_of c ≡ run) }
+/// A command that runs a script, by its name.
+fn runner<'a>(alloc: Global, name: &'a str) -> Result<Command<'a>, AllocError>
+    ensures shape { IfOk result (λ c. app_of c ≡ runner name.entry.now) }
     ensures local { IfOk result (λ c. (fields_of c).has_globals ≡ false) }
 {
-    Command::new(alloc, "run")
+    Command::new(alloc, name)
         .arg(capabilities_option(alloc))?
         .arg(fuel_option(alloc))?
         .arg(clock_option(alloc))
 }
 
-fn check<'a>(alloc: Global) -> Command<'a>
-    ensures shape { app_of result ≡ check }
+/// A command that takes nothing, by its name.
+fn plain<'a>(alloc: Global, name: &'a str) -> Command<'a>
+    ensures shape { app_of result ≡ new_app name.entry.now }
     ensures local { (fields_of result).has_globals ≡ false }
 {
-    Command::new(alloc, "check")
+    Command::new(alloc, name)
 }
 
 fn bench<'a>(alloc: Global) -> Result<Command<'a>, AllocError>
@@ -79,23 +82,6 @@ fn bench<'a>(alloc: Global) -> Result<Command<'a>, AllocError>
         .arg(fuel_option(alloc))
 }
 
-fn trace<'a>(alloc: Global) -> Result<Command<'a>, AllocError>
-    ensures shape { IfOk result (λ c. app_of c ≡ trace) }
-    ensures local { IfOk result (λ c. (fields_of c).has_globals ≡ false) }
-{
-    Command::new(alloc, "trace")
-        .arg(capabilities_option(alloc))?
-        .arg(fuel_option(alloc))?
-        .arg(clock_option(alloc))
-}
-
-fn verify<'a>(alloc: Global) -> Command<'a>
-    ensures shape { app_of result ≡ verify }
-    ensures local { (fields_of result).has_globals ≡ false }
-{
-    Command::new(alloc, "verify")
-}
-
 /// The program, which takes the words after its name and one of its subcommands among them.
 pub(crate) fn program<'a>(alloc: Global) -> Result<Command<'a>, AllocError>
     ensures { IfOk result (λ c. app_of c ≡ program) }
@@ -105,9 +91,11 @@ pub(crate) fn program<'a>(alloc: Global) -> Result<Command<'a>, AllocError>
         .disable_help_flag(true)
         .disable_help_subcommand(true)
         .subcommand_required(true)
-        .subcommand(run(alloc)?)?
-        .subcommand(check(alloc))?
+        .subcommand(runner(alloc, "run")?)?
+        .subcommand(plain(alloc, "check"))?
         .subcommand(bench(alloc)?)?
-        .subcommand(trace(alloc)?)?
-        .subcommand(verify(alloc))
+        .subcommand(runner(alloc, "trace")?)?
+        .subcommand(plain(alloc, "verify"))?
+        .subcommand(plain(alloc, "report"))?
+        .subcommand(plain(alloc, "picture"))
 }

@@ -4,7 +4,7 @@ ghost use Rattle.conc_words.specs.Program.{program};
 ghost use Rattle.conc_words.specs.Commands.{IsRefused, IsWithin, bench_of, command_in, command_of, number_of, run_of, trace_of, WhenNotUnderstood, clock_of};
 
 use crate::program::{CAPABILITIES, CLOCK, FUEL, THREADS, program};
-use crate::{Command, WordsFault};
+use crate::{Command, Question, WordsFault};
 use clap::ArgMatches;
 use hs_base::ClockChoice;
 use std::alloc::Global;
@@ -45,7 +45,9 @@ fn command_in(matches: &ArgMatches<'_>) -> Option<Command>
         "check" => Some(Command::Check),
         "bench" => bench_in(entries),
         "trace" => trace_in(entries),
-        "verify" => Some(Command::Verify),
+        "verify" => Some(Command::Ask(Question::Verify)),
+        "report" => Some(Command::Ask(Question::Report)),
+        "picture" => Some(Command::Ask(Question::Picture)),
         _ => None,
     }
 }

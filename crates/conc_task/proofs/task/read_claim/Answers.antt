@@ -3,9 +3,9 @@ use Rattle.conc_task.proofs.Documents.{claim_had, document_unread}
 use Rattle.conc_task.proofs.task.read_claim.Goals as goal
 
 pub returns-clause-comes : goal.returns-clause-comes
-returns-clause-comes g c = claim_had _ _ _ c.claim_of.result _ c.in_ok-document.ensures.read.0 c.in_ok-document.ensures.read.1 c.claim_of.ensures
+returns-clause-comes g c = λ question. claim_had question _ _ _ c.claim_of.result _ c.in_ok-document.ensures.read.0 c.in_ok-document.ensures.read.1 c.claim_of.ensures
 
 pub returns-in_err-document-clause-comes : goal.returns-in_err-document-clause-comes
 returns-in_err-document-clause-comes g c =
     let p = err_from_is_err_and c.from_residual.result c.from_residual.ensures.1 in
-    rw (p.1, p.2) (document_unread _ _ _ _ c.in_err-document.ensures.read)
+    λ question. rw (p.1, p.2) (document_unread question _ _ _ _ c.in_err-document.ensures.read)

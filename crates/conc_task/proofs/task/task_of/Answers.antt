@@ -48,10 +48,11 @@ returns-in_err-code-in-Trace-clause-comes g c =
     rw (p.1, p.2)
     (source_none _ (Trace c.in-Trace.capabilities c.in-Trace.fuel c.in-Trace.clock) _ _ _ c.in_err-code-in-Trace.field-0.0 (c.in_ok-capabilities.ensures.exact ∙ ap Some c.in-Trace.is) tt c.in_err-code-in-Trace.ensures.comes)
 
-pub returns-in_ok-claim-in-Verify-clause-comes : goal.returns-in_ok-claim-in-Verify-clause-comes
-returns-in_ok-claim-in-Verify-clause-comes g c = claimed _ _ _ c.in_ok-claim-in-Verify.claim (c.in_ok-capabilities.ensures.exact ∙ ap Some c.in-Verify.is) c.in_ok-claim-in-Verify.ensures.comes
+pub returns-in_ok-claim-in-Ask-clause-comes : goal.returns-in_ok-claim-in-Ask-clause-comes
+returns-in_ok-claim-in-Ask-clause-comes g c =
+    claimed _ _ _ c.in-Ask.question c.in_ok-claim-in-Ask.claim (c.in_ok-capabilities.ensures.exact ∙ ap Some c.in-Ask.is) (c.in_ok-claim-in-Ask.ensures.comes c.in-Ask.question)
 
-pub returns-in_err-claim-in-Verify-clause-comes : goal.returns-in_err-claim-in-Verify-clause-comes
-returns-in_err-claim-in-Verify-clause-comes g c =
-    let p = err_from_is_err_and c.from_residual-in_err-claim-in-Verify.result c.from_residual-in_err-claim-in-Verify.ensures.1 in
-    rw (p.1, p.2) (claim_none _ _ _ _ c.in_err-claim-in-Verify.field-0.0 (c.in_ok-capabilities.ensures.exact ∙ ap Some c.in-Verify.is) c.in_err-claim-in-Verify.ensures.comes)
+pub returns-in_err-claim-in-Ask-clause-comes : goal.returns-in_err-claim-in-Ask-clause-comes
+returns-in_err-claim-in-Ask-clause-comes g c =
+    let p = err_from_is_err_and c.from_residual-in_err-claim-in-Ask.result c.from_residual-in_err-claim-in-Ask.ensures.1 in
+    rw (p.1, p.2) (claim_none _ c.in-Ask.question _ _ _ c.in_err-claim-in-Ask.field-0.0 (c.in_ok-capabilities.ensures.exact ∙ ap Some c.in-Ask.is) (c.in_err-claim-in-Ask.ensures.comes c.in-Ask.question))

@@ -144,47 +144,47 @@ pub returns-in-Ok-Trace-clause-choice : goal.returns-in-Ok-Trace-clause-choice
 returns-in-Ok-Trace-clause-choice g c =
     inr (c.in-Ok-Trace.program.fuel, c.in-Ok-Trace.program.clock, (has_traced _ _ _ _ _ _ c.in-Ok-Trace.field-0-is c.in-Ok-Trace.ensures.comes).made.runs, c.trace.ensures.choice)
 
--- ---- a document is verified
+-- ---- something is asked of a document
 
-pub returns-in-Ok-Verify-clause-cause : goal.returns-in-Ok-Verify-clause-cause
-returns-in-Ok-Verify-clause-cause g c =
-    claim_due _ _ _ c.in-Ok-Verify.claim (has_claim _ _ _ _ _ c.in-Ok-Verify.field-0-is c.in-Ok-Verify.ensures.comes) _ c.verify.result.ending _ _ _ _ _ _ _ _ c.verify.ensures.tells
+pub returns-in-Ok-Ask-clause-cause : goal.returns-in-Ok-Ask-clause-cause
+returns-in-Ok-Ask-clause-cause g c =
+    claim_due _ _ _ c.in-Ok-Ask.question c.in-Ok-Ask.claim (has_claim _ _ _ _ _ _ c.in-Ok-Ask.field-0-is c.in-Ok-Ask.ensures.comes) _ c.answer.result.ending _ _ _ _ _ _ _ _ c.answer.ensures.tells
 
-pub returns-in-Ok-Verify-clause-complete : goal.returns-in-Ok-Verify-clause-complete
-returns-in-Ok-Verify-clause-complete g c =
-    is_expected _ _ _ _ _ c.verify.result.ending
-    (claim_due _ _ _ c.in-Ok-Verify.claim (has_claim _ _ _ _ _ c.in-Ok-Verify.field-0-is c.in-Ok-Verify.ensures.comes) _ c.verify.result.ending _ _ _ _ _ _ _ _ c.verify.ensures.tells)
+pub returns-in-Ok-Ask-clause-complete : goal.returns-in-Ok-Ask-clause-complete
+returns-in-Ok-Ask-clause-complete g c =
+    is_expected _ _ _ _ _ c.answer.result.ending
+    (claim_due _ _ _ c.in-Ok-Ask.question c.in-Ok-Ask.claim (has_claim _ _ _ _ _ _ c.in-Ok-Ask.field-0-is c.in-Ok-Ask.ensures.comes) _ c.answer.result.ending _ _ _ _ _ _ _ _ c.answer.ensures.tells)
 
-pub returns-in-Ok-Verify-clause-refusal : goal.returns-in-Ok-Verify-clause-refusal
-returns-in-Ok-Verify-clause-refusal g c =
-    is_refusal _ _ _ _ _ c.verify.result.ending
-    (claim_due _ _ _ c.in-Ok-Verify.claim (has_claim _ _ _ _ _ c.in-Ok-Verify.field-0-is c.in-Ok-Verify.ensures.comes) _ c.verify.result.ending _ _ _ _ _ _ _ _ c.verify.ensures.tells)
+pub returns-in-Ok-Ask-clause-refusal : goal.returns-in-Ok-Ask-clause-refusal
+returns-in-Ok-Ask-clause-refusal g c =
+    is_refusal _ _ _ _ _ c.answer.result.ending
+    (claim_due _ _ _ c.in-Ok-Ask.question c.in-Ok-Ask.claim (has_claim _ _ _ _ _ _ c.in-Ok-Ask.field-0-is c.in-Ok-Ask.ensures.comes) _ c.answer.result.ending _ _ _ _ _ _ _ _ c.answer.ensures.tells)
 
-pub returns-in-Ok-Verify-clause-verdict : goal.returns-in-Ok-Verify-clause-verdict
-returns-in-Ok-Verify-clause-verdict g c =
-    is_verdict _ _ _ _ _ c.verify.result.ending
-    (claim_due _ _ _ c.in-Ok-Verify.claim (has_claim _ _ _ _ _ c.in-Ok-Verify.field-0-is c.in-Ok-Verify.ensures.comes) _ c.verify.result.ending _ _ _ _ _ _ _ _ c.verify.ensures.tells)
+pub returns-in-Ok-Ask-clause-verdict : goal.returns-in-Ok-Ask-clause-verdict
+returns-in-Ok-Ask-clause-verdict g c =
+    is_verdict _ _ _ _ _ c.answer.result.ending
+    (claim_due _ _ _ c.in-Ok-Ask.question c.in-Ok-Ask.claim (has_claim _ _ _ _ _ _ c.in-Ok-Ask.field-0-is c.in-Ok-Ask.ensures.comes) _ c.answer.result.ending _ _ _ _ _ _ _ _ c.answer.ensures.tells)
 
-pub returns-in-Ok-Verify-clause-call : goal.returns-in-Ok-Verify-clause-call
-returns-in-Ok-Verify-clause-call g c =
-    ∣ claim_call _ _ _ c.in-Ok-Verify.claim (has_claim _ _ _ _ _ c.in-Ok-Verify.field-0-is c.in-Ok-Verify.ensures.comes) _ _ _ _ c.verify.result.ending c.verify.result.history.list _ _
-    c.in-Ok-Verify.ensures.counts c.verify.ensures.history (ap g.K.Clock.early_waits c.verify.ensures.clock) c.verify.ensures.tells ∣₁
+pub returns-in-Ok-Ask-clause-call : goal.returns-in-Ok-Ask-clause-call
+returns-in-Ok-Ask-clause-call g c =
+    ∣ claim_call _ _ _ c.in-Ok-Ask.question c.in-Ok-Ask.claim (has_claim _ _ _ _ _ _ c.in-Ok-Ask.field-0-is c.in-Ok-Ask.ensures.comes) _ _ _ _ c.answer.result.ending c.answer.result.history.list _ _
+    c.in-Ok-Ask.ensures.counts c.answer.ensures.history (ap g.K.Clock.early_waits c.answer.ensures.clock) c.answer.ensures.tells ∣₁
 
-pub returns-in-Ok-Verify-clause-written : goal.returns-in-Ok-Verify-clause-written
-returns-in-Ok-Verify-clause-written g c = λ bytes traces left.
-    absurd (claim_traces _ _ _ c.in-Ok-Verify.claim (has_claim _ _ _ _ _ c.in-Ok-Verify.field-0-is c.in-Ok-Verify.ensures.comes) traces)
+pub returns-in-Ok-Ask-clause-written : goal.returns-in-Ok-Ask-clause-written
+returns-in-Ok-Ask-clause-written g c = λ bytes traces left.
+    absurd (claim_traces _ _ _ c.in-Ok-Ask.question c.in-Ok-Ask.claim (has_claim _ _ _ _ _ _ c.in-Ok-Ask.field-0-is c.in-Ok-Ask.ensures.comes) traces)
 
-pub returns-in-Ok-Verify-clause-rose : goal.returns-in-Ok-Verify-clause-rose
-returns-in-Ok-Verify-clause-rose g c = λ rose. absurd (never_rose _ _ c.in-Ok-Verify.ensures.counts rose)
+pub returns-in-Ok-Ask-clause-rose : goal.returns-in-Ok-Ask-clause-rose
+returns-in-Ok-Ask-clause-rose g c = λ rose. absurd (never_rose _ _ c.in-Ok-Ask.ensures.counts rose)
 
-pub returns-in-Ok-Verify-clause-steady : goal.returns-in-Ok-Verify-clause-steady
-returns-in-Ok-Verify-clause-steady g c = λ none. c.in-Ok-Verify.ensures.counts
+pub returns-in-Ok-Ask-clause-steady : goal.returns-in-Ok-Ask-clause-steady
+returns-in-Ok-Ask-clause-steady g c = λ none. c.in-Ok-Ask.ensures.counts
 
-pub returns-in-Ok-Verify-clause-unclocked : goal.returns-in-Ok-Verify-clause-unclocked
-returns-in-Ok-Verify-clause-unclocked g c = λ none. c.verify.ensures.clock
+pub returns-in-Ok-Ask-clause-unclocked : goal.returns-in-Ok-Ask-clause-unclocked
+returns-in-Ok-Ask-clause-unclocked g c = λ none. c.answer.ensures.clock
 
-pub returns-in-Ok-Verify-clause-unrun : goal.returns-in-Ok-Verify-clause-unrun
-returns-in-Ok-Verify-clause-unrun g c = λ unrun. c.verify.ensures.clock
+pub returns-in-Ok-Ask-clause-unrun : goal.returns-in-Ok-Ask-clause-unrun
+returns-in-Ok-Ask-clause-unrun g c = λ unrun. c.answer.ensures.clock
 
 -- ---- nothing runs, and nothing is accepted
 

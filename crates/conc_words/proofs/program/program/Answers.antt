@@ -30,8 +30,10 @@ returns c =
     ap app_of_fields c.disable_help_subcommand.ensures ∙ ap without_help_command quiet in
     let alone_is : app_of c.subcommand_required.result ≡ alone =
     ap app_of_fields c.subcommand_required.ensures ∙ ap with_need quieter in
-    let with_run = c.in_ok-subcommand.ensures.shape c.in_ok-run.ensures.local ∙ ap₂ with_subcommand alone_is (ap top_of c.in_ok-run.ensures.shape) in
-    let with_check = c.in_ok-subcommand-2.ensures.shape c.check.ensures.local ∙ ap₂ with_subcommand with_run (ap top_of c.check.ensures.shape) in
+    let with_run = c.in_ok-subcommand.ensures.shape c.in_ok-runner.ensures.local ∙ ap₂ with_subcommand alone_is (ap top_of c.in_ok-runner.ensures.shape) in
+    let with_check = c.in_ok-subcommand-2.ensures.shape c.plain.ensures.local ∙ ap₂ with_subcommand with_run (ap top_of c.plain.ensures.shape) in
     let with_bench = c.in_ok-subcommand-3.ensures.shape c.in_ok-bench.ensures.local ∙ ap₂ with_subcommand with_check (ap top_of c.in_ok-bench.ensures.shape) in
-    let with_trace = c.in_ok-subcommand-4.ensures.shape c.in_ok-trace.ensures.local ∙ ap₂ with_subcommand with_bench (ap top_of c.in_ok-trace.ensures.shape) in
-    IfOk-weaker c.subcommand-5.result _ _ (λ r h. h.shape c.verify.ensures.local ∙ ap₂ with_subcommand with_trace (ap top_of c.verify.ensures.shape)) c.subcommand-5.ensures
+    let with_trace = c.in_ok-subcommand-4.ensures.shape c.in_ok-runner-2.ensures.local ∙ ap₂ with_subcommand with_bench (ap top_of c.in_ok-runner-2.ensures.shape) in
+    let with_verify = c.in_ok-subcommand-5.ensures.shape c.plain-2.ensures.local ∙ ap₂ with_subcommand with_trace (ap top_of c.plain-2.ensures.shape) in
+    let with_report = c.in_ok-subcommand-6.ensures.shape c.plain-3.ensures.local ∙ ap₂ with_subcommand with_verify (ap top_of c.plain-3.ensures.shape) in
+    IfOk-weaker c.subcommand-7.result _ _ (λ r h. h.shape c.plain-4.ensures.local ∙ ap₂ with_subcommand with_report (ap top_of c.plain-4.ensures.shape)) c.subcommand-7.ensures
