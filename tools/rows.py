@@ -69,6 +69,16 @@ def readme():
             yield f"{block.at(0)}: no row of crates/conc_rows/data has this script"
 
 
+def pictures():
+    """Each picture of the documents is what a row has the program draw."""
+    drawn = {name: [line.removeprefix("out: ") for line in row if line.startswith("out: ")]
+             for path in here("crates/conc_rows/data/*.rows") for name, _, row in rows_of(path)}
+    for path in here("docs/pictures/*.svg"):
+        name = f"picture-of-{os.path.basename(path).removesuffix('.svg')}"
+        if drawn.get(name) != read(path).removesuffix("\n").split("\n"):
+            yield f"{path}: the row {name} of crates/conc_rows/data doesn't have the program draw it"
+
+
 def count_of(crate):
     """How many rows a program has, and how many of them can't run yet."""
     rows = [row for path in here(f"crates/{crate}/data/*.rows") for _, _, row in rows_of(path)]

@@ -4,6 +4,7 @@ use crate::came::call;
 use crate::flaw::Flaw;
 use crate::row::{Cases, Row};
 use crate::wanted::{Case, difference};
+use crate::written::problem_written;
 use std::alloc::Global;
 use std::sync::Wait;
 use std::thread::Threads;
@@ -108,5 +109,8 @@ fn problem_at<R: Threads + Wait + Sync>(
     case: &Case<'_>,
 ) -> Result<Option<String>, Flaw> {
     let came = call(alloc, rt, &row.plan, words, input)?;
-    difference(alloc, &row.wanted, case, &came)
+    match (difference(alloc, &row.wanted, case, &came)?, &row.report) {
+        (None, Some(lines)) => problem_written(alloc, rt, lines, words, input, &came),
+        (problem, _) => Ok(problem),
+    }
 }

@@ -2,6 +2,7 @@
 
 use crate::flaw::Flaw;
 use crate::row::{Plan, Refusal, Row, Told, Wanted};
+use crate::text::Text;
 use std::alloc::{AllocError, Global};
 
 /// What the lines of a row have said so far.
@@ -16,6 +17,7 @@ pub struct Draft {
     pub only_status: Option<u8>,
     pub refusals: Vec<Refusal>,
     pub accepted: bool,
+    pub report: Option<Text>,
 }
 
 impl Draft {
@@ -31,6 +33,7 @@ impl Draft {
             only_status: None,
             refusals: Vec::new(alloc),
             accepted: false,
+            report: None,
         })
     }
 
@@ -47,6 +50,7 @@ impl Draft {
             only_status: _,
             refusals,
             accepted: _,
+            report,
         } = self;
         let wanted = match outcome {
             Outcome::Told(status) => Wanted::Told(status, told),
@@ -59,7 +63,20 @@ impl Draft {
             later,
             plan,
             wanted,
+            report,
         })
+    }
+
+    /// Adds a line of the report over its history.
+    pub fn add_report(&mut self, line: &str) -> Result<(), Flaw> {
+        let mut report = match self.report.take() {
+            Some(report) => report,
+            None => Text::new(self.alloc),
+        };
+        report.add(line.as_bytes())?;
+        report.add(b"\n")?;
+        self.report = Some(report);
+        Ok(())
     }
 
     // The one way in which the lines say what the row gives.

@@ -73,6 +73,7 @@ fn read_mark(draft: &mut Draft, line: &str) -> Result<(), Flaw> {
     match line {
         "later" => draft.later = true,
         "accepted" => draft.accepted = true,
+        "written" => draft.report = Some(Text::new(draft.alloc)),
         "each part" => draft.plan.set_cases(Cases::Parts)?,
         _ => return Err(Flaw::Says("this is no line of a row")),
     }
@@ -90,6 +91,7 @@ fn read_key(draft: &mut Draft, key: &str, value: &str) -> Result<(), Flaw> {
         "limit at" => draft.told.limit_at = Some(entry_of(alloc, value)?),
         "status" => draft.status = Some(number_of(value)?),
         "only status" => draft.only_status = Some(number_of(value)?),
+        "report" => draft.add_report(value)?,
         "refused" | "or refused" => draft.refusals.push(refusal_of(alloc, value)?)?,
         _ => read_plan(alloc, &mut draft.plan, key, value)?,
     }

@@ -16,6 +16,7 @@ mod reader;
 mod row;
 mod text;
 mod wanted;
+mod written;
 
 use crate::cases::problem_of;
 use crate::flaw::{Fault, Flaw};

@@ -99,6 +99,8 @@ pub struct Row {
     pub later: bool,
     pub plan: Plan,
     pub wanted: Wanted,
+    /// Lines of the report over its history, where that is written and verified.
+    pub report: Option<Text>,
 }
 
 impl Told {

@@ -17,7 +17,7 @@ pub enum Case<'a> {
 }
 
 /// The words that are not understood, a refused script and a read fault: nothing ran.
-const IDLE: [u8; 4] = [2, 3, 7, 10];
+const IDLE: [u8; 5] = [2, 3, 7, 10, 13];
 
 /// How much of a text is shown.
 const SHOWN: usize = 120;
