@@ -11,6 +11,9 @@ main :: IO () = { spin 0 };";
 const BESIDE: &[u8] = b"spin (n :: Int) :: IO () = { spin (n + 1) };
 main :: IO () = { _ <- forkIO { spin 0 }; spin 0 };";
 
+const SHORT: &[u8] = b"spin (n :: Int) :: IO () = { spin (n + 1) };
+main :: IO () = { _ <- forkIO { spin 0 }; putStr \"\" };";
+
 /// A cutter that cuts nobody at first, and then names one ticket.
 #[derive(Drop)]
 struct Names {
@@ -107,5 +110,33 @@ fn a_slice_that_is_longer_than_the_fuel_left_is_short(rt: HostRuntime) -> Result
     let left = 1_500u64.saturating_sub(taken);
     assert_eq!(rt; desk.commit(second), Committed::Short(left));
     assert_eq!(rt; desk.history().steps(), taken);
+    Ok(())
+}
+
+// Counted by hand: main's bind and its fork are two rules, the fork is an entry, and the number that it answers meets the bind. That
+// leaves 100 of 104 steps to each job. The first that comes back has one rule, up to the print, so the other is one step too long.
+#[test]
+fn what_one_slice_took_the_other_is_short_of(rt: HostRuntime) -> Result<(), Fail> {
+    let Some(mut desk) = at(rt.alloc(), SHORT, 104) else {
+        return Err(Fail::new("no desk"));
+    };
+    desk.settle()?;
+    let Some(job) = job_of(&mut desk, 0) else {
+        return Err(Fail::new("no job of main's fork"));
+    };
+    let forks = ran(&desk, job)?;
+    assert_eq!(rt; desk.commit(forks), Committed::Taken);
+    desk.settle()?;
+    assert_eq!(rt; desk.history().steps(), 4);
+    let (Some(of_main), Some(of_other)) = (job_of(&mut desk, 0), job_of(&mut desk, 1)) else {
+        return Err(Fail::new("no two jobs"));
+    };
+    assert_eq!(rt; (of_main.budget, of_other.budget), (100, 100));
+    let first = ran(&desk, of_main)?;
+    let second = ran(&desk, of_other)?;
+    assert_eq!(rt; (first.steps, second.steps), (1, 100));
+    assert_eq!(rt; desk.commit(first), Committed::Taken);
+    assert_eq!(rt; desk.commit(second), Committed::Short(99));
+    assert_eq!(rt; desk.history().steps(), 5);
     Ok(())
 }

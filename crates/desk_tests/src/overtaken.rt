@@ -4,6 +4,7 @@ ghost use Rattle.run_course.specs.Settled.{KeepsPlan};
 use crate::desks::{Quiet, at, job_of, ran};
 use conc_world::{Committed, Why};
 use frame_stack::Control;
+use hs_rules::{Act, Body, Code, Node};
 use std::alloc::Global;
 use std::test::Fail;
 
@@ -16,15 +17,35 @@ main :: IO () = { t <- forkIO { spin 0 }; killThread t; spin 0 };";
 /// What came of a slice of thread 1 that was kept while main killed the thread.
 #[derive(Drop)]
 struct Late {
+    /// How many steps the slice before it had.
+    before: u32,
     /// The ticket of its job.
     ticket: u64,
     /// What `overtaken` answered, called twice.
     overtaken: (Option<u64>, Option<u64>),
     came: Committed,
-    /// Whether thread 1 stands at the call `spin 1` then, where it hasn't finished.
-    stands: Option<bool>,
-    /// Whether it has a job from there.
-    goes_on: bool,
+    /// With which number thread 1 is to call `spin` then, where it hasn't finished.
+    stands: Option<Option<i64>>,
+    /// With which number its next job begins that call, and how many steps it has.
+    goes_on: Option<(Option<i64>, u32)>,
+}
+
+// The number with which the first function of the script is to be called, where that is what the control says.
+fn called_with(code: &Code, control: &Control) -> Option<i64> {
+    let Control::Doing(at, _) = control else {
+        return None;
+    };
+    let body: &Body = &code.body;
+    let Act::Call(0, arguments) = body.acts.as_slice().get(at.0)? else {
+        return None;
+    };
+    let [argument] = arguments.as_slice() else {
+        return None;
+    };
+    match body.nodes.as_slice().get(argument.0)? {
+        Node::Int(number) => Some(*number),
+        _ => None,
+    }
 }
 
 // Main forks, and thread 1 runs a slice; its second slice is kept while main kills it.
@@ -34,7 +55,7 @@ fn hold_back(alloc: Global, script: &[u8]) -> Result<Late, Fail> {
     };
     desk.settle()?;
     step(&mut desk, 0)?;
-    step(&mut desk, 1)?;
+    let before = step(&mut desk, 1)?;
     let Some(job) = job_of(&mut desk, 1) else {
         return Err(Fail::new("no job"));
     };
@@ -42,12 +63,21 @@ fn hold_back(alloc: Global, script: &[u8]) -> Result<Late, Fail> {
     let kept = ran(&desk, job)?;
     step(&mut desk, 0)?;
     let overtaken = (desk.overtaken(), desk.overtaken());
+    let stands = match desk.control_of(1) {
+        Some(control) => Some(called_with(desk.code(), control)),
+        None => None,
+    };
+    let next = job_of(&mut desk, 1);
     let came = desk.commit(kept);
-    let stands = desk
-        .control_of(1)
-        .map(|control| matches!(control, Control::Doing(..)));
-    let goes_on = job_of(&mut desk, 1).is_some();
+    let goes_on = match next {
+        Some(job) => {
+            let start = called_with(desk.code(), &job.start);
+            Some((start, ran(&desk, job)?.steps))
+        }
+        None => None,
+    };
     Ok(Late {
+        before,
         ticket,
         overtaken,
         came,
@@ -56,19 +86,20 @@ fn hold_back(alloc: Global, script: &[u8]) -> Result<Late, Fail> {
     })
 }
 
-// A slice of the thread is run and committed, and the desk settles.
-fn step(desk: &mut Quiet, thread: u32) -> Result<(), Fail>
+// A slice of the thread is run and committed, and the desk settles. How many steps it had.
+fn step(desk: &mut Quiet, thread: u32) -> Result<u32, Fail>
     ensures plan { KeepsPlan desk.old.course.clocked.record desk.new.course.clocked.record }
 {
     let Some(job) = job_of(desk, thread) else {
         return Err(Fail::new("no job"));
     };
     let slice = ran(desk, job)?;
+    let steps = slice.steps;
     if desk.commit(slice) != Committed::Taken {
         return Err(Fail::new("not taken"));
     }
     desk.settle()?;
-    Ok(())
+    Ok(steps)
 }
 
 #[test]
@@ -76,8 +107,9 @@ fn a_slice_of_a_thread_that_goes_on_elsewhere_is_stale(rt: HostRuntime) -> Resul
     let late = hold_back(rt.alloc(), CAUGHT)?;
     assert_eq!(rt; late.overtaken, (Some(late.ticket), None));
     assert_eq!(rt; late.came, Committed::Stale(Why::Differs));
-    assert_eq!(rt; late.stands, Some(true));
-    assert!(rt; late.goes_on);
+    assert_eq!(rt; late.before, 1_024);
+    assert_eq!(rt; late.stands, Some(Some(1)));
+    assert_eq!(rt; late.goes_on, Some((Some(1), 1_024)));
     Ok(())
 }
 
@@ -86,7 +118,8 @@ fn a_slice_of_a_thread_that_has_finished_is_stale(rt: HostRuntime) -> Result<(),
     let late = hold_back(rt.alloc(), KILLED)?;
     assert_eq!(rt; late.overtaken, (Some(late.ticket), None));
     assert_eq!(rt; late.came, Committed::Stale(Why::Finished));
+    assert_eq!(rt; late.before, 1_024);
     assert_eq!(rt; late.stands, None);
-    assert!(rt; !late.goes_on);
+    assert_eq!(rt; late.goes_on, None);
     Ok(())
 }

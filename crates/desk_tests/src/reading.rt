@@ -7,10 +7,17 @@ use hs_base::{ClockChoice, Limits};
 use hs_compile::compile;
 use hs_io::{Clock, NullSink};
 use hs_rules::{Entry, History};
+use std::alloc::Global;
 use std::test::Fail;
 
 const READS: &[u8] =
     b"main :: IO () = { threadDelay 10; a <- clockMicros; threadDelay 0; return () };";
+
+const SLEEPS: &[u8] = b"spin (n :: Int) :: IO () = { spin (n + 1) };
+main :: IO () = { _ <- forkIO { spin 0 }; threadDelay 50 };";
+
+const MAKES: &[u8] = b"main :: IO () = {
+  _ <- forkIO { threadDelay 1000 }; a <- newMVar 1; b <- newMVar 2; c <- newMVar 3; return () };";
 
 /// A clock that goes on by itself: each reading is seven microseconds after the last.
 #[derive(Drop)]
@@ -48,26 +55,30 @@ fn tick_at(history: &History, place: usize) -> Option<u64> {
     }
 }
 
-#[test]
-fn the_clock_is_read_before_each_operation_that_speaks_of_time(
-    rt: HostRuntime,
-) -> Result<(), Fail> {
+// The desk of a script over such a clock.
+fn at_going(alloc: Global, script: &[u8]) -> Option<Desk<NullSink, NullSink, Going>> {
+    let code = compile(alloc, script).ok()?;
     let clock = Going {
         last: 0,
         choice: None,
     };
-    let Ok(code) = compile(rt.alloc(), READS) else {
-        return Err(Fail::new("no script"));
-    };
-    let Ok(mut desk) = Desk::begin(
-        rt.alloc(),
+    Desk::begin(
+        alloc,
         code,
-        1_000,
+        100_000,
         Limits::shipped(),
         NullSink,
         NullSink,
         clock,
-    ) else {
+    )
+    .ok()
+}
+
+#[test]
+fn the_clock_is_read_before_each_operation_that_speaks_of_time(
+    rt: HostRuntime,
+) -> Result<(), Fail> {
+    let Some(mut desk) = at_going(rt.alloc(), READS) else {
         return Err(Fail::new("no desk"));
     };
     alone(&mut desk);
@@ -81,5 +92,35 @@ fn the_clock_is_read_before_each_operation_that_speaks_of_time(
         }
     }
     assert_eq!(rt; operations, 3);
+    Ok(())
+}
+
+#[test]
+fn a_sleeper_wakes_while_another_thread_goes_on(rt: HostRuntime) -> Result<(), Fail> {
+    let Some(mut desk) = at_going(rt.alloc(), SLEEPS) else {
+        return Err(Fail::new("no desk"));
+    };
+    alone(&mut desk);
+    assert_eq!(rt; desk.ended().copied(), Some(RunEnd::Done));
+    Ok(())
+}
+
+// Where somebody sleeps the first entry of a settling has a Tick before it, and the one behind it has none.
+#[test]
+fn the_clock_is_read_once_in_a_settling(rt: HostRuntime) -> Result<(), Fail> {
+    let Some(mut desk) = at_going(rt.alloc(), MAKES) else {
+        return Err(Fail::new("no desk"));
+    };
+    alone(&mut desk);
+    assert_eq!(rt; desk.ended().copied(), Some(RunEnd::Done));
+    let history = desk.history();
+    let mut read = false;
+    for place in 1..history.len() {
+        if history.at(place) == Some(Entry::Op { t: 0 }) {
+            read = read || tick_at(history, place - 1).is_some();
+            assert!(rt; tick_at(history, place.saturating_add(1)).is_none());
+        }
+    }
+    assert!(rt; read);
     Ok(())
 }

@@ -21,12 +21,21 @@ gather (k :: Int) (d :: MVar ()) :: IO () = {
   if k == 0 then { return () } else { takeMVar d; gather (k - 1) d } };
 main :: IO () = { d <- newEmptyMVar @(); start 6 d; gather 6 d };";
 
-const SEVENTEEN_SLEEPERS: &[u8] = b"nap (d :: MVar ()) :: IO () = { threadDelay 10; putMVar d () };
+const SLEEPERS: &str = "nap (d :: MVar ()) :: IO () = { threadDelay 10; putMVar d () };
 start (k :: Int) (d :: MVar ()) :: IO () = {
   if k == 0 then { return () } else { _ <- forkIO { nap d }; start (k - 1) d } };
 gather (k :: Int) (d :: MVar ()) :: IO () = {
   if k == 0 then { return () } else { takeMVar d; gather (k - 1) d } };
-main :: IO () = { d <- newEmptyMVar @(); start 17 d; gather 17 d };";
+main :: IO () = { d <- newEmptyMVar @(); ";
+
+// A script of so many threads that sleep until one moment.
+fn sleepers(alloc: Global, count: u64) -> Result<String, NoMemory> {
+    let starts = format!(in alloc; "start {count} d; gather {count} d ")?;
+    let mut script = String::from_str(alloc, SLEEPERS)?;
+    script.push_str(starts.as_str())?;
+    script.push_str("};")?;
+    Ok(script)
+}
 
 // The status of a run of this script on so many capabilities.
 fn run_on<K: Clock + Drop + Send, G: Gate + Sync, R: Threads + Wait + Sync>(
@@ -78,11 +87,23 @@ fn a_capability_goes_on_while_another_holds_the_turn(rt: HostRuntime) -> Result<
 }
 
 #[test]
-fn sixteen_capabilities_have_a_slice_each(rt: HostRuntime) -> Result<(), Fail> {
-    let crowd = Crowd::of(16);
-    let clock = HeardClock::new(&crowd);
-    let status = run_on(rt.alloc(), &rt, "16", SEVENTEEN_SLEEPERS, clock, &crowd)?;
-    assert_eq!(rt; status, 0);
-    assert!(rt; crowd.is_whole());
+fn each_of_two_to_sixteen_capabilities_has_a_slice(rt: HostRuntime) -> Result<(), Fail> {
+    let alloc = rt.alloc();
+    for count in 2..=16u64 {
+        let crowd = Crowd::of(count);
+        let clock = HeardClock::new(&crowd);
+        let script = sleepers(alloc, count.saturating_add(1))?;
+        let capabilities = format!(in alloc; "{count}")?;
+        let status = run_on(
+            alloc,
+            &rt,
+            capabilities.as_str(),
+            script.as_bytes(),
+            clock,
+            &crowd,
+        )?;
+        assert_eq!(rt; status, 0, "{count}");
+        assert!(rt; crowd.is_whole(), "{count}");
+    }
     Ok(())
 }
