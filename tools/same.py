@@ -23,6 +23,7 @@ def same_as_code():
     said = " ".join(language.split())
     for path in here("crates/*/specs/Lines.antt") + here("crates/hs_rules/specs/E*.antt") + here("crates/*/specs/ExceptionTexts.antt"):
         for text in re.findall(r'codes "([^"]+)"', code(path)):
+            text = text.removesuffix("\\n")
             if text.strip(" :") and text.strip() not in said:
                 yield f"{PAGE}: it doesn't have the text `{text.strip()}`, which {path} has the program print"
 

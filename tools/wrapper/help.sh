@@ -10,6 +10,8 @@ conc_run: what interrupted and masked Concurrent Haskell code may really do
   ./conc_run bench N [--caps N] [--fuel N]                  runs a ring of N threads (1 to 4000)
   ./conc_run trace [FILE] [--caps N] [--fuel N] [--clock C] runs it and writes its history, in place of what it prints
   ./conc_run verify [FILE]                                  says whether a written history is a run of its script
+  ./conc_run report [FILE]                                  says what each thread and each cell of such a history did
+  ./conc_run picture [FILE] [options of trace]              draws such a history as SVG, or that of a script that it runs first
   ./conc_run test [--quick]                                 proves and tries everything; --quick: the rows alone
 
   --caps N     threads that evaluate at the same time, 1 to 16 (1)
@@ -31,8 +33,8 @@ What the script prints goes to standard output, and the line of its ending to st
   2  words not understood        9  a limit
   3  the script is refused      10  not a run
   4  deadlock                   66  the file can't be read
-  5  out of fuel                70  the program could not be built
-  6  out of memory
+  5  out of fuel                13  too long to be drawn
+  6  out of memory              70  the program could not be built
 
 examples/*.conc are scripts to begin with, and docs/TOUR.md leads through them; docs/LANGUAGE.md has the language and what
 each refusal means.

@@ -1,0 +1,166 @@
+"""Shapes of scripts at n, 2n and 4n, what each run takes, and how that grows. No gate calls this: no proof speaks of time."""
+
+import os
+import statistics
+import subprocess
+import sys
+import tempfile
+import time
+
+from tools import bitcode
+from tools.rows import is_new, say
+from tools.sources import TOP
+
+FUEL = 4_000_000
+
+COUNT = """count (n :: Int) :: IO () = {{ if n == {n} then {{ return () }} else {{ count (n + 1) }} }};
+main :: IO () = {{ count 0 }};"""
+
+BUILD = """build (n :: Int) (l :: [Int]) :: IO () = {{ if n == {n} then {{ return () }} else {{ build (n + 1) (n : l) }} }};
+main :: IO () = {{ build 0 ([] @Int) }};"""
+
+HAND = """give (n :: Int) (a :: MVar Int) (b :: MVar Int) (d :: MVar ()) :: IO () = {{
+  if n == {n} then {{ putMVar d () }} else {{ putMVar a n; _ <- takeMVar b; give (n + 1) a b d }} }};
+take (a :: MVar Int) (b :: MVar Int) :: IO () = {{ x <- takeMVar a; putMVar b x; take a b }};
+"""
+
+EXCHANGES = HAND + """main :: IO () = {{
+  a <- newEmptyMVar @Int; b <- newEmptyMVar @Int; d <- newEmptyMVar @();
+  _ <- forkIO {{ take a b }}; _ <- forkIO {{ give 0 a b d }}; takeMVar d }};"""
+
+WITH_MAIN = HAND + """main :: IO () = {{
+  a <- newEmptyMVar @Int; b <- newEmptyMVar @Int; d <- newEmptyMVar @();
+  _ <- forkIO {{ take a b }}; give 0 a b d }};"""
+
+COUNTERS = """count (n :: Int) (d :: MVar Int) :: IO () = {{ if n == {n} then {{ putMVar d n }} else {{ count (n + 1) d }} }};
+main :: IO () = {{ d <- newEmptyMVar @Int;
+  _ <- forkIO {{ count 0 d }}; _ <- forkIO {{ count 0 d }}; _ <- forkIO {{ count 0 d }}; _ <- forkIO {{ count 0 d }};
+  w <- takeMVar d; x <- takeMVar d; y <- takeMVar d; z <- takeMVar d; putStrLn (show (w + x + y + z)) }};"""
+
+SLEEPERS = """main :: IO () = {{ threadDelay {n} }};"""
+
+
+class Shape:
+    """A script by its size, and the words that run it."""
+
+    def __init__(self, name, what, size, script, *words, each=()):
+        self.name, self.what, self.size, self.script, self.words, self.each = name, what, size, script, words, each
+
+    def calls(self, size):
+        """The words and the input of each call: one for each number of capabilities, or one."""
+        script = self.script.format(n=size).encode()
+        words = [word.format(n=size) for word in self.words]
+        for count in self.each or (None,):
+            yield ("" if count is None else f", {count} capabilities"), [*words, *([] if count is None else ["--caps", str(count)])], script
+
+
+RUN = ("run", "--fuel", str(FUEL))
+SHAPES = [
+    Shape("count", "a loop that counts to n", 100_000, COUNT, *RUN),
+    Shape("build", "a list of n numbers", 20_000, BUILD, *RUN, each=(1, 4)),
+    Shape("ring", "a ring of n threads", 250, "", "bench", "{n}", "--fuel", str(FUEL), each=(1, 4)),
+    Shape("exchanges", "n exchanges of two forked threads", 25_000, EXCHANGES, *RUN, each=(1, 4, 16)),
+    Shape("with-main", "n exchanges of main and a thread", 25_000, WITH_MAIN, *RUN, each=(1, 4)),
+    Shape("counters", "four threads that count to n", 25_000, COUNTERS, *RUN, each=(1, 4, 16)),
+    Shape("sleeper", "a thread that sleeps for n microseconds", 250_000, SLEEPERS, *RUN, each=(1, 16)),
+]
+
+
+class Took:
+    """What a call took: its status, what it told, seconds by the clock and of the processors, and megabytes."""
+
+    def __init__(self, program, words, given):
+        begun = time.perf_counter()
+        with tempfile.TemporaryFile() as source, tempfile.TemporaryFile() as out:
+            source.write(given)
+            source.seek(0)
+            ran = subprocess.Popen([program, *words], stdin=source, stdout=out, stderr=subprocess.DEVNULL, env={**os.environ, "MALLOC_ARENA_MAX": "1"})
+            _, self.status, used = os.wait4(ran.pid, 0)
+            self.clock = time.perf_counter() - begun
+            out.seek(0)
+            self.told = out.read()
+        self.processor = used.ru_utime + used.ru_stime
+        self.memory = used.ru_maxrss / 1024
+
+
+def median(program, words, given, runs):
+    """The median of so many runs, which have to end alike."""
+    took = [Took(program, words, given) for _ in range(runs)]
+    if len({it.status for it in took}) > 1:
+        sys.exit(f"bench: runs of {' '.join(words)} end with different statuses")
+    middle = took[0]
+    middle.clock = statistics.median(it.clock for it in took)
+    middle.processor = statistics.median(it.processor for it in took)
+    middle.memory = max(it.memory for it in took)
+    return middle
+
+
+def line(name, took, growth):
+    grown = "".join(f"{it:7.2f}" for it in growth)
+    cells = "".join(f"{it.clock * 1000:9.0f}" for it in took) + "".join(f"{it.processor * 1000:9.0f}" for it in took[-1:]) + f"{took[-1].memory:8.0f}"
+    print(f"{name:44}{cells}{grown}", flush=True)
+
+
+def head():
+    print(f"{'':44}{'n':>9}{'2n':>9}{'4n ms':>9}{'cpu ms':>9}{'MB':>8}{'2n/n':>7}{'4n/2n':>7}")
+
+
+def tell(name, took):
+    line(name, took, [b.clock / a.clock for a, b in zip(took, took[1:])])
+
+
+def shape(program, it, runs):
+    for at in range(len(it.each or (None,))):
+        took = []
+        for size in (it.size, 2 * it.size, 4 * it.size):
+            label, words, script = list(it.calls(size))[at]
+            took.append(median(program, words, script, runs))
+        tell(f"{it.name}, n = {it.size}{label}", took)
+
+
+def written(program, runs):
+    """A history: written, checked and reported, beside the run that it is of."""
+    size, rows = 25_000, {name: [] for name in ("run", "trace", "verify", "report")}
+    for times in (1, 2, 4):
+        script = EXCHANGES.format(n=times * size).encode()
+        document = Took(program, ["trace", "--fuel", str(FUEL)], script).told
+        for name in rows:
+            words, given = ([name, "--fuel", str(FUEL)], script) if name in ("run", "trace") else ([name], document)
+            rows[name].append(median(program, words, given, runs))
+    for name, took in rows.items():
+        tell(f"{name} of exchanges, n = {size}", took)
+    print(f"the largest document has {len(document)} bytes")
+
+
+def program_of(words):
+    if words:
+        return words[0]
+    proved = os.path.join(TOP, "crates", "conc_run", "out", "conc_run")
+    if is_new(proved, "conc_run"):
+        say("the proved program")
+        return proved
+    say("no proved program that is new, so this is one without proof; ./conc_run --prove makes the proved one")
+    return bitcode.plain("conc_run")
+
+
+def main(words):
+    runs, program, names = 5, [], []
+    rest = iter(words)
+    for word in rest:
+        if word == "--runs":
+            runs = int(next(rest, "5"))
+        elif word == "--program":
+            program = [next(rest, "")]
+        else:
+            names.append(word)
+    known = {it.name: it for it in SHAPES}
+    if unknown := [it for it in names if it not in known and it != "written"]:
+        sys.exit(f"bench: no shape {unknown[0]}; there are {' '.join(known)} written")
+    where = program_of(program)
+    head()
+    for it in SHAPES:
+        if not names or it.name in names:
+            shape(where, it, runs)
+    if not names or "written" in names:
+        written(where, runs)
+    return 0
