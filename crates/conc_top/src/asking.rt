@@ -41,11 +41,7 @@ pub(crate) fn answer<O: Sink, E: Sink, K: Clock>(
 }
 
 // The answer and its text, or why there is none.
-fn found(
-    alloc: Global,
-    question: Question,
-    claim: &Claim,
-) -> Result<(Ending, Txt), PictureFault>
+fn found(alloc: Global, question: Question, claim: &Claim) -> Result<(Ending, Txt), PictureFault>
     ensures { MatchResult result
         (λ found. IsFound question (script_of (body_of claim.now.code).of.value) claim.now.trace.items found.0 found.1)
         (IsUnfound question (script_of (body_of claim.now.code).of.value) claim.now.trace.items) }
