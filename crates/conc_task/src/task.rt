@@ -63,8 +63,8 @@ pub enum Task {
 
 /// What the words after the program's name ask for.
 ///
-/// `run`, `check` and `trace` read the source to its end, or to the first byte that no script has, `verify` and `report` to the
-/// first that no document has; no other words read it. Want of memory is free.
+/// `run`, `check` and `trace` read the source to its end, or to the first byte that no script has, what asks something of a
+/// document to the first that no document has; no other words read it. Want of memory is free.
 pub fn task_of<S: Source>(alloc: Global, words: &[String], source: &mut S) -> Result<Task, Stop>
     ensures comes { MatchResult result
         (HasTask (command_of (map (λ word. string_bytes word) words.now)) (S.left source.old) (S.left source.new))
