@@ -166,6 +166,21 @@ def counts(known):
                     yield f"{block.at(it.start())}: no data gives the count `{it[0]}`: leave it out"
 
 
+# Words of a figure that was taken by hand.
+MEASURED = re.compile(r"\b(?:measured|ratios?|times as (?:long|much|fast))\b")
+
+
+def measured():
+    """Paragraphs that speak of what was measured and don't say that MEASURES.md has it: no other page has figures."""
+    for path in documents():
+        if os.path.basename(path) in ("MEASURES.md", "CHANGELOG.md"):
+            continue
+        for block in blocks(path):
+            it = None if block.kind == "code" or "MEASURES.md" in block.text else MEASURED.search(block.text.replace("\n", " "))
+            if it:
+                yield f"{block.at(it.start())}: `{it[0]}`: what was measured stands in MEASURES.md: name that page here, or leave it out"
+
+
 def decisions():
     """Each decision has its date and a title."""
     for block in blocks("docs/DECISIONS.md"):
@@ -203,12 +218,12 @@ def places():
 
 
 def trusted():
-    """Where a document lists the crates of the kit that are used, these are those of crates.txt."""
+    """Where a document lists the crates of the kit that are used, `std` first, these are those of crates.txt."""
     lists = 0
     for path in documents():
-        for it in re.finditer(r"kit's\s+crates\s+that\s+are\s+used\s+\(([^)]*)\)", read(path)):
+        for it in re.finditer(r"\(\s*`std`([^)]*)\)", read(path)):
             lists += 1
-            said = set(SPAN.findall(it[1]))
+            said = {"std", *SPAN.findall(it[1])}
             for name in sorted(kit_crates() - said):
                 yield f"{path}: `{name}` is used and so trusted, and isn't named"
             for name in sorted(said - kit_crates()):

@@ -18,6 +18,8 @@ SHORT, LONG = 1, 20
 # The programs of rows, and how the last line of their runs reads.
 PROGRAMS = ("conc_rows", "stack_rows")
 WORD = re.compile(r"^# ([a-z0-9-]+): ")
+# A comment that has words of a page, which the rows there show.
+QUOTE = re.compile(r"-- ([A-Z]+\.md): (.+)")
 
 
 def rows_of(path):
@@ -77,6 +79,19 @@ def pictures():
         name = f"picture-of-{os.path.basename(path).removesuffix('.svg')}"
         if drawn.get(name) != read(path).removesuffix("\n").split("\n"):
             yield f"{path}: the row {name} of crates/conc_rows/data doesn't have the program draw it"
+
+
+def comments():
+    """Words of pages that rows show and the page doesn't have; and comments that say more than a title and are no such words."""
+    for path in here("crates/*/data/*.rows"):
+        head = True
+        for number, line in enumerate(lines(path), 1):
+            head, quote = head and bool(line), QUOTE.fullmatch(line)
+            page = f"docs/{quote[1]}" if quote else ""
+            if quote and not (os.path.isfile(os.path.join(TOP, page)) and quote[2] in " ".join(read(page).split())):
+                yield f"{page}: it doesn't say `{quote[2]}`, which {path}:{number} shows"
+            elif not quote and not head and re.match(r"--.*[.:;]( |$)", line):
+                yield f"{path}:{number}: a comment behind the head is a title, or words of a page (`-- PAGE.md: WORDS`)"
 
 
 def count_of(crate):
