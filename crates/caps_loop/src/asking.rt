@@ -38,13 +38,13 @@ pub(crate) fn ask<D: Runs<J, S>, J: Ticketed + Drop, S: Ticketed + Drop, G: Gate
     requires seat { IsSeatOf D.plan turn.now me.seat }
     requires hand { IsHandOf hands.now me.hand }
     requires code { hands_code hands.now ≡ (turn_plan D.plan turn.now).body }
-    requires parkers { vec_len parkers.now ≡ hands_count hands.now }
+    requires parkers { vec_len parkers.now.berths ≡ hands_count hands.now }
     ensures seat { IsLater me.seat result.0.seat }
     ensures hand { IsHandOf hands.now result.0.hand }
     ensures next { RunsOf J.belongs (hands_code hands.now) result.1 }
 {
     let Capability { seat, mut hand } = me;
-    let own = &parkers[hand.number() as usize];
+    let own = &parkers.berths[hand.number() as usize];
     own.watch();
     let (seat, visit) = visit(rt, alloc, turn, hands, seat, &mut hand, None);
     if visit.stirred || visit.ended {
@@ -52,7 +52,7 @@ pub(crate) fn ask<D: Runs<J, S>, J: Ticketed + Drop, S: Ticketed + Drop, G: Gate
         own.work();
         return (Capability { seat, hand }, leave(parkers, gate, visit));
     }
-    let found = wait_for_job(rt, hands, own, &mut hand, parkers.len() as u32);
+    let found = wait_for_job(rt, hands, own, &mut hand, parkers.berths.len() as u32);
     own.work();
     let next = match found {
         Some(job) => Next::Run(job),

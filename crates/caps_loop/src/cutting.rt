@@ -5,6 +5,7 @@ ghost use Rattle.conc_hands.specs.Hands.{IsHandOf, hands_code};
 ghost use Rattle.caps_loop.specs.Objects.{object_of};
 
 use crate::object::LooksAt;
+use crate::parkers::Parkers;
 use crate::runs::{Runs, Unsliced};
 use crate::watch::Watch;
 use conc_hands::{Hand, Hands};
@@ -21,7 +22,11 @@ impl<'a, J: Ticketed, S: Ticketed, G: Gate, N: LooksAt> Cutter for Watch<'a, J, 
             self.began = true;
             self.gate.before_slice(self.hand.number(), self.ticket);
         }
-        self.last = read_flag(self.hands, &mut self.hand, self.ticket);
+        self.last = if self.parkers.has_ended() {
+            self.ticket
+        } else {
+            read_flag(self.hands, &mut self.hand, self.ticket)
+        };
         self.last
     }
 }
@@ -38,11 +43,13 @@ fn read_flag<J: Ticketed, S: Ticketed>(
     hands.raised(hand, ticket)
 }
 
-/// Runs the slice of a job. At its first look it calls the gate, and at each it reads the flag of its ticket.
+/// Runs the slice of a job. At its first look it calls the gate. Each look cuts it where there is an ending, or where the flag of
+/// its ticket says so.
 pub(crate) fn run_slice<D: Runs<J, S>, J: Ticketed, S: Ticketed, G: Gate>(
     alloc: Global,
     hands: &Hands<J, S>,
     code: &Code,
+    parkers: &Parkers,
     gate: &G,
     hand: Hand<J, S>,
     job: J,
@@ -53,7 +60,7 @@ pub(crate) fn run_slice<D: Runs<J, S>, J: Ticketed, S: Ticketed, G: Gate>(
     ensures hand { IsHandOf hands.now result.0 }
     ensures slice { IfOk result.1 (λ slice. S.belongs slice ≡ hands_code hands.now) }
 {
-    run_watched::<Brand, D, J, S, G>(alloc, hands, code, gate, hand, job)
+    run_watched::<Brand, D, J, S, G>(alloc, hands, code, parkers, gate, hand, job)
 }
 
 // The same, with a name for the object of hands.
@@ -61,6 +68,7 @@ fn run_watched<N: LooksAt, D: Runs<J, S>, J: Ticketed, S: Ticketed, G: Gate>(
     alloc: Global,
     hands: &Hands<J, S>,
     code: &Code,
+    parkers: &Parkers,
     gate: &G,
     hand: Hand<J, S>,
     job: J,
@@ -76,6 +84,7 @@ fn run_watched<N: LooksAt, D: Runs<J, S>, J: Ticketed, S: Ticketed, G: Gate>(
     let mut watch: Watch<'_, J, S, G, N> = Watch {
         hands,
         hand,
+        parkers,
         gate,
         ticket,
         began: false,

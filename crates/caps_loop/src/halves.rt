@@ -40,7 +40,7 @@ fn parts_for<D: Runs<J, S>, J: Ticketed + Drop, S: Ticketed + Drop>(
 ) -> Result<Parts<J, S>, NoMemory>
     requires { (0 < caps) × (caps ≤ 16) }
     ensures code { IfOk result (λ g. (hands_code g.hands ≡ (D.plan desk.now).body) × (body_of g.code ≡ hands_code g.hands)) }
-    ensures count { IfOk result (λ g. (hands_count g.hands ≡ caps) × (length (hands_in g.list) ≡ caps) × (vec_len g.parkers ≡ caps)) }
+    ensures count { IfOk result (λ g. (hands_count g.hands ≡ caps) × (length (hands_in g.list) ≡ caps) × (vec_len g.parkers.berths ≡ caps)) }
     ensures list { IfOk result (λ g. All (IsHandOf g.hands) (hands_in g.list)) }
 {
     let code = desk.code()?;
@@ -70,7 +70,7 @@ fn run_one<D: Runs<J, S>, J: Ticketed + Drop, S: Ticketed + Drop, G: Gate, R: Wa
     requires some { 0 < length (hands_in list) }
     requires list { All (IsHandOf hands.now) (hands_in list) }
     requires code { (hands_code hands.now ≡ (turn_plan D.plan turn.now).body) × (body_of code.now ≡ hands_code hands.now) }
-    requires parkers { vec_len parkers.now ≡ hands_count hands.now }
+    requires parkers { vec_len parkers.now.berths ≡ hands_count hands.now }
     ensures { IsLater seat result }
 {
     let mut list = list;
@@ -120,7 +120,7 @@ fn run<
     requires count { (0 < count) × (count ≤ shares_of seat) × (length (hands_in list) ≡ count) }
     requires list { All (IsHandOf hands.now) (hands_in list) }
     requires code { (hands_code hands.now ≡ (turn_plan D.plan turn.now).body) × (body_of code.now ≡ hands_code hands.now) }
-    requires parkers { vec_len parkers.now ≡ hands_count hands.now }
+    requires parkers { vec_len parkers.now.berths ≡ hands_count hands.now }
     ensures { IsLater seat result }
 {
     let theirs = count / 2;
@@ -134,7 +134,7 @@ fn run<
     let mine = count - theirs;
     let (my_seat, their_seat) = turn.split(seat, theirs);
     let left = move || -> Seat
-        requires { IsSync R.row × IsSync G.row × IsSend D.row × IsSend J.row × IsSend S.row × IsSeatOf D.plan turn.now my_seat × (0 < mine) × (mine ≤ shares_of my_seat) × (length (hands_in list) ≡ mine) × All (IsHandOf hands.now) (hands_in list) × (hands_code hands.now ≡ (turn_plan D.plan turn.now).body) × (body_of code.now ≡ hands_code hands.now) × (vec_len parkers.now ≡ hands_count hands.now) }
+        requires { IsSync R.row × IsSync G.row × IsSend D.row × IsSend J.row × IsSend S.row × IsSeatOf D.plan turn.now my_seat × (0 < mine) × (mine ≤ shares_of my_seat) × (length (hands_in list) ≡ mine) × All (IsHandOf hands.now) (hands_in list) × (hands_code hands.now ≡ (turn_plan D.plan turn.now).body) × (body_of code.now ≡ hands_code hands.now) × (vec_len parkers.now.berths ≡ hands_count hands.now) }
         ensures { IsLater my_seat result }
     {
         run(
@@ -142,7 +142,7 @@ fn run<
         )
     };
     let right = move || -> Seat
-        requires { IsSync R.row × IsSync G.row × IsSend D.row × IsSend J.row × IsSend S.row × IsSeatOf D.plan turn.now their_seat × (0 < theirs) × (theirs ≤ shares_of their_seat) × (length (hands_in their_list) ≡ theirs) × All (IsHandOf hands.now) (hands_in their_list) × (hands_code hands.now ≡ (turn_plan D.plan turn.now).body) × (body_of code.now ≡ hands_code hands.now) × (vec_len parkers.now ≡ hands_count hands.now) }
+        requires { IsSync R.row × IsSync G.row × IsSend D.row × IsSend J.row × IsSend S.row × IsSeatOf D.plan turn.now their_seat × (0 < theirs) × (theirs ≤ shares_of their_seat) × (length (hands_in their_list) ≡ theirs) × All (IsHandOf hands.now) (hands_in their_list) × (hands_code hands.now ≡ (turn_plan D.plan turn.now).body) × (body_of code.now ≡ hands_code hands.now) × (vec_len parkers.now.berths ≡ hands_count hands.now) }
         ensures { IsLater their_seat result }
     {
         run(

@@ -5,7 +5,7 @@ use crossbeam_utils::CachePadded;
 use hs_base::NoMemory;
 use std::alloc::{AllocError, Global};
 use std::sync::Wait;
-use std::sync::atomic::{AtomicU64, Ordering};
+use std::sync::atomic::{AtomicBool, AtomicU64, Ordering};
 use std::thread::Parker;
 use std::time::Duration;
 
@@ -77,44 +77,61 @@ impl Berth {
     }
 }
 
-/// A berth for each capability, by its number.
-pub(crate) type Parkers = Vec<CachePadded<Berth>>;
+/// What the capabilities tell each other beside their hands. Hints, of which no contract speaks.
+#[derive(Drop)]
+pub(crate) struct Parkers {
+    /// A berth for each capability, by its number.
+    pub(crate) berths: Vec<CachePadded<Berth>>,
+    ended: AtomicBool,
+}
 
 /// The berths of so many capabilities.
 pub(crate) fn parkers_for(alloc: Global, caps: u32) -> Result<Parkers, NoMemory>
-    ensures { IfOk result (λ parkers. vec_len parkers ≡ caps) }
+    ensures { IfOk result (λ parkers. vec_len parkers.berths ≡ caps) }
 {
-    let mut parkers = Vec::new(alloc);
+    let mut berths = Vec::new(alloc);
     for _ in 0..caps {
-        parkers
+        berths
             .push(CachePadded::new(Berth::new()))
             .map_err(AllocError::from)?;
     }
-    Ok(parkers)
+    Ok(Parkers {
+        berths,
+        ended: AtomicBool::new(false),
+    })
 }
 
-/// Wakes all that are parked.
-pub(crate) fn wake_parked(parkers: &Parkers) {
-    for berth in parkers {
-        berth.wake(PARKED);
+impl Parkers {
+    /// Tells all that there is an ending, and wakes them.
+    pub(crate) fn end(&self) {
+        self.ended.store(true, Ordering::SeqCst);
+        // In this order, since one that watches may park between the two.
+        self.wake_watching(u32::MAX);
+        self.wake_parked();
     }
-}
 
-/// Wakes so many of those that watch.
-pub(crate) fn wake_watching(parkers: &Parkers, most: u32) {
-    let mut left = most;
-    for berth in parkers {
-        if left == 0 {
-            return;
-        }
-        if berth.wake(WATCHES) {
-            left -= 1;
+    /// Whether somebody told that there is an ending.
+    pub(crate) fn has_ended(&self) -> bool {
+        self.ended.load(Ordering::SeqCst)
+    }
+
+    /// Wakes all that are parked.
+    pub(crate) fn wake_parked(&self) {
+        for berth in &self.berths {
+            berth.wake(PARKED);
         }
     }
-}
 
-/// Wakes all. In this order, since one that watches may park between the two.
-pub(crate) fn wake_all(parkers: &Parkers) {
-    wake_watching(parkers, u32::MAX);
-    wake_parked(parkers);
+    /// Wakes so many of those that watch.
+    pub(crate) fn wake_watching(&self, most: u32) {
+        let mut left = most;
+        for berth in &self.berths {
+            if left == 0 {
+                return;
+            }
+            if berth.wake(WATCHES) {
+                left -= 1;
+            }
+        }
+    }
 }

@@ -11,7 +11,7 @@ ghost use Rattle.caps_loop.specs.Nexts.{RunsOf};
 use crate::capability::Capability;
 use crate::cutting::run_slice;
 use crate::next::Next;
-use crate::parkers::{Parkers, wake_all, wake_parked, wake_watching};
+use crate::parkers::Parkers;
 use crate::runs::{Runs, Unsliced};
 use crate::turns::{give_up, try_commit, try_visit, visit};
 use crate::visit::Visit;
@@ -22,7 +22,7 @@ use hs_rules::{Code, Ticketed};
 use std::alloc::Global;
 use std::sync::Wait;
 
-/// Runs a job. A slice that was cut is dropped, since its ticket was taken back.
+/// Runs a job. A slice that was cut is dropped, since its ticket was taken back or there is an ending.
 pub(crate) fn run_job<D: Runs<J, S>, J: Ticketed + Drop, S: Ticketed + Drop, G: Gate, R: Wait>(
     rt: &R,
     alloc: Global,
@@ -43,16 +43,24 @@ pub(crate) fn run_job<D: Runs<J, S>, J: Ticketed + Drop, S: Ticketed + Drop, G: 
     ensures next { RunsOf J.belongs (hands_code hands.now) result.1 }
 {
     let Capability { seat, hand } = me;
-    let (hand, slice) = run_slice::<D, J, S, G>(alloc, hands, code, gate, hand, job);
+    let (hand, slice) = run_slice::<D, J, S, G>(alloc, hands, code, parkers, gate, hand, job);
     match slice {
         Ok(slice) => {
             let me = Capability { seat, hand };
             bring(rt, alloc, turn, hands, parkers, gate, me, slice)
         }
-        Err(Unsliced::Cut) => (Capability { seat, hand }, Next::Look),
+        Err(Unsliced::Cut) => {
+            let next = if parkers.has_ended() {
+                Next::Stop
+            } else {
+                Next::Look
+            };
+            (Capability { seat, hand }, next)
+        }
         Err(Unsliced::NoMemory) => {
             let seat = give_up(rt, turn, seat);
-            (Capability { seat, hand }, Next::Look)
+            parkers.end();
+            (Capability { seat, hand }, Next::Stop)
         }
     }
 }
@@ -138,18 +146,21 @@ pub(crate) fn leave<J: Ticketed + Drop, G: Gate>(
         ended,
         spare,
     } = visit;
+    // First, since a gate may hold it.
+    if ended {
+        parkers.end();
+    }
     for ticket in &committed {
         gate.committed(*ticket);
     }
     if ended {
-        wake_all(parkers);
         return Next::Stop;
     }
     if stirred {
-        wake_parked(parkers);
+        parkers.wake_parked();
     }
     if spare > 1 {
-        wake_watching(parkers, spare);
+        parkers.wake_watching(spare);
     }
     match kept {
         Some(job) => Next::Run(job),

@@ -13,7 +13,7 @@ use std::alloc::Global;
 /// Why there is no slice of a job.
 #[derive(Drop)]
 pub enum Unsliced {
-    /// The job was overtaken, and its ticket is taken back.
+    /// Its cutter named it: the job was overtaken, and its ticket is taken back, or there is an ending.
     Cut,
     NoMemory,
 }

@@ -3,6 +3,7 @@ ghost use Rattle.conc_hands.specs.Hands.{IsHandOf};
 ghost use Rattle.caps_loop.specs.Objects.{object_of};
 
 use crate::object::LooksAt;
+use crate::parkers::Parkers;
 use conc_hands::{Hand, Hands};
 use hs_rules::Ticketed;
 use std::marker::PhantomData;
@@ -12,11 +13,12 @@ use std::marker::PhantomData;
 pub(crate) struct Watch<'a, J: Ticketed, S: Ticketed, G, N: LooksAt> {
     pub(crate) hands: &'a Hands<J, S>,
     pub(crate) hand: Hand<J, S>,
+    pub(crate) parkers: &'a Parkers,
     pub(crate) gate: &'a G,
     pub(crate) ticket: u64,
     /// The gate was called.
     pub(crate) began: bool,
-    /// What the flag said last.
+    /// What it answered last.
     pub(crate) last: u64,
     pub(crate) named: PhantomData<N>,
     ghost own: { ∥ IsHandOf hands.now hand ∥₁ },

@@ -35,7 +35,7 @@ pub(crate) fn work<D: Runs<J, S>, J: Ticketed + Drop, S: Ticketed + Drop, G: Gat
     requires seat { IsSeatOf D.plan turn.now me.seat }
     requires hand { IsHandOf hands.now me.hand }
     requires code { (hands_code hands.now ≡ (turn_plan D.plan turn.now).body) × (body_of code.now ≡ hands_code hands.now) }
-    requires parkers { vec_len parkers.now ≡ hands_count hands.now }
+    requires parkers { vec_len parkers.now.berths ≡ hands_count hands.now }
     ensures seat { IsLater me.seat result.seat }
     ensures hand { IsHandOf hands.now result.hand }
 {
@@ -67,7 +67,7 @@ fn step<D: Runs<J, S>, J: Ticketed + Drop, S: Ticketed + Drop, G: Gate, R: Wait>
     requires seat { IsSeatOf D.plan turn.now me.seat }
     requires hand { IsHandOf hands.now me.hand }
     requires code { (hands_code hands.now ≡ (turn_plan D.plan turn.now).body) × (body_of code.now ≡ hands_code hands.now) }
-    requires parkers { vec_len parkers.now ≡ hands_count hands.now }
+    requires parkers { vec_len parkers.now.berths ≡ hands_count hands.now }
     requires next { RunsOf J.belongs (hands_code hands.now) next }
     ensures seat { IsLater me.seat result.0.seat }
     ensures hand { IsHandOf hands.now result.0.hand }
@@ -76,7 +76,7 @@ fn step<D: Runs<J, S>, J: Ticketed + Drop, S: Ticketed + Drop, G: Gate, R: Wait>
     let Capability { seat, mut hand } = me;
     let job = match next {
         Next::Stop => return (Capability { seat, hand }, Next::Stop),
-        Next::Look => find_job(rt, hands, &mut hand, parkers.len() as u32),
+        Next::Look => find_job(rt, hands, &mut hand, parkers.berths.len() as u32),
         Next::Run(job) => Some(job),
     };
     let me = Capability { seat, hand };

@@ -1,7 +1,8 @@
-//! Tests of the turn and of the hands: worked rows, and runs on several threads.
+//! Tests of the turn, of the hands and of the loop over both: worked rows, and runs on several threads.
 #![tactic(auto)]
 
 mod close;
+mod ending;
 mod items;
 mod kept;
 mod rows;
@@ -10,6 +11,7 @@ mod several;
 mod two;
 
 pub use close::{close_four, close_two};
+pub use ending::{Pair, Signs, Task};
 pub use items::{Item, a_body, a_code, ticket_of};
 pub use kept::{Log, a_log};
 pub use rows::{one_hand_cuts, tries_while_held};

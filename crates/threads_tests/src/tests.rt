@@ -1,7 +1,10 @@
 use crate::{
-    a_body, a_code, a_log, close_four, close_two, four_hands, one_hand_cuts, run_four, ticket_of,
-    tries_while_held, two_hands,
+    Pair, Signs, Task, a_body, a_code, a_log, close_four, close_two, four_hands, one_hand_cuts,
+    run_four, ticket_of, tries_while_held, two_hands,
 };
+use caps_loop::run_caps;
+use hs_base::Limits;
+use hs_io::OpenGate;
 use std::test::Fail;
 
 #[test]
@@ -84,5 +87,24 @@ fn four_hands_lose_nothing(rt: HostRuntime) -> Result<(), Fail> {
     assert_eq!(rt; tally.pushed, tally.taken.plus(jobs));
     assert_eq!(rt; tally.handed_in, tally.taken);
     assert_eq!(rt; tally.handed_in, tally.collected.plus(slices));
+    Ok(())
+}
+
+#[test]
+fn an_ending_cuts_the_slice_that_runs(rt: HostRuntime) -> Result<(), Fail> {
+    let alloc = rt.alloc();
+    let signs = Signs::new();
+    let pair = Pair {
+        code: a_code(alloc)?,
+        limits: Limits::shipped(),
+        given: 0,
+        ended: false,
+        signs: &signs,
+    };
+    let pair = run_caps::<Pair<'_>, Task<'_>, Task<'_>, OpenGate, HostRuntime>(
+        alloc, &rt, pair, 2, &OpenGate,
+    );
+    assert!(rt; pair.ended);
+    assert!(rt; signs.was_cut());
     Ok(())
 }
