@@ -33,8 +33,9 @@ What the script prints goes to standard output, and the line of its ending to st
   2  words not understood        9  a limit
   3  the script is refused      10  not a run
   4  deadlock                   66  the file can't be read
-  5  out of fuel                13  too long to be drawn
-  6  out of memory              70  the program could not be built
+  5  out of fuel                70  the program could not be built
+  6  out of memory              71  too little stack
+ 13  too long to be drawn
 
 examples/*.conc are scripts to begin with, and docs/TOUR.md leads through them; docs/LANGUAGE.md has the language and what
 each refusal means.

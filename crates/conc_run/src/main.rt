@@ -1,22 +1,26 @@
 //! The program: it hands the words, the standard streams, a clock and a gate to the top call, and ends with its status.
 #![tactic(auto)]
 
-use conc_top::run;
-use hs_io::{HostClock, OpenGate, StdSink, StdSource};
+use conc_top::{OUT_OF_MEMORY, run};
+use hs_io::{HostClock, OpenGate, Sink, StdSink, StdSource};
+use retried_reads::RetriedReads;
 use std::alloc::AllocError;
 use std::env;
 use std::io::ErrorKind;
 use std::process::ExitCode;
 
-const OUT_OF_MEMORY: u8 = 6;
+// The status of want of memory.
+const MEMORY: u8 = 6;
 
 fn main(rt: HostRuntime) -> ExitCode {
+    let mut err = StdSink::new(rt.stderr());
     let Ok(words) = words_of(&rt) else {
-        return ExitCode::from(OUT_OF_MEMORY);
+        // The status says it too, where the line can't be written.
+        let _ = err.put(OUT_OF_MEMORY.as_bytes());
+        return ExitCode::from(MEMORY);
     };
-    let mut source = StdSource::new(rt.stdin());
+    let mut source = StdSource::new(RetriedReads::new(rt.stdin()));
     let out = StdSink::new(rt.stdout());
-    let err = StdSink::new(rt.stderr());
     let clock = HostClock::new(&rt);
     let done = run(
         rt.alloc(),

@@ -19,7 +19,7 @@ mod top;
 mod tracing;
 
 pub use conc_world::RunEnd;
-pub use ending::{Done, Ending, NotRun};
+pub use ending::{Done, Ending, NotRun, OUT_OF_MEMORY};
 pub use hs_compile::Refusal;
 pub use top::run;
 pub use trace_checker::{Reached, Verified};
