@@ -1,5 +1,5 @@
 -- What runs come to, and how long they go on, over sets of states that are closed.
-use Rattle.std.proofs.Common.{◌≡◌, ◌≤◌, ◌+◌, ℕ, List, true, false, length, Some, sym, ◌∙◌, subst, arith, inl, inr}
+use Rattle.std.proofs.Common.{◌≡◌, ◌≤◌, ◌+◌, ℕ, List, true, false, length, Some, refl, sym, ◌∙◌, subst, arith, inl, inr}
 use Rattle.hs_base.specs.declared.clock_choice.ClockChoice.{ClockChoice}
 use Rattle.hs_base.specs.declared.clock_choice.ClockChoice.TheVariants.{Real, Virtual}
 use Rattle.hs_rules.specs.declared.entry.Entry.{Entry}
@@ -15,7 +15,7 @@ use Rattle.outcome_laws.specs.Timings.{MayTick, RunWithTicks, IsEndless}
 use Rattle.outcome_laws.specs.Outcomes.{Final, Done, Uncaught, Deadlock, Outcome, EndsBy, ShowsOutcome, Reaches, IsOutcomeOf}
 use Rattle.outcome_laws.proofs.Going.{bound_ends}
 use Rattle.reduction_laws.specs.EagerRules.{EagerSteps}
-use Rattle.reduction_laws.specs.Paths.{IsStable, HasEnded, EndsLike, IsClosed, HasEndingLike, RankFalls}
+use Rattle.reduction_laws.specs.Paths.{IsStable, HasEnded, EndsLike, IsClosed, HasEndingLike, RankFalls, RanksFall}
 use Rattle.reduction_laws.proofs.Meeting.{alike_print, alike_done, alike_uncaught, alike_deadlock}
 use Rattle.reduction_laws.proofs.Going.{each_end}
 use Rattle.reduction_laws.proofs.Ranks.{path_bounded}
@@ -57,10 +57,18 @@ module _ (code : Code) (T : State → ℕ → Type 0) (stable : IsStable code T)
   pub each_ending : IsClosed code T V → (n : ℕ) (s r : State) → EagerSteps code n s r → V r → (es : List Entry) (z : State) → RunWithTicks code T s es z → HasEnded code z → HasEndingLike V z
   each_ending closed n s r c i es z run d = let w = path_of code T es s z run in each_end code T stable V closed n s r w.0 z c i d w.1
 
-  pub run_bounded : (rank : State → ℕ) → RankFalls code T V rank → (n : ℕ) (s r : State) → EagerSteps code n s r → V r → (es : List Entry) (z : State) → RunWithTicks code T s es z → length (without_ticks es) ≤ n + rank r
-  run_bounded rank falls n s r c i es z run =
-      let w = path_of code T es s z run in
-      omega (arith, w.3, path_bounded code T stable V rank falls n s r z w.0 c i w.1)
+-- ranks that fall bound each run
+pub ranks_bound : (code : Code) (T : State → ℕ → Type 0) → IsStable code T → (R : State → ℕ → Type 0) → RanksFall code T R → (k m : ℕ) (s r : State) → EagerSteps code k s r → R r m → (es : List Entry) (z : State) → RunWithTicks code T s es z → length (without_ticks es) ≤ k + m
+ranks_bound code T stable R fall k m s r c i es z run =
+    let w = path_of code T es s z run in
+    omega (arith, w.3, path_bounded code T stable R fall k m s r z w.0 c i w.1)
+
+-- a rank of the states of a set is such a relation
+ranked : (code : Code) (T : State → ℕ → Type 0) (V : State → Type 0) (rank : State → ℕ) → RankFalls code T V rank → RanksFall code T (λ s n. V s × (rank s ≡ n))
+ranked code T V rank falls s n h e u t l = let f = falls s h.0 e u t l in (f.0, f.1, rank f.0, f.2, (f.3, refl), omega (arith, f.4, h.1))
+
+pub run_bounded : (code : Code) (T : State → ℕ → Type 0) → IsStable code T → (V : State → Type 0) (rank : State → ℕ) → RankFalls code T V rank → (k : ℕ) (s r : State) → EagerSteps code k s r → V r → (es : List Entry) (z : State) → RunWithTicks code T s es z → length (without_ticks es) ≤ k + rank r
+run_bounded code T stable V rank falls k s r c i es z run = ranks_bound code T stable (λ q n. V q × (rank q ≡ n)) (ranked code T V rank falls) k (rank r) s r c (i, refl) es z run
 
 pub each_outcome : (clock : ClockChoice) (code : Code) (V : State → Type 0) → IsClosed code (MayTick clock code) V → (n : ℕ) (s r : State) → EagerSteps code n s r → V r → (o : Outcome) → Reaches clock code s o →
     (w : State) × V w × ShowsOutcome code w o
@@ -75,8 +83,12 @@ module _ (clock : ClockChoice) (ds : List Fn) (V : State → Type 0) where
       (w : State) × V w × ShowsOutcome (code_of ds) w o
   script_outcome closed n s r f c i o h = each_outcome clock (code_of ds) V closed n s r c i o (subst (λ q. Reaches clock (code_of ds) q o) (same_item (sym h.1 ∙ f)) h.2)
 
-  pub script_ends : (rank : State → ℕ) → RankFalls (code_of ds) (MayTick clock (code_of ds)) V rank → (n : ℕ) (s r : State) → first_of ds ≡ Some s → EagerSteps (code_of ds) n s r → V r → ¬ IsEndless clock ds
-  script_ends rank falls n s r f c i =
-      bound_ends clock ds (n + rank r) (λ q u es g run.
-      run_bounded (code_of ds) (MayTick clock (code_of ds)) (clock_stable clock (code_of ds)) V rank falls n s r c i es u
-      (subst (λ z. RunWithTicks (code_of ds) (MayTick clock (code_of ds)) z es u) (same_item (sym g ∙ f)) run))
+pub script_bounded : (clock : ClockChoice) (ds : List Fn) (R : State → ℕ → Type 0) → RanksFall (code_of ds) (MayTick clock (code_of ds)) R → (k m : ℕ) (s r : State) → first_of ds ≡ Some s → EagerSteps (code_of ds) k s r → R r m → ¬ IsEndless clock ds
+script_bounded clock ds R fall k m s r f c i =
+    bound_ends clock ds (k + m) (λ q u es g run.
+    ranks_bound (code_of ds) (MayTick clock (code_of ds)) (clock_stable clock (code_of ds)) R fall k m s r c i es u
+    (subst (λ z. RunWithTicks (code_of ds) (MayTick clock (code_of ds)) z es u) (same_item (sym g ∙ f)) run))
+
+pub script_ends : (clock : ClockChoice) (ds : List Fn) (V : State → Type 0) (rank : State → ℕ) → RankFalls (code_of ds) (MayTick clock (code_of ds)) V rank → (k : ℕ) (s r : State) → first_of ds ≡ Some s → EagerSteps (code_of ds) k s r → V r → ¬ IsEndless clock ds
+script_ends clock ds V rank falls k s r f c i =
+    script_bounded clock ds (λ q n. V q × (rank q ≡ n)) (ranked (code_of ds) (MayTick clock (code_of ds)) V rank falls) k (rank r) s r f c (i, refl)

@@ -9,7 +9,7 @@ use Rattle.hs_rules.specs.Entries as entries
 use Rattle.timing_laws.specs.WithoutTime.{without_ticks}
 use Rattle.outcome_laws.proofs.Going.{count_more}
 use Rattle.reduction_laws.specs.EagerRules.{EagerStep, EagerSteps}
-use Rattle.reduction_laws.specs.Paths.{IsStable, Move, entry_of, entries_of, Path, MainRuns, RankFalls}
+use Rattle.reduction_laws.specs.Paths.{IsStable, Move, entry_of, entries_of, Path, MainRuns, RanksFall}
 use Rattle.reduction_laws.proofs.Own.{main_runs}
 use Rattle.reduction_laws.proofs.Going.{Met, Joins, met, taken_too, one_of, uncounted_moves, uncounted_moves_lead}
 
@@ -75,34 +75,35 @@ module _ (code : Code) (T : State → ℕ → Type 0) (stable : IsStable code T)
 
   -- ---- the rank
 
-  module _ (V : State → Type 0) (rank : State → ℕ) (falls : RankFalls code T V rank) where
+  module _ (R : State → ℕ → Type 0) (fall : RanksFall code T R) where
     abbrev Bounded : ℕ → Type 0
-    Bounded n = (vs : List Move) (r z : State) → rank r < n → V r → Path code T r vs z → non_ticks vs ≤ rank r
+    Bounded n = (vs : List Move) (r z : State) (i : ℕ) → i < n → R r i → Path code T r vs z → non_ticks vs ≤ i
 
     inner : (n : ℕ) → Bounded n → Bounded (suc n)
-    inner n ih [] r z a i w = omega arith
-    inner n ih (v ∷ vs) r z a i w = let f = falls r i (entry_of v) w.0 w.2 w.1 in by (λ q lt j p. inner n ih vs q z lt j p) f.0 f.1 f.2 f.3 (length (without_ticks (entry_of v ∷ []))) refl f.4
+    inner n ih [] r z i a h w = omega arith
+    inner n ih (v ∷ vs) r z i a h w =
+        let f = fall r i h (entry_of v) w.0 w.2 w.1 in by (λ q m lt j p. inner n ih vs q z m lt j p) f.0 f.1 f.2 f.3 f.4 (length (without_ticks (entry_of v ∷ []))) refl f.5
       where
         count : non_ticks (v ∷ vs) ≡ length (without_ticks (entry_of v ∷ [])) + non_ticks vs
         count = count_more (entry_of v) (entries_of vs)
 
         -- the rank is lower
-        lower : (q : State) (k c : ℕ) → EagerSteps code k w.0 q → V q → c ≡ length (without_ticks (entry_of v ∷ [])) → c + (k + rank q) ≤ rank r → rank q < n → non_ticks (v ∷ vs) ≤ rank r
-        lower q k c steps j e le lt =
+        lower : (q : State) (k m c : ℕ) → EagerSteps code k w.0 q → R q m → c ≡ length (without_ticks (entry_of v ∷ [])) → c + (k + m) ≤ i → m < n → non_ticks (v ∷ vs) ≤ i
+        lower q k m c steps j e le lt =
             let l = shorter_by k w.0 q z vs steps w.3 in
-            omega (arith, count, e, le, l.3, ih l.0 q l.1 lt j l.2)
+            omega (arith, count, e, le, l.3, ih l.0 q l.1 m lt j l.2)
 
-        by : ((q : State) → rank q < suc n → V q → Path code T q vs z → non_ticks vs ≤ rank q) → (q : State) (k : ℕ) → EagerSteps code k w.0 q → V q → (c : ℕ) → c ≡ length (without_ticks (entry_of v ∷ [])) → c + (k + rank q) ≤ rank r → non_ticks (v ∷ vs) ≤ rank r
-        by tail q zero steps j zero e le =
-            omega (arith, count, e, le, tail q (omega (arith, a, le)) j (subst (λ m. Path code T m vs z) steps w.3))
-        by tail q zero steps j (suc c) e le = lower q zero (suc c) steps j e le (omega (arith, a, le))
-        by tail q (suc k) steps j c e le = lower q (suc k) c steps j e le (omega (arith, a, le))
+        by : ((q : State) (m : ℕ) → m < suc n → R q m → Path code T q vs z → non_ticks vs ≤ m) → (q : State) (k m : ℕ) → EagerSteps code k w.0 q → R q m → (c : ℕ) → c ≡ length (without_ticks (entry_of v ∷ [])) → c + (k + m) ≤ i → non_ticks (v ∷ vs) ≤ i
+        by tail q zero m steps j zero e le =
+            omega (arith, count, e, le, tail q m (omega (arith, a, le)) j (subst (λ x. Path code T x vs z) steps w.3))
+        by tail q zero m steps j (suc c) e le = lower q zero m (suc c) steps j e le (omega (arith, a, le))
+        by tail q (suc k) m steps j c e le = lower q (suc k) m c steps j e le (omega (arith, a, le))
 
     upto : (n : ℕ) → Bounded n
-    upto zero vs r z a i w = absurd (omega (arith, a))
-    upto (suc n) vs r z a i w = inner n (upto n) vs r z a i w
+    upto zero vs r z i a h w = absurd (omega (arith, a))
+    upto (suc n) vs r z i a h w = inner n (upto n) vs r z i a h w
 
-    pub path_bounded : (k : ℕ) (s r z : State) (vs : List Move) → EagerSteps code k s r → V r → Path code T s vs z → non_ticks vs ≤ k + rank r
-    path_bounded k s r z vs c i w =
+    pub path_bounded : (k m : ℕ) (s r z : State) (vs : List Move) → EagerSteps code k s r → R r m → Path code T s vs z → non_ticks vs ≤ k + m
+    path_bounded k m s r z vs c i w =
         let l = shorter_by k s r z vs c w in
-        omega (arith, l.3, upto (suc (rank r)) l.0 r l.1 (omega arith) i l.2)
+        omega (arith, l.3, upto (suc m) l.0 r l.1 m (omega arith) i l.2)

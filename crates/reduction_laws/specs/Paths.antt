@@ -105,6 +105,13 @@ IsClosed code T V = (s : State) → V s → (e : Entry) (u : State) → IsTaken 
 abbrev pub HasEndingLike : (State → Type 0) → State → Type 0
 HasEndingLike V z = (w : State) × V w × EndsLike z w
 
+-- R is a relation between states and ranks: from each state of a rank, each entry that is taken leads to a state from which eager
+-- steps lead to one of a rank that is lower by at least the entries other than Ticks, those of the eager steps too
+abbrev pub RanksFall : Code → (State → ℕ → Type 0) → (State → ℕ → Type 0) → Type 0
+RanksFall code T R =
+    (s : State) (n : ℕ) → R s n → (e : Entry) (u : State) → IsTaken T s e → Leads code s e u →
+    (r : State) × (k : ℕ) × (m : ℕ) × EagerSteps code k u r × R r m × (length (without_ticks (e ∷ [])) + (k + m) ≤ n)
+
 -- V is closed, and a rank of its states falls by at least the entries other than Ticks, those of the eager steps too
 abbrev pub RankFalls : Code → (State → ℕ → Type 0) → (State → Type 0) → (State → ℕ) → Type 0
 RankFalls code T V rank =

@@ -1,0 +1,36 @@
+//! Whether every schedule ends, read off what a search has found. This crate has no code: each public function with an empty
+//! body carries laws as its contract, so that a caller may use them and a reader find them.
+//!
+//! To a contract a search is its states and the edges between them, as `search_laws` has them. Ranks (`specs/Rounds.antt`) fall
+//! along each edge by more than the eager rules behind its entry, and a round is some edges that lead from a state back to it.
+//!
+//! Its promise: where a search has gone on from each of its states and there are such ranks, there is a bound on all runs of the
+//! timing; and where some run comes to a state of a round, the script goes on for ever. How ranks or a round are found is left to
+//! the crate that goes over the edges.
+#![tactic(auto)]
+
+ghost use Rattle.std.specs.Prelude.{◌≡◌, ℕ, List, Option, Some, slice_get};
+ghost use Rattle.hs_base.specs.declared.clock_choice.ClockChoice.{ClockChoice};
+ghost use Rattle.hs_base.specs.declared.limits.Limits.{Limits};
+ghost use Rattle.hs_base.specs.declared.tree.script.Script.{Script};
+ghost use Rattle.rules_trees.specs.Programs.{script_of};
+ghost use Rattle.rules_typing.specs.TypingScripts.{Accepted};
+ghost use Rattle.rules_code.specs.CodeTrees.{code_trees};
+ghost use Rattle.outcome_laws.specs.Timings.{IsEndless};
+ghost use Rattle.slot_states.specs.SlotStates.{SlotState};
+ghost use Rattle.search_laws.specs.Shown.{Shown, IsFirst, Arrives};
+ghost use Rattle.search_laws.specs.Found.{Edge, AreTrueEdges, AreGone};
+ghost use Rattle.ends_laws.specs.Rounds.{HaveBound, RanksFall, IsRound, HasWork};
+
+/// Where ranks fall along each edge of a search that has gone on from each state, there is a number of entries other than Ticks
+/// that no run of the timing has more of. So the script isn't endless.
+pub fn ranks_bound_runs()
+    ensures bound { (script : Script) → Accepted script → (clock : ClockChoice) (limits : Limits) (first : SlotState) (states : List Shown) (edges : List Edge) → IsFirst (script_of script) first → AreGone clock (code_trees (script_of script)) limits first states edges → AreTrueEdges clock (code_trees (script_of script)) limits states edges → (rank : ℕ → Option ℕ) → RanksFall edges rank → (n : ℕ) → rank 0 ≡ Some n → HaveBound clock (script_of script) }
+    ensures ends { (script : Script) → Accepted script → (clock : ClockChoice) (limits : Limits) (first : SlotState) (states : List Shown) (edges : List Edge) → IsFirst (script_of script) first → AreGone clock (code_trees (script_of script)) limits first states edges → AreTrueEdges clock (code_trees (script_of script)) limits states edges → (rank : ℕ → Option ℕ) → RanksFall edges rank → (n : ℕ) → rank 0 ≡ Some n → ¬ IsEndless clock (script_of script) }
+{}
+
+/// Where some edges lead from a state that a run comes to back to it, one of them isn't a Tick, and the script is endless.
+pub fn rounds_go_on()
+    ensures works { (script : Script) → Accepted script → (clock : ClockChoice) (limits : Limits) (states : List Shown) (edges : List Edge) → AreTrueEdges clock (code_trees (script_of script)) limits states edges → (at : ℕ) (places : List ℕ) → IsRound edges at places → HasWork edges places }
+    ensures endless { (script : Script) → Accepted script → (clock : ClockChoice) (limits : Limits) (states : List Shown) (edges : List Edge) → AreTrueEdges clock (code_trees (script_of script)) limits states edges → (at : ℕ) (places : List ℕ) → IsRound edges at places → (c : Shown) → slice_get states at ≡ Some c → (steps : ℕ) → Arrives clock (script_of script) limits steps c → IsEndless clock (script_of script) }
+{}

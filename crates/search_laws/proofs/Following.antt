@@ -1,0 +1,269 @@
+-- Each entry that is taken follows an edge of a search that has gone on from each of its states.
+use Rattle.std.proofs.Common.{◌≡◌, ◌⊎◌, ℕ, zero, suc, Bool, true, false, cond, List, [], ◌∷◌, ◌++◌, length, Option, Some, None, slice_get, refl, sym, ap, ◌∙◌, subst, inl, inr, append-nil}
+use Rattle.std.proofs.lemmas.Option.{same_Some}
+use Rattle.hs_base.specs.declared.mask.Mask.{Mask}
+use Rattle.hs_base.specs.declared.mask.Mask.TheVariants.{Unmasked}
+use Rattle.hs_base.specs.declared.clock_choice.ClockChoice.{ClockChoice}
+use Rattle.hs_base.specs.declared.clock_choice.ClockChoice.TheVariants.{Real, Virtual}
+use Rattle.hs_base.specs.declared.limits.Limits.{Limits}
+use Rattle.hs_base.specs.declared.tree.script.Script.{Script}
+use Rattle.hs_rules.specs.declared.entry.Entry.{Entry}
+use Rattle.hs_rules.specs.declared.entry.Entry.TheVariants as entry
+use Rattle.rules_trees.specs.Programs.{Fn, script_of}
+use Rattle.rules_meaning.specs.Values.{V}
+use Rattle.rules_expansion.specs.declared.primitive.Primitive.{Primitive}
+use Rattle.rules_expansion.specs.declared.primitive.Primitive.TheVariants.{ClockMicros}
+use Rattle.rules_meaning.specs.CoreMeaning.{Code, code_of}
+use Rattle.rules_typing.specs.TypingScripts.{Accepted}
+use Rattle.rules_code.specs.CodeTrees.{SlottedFunction, code_trees}
+use Rattle.hs_rules.specs.State.{State}
+use Rattle.hs_rules.specs.Entries.{Leads}
+use Rattle.hs_rules.specs.Endings.{IsTick, IsQuiet}
+use Rattle.hs_rules.specs.Runs.{IsRun}
+use Rattle.hs_laws.proofs.RunParts.{run_more}
+use Rattle.timing_laws.specs.WithoutTime.{is_clock_reading}
+use Rattle.outcome_laws.specs.Timings.{MayTick}
+use Rattle.reduction_laws.specs.EagerRules.{EagerSteps}
+use Rattle.reduction_laws.specs.Paths.{IsTaken}
+use Rattle.slot_laws.specs.SlotRules.{calls, forks, forks_unmask, SlotOp, SlotPart, ret, throw, doing, performs, SlotFrame, mask_from}
+use Rattle.slot_states.specs.SlotStates.{SlotThread, SlotState, ticks, Represents}
+use Rattle.slot_states.specs.Printing.{output_by, errors_by}
+use Rattle.slot_states.proofs.Settled.{same_due}
+use Rattle.slot_states.proofs.Printed.{next_adds}
+use Rattle.slot_entries.specs.Operating.{performed}
+use Rattle.slot_entries.specs.Entering.{operates, op_entry, entered, next}
+use Rattle.slot_entries.proofs.Passing.{passed_not, passed, thread_there, thread_leaves}
+use Rattle.slot_time.specs.WithoutTime.{untimed, op_reads_clock, part_reads_clock, thread_reads_clock, ReadsClock}
+use Rattle.slot_rests.specs.Rests.{EagerMoves}
+use Rattle.slot_rests.proofs.Untimed.{timed_moves}
+use Rattle.search_laws.specs.Shown.{forget, Shown, StandsAs}
+use Rattle.search_laws.specs.Going.{EagerEntries, IsStill, ReadsTime, MayTake, Takes}
+use Rattle.search_laws.specs.Found.{Edge, IsTrueEdge, AreTrueEdges, IsLed, AreGone}
+use Rattle.search_laws.proofs.Cited as cited
+use Rattle.search_laws.proofs.Cited.{legal, reads, same_output, same_errors, forth, steps}
+
+-- ---- what has a next state has one without time
+
+-- where the one is there, so is the other
+abbrev Both : Option SlotState → Option SlotState → Type 0
+Both o p = (y : SlotState) → o ≡ Some y → (z : SlotState) × (p ≡ Some z)
+
+module _ (t : ℕ) (x : SlotState) where
+  -- a reading of the clock
+  reading_too : (m : Mask) (p : Primitive) (vs : List V) → is_clock_reading p ≡ true → Both (performed t m p vs x) (performed t m p vs (untimed x))
+  reading_too m ClockMicros [] r y h = (_, refl)
+  reading_too m ClockMicros (v ∷ vs) r y h = absurd (cc h)
+  reading_too m _ vs r y h = absurd (cc r)
+
+  operation_too : (fs : List SlotFrame) (q : SlotPart) → part_reads_clock q ≡ true → Both (operates t fs q x) (operates t fs q (untimed x))
+  operation_too fs (ret v) r y h = absurd (cc r)
+  operation_too fs (throw e) r y h = absurd (cc r)
+  operation_too fs (doing a vs) r y h = absurd (cc r)
+  operation_too fs (performs (calls p vs)) r y h = reading_too (mask_from Unmasked fs) p vs r y h
+  operation_too fs (performs (forks a vs)) r y h = absurd (cc r)
+  operation_too fs (performs (forks_unmask a vs)) r y h = absurd (cc r)
+
+  op_too : (th : SlotThread) → part_reads_clock th.term.part ≡ true → Both (op_entry t th x) (op_entry t th (untimed x))
+  op_too th r y h =
+      let p = passed_not th.blocked (operates t th.term.frames th.term.part x) y h in
+      let z = operation_too th.term.frames th.term.part r y p.1 in
+      (z.0, ap (λ b. cond b None (operates t th.term.frames th.term.part (untimed x))) p.0 ∙ z.1)
+
+bool_or : (b : Bool) → (b ≡ true) ⊎ (¬ (b ≡ true))
+bool_or true = inl refl
+bool_or false = inr (λ h. cc h)
+
+reads_or : (x : SlotState) (e : Entry) → ((t : ℕ) × (e ≡ entry.Op t) × (thread_reads_clock (slice_get x.threads t) ≡ true)) ⊎ (¬ ReadsClock x e)
+reads_or x (entry.Op t) = elim (bool_or (thread_reads_clock (slice_get x.threads t))) [ inl h ↦ inl (t, refl, h) | inr h ↦ inr h ]
+reads_or x (entry.Tick at) = inr (λ h. h)
+reads_or x (entry.Local t k) = inr (λ h. h)
+reads_or x (entry.Receive t) = inr (λ h. h)
+reads_or x (entry.Wake t) = inr (λ h. h)
+reads_or x (entry.Finish t) = inr (λ h. h)
+reads_or x entry.Stranded = inr (λ h. h)
+
+module _ (funs : List SlottedFunction) where
+  op_untimed : (x y : SlotState) (t : ℕ) → next funs x (entry.Op t) ≡ Some y → thread_reads_clock (slice_get x.threads t) ≡ true → (z : SlotState) × (next funs (untimed x) (entry.Op t) ≡ Some z)
+  op_untimed x y t h r =
+      let m = thread_there (slice_get x.threads 0) (λ main. entered funs x (entry.Op t)) y h in
+      let g = thread_there (slice_get x.threads t) (λ th. op_entry t th x) y m.3 in
+      let z = op_too t x g.0 (sym (ap thread_reads_clock g.1) ∙ r) y g.3 in (
+        z.0,
+        thread_leaves (slice_get x.threads 0) (λ main. entered funs (untimed x) (entry.Op t)) m.0 (Some z.0) m.1 m.2
+            (thread_leaves (slice_get x.threads t) (λ th. op_entry t th (untimed x)) g.0 (Some z.0) g.1 g.2 z.1),
+      )
+
+  -- of any entry but a Tick
+  untimed_too : (x y : SlotState) (e : Entry) → next funs x e ≡ Some y → ¬ IsTick e → (z : SlotState) × (next funs (untimed x) e ≡ Some z)
+  untimed_too x y e h plain =
+      elim (reads_or x e) as (λ _. (z : SlotState) × (next funs (untimed x) e ≡ Some z)) [
+        | inl r ↦ let z = op_untimed x y r.0 (subst (λ q. next funs x q ≡ Some y) r.1 h) r.2 in (z.0, subst (λ q. next funs (untimed x) q ≡ Some z.0) (sym r.1) z.1)
+        | inr n ↦ let z = forth funs x y e h plain n in (z.0, z.1)
+      ]
+
+  -- ---- what a search keeps of it
+
+  kept_too : (clock : ClockChoice) (x y : SlotState) (e : Entry) → next funs x e ≡ Some y → (clock ≡ Real → ¬ IsTick e) → (z : SlotState) × (next funs (forget clock x) e ≡ Some z)
+  kept_too Real x y e h plain = untimed_too x y e h (plain refl)
+  kept_too Virtual x y e h plain = (y, h)
+
+  -- and where no clock is read the two are the same but for time
+  same_left : (clock : ClockChoice) (x y z : SlotState) (e : Entry) → next funs x e ≡ Some y → next funs (forget clock x) e ≡ Some z → (clock ≡ Real → ¬ IsTick e) → ¬ ReadsTime clock (forget clock x) e → forget clock z ≡ forget clock y
+  same_left Real x y z e h g plain n =
+      let f = forth funs x y e h (plain refl) (λ r. n ((reads x e).1 r)) in
+      ap untimed (same_Some z f.0 (sym g ∙ f.1)) ∙ f.2
+  same_left Virtual x y z e h g plain n = same_Some z y (sym g ∙ h)
+
+  -- eager local rules without time are some with it
+  pub exactly : (clock : ClockChoice) (k : ℕ) (y z : SlotState) → EagerMoves funs k (forget clock y) z → (w : SlotState) × EagerMoves funs k y w × (forget clock w ≡ z)
+  exactly Real k y z h = timed_moves funs k y z h
+  exactly Virtual k y z h = (z, h, refl)
+
+  pub moves_of : (most : ℕ) (es : List Entry) (x y : SlotState) → EagerEntries funs most es x y → EagerMoves funs (length es) x y
+  moves_of most [] x y h = h
+  moves_of most (e ∷ es) x y (m, move, is, few, h) = (m, move, moves_of most es m y h)
+
+kept_output : (clock : ClockChoice) (x : SlotState) (e : Entry) → output_by (forget clock x) e ≡ output_by x e
+kept_output Real x e = same_output x e
+kept_output Virtual x e = refl
+
+kept_errors : (clock : ClockChoice) (x : SlotState) (e : Entry) → errors_by (forget clock x) e ≡ errors_by x e
+kept_errors Real x e = same_errors x e
+kept_errors Virtual x e = refl
+
+-- a Tick of real timing, or another entry
+pub tick_or : (clock : ClockChoice) (e : Entry) → ((clock ≡ Real) × (at : ℕ) × (e ≡ entry.Tick at)) ⊎ (clock ≡ Real → ¬ IsTick e)
+tick_or Real (entry.Tick at) = inl (refl, at, refl)
+tick_or Real (entry.Local t k) = inr (λ r h. h)
+tick_or Real (entry.Op t) = inr (λ r h. h)
+tick_or Real (entry.Receive t) = inr (λ r h. h)
+tick_or Real (entry.Wake t) = inr (λ r h. h)
+tick_or Real (entry.Finish t) = inr (λ r h. h)
+tick_or Real entry.Stranded = inr (λ r h. h)
+tick_or Virtual e = inr (λ r. let z : Virtual ≡ Real = r in absurd (cc z))
+
+-- ---- edges
+
+-- an edge of the search from the state of this number, and eager steps from u to a state for which the one stands to which it leads
+pub record Follows (clock : ClockChoice) (ds : List Fn) (states : List Shown) (edges : List Edge) (i : ℕ) (u : State) : Type 0 where
+  pub place : ℕ
+  pub edge : Edge
+  pub is : slice_get edges place ≡ Some edge
+  pub from : edge.from ≡ i
+  pub other : Shown
+  pub there : slice_get states edge.to ≡ Some other
+  pub state : State
+  pub eager : EagerSteps (code_of ds) edge.eager u state
+  pub entries : List Entry
+  pub run : IsRun ds entries state
+  pub stands : StandsAs clock ds other state
+
+none_or : (o : Option SlotState) → ((y : SlotState) → ¬ (o ≡ Some y)) → o ≡ None
+none_or None n = refl
+none_or (Some y) n = absurd (n y refl)
+
+module _ (script : Script) (accepted : Accepted script) where
+  abbrev ds : List Fn
+  ds = script_of script
+
+  abbrev code : Code
+  code = code_of ds
+
+  abbrev funs : List SlottedFunction
+  funs = code_trees ds
+
+  -- ---- which entries may be taken
+
+  module _ (es : List Entry) (s : State) (run : IsRun ds es s) (x : SlotState) (r : Represents ds x s) where
+    quiet_still : IsQuiet code s → IsStill funs x
+    quiet_still quiet e plain = none_or (next funs x e) (λ y h. let k = cited.entered script accepted x y e h es s run r in quiet e plain (k.0, k.1))
+
+    tick_may : (clock : ClockChoice) (at : ℕ) → MayTick clock code s at → (clock ≡ Real → ⊥) → MayTake clock funs (forget clock x) (entry.Tick at)
+    tick_may Real at m plain = absurd (plain refl)
+    tick_may Virtual at m plain = (refl, quiet_still m.0, sym (same_due ds x s r) ∙ m.1)
+
+    may_take : (clock : ClockChoice) (e : Entry) → IsTaken (MayTick clock code) s e → (clock ≡ Real → ¬ IsTick e) → MayTake clock funs (forget clock x) e
+    may_take clock (entry.Tick at) t plain = tick_may clock at t (λ q. plain q tt)
+    may_take clock (entry.Local i k) t plain = t
+    may_take clock (entry.Op i) t plain = tt
+    may_take clock (entry.Receive i) t plain = tt
+    may_take clock (entry.Wake i) t plain = tt
+    may_take clock (entry.Finish i) t plain = tt
+    may_take clock entry.Stranded t plain = tt
+
+  module _ (clock : ClockChoice) (limits : Limits) where
+    -- ---- eager local rules
+
+    -- eager steps lead from u to a state of a run for which d stands
+    abbrev pub Rests : ℕ → State → Shown → Type 0
+    Rests k u d = (r : State) × EagerSteps code k u r × (gs : List Entry) × IsRun ds gs r × StandsAs clock ds d r
+
+    pub rested : (es : List Entry) (u : State) → IsRun ds es u → (y z : SlotState) → Represents ds y u → forget clock z ≡ forget clock y → (ls : List Entry) (d : Shown) → EagerEntries funs limits.frames ls (forget clock z) d.slots → u.output ≡ d.output → u.errors ≡ d.errors → Rests (length ls) u d
+    rested es u run y z r same ls d h o f =
+        let ms = subst (λ q. EagerMoves funs (length ls) q d.slots) same (moves_of funs limits.frames ls (forget clock z) d.slots h) in
+        let w = exactly funs clock (length ls) y d.slots ms in
+        let n = steps script accepted es u run y r (length ls) w.0 w.1 in
+        (n.0, n.1, es ++ n.3, n.5, record { exact = w.0; represents = n.2; forgotten = w.2; output = n.6 ∙ o; errors = n.7 ∙ f })
+
+    -- ---- one entry
+
+    module _ (es : List Entry) (s : State) (run : IsRun ds es s) (c : Shown) (a : StandsAs clock ds c s) (e : Entry) (u : State) (l : Leads code s e u) (plain : clock ≡ Real → ¬ IsTick e) where
+      after_it : IsRun ds (es ++ e ∷ []) u
+      after_it = run_more ds es e s u run l
+
+      exact_next : (y : SlotState) × (next funs a.exact e ≡ Some y) × Represents ds y u
+      exact_next = legal script accepted es s u run a.exact a.represents e l
+
+      -- the state that is kept has a next one
+      kept_next : (z : SlotState) × (next funs c.slots e ≡ Some z)
+      kept_next =
+          let z = kept_too funs clock a.exact exact_next.0 e exact_next.1 plain in
+          (z.0, subst (λ q. next funs q e ≡ Some z.0) a.forgotten z.1)
+
+      -- and where the search goes by the entry, it comes to what stands for where the rules go
+      pub goes_along : (ls : List Entry) (d : Shown) → Takes clock funs limits c e ls d → Rests (length ls) u d
+      goes_along ls d k =
+          let y = exact_next in
+          let is : next funs (forget clock a.exact) e ≡ Some k.left = subst (λ q. next funs q e ≡ Some k.left) (sym a.forgotten) k.enters.leaves in
+          let reads_not : ¬ ReadsTime clock (forget clock a.exact) e = λ q. k.enters.timeless (subst (λ v. ReadsTime clock v e) a.forgotten q) in
+          let adds = next_adds ds a.exact s a.represents code u e l.0 in
+          rested (es ++ e ∷ []) u after_it y.0 k.left y.2 (same_left funs clock a.exact y.0 k.left e y.1 is plain reads_not) ls d k.rests
+          (adds.0 ∙ (ap (λ z. z ++ output_by a.exact e) a.output ∙ (ap (λ z. c.output ++ z) (sym (kept_output clock a.exact e) ∙ ap (λ q. output_by q e) a.forgotten) ∙ sym k.output)))
+          (adds.1 ∙ (ap (λ z. z ++ errors_by a.exact e) a.errors ∙ (ap (λ z. c.errors ++ z) (sym (kept_errors clock a.exact e) ∙ ap (λ q. errors_by q e) a.forgotten) ∙ sym k.errors)))
+
+      pub follow : (first : SlotState) (states : List Shown) (edges : List Edge) → AreGone clock funs limits first states edges → AreTrueEdges clock funs limits states edges → (i : ℕ) → slice_get states i ≡ Some c → IsTaken (MayTick clock code) s e → Follows clock ds states edges i u
+      follow first states edges gone true_edges i is t =
+          let may = subst (λ q. MayTake clock funs q e) a.forgotten (may_take es s run a.exact a.represents clock e t plain) in
+          let led = gone.each i c is e may kept_next.0 kept_next.1 in
+          let g = true_edges led.place led.edge led.is in
+          let same : g.state ≡ c = same_Some g.state c (sym g.is ∙ (ap (slice_get states) led.from ∙ is)) in
+          let k = goes_along g.locals g.other (subst (λ q. Takes clock funs limits q e g.locals g.other) same (subst (λ q. Takes clock funs limits g.state q g.locals g.other) led.entry g.takes)) in
+          record {
+            place = led.place;
+            edge = led.edge;
+            is = led.is;
+            from = led.from;
+            other = g.other;
+            there = g.there;
+            state = k.0;
+            eager = subst (λ n. EagerSteps code n u k.0) g.many k.1;
+            entries = k.2;
+            run = k.3;
+            stands = k.4;
+          }
+
+  -- ---- a Tick of real timing
+
+  pub tick_stays : (es : List Entry) (s : State) → IsRun ds es s → (c : Shown) → StandsAs Real ds c s → (at : ℕ) (u : State) → Leads code s (entry.Tick at) u → StandsAs Real ds c u
+  tick_stays es s run c a at u l =
+      let y = legal script accepted es s u run a.exact a.represents (entry.Tick at) l in
+      let m = thread_there (slice_get a.exact.threads 0) (λ main. entered funs a.exact (entry.Tick at)) y.0 y.1 in
+      let p = passed _ (Some (ticks at a.exact)) y.0 m.3 in
+      let adds = next_adds ds a.exact s a.represents code u (entry.Tick at) l.0 in
+      record {
+        exact = y.0;
+        represents = y.2;
+        forgotten = ap untimed (sym (same_Some (ticks at a.exact) y.0 p.1)) ∙ a.forgotten;
+        output = adds.0 ∙ (append-nil s.output ∙ a.output);
+        errors = adds.1 ∙ (append-nil s.errors ∙ a.errors);
+      }

@@ -1,0 +1,10 @@
+pub mod Cited
+pub mod Walking
+pub mod Reached
+pub mod Reading
+pub mod HowTheyEnd
+pub mod Candidates
+pub mod Gaps
+pub mod Following
+pub mod Complete
+pub mod Growing

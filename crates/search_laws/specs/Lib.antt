@@ -1,0 +1,3 @@
+pub mod Shown
+pub mod Going
+pub mod Found

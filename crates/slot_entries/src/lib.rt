@@ -1,0 +1,33 @@
+//! What each entry makes of a state with slots, as one function. This crate has no code: each public function with an empty
+//! body carries laws as its contract, so that a caller may use them and a reader find them.
+//!
+//! To a contract a state with slots is that of `slot_states`, and `next` of `specs/Entering.antt` is the state that an entry
+//! leaves of it, or none.
+//!
+//! Its promise: where a state with slots stands for the state that a run of an accepted script leaves, `next` has a state
+//! exactly where the entry is legal, and then it stands for the state that the entry leaves. So whoever computes `next` of
+//! each entry computes the rules.
+#![tactic(auto)]
+
+ghost use Rattle.std.specs.Prelude.{◌≡◌, ℕ, List, Some};
+ghost use Rattle.hs_base.specs.declared.tree.script.Script.{Script};
+ghost use Rattle.hs_rules.specs.declared.entry.Entry.{Entry};
+ghost use Rattle.rules_trees.specs.Programs.{script_of};
+ghost use Rattle.rules_meaning.specs.CoreMeaning.{code_of};
+ghost use Rattle.rules_typing.specs.TypingScripts.{Accepted};
+ghost use Rattle.rules_code.specs.CodeTrees.{code_trees};
+ghost use Rattle.hs_rules.specs.State.{State};
+ghost use Rattle.hs_rules.specs.Entries.{Leads};
+ghost use Rattle.hs_rules.specs.Runs.{IsRun};
+ghost use Rattle.slot_states.specs.SlotStates.{SlotState, Represents, Enters};
+ghost use Rattle.slot_entries.specs.Entering.{next};
+
+/// Where there is a next state the entry is legal, and that state stands for the one that it leaves.
+pub fn next_is_entered()
+    ensures { (script : Script) → Accepted script → (x y : SlotState) (e : Entry) → next (code_trees (script_of script)) x e ≡ Some y → Enters script e x y }
+{}
+
+/// Where an entry is legal there is a next state, and it stands for the one that the entry leaves.
+pub fn what_is_legal_is_next()
+    ensures { (script : Script) → Accepted script → (es : List Entry) (s u : State) → IsRun (script_of script) es s → (x : SlotState) → Represents (script_of script) x s → (e : Entry) → Leads (code_of (script_of script)) s e u → (y : SlotState) × (next (code_trees (script_of script)) x e ≡ Some y) × Represents (script_of script) y u }
+{}

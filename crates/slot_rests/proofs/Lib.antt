@@ -1,0 +1,3 @@
+mod EagerAlike
+pub mod Stepping
+pub mod Untimed
