@@ -91,6 +91,15 @@ impl<T: Keyed + Drop> Table<T> {
         }
     }
 
+    /// The number of the thing with the key of this one, if there is one. Nothing is added.
+    pub fn known(&self, alloc: Global, thing: &T) -> Result<Option<u32>, NoMemory>
+        ensures { IfOk result (λ found. MatchOption found ((n : ℕ) → IsNumberOf T.key self.now n thing.now → ⊥) (λ n. IsNumberOf T.key self.now n thing.now)) }
+    {
+        let mut key = Vec::new(alloc);
+        thing.put_key(alloc, &mut key)?;
+        Ok(self.find(key.as_slice(), thing))
+    }
+
     /// The number of the thing with the key of this one.
     fn find(&self, key: &[u32], thing: &T) -> Option<u32>
         requires { key.now ≡ T.key thing.now }

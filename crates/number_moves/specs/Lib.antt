@@ -1,0 +1,4 @@
+pub mod Moves
+pub mod Lines
+pub mod Standing
+pub mod Calling

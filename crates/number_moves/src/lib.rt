@@ -1,0 +1,26 @@
+//! What each entry makes of a state in numbers.
+//!
+//! To a contract `next` is `next` of `slot_entries` on what a state stands for: it answers a state in numbers that stands for
+//! the next one, or none where there is none. The texts of the two outputs go on by what the entry prints (`slot_states`).
+//!
+//! Its promise: exactly that, with all numbers in tables that have only grown. So a search that takes these moves takes the
+//! moves of the rules. Which entries to try is left to the crate above.
+#![tactic(auto)]
+
+mod acting;
+mod asking;
+mod calling;
+mod ending;
+mod lines;
+mod local;
+mod moving;
+mod operating;
+mod printing;
+mod receiving;
+mod stranding;
+mod telling;
+mod throwing;
+mod ticking;
+mod waiting;
+
+pub use moving::next;

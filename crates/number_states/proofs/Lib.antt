@@ -1,0 +1,5 @@
+pub mod Growth
+pub mod Changes
+pub mod Exact
+pub mod Stocking
+pub mod Stacked

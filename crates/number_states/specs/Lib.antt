@@ -1,0 +1,3 @@
+pub mod Stocks
+pub mod States
+pub mod Keys

@@ -1,0 +1,4 @@
+pub mod Served
+pub mod Without
+pub mod Sorted
+pub mod Exact
