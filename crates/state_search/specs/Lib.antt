@@ -1,0 +1,4 @@
+pub mod Meaning
+pub mod Searching
+pub mod Working
+pub mod EachTried
