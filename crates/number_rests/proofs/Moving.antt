@@ -1,5 +1,5 @@
 -- One eager local rule after another.
-use Rattle.std.proofs.Common.{◌≡◌, ◌≤◌, ◌<◌, ◌+◌, ℕ, zero, suc, Bool, true, false, List, [], ◌∷◌, ◌++◌, length, map, Option, Some, None, slice_get, get_or, slice_set, refl, sym, ap, ◌∙◌, subst, arith, append-nil, append_assoc, length-append}
+use Rattle.std.proofs.Common.{◌≡◌, ◌≤◌, ◌+◌, ℕ, zero, suc, true, false, List, [], ◌∷◌, ◌++◌, Some, slice_get, get_or, slice_set, refl, sym, ap, ◌∙◌, subst, arith, append-nil, append_assoc, length-append}
 use Rattle.hs_rules.specs.declared.entry.Entry.{Entry}
 use Rattle.hs_rules.specs.declared.entry.Entry.TheVariants as entry
 use Rattle.hs_rules.specs.declared.entry.LimitKind.TheVariants as limit
@@ -10,17 +10,17 @@ use Rattle.slot_laws.specs.SlotRules.{SlotTerm, local}
 use Rattle.term_graph.specs.Eager.{is_eager}
 use Rattle.local_steps.specs.Machine.{funs_of}
 use Rattle.slot_states.specs.SlotStates.{SlotThread, SlotState, set_thread, changed, moving, moves}
-use Rattle.number_states.specs.Stocks.{Stock, term_at}
+use Rattle.number_states.specs.Stocks.{Stock, HasGrown, IsTerm, term_at}
 use Rattle.number_states.specs.States.{thread_of, slots}
 use Rattle.number_states.specs.declared.state.NumberState.{NumberState}
+use Rattle.number_states.proofs.Growth.{term_at_on}
 use Rattle.number_states.proofs.Changes.{got_mapped, got_read}
 use Rattle.search_laws.proofs.Candidates.{there_below}
 use Rattle.number_states.specs.declared.state.NumberThread.{NumberThread}
 use Rattle.slot_states.specs.Resting.{used}
-use Rattle.slot_rests.specs.Rests.{EagerMove}
-use Rattle.search_laws.specs.Going.{EagerEntries}
 use Rattle.search_laws.proofs.Growing.{entries_more}
 use Rattle.number_rests.specs.Resting.{IsFree, MovesOn, Rests}
+use Rattle.number_rests.specs.Rules.{LeadsEagerly}
 
 -- before any rule
 pub rests_none : (funs : List SlottedFunction) (most : ℕ) (old : List Entry) (x : SlotState) → Rests funs most 0 old old x x
@@ -48,24 +48,25 @@ read_is n t free th e =
     let same : th ≡ free.thread = cc k in ap (λ (z : NumberThread). z.term) same
 
 -- what the thread that goes has in numbers
-pub moved_eagerly : (b : Body) (g h : Stock) (n m : NumberState) (t most term new : ℕ) (free : IsFree n t) → term ≡ free.thread.term → local (funs_of b) Unmasked (term_at g b term).part (term_at g b term).frames ≡ Some (term_at h b new)
-    → is_eager (funs_of b) (term_at g b term) ≡ true → slots h b m ≡ moves t (term_at h b new) (slots h b n) → slots h b n ≡ slots g b n → used limit.Frames (slots h b m) ≤ most → MovesOn (funs_of b) most t (slots g b n) (slots h b m) true
-moved_eagerly b g h n m t most term new free is goes eager made same few = (
-  record {
-    number = t;
-    thread = thread_of g b free.thread;
-    is = got_mapped (thread_of g b) n.threads.items t free.thread free.is;
-    unfinished = free.unfinished;
-    free = free.free;
-    main = record { main = thread_of g b free.main; is = got_mapped (thread_of g b) n.threads.items 0 free.main free.main_is; unfinished = free.main_goes };
-    term = term_at h b new;
-    leads = subst (λ k. local (funs_of b) Unmasked (term_at g b k).part (term_at g b k).frames ≡ Some (term_at h b new)) is goes;
-    eager = subst (λ k. is_eager (funs_of b) (term_at g b k) ≡ true) is eager;
-    moved = made ∙ ap (moves t (term_at h b new)) same;
-  },
-  refl,
-  few,
-)
+pub moved_eagerly : (b : Body) (g h : Stock) (n m : NumberState) (t most term new : ℕ) (free : IsFree n t) → term ≡ free.thread.term → HasGrown g h → IsTerm g term → LeadsEagerly b h term new → slots h b m ≡ moves t (term_at h b new) (slots h b n) → slots h b n ≡ slots g b n
+    → used limit.Frames (slots h b m) ≤ most → MovesOn (funs_of b) most t (slots g b n) (slots h b m) true
+moved_eagerly b g h n m t most term new free is grown there rule made same few =
+    let of_thread : term_at h b term ≡ term_at g b free.thread.term = term_at_on g h grown b term there ∙ ap (term_at g b) is in (
+      record {
+        number = t;
+        thread = thread_of g b free.thread;
+        is = got_mapped (thread_of g b) n.threads.items t free.thread free.is;
+        unfinished = free.unfinished;
+        free = free.free;
+        main = record { main = thread_of g b free.main; is = got_mapped (thread_of g b) n.threads.items 0 free.main free.main_is; unfinished = free.main_goes };
+        term = term_at h b new;
+        leads = subst (λ (st : SlotTerm). local (funs_of b) Unmasked st.part st.frames ≡ Some (term_at h b new)) of_thread rule.leads;
+        eager = subst (λ st. is_eager (funs_of b) st ≡ true) of_thread rule.eager;
+        moved = made ∙ ap (moves t (term_at h b new)) same;
+      },
+      refl,
+      few,
+    )
 
 -- ---- and back
 

@@ -3,7 +3,9 @@ ghost use Rattle.local_steps.specs.Machine.{funs_of};
 ghost use Rattle.number_states.specs.Stocks.{HasGrown};
 ghost use Rattle.number_states.specs.States.{AreIn, slots};
 ghost use Rattle.number_rests.specs.Resting.{Rests, IsFree, MovesOn, most_rules};
+ghost use Rattle.number_rests.specs.Rules.{AreRules};
 
+use crate::rules::EagerRules;
 use hs_base::NoMemory;
 use hs_rules::{Entry, LimitKind};
 use number_states::{NumberState, Numbers, used};
@@ -33,28 +35,28 @@ fn move_on(
     alloc: Global,
     body: &Body,
     numbers: &mut Numbers,
+    rules: &mut EagerRules,
     state: &mut NumberState,
     most_frames: u32,
     thread: u32,
 ) -> Result<bool, NoMemory>
-    requires { AreIn numbers.old state.old }
+    requires state { AreIn numbers.old state.old }
+    requires rules { AreRules body.now numbers.old rules.old }
     ensures moves { IfOk result (λ done. MovesOn (funs_of body.now) most_frames thread (slots numbers.old body.now state.old) (slots numbers.new body.now state.new) done) }
     ensures output { OnOk result (state.new.output ≡ state.old.output) }
     ensures errors { OnOk result (state.new.errors ≡ state.old.errors) }
     ensures there { OnOk result (AreIn numbers.new state.new) }
     ensures grows { HasGrown numbers.old numbers.new }
+    ensures rules { OnOk result (AreRules body.now numbers.new rules.new) }
 {
     if !is_free(state, thread) {
         return Ok(false);
     }
     let term = state.threads[thread as usize].term;
-    let Some(step) = numbers.step(alloc, body, term)? else {
+    let Some(to) = rules.eager(alloc, body, numbers, term)? else {
         return Ok(false);
     };
-    if !step.eager {
-        return Ok(false);
-    }
-    state.move_to(numbers, thread, step.term);
+    state.move_to(numbers, thread, to);
     if used(LimitKind::Frames, numbers, state)? > most_frames as u64 {
         state.move_to(numbers, thread, term);
         return Ok(false);
@@ -68,23 +70,26 @@ pub fn rest(
     alloc: Global,
     body: &Body,
     numbers: &mut Numbers,
+    rules: &mut EagerRules,
     state: &mut NumberState,
     most_frames: u32,
     locals: &mut Vec<Entry>,
 ) -> Result<u32, NoMemory>
-    requires { AreIn numbers.old state.old }
+    requires state { AreIn numbers.old state.old }
+    requires rules { AreRules body.now numbers.old rules.old }
     ensures rests { IfOk result (λ k. Rests (funs_of body.now) most_frames k locals.old.items locals.new.items (slots numbers.old body.now state.old) (slots numbers.new body.now state.new)) }
     ensures few { IfOk result (λ k. k ≤ most_rules) }
     ensures output { OnOk result (state.new.output ≡ state.old.output) }
     ensures errors { OnOk result (state.new.errors ≡ state.old.errors) }
     ensures there { OnOk result (AreIn numbers.new state.new) }
     ensures grows { HasGrown numbers.old numbers.new }
+    ensures rules { OnOk result (AreRules body.now numbers.new rules.new) }
 {
     let threads = u32::try_from(state.threads.len()).map_err(|_| NoMemory)?;
     let mut count = 0;
     let mut thread = 0;
-    'rules: while count < MOST_RULES && thread < threads {
-        if move_on(alloc, body, numbers, state, most_frames, thread)? {
+    'moves: while count < MOST_RULES && thread < threads {
+        if move_on(alloc, body, numbers, rules, state, most_frames, thread)? {
             locals.reserve(1)?;
             locals.push_reserved(Entry::Local { t: thread, k: 1 });
             count += 1;

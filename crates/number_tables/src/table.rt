@@ -8,6 +8,9 @@ use std::alloc::Global;
 use std::collections::HashMap;
 use std::marker::Model;
 
+/// Room for the numbers of most keys, so that a key seldom moves while it grows.
+const KEY_ROOM: usize = 64;
+
 /// Things by number, no two with one key. There are at most 2^32.
 pub struct Table<T: Keyed> {
     /// By number.
@@ -83,7 +86,7 @@ impl<T: Keyed + Drop> Table<T> {
         ensures grows { Grows self.old self.new }
         ensures err { OnErr result (self.new ≡ self.old) }
     {
-        let mut key = Vec::new(alloc);
+        let mut key = Vec::with_capacity(alloc, KEY_ROOM)?;
         thing.put_key(alloc, &mut key)?;
         match self.find(key.as_slice(), &thing) {
             Some(number) => Ok(number),

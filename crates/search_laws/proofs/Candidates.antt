@@ -1,9 +1,9 @@
 -- Whatever has a next state is among the entries to try.
-use Rattle.std.proofs.Common.{◌≡◌, ◌<◌, ◌==◌, ℕ, zero, suc, Bool, true, false, cond, List, [], ◌∷◌, ◌++◌, length, map, Option, Some, None, slice_get, refl, sym, ap, ◌∙◌, subst, arith, ◌⊎◌, inl, inr, ⊎_elim}
+use Rattle.std.proofs.Common.{◌≡◌, ◌<◌, ◌+◌, ◌==◌, ℕ, zero, suc, Bool, true, false, cond, List, [], ◌∷◌, ◌++◌, length, map, Option, Some, None, slice_get, refl, sym, ap, ◌∙◌, subst, arith}
 use Rattle.std.specs.List.{Contains}
+use Rattle.std.proofs.lemmas.Option.{same_Some}
 use Rattle.std.proofs.lemmas.List.Elements.{Contains-append_left, Contains-append_right}
 use Rattle.hs_base.specs.declared.clock_choice.ClockChoice.{ClockChoice}
-use Rattle.hs_base.specs.declared.clock_choice.ClockChoice.TheVariants.{Real, Virtual}
 use Rattle.hs_base.specs.declared.mask.Mask.TheVariants.{Unmasked}
 use Rattle.hs_rules.specs.declared.entry.Entry.{Entry}
 use Rattle.hs_rules.specs.declared.entry.Entry.TheVariants as entry
@@ -13,11 +13,20 @@ use Rattle.rules_waiting.specs.Waiting.{Sleeper}
 use Rattle.exn_flight.specs.Asleep.{due_of}
 use Rattle.slot_laws.specs.SlotRules.{SlotTerm, on_term, local, locals}
 use Rattle.slot_states.specs.SlotStates.{SlotThread, SlotState}
-use Rattle.slot_entries.specs.Entering.{next, on_thread, entered, local_entry, moved, woken}
-use Rattle.slot_entries.proofs.Passing.{passed, passed_not, thread_there, thread_leaves}
+use Rattle.slot_entries.specs.Entering.{next, on_thread, entered, local_entry, moved, operates, receive_entry, ended, woken}
+use Rattle.slot_entries.proofs.Passing.{passed_not, thread_there, thread_leaves}
 use Rattle.search_laws.specs.Shown.{Shown}
 use Rattle.search_laws.specs.Going.{IsStill, MayTake}
-use Rattle.search_laws.specs.Found.{Edge, IsFollowed, IsGone, entries_of, entries_below, wake_of, candidates}
+use Rattle.search_laws.specs.Found.{Edge, IsFollowed, IsGone, entries_at, entries_from, wake_of, candidates}
+
+-- ---- where main goes on
+
+-- what may have a next state there, in a state whose main thread hasn't finished
+abbrev tried : SlotState → List Entry
+tried x = (entries_from 0 x.threads ++ map wake_of x.sleepers) ++ entry.Stranded ∷ []
+
+goes_contains : (x : SlotState) (main : SlotThread) → slice_get x.threads 0 ≡ Some main → main.finished ≡ false → (e : Entry) → Contains (tried x) e → Contains (candidates x) e
+goes_contains x main is f e c = rw is (rw f c)
 
 -- ---- by threads
 
@@ -27,23 +36,38 @@ there_below [] (suc t) x e = absurd (cc e)
 there_below (y ∷ ys) zero x e = omega arith
 there_below (y ∷ ys) (suc t) x e = let h = there_below ys t x e in omega arith
 
-last_or_before : (n t : ℕ) → t < suc n → (t < n) ⊎ (t ≡ n)
-last_or_before n t h = grind arith
-
-below_contain : (n t : ℕ) → t < n → (e : Entry) → Contains (entries_of t) e → Contains (entries_below n) e
-below_contain zero t h e c = absurd (omega arith)
-below_contain (suc n) t h e c =
-    ⊎_elim
-    (λ lt. Contains-append_left (entries_below n) (entries_of n) e (below_contain n t lt e c))
-    (λ same. Contains-append_right (entries_below n) (entries_of n) e (subst (λ m. Contains (entries_of m) e) same c))
-    (last_or_before n t h)
+from_contain : (ths : List SlotThread) (t i : ℕ) (th : SlotThread) → slice_get ths i ≡ Some th → (e : Entry) → Contains (entries_at (t + i) th) e → Contains (entries_from t ths) e
+from_contain [] t i th is e c = absurd (cc is)
+from_contain (u ∷ us) t zero th is e c =
+    let same : th ≡ u = same_Some th u (sym is) in
+    let here : t + zero ≡ t = omega arith in
+    Contains-append_left (entries_at t u) (entries_from (suc t) us) e (subst (λ v. Contains (entries_at t v) e) same (subst (λ n. Contains (entries_at n th) e) here c))
+from_contain (u ∷ us) t (suc i) th is e c =
+    let on : t + suc i ≡ suc t + i = omega arith in
+    Contains-append_right (entries_at t u) (entries_from (suc t) us) e (from_contain us (suc t) i th is e (subst (λ n. Contains (entries_at n th) e) on c))
 
 -- of a thread that is there
-thread_contains : (x : SlotState) (t : ℕ) (th : SlotThread) → slice_get x.threads t ≡ Some th → (e : Entry) → Contains (entries_of t) e → Contains (candidates x) e
-thread_contains x t th is e c =
-    Contains-append_left (entries_below (length x.threads) ++ map wake_of x.sleepers) (entry.Stranded ∷ []) e
-    (Contains-append_left (entries_below (length x.threads)) (map wake_of x.sleepers) e
-    (below_contain (length x.threads) t (there_below x.threads t th is) e c))
+thread_tried : (x : SlotState) (t : ℕ) (th : SlotThread) → slice_get x.threads t ≡ Some th → (e : Entry) → Contains (entries_at t th) e → Contains (tried x) e
+thread_tried x t th is e c =
+    let counted : t ≡ 0 + t = omega arith in
+    Contains-append_left (entries_from 0 x.threads ++ map wake_of x.sleepers) (entry.Stranded ∷ []) e
+    (Contains-append_left (entries_from 0 x.threads) (map wake_of x.sleepers) e
+    (from_contain x.threads 0 t th is e (subst (λ n. Contains (entries_at n th) e) counted c)))
+
+-- ---- each of a thread that hasn't finished
+
+local_at : (t : ℕ) (th : SlotThread) → th.finished ≡ false → th.blocked ≡ false → Contains (entries_at t th) (entry.Local t 1)
+local_at t th f b = rw f (rw b (0, omega arith, refl))
+
+op_at : (t : ℕ) (th : SlotThread) → th.finished ≡ false → th.blocked ≡ false → Contains (entries_at t th) (entry.Op t)
+op_at t th f b = rw f (rw b (1, omega arith, refl))
+
+finish_at : (t : ℕ) (th : SlotThread) → th.finished ≡ false → th.blocked ≡ false → Contains (entries_at t th) (entry.Finish t)
+finish_at t th f b = rw f (rw b (3, omega arith, refl))
+
+receive_by : (t : ℕ) (th : SlotThread) (b : Bool) → th.finished ≡ false → th.blocked ≡ b → Contains (entries_at t th) (entry.Receive t)
+receive_by t th true f b = rw f (rw b (0, omega arith, refl))
+receive_by t th false f b = rw f (rw b (2, omega arith, refl))
 
 -- ---- by sleepers
 
@@ -64,10 +88,10 @@ wake_contains : (t due : ℕ) (rs : List Sleeper) → due_of t rs ≡ Some due �
 wake_contains t due [] e = absurd (cc e)
 wake_contains t due (r ∷ rs) e = wake_at t due r rs (r.thread == t) refl (wake_contains t due rs) e
 
-sleeper_contains : (x : SlotState) (t due : ℕ) → due_of t x.sleepers ≡ Some due → Contains (candidates x) (entry.Wake t)
-sleeper_contains x t due e =
-    Contains-append_left (entries_below (length x.threads) ++ map wake_of x.sleepers) (entry.Stranded ∷ []) (entry.Wake t)
-    (Contains-append_right (entries_below (length x.threads)) (map wake_of x.sleepers) (entry.Wake t) (wake_contains t due x.sleepers e))
+sleeper_tried : (x : SlotState) (t due : ℕ) → due_of t x.sleepers ≡ Some due → Contains (tried x) (entry.Wake t)
+sleeper_tried x t due e =
+    Contains-append_left (entries_from 0 x.threads ++ map wake_of x.sleepers) (entry.Stranded ∷ []) (entry.Wake t)
+    (Contains-append_right (entries_from 0 x.threads) (map wake_of x.sleepers) (entry.Wake t) (wake_contains t due x.sleepers e))
 
 woken_due : (t : ℕ) (o : Option ℕ) (x z : SlotState) → woken t o x ≡ Some z → (due : ℕ) × (o ≡ Some due)
 woken_due t None x z e = absurd (cc e)
@@ -89,19 +113,34 @@ module _ (funs : List SlottedFunction) (x z : SlotState) where
   main_entered : (e : Entry) → next funs x e ≡ Some z → entered funs x e ≡ Some z
   main_entered e h = (thread_there (slice_get x.threads 0) (λ main. entered funs x e) z h).3
 
-  own_contains : (t : ℕ) (k : SlotThread → Option SlotState) → on_thread (slice_get x.threads t) k ≡ Some z → (e : Entry) → Contains (entries_of t) e → Contains (candidates x) e
-  own_contains t k h e c = let th = thread_there (slice_get x.threads t) k z h in thread_contains x t th.0 th.1 e c
+  -- what is tried where main goes on is a candidate, since whatever leads somewhere found main so
+  tried_contains : (e : Entry) → next funs x e ≡ Some z → Contains (tried x) e → Contains (candidates x) e
+  tried_contains e h c = let m = thread_there (slice_get x.threads 0) (λ main. entered funs x e) z h in goes_contains x m.0 m.1 m.2 e c
+
+  -- of a thread that may not be blocked
+  open_contains : (t : ℕ) (e : Entry) (k : SlotThread → Option SlotState) → entered funs x e ≡ on_thread (slice_get x.threads t) (λ th. cond th.blocked None (k th)) → next funs x e ≡ Some z
+      → ((th : SlotThread) → th.finished ≡ false → th.blocked ≡ false → Contains (entries_at t th) e) → Contains (candidates x) e
+  open_contains t e k by h own =
+      let th = thread_there (slice_get x.threads t) (λ th. cond th.blocked None (k th)) z (sym by ∙ main_entered e h) in
+      let free = passed_not th.0.blocked (k th.0) z th.3 in
+      tried_contains e h (thread_tried x t th.0 th.1 e (own th.0 th.2 free.0))
 
   pub leads_among : (e : Entry) → IsOneStep e → ¬ IsTick e → next funs x e ≡ Some z → Contains (candidates x) e
-  leads_among (entry.Local t k) one plain h =
-      let c : Contains (entries_of t) (entry.Local t k) = subst (λ m. Contains (entries_of t) (entry.Local t m)) (sym one) (contains_here (entry.Local t 1) (entry.Op t ∷ entry.Receive t ∷ entry.Finish t ∷ [])) in
-      own_contains t (λ th. local_entry funs t k th x) (main_entered (entry.Local t k) h) (entry.Local t k) c
-  leads_among (entry.Op t) one plain h = own_contains t _ (main_entered (entry.Op t) h) (entry.Op t) (1, omega arith, refl)
-  leads_among (entry.Receive t) one plain h = own_contains t _ (main_entered (entry.Receive t) h) (entry.Receive t) (2, omega arith, refl)
-  leads_among (entry.Finish t) one plain h = own_contains t _ (main_entered (entry.Finish t) h) (entry.Finish t) (3, omega arith, refl)
-  leads_among (entry.Wake t) one plain h = let d = woken_due t (due_of t x.sleepers) x z (main_entered (entry.Wake t) h) in sleeper_contains x t d.0 d.1
+  leads_among (entry.Local t zero) one plain h = absurd (cc one)
+  leads_among (entry.Local t (suc k)) one plain h =
+      open_contains t (entry.Local t (suc k)) (λ th. moved t (locals funs Unmasked (suc k) th.term) x) refl h
+      (λ th f b. subst (λ m. Contains (entries_at t th) (entry.Local t m)) (sym one) (local_at t th f b))
+  leads_among (entry.Op t) one plain h = open_contains t (entry.Op t) (λ th. operates t th.term.frames th.term.part x) refl h (op_at t)
+  leads_among (entry.Receive t) one plain h =
+      let th = thread_there (slice_get x.threads t) (λ th. receive_entry t th x) z (main_entered (entry.Receive t) h) in
+      tried_contains (entry.Receive t) h (thread_tried x t th.0 th.1 (entry.Receive t) (receive_by t th.0 th.0.blocked th.2 refl))
+  leads_among (entry.Finish t) one plain h = open_contains t (entry.Finish t) (λ th. ended t th.term.frames th.term.part x) refl h (finish_at t)
+  leads_among (entry.Wake t) one plain h =
+      let d = woken_due t (due_of t x.sleepers) x z (main_entered (entry.Wake t) h) in
+      tried_contains (entry.Wake t) h (sleeper_tried x t d.0 d.1)
   leads_among (entry.Tick at) one plain h = absurd (plain tt)
-  leads_among entry.Stranded one plain h = Contains-append_right (entries_below (length x.threads) ++ map wake_of x.sleepers) (entry.Stranded ∷ []) entry.Stranded (contains_here entry.Stranded [])
+  leads_among entry.Stranded one plain h =
+      tried_contains entry.Stranded h (Contains-append_right (entries_from 0 x.threads ++ map wake_of x.sleepers) (entry.Stranded ∷ []) entry.Stranded (contains_here entry.Stranded []))
 
 -- ---- a Local of more steps
 

@@ -1,5 +1,5 @@
 -- A search that has gone on from each of its states has each outcome.
-use Rattle.std.proofs.Common.{◌≡◌, ℕ, zero, List, [], Option, Some, None, slice_get, refl, sym, ap, ◌∙◌, subst, inl, inr}
+use Rattle.std.proofs.Common.{◌≡◌, ℕ, zero, List, [], Some, slice_get, refl, sym, ap, ◌∙◌, subst, inl, inr}
 use Rattle.hs_base.specs.declared.clock_choice.ClockChoice.{ClockChoice}
 use Rattle.hs_base.specs.declared.clock_choice.ClockChoice.TheVariants.{Real, Virtual}
 use Rattle.hs_base.specs.declared.limits.Limits.{Limits}
@@ -12,19 +12,18 @@ use Rattle.rules_typing.specs.TypingScripts.{Accepted}
 use Rattle.rules_code.specs.CodeTrees.{SlottedFunction, code_trees}
 use Rattle.hs_rules.specs.State.{State}
 use Rattle.hs_rules.specs.Entries.{Leads}
-use Rattle.hs_rules.specs.Endings.{IsTick}
 use Rattle.hs_rules.specs.Runs.{first_of, IsRun}
 use Rattle.hs_laws.proofs.RunParts.{run_more}
 use Rattle.outcome_laws.specs.Timings.{MayTick}
-use Rattle.outcome_laws.specs.Outcomes.{Final, Outcome, ShowsOutcome, IsOutcomeOf}
+use Rattle.outcome_laws.specs.Outcomes.{Outcome, IsOutcomeOf}
 use Rattle.reduction_laws.specs.EagerRules.{EagerSteps}
-use Rattle.reduction_laws.specs.Paths.{IsTaken, IsClosed}
+use Rattle.reduction_laws.specs.Paths.{IsClosed}
 use Rattle.reduction_laws.proofs.Closed.{script_outcome}
-use Rattle.slot_states.specs.SlotStates.{SlotState, Represents}
+use Rattle.slot_states.specs.SlotStates.{SlotState}
 use Rattle.slot_states.proofs.Printed.{nothing_yet, run_prints}
-use Rattle.search_laws.specs.Shown.{forget, Shown, StandsAs, IsFirst}
+use Rattle.search_laws.specs.Shown.{Shown, StandsAs, IsFirst}
 use Rattle.search_laws.specs.Found.{Edge, AreTrueEdges, AreGone, IsSeen}
-use Rattle.search_laws.proofs.Following.{tick_or, Follows, follow, rested, tick_stays}
+use Rattle.search_laws.proofs.Following.{tick_or, follow, rested, tick_stays}
 
 module _ (clock : ClockChoice) (script : Script) (accepted : Accepted script) (limits : Limits) (first : SlotState) (is : IsFirst (script_of script) first)
     (states : List Shown) (edges : List Edge) (gone : AreGone clock (code_trees (script_of script)) limits first states edges) (true_edges : AreTrueEdges clock (code_trees (script_of script)) limits states edges) where

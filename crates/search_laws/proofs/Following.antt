@@ -1,8 +1,6 @@
 -- Each entry that is taken follows an edge of a search that has gone on from each of its states.
-use Rattle.std.proofs.Common.{◌≡◌, ◌⊎◌, ℕ, zero, suc, Bool, true, false, cond, List, [], ◌∷◌, ◌++◌, length, Option, Some, None, slice_get, refl, sym, ap, ◌∙◌, subst, inl, inr, append-nil}
+use Rattle.std.proofs.Common.{◌≡◌, ◌⊎◌, ℕ, List, [], ◌∷◌, ◌++◌, length, Option, Some, None, slice_get, refl, sym, ap, ◌∙◌, subst, inl, inr, append-nil}
 use Rattle.std.proofs.lemmas.Option.{same_Some}
-use Rattle.hs_base.specs.declared.mask.Mask.{Mask}
-use Rattle.hs_base.specs.declared.mask.Mask.TheVariants.{Unmasked}
 use Rattle.hs_base.specs.declared.clock_choice.ClockChoice.{ClockChoice}
 use Rattle.hs_base.specs.declared.clock_choice.ClockChoice.TheVariants.{Real, Virtual}
 use Rattle.hs_base.specs.declared.limits.Limits.{Limits}
@@ -10,9 +8,6 @@ use Rattle.hs_base.specs.declared.tree.script.Script.{Script}
 use Rattle.hs_rules.specs.declared.entry.Entry.{Entry}
 use Rattle.hs_rules.specs.declared.entry.Entry.TheVariants as entry
 use Rattle.rules_trees.specs.Programs.{Fn, script_of}
-use Rattle.rules_meaning.specs.Values.{V}
-use Rattle.rules_expansion.specs.declared.primitive.Primitive.{Primitive}
-use Rattle.rules_expansion.specs.declared.primitive.Primitive.TheVariants.{ClockMicros}
 use Rattle.rules_meaning.specs.CoreMeaning.{Code, code_of}
 use Rattle.rules_typing.specs.TypingScripts.{Accepted}
 use Rattle.rules_code.specs.CodeTrees.{SlottedFunction, code_trees}
@@ -21,90 +16,30 @@ use Rattle.hs_rules.specs.Entries.{Leads}
 use Rattle.hs_rules.specs.Endings.{IsTick, IsQuiet}
 use Rattle.hs_rules.specs.Runs.{IsRun}
 use Rattle.hs_laws.proofs.RunParts.{run_more}
-use Rattle.timing_laws.specs.WithoutTime.{is_clock_reading}
 use Rattle.outcome_laws.specs.Timings.{MayTick}
 use Rattle.reduction_laws.specs.EagerRules.{EagerSteps}
 use Rattle.reduction_laws.specs.Paths.{IsTaken}
-use Rattle.slot_laws.specs.SlotRules.{calls, forks, forks_unmask, SlotOp, SlotPart, ret, throw, doing, performs, SlotFrame, mask_from}
-use Rattle.slot_states.specs.SlotStates.{SlotThread, SlotState, ticks, Represents}
+use Rattle.slot_states.specs.SlotStates.{SlotState, ticks, Represents}
 use Rattle.slot_states.specs.Printing.{output_by, errors_by}
 use Rattle.slot_states.proofs.Settled.{same_due}
 use Rattle.slot_states.proofs.Printed.{next_adds}
-use Rattle.slot_entries.specs.Operating.{performed}
-use Rattle.slot_entries.specs.Entering.{operates, op_entry, entered, next}
-use Rattle.slot_entries.proofs.Passing.{passed_not, passed, thread_there, thread_leaves}
-use Rattle.slot_time.specs.WithoutTime.{untimed, op_reads_clock, part_reads_clock, thread_reads_clock, ReadsClock}
+use Rattle.slot_entries.specs.Entering.{entered, next}
+use Rattle.slot_entries.proofs.Passing.{passed, thread_there}
+use Rattle.slot_time.specs.WithoutTime.{untimed}
 use Rattle.slot_rests.specs.Rests.{EagerMoves}
 use Rattle.slot_rests.proofs.Untimed.{timed_moves}
 use Rattle.search_laws.specs.Shown.{forget, Shown, StandsAs}
 use Rattle.search_laws.specs.Going.{EagerEntries, IsStill, ReadsTime, MayTake, Takes}
-use Rattle.search_laws.specs.Found.{Edge, IsTrueEdge, AreTrueEdges, IsLed, AreGone}
+use Rattle.search_laws.specs.Found.{Edge, AreTrueEdges, AreGone}
 use Rattle.search_laws.proofs.Cited as cited
+use Rattle.search_laws.proofs.Reading.{next_forgotten}
 use Rattle.search_laws.proofs.Cited.{legal, reads, same_output, same_errors, forth, steps}
 
--- ---- what has a next state has one without time
-
--- where the one is there, so is the other
-abbrev Both : Option SlotState → Option SlotState → Type 0
-Both o p = (y : SlotState) → o ≡ Some y → (z : SlotState) × (p ≡ Some z)
-
-module _ (t : ℕ) (x : SlotState) where
-  -- a reading of the clock
-  reading_too : (m : Mask) (p : Primitive) (vs : List V) → is_clock_reading p ≡ true → Both (performed t m p vs x) (performed t m p vs (untimed x))
-  reading_too m ClockMicros [] r y h = (_, refl)
-  reading_too m ClockMicros (v ∷ vs) r y h = absurd (cc h)
-  reading_too m _ vs r y h = absurd (cc r)
-
-  operation_too : (fs : List SlotFrame) (q : SlotPart) → part_reads_clock q ≡ true → Both (operates t fs q x) (operates t fs q (untimed x))
-  operation_too fs (ret v) r y h = absurd (cc r)
-  operation_too fs (throw e) r y h = absurd (cc r)
-  operation_too fs (doing a vs) r y h = absurd (cc r)
-  operation_too fs (performs (calls p vs)) r y h = reading_too (mask_from Unmasked fs) p vs r y h
-  operation_too fs (performs (forks a vs)) r y h = absurd (cc r)
-  operation_too fs (performs (forks_unmask a vs)) r y h = absurd (cc r)
-
-  op_too : (th : SlotThread) → part_reads_clock th.term.part ≡ true → Both (op_entry t th x) (op_entry t th (untimed x))
-  op_too th r y h =
-      let p = passed_not th.blocked (operates t th.term.frames th.term.part x) y h in
-      let z = operation_too th.term.frames th.term.part r y p.1 in
-      (z.0, ap (λ b. cond b None (operates t th.term.frames th.term.part (untimed x))) p.0 ∙ z.1)
-
-bool_or : (b : Bool) → (b ≡ true) ⊎ (¬ (b ≡ true))
-bool_or true = inl refl
-bool_or false = inr (λ h. cc h)
-
-reads_or : (x : SlotState) (e : Entry) → ((t : ℕ) × (e ≡ entry.Op t) × (thread_reads_clock (slice_get x.threads t) ≡ true)) ⊎ (¬ ReadsClock x e)
-reads_or x (entry.Op t) = elim (bool_or (thread_reads_clock (slice_get x.threads t))) [ inl h ↦ inl (t, refl, h) | inr h ↦ inr h ]
-reads_or x (entry.Tick at) = inr (λ h. h)
-reads_or x (entry.Local t k) = inr (λ h. h)
-reads_or x (entry.Receive t) = inr (λ h. h)
-reads_or x (entry.Wake t) = inr (λ h. h)
-reads_or x (entry.Finish t) = inr (λ h. h)
-reads_or x entry.Stranded = inr (λ h. h)
-
 module _ (funs : List SlottedFunction) where
-  op_untimed : (x y : SlotState) (t : ℕ) → next funs x (entry.Op t) ≡ Some y → thread_reads_clock (slice_get x.threads t) ≡ true → (z : SlotState) × (next funs (untimed x) (entry.Op t) ≡ Some z)
-  op_untimed x y t h r =
-      let m = thread_there (slice_get x.threads 0) (λ main. entered funs x (entry.Op t)) y h in
-      let g = thread_there (slice_get x.threads t) (λ th. op_entry t th x) y m.3 in
-      let z = op_too t x g.0 (sym (ap thread_reads_clock g.1) ∙ r) y g.3 in (
-        z.0,
-        thread_leaves (slice_get x.threads 0) (λ main. entered funs (untimed x) (entry.Op t)) m.0 (Some z.0) m.1 m.2
-            (thread_leaves (slice_get x.threads t) (λ th. op_entry t th (untimed x)) g.0 (Some z.0) g.1 g.2 z.1),
-      )
-
-  -- of any entry but a Tick
-  untimed_too : (x y : SlotState) (e : Entry) → next funs x e ≡ Some y → ¬ IsTick e → (z : SlotState) × (next funs (untimed x) e ≡ Some z)
-  untimed_too x y e h plain =
-      elim (reads_or x e) as (λ _. (z : SlotState) × (next funs (untimed x) e ≡ Some z)) [
-        | inl r ↦ let z = op_untimed x y r.0 (subst (λ q. next funs x q ≡ Some y) r.1 h) r.2 in (z.0, subst (λ q. next funs (untimed x) q ≡ Some z.0) (sym r.1) z.1)
-        | inr n ↦ let z = forth funs x y e h plain n in (z.0, z.1)
-      ]
-
   -- ---- what a search keeps of it
 
   kept_too : (clock : ClockChoice) (x y : SlotState) (e : Entry) → next funs x e ≡ Some y → (clock ≡ Real → ¬ IsTick e) → (z : SlotState) × (next funs (forget clock x) e ≡ Some z)
-  kept_too Real x y e h plain = untimed_too x y e h (plain refl)
+  kept_too Real x y e h plain = next_forgotten Real funs x y e h (plain refl)
   kept_too Virtual x y e h plain = (y, h)
 
   -- and where no clock is read the two are the same but for time

@@ -1,5 +1,5 @@
 -- What a gap of a search shows of runs.
-use Rattle.std.proofs.Common.{◌≡◌, ◌≤◌, ◌<◌, ◌+◌, ℕ, List, ◌++◌, Option, Some, None, refl, sym, ap, ◌∙◌, subst, arith}
+use Rattle.std.proofs.Common.{◌≡◌, ◌≤◌, ◌+◌, ℕ, List, ◌++◌, Some, refl, sym, ap, ◌∙◌, subst, arith}
 use Rattle.hs_base.specs.declared.clock_choice.ClockChoice.{ClockChoice}
 use Rattle.hs_base.specs.declared.clock_choice.ClockChoice.TheVariants.{Real, Virtual}
 use Rattle.hs_base.specs.declared.limits.Limits.{Limits}
@@ -10,25 +10,20 @@ use Rattle.hs_rules.specs.declared.entry.LimitKind.TheVariants as limit
 use Rattle.rules_trees.specs.Programs.{Fn, script_of}
 use Rattle.rules_meaning.specs.CoreMeaning.{code_of}
 use Rattle.rules_typing.specs.TypingScripts.{Accepted}
-use Rattle.rules_code.specs.CodeTrees.{SlottedFunction, code_trees}
-use Rattle.hs_rules.specs.State.{State}
+use Rattle.rules_code.specs.CodeTrees.{code_trees}
 use Rattle.hs_rules.specs.Entries.{IsLegal}
-use Rattle.hs_rules.specs.Endings.{allowed, IsWithin}
-use Rattle.hs_rules.specs.Endings as endings
-use Rattle.hs_rules.specs.Runs.{first_of}
-use Rattle.hs_laws.specs.HistoryEndings.{StaysWithin}
+use Rattle.hs_rules.specs.Endings.{allowed}
 use Rattle.timing_laws.specs.WithoutTime as named
-use Rattle.outcome_laws.specs.Timings.{TimedRun}
 use Rattle.slot_states.specs.SlotStates.{SlotState}
 use Rattle.slot_states.specs.Printing.{output_by, errors_by}
 use Rattle.slot_states.specs.Resting.{used}
 use Rattle.slot_states.proofs.AtRest.{same_used}
 use Rattle.slot_entries.specs.Entering.{next}
 use Rattle.slot_time.specs.WithoutTime.{untimed, ReadsClock}
-use Rattle.search_laws.specs.Shown.{forget, Shown, FitsIn, IsFirst, Arrives, Uses}
+use Rattle.search_laws.specs.Shown.{forget, Shown, IsFirst, Arrives, Uses}
 use Rattle.search_laws.specs.Going.{ReadsTime, Leaves, steps_by}
 use Rattle.search_laws.proofs.Cited.{entered, reads, reads_named}
-use Rattle.search_laws.proofs.Walking.{At, Led, led, is_run, used_forgotten}
+use Rattle.search_laws.proofs.Walking.{At, led, is_run, used_forgotten}
 use Rattle.search_laws.proofs.Reached.{at_of, first_at}
 use Rattle.search_laws.proofs.Reading.{reads_any}
 

@@ -1,5 +1,5 @@
 -- What has been found stays right where more is found.
-use Rattle.std.proofs.Common.{◌≡◌, ◌≤◌, ◌<◌, ◌+◌, ℕ, zero, suc, List, [], ◌∷◌, ◌++◌, length, Option, Some, None, slice_get, refl, sym, ap, ◌∙◌, subst, arith, ◌⊎◌, inl, inr, ⊎_elim, length-append}
+use Rattle.std.proofs.Common.{◌≡◌, ◌≤◌, ℕ, zero, suc, List, [], ◌∷◌, ◌++◌, length, Option, Some, None, slice_get, refl, sym, ap, ◌∙◌, subst, arith, ◌⊎◌, inl, inr, ⊎_elim}
 use Rattle.std.proofs.lemmas.Option.{same_Some}
 use Rattle.hs_base.specs.declared.clock_choice.ClockChoice.{ClockChoice}
 use Rattle.hs_base.specs.declared.limits.Limits.{Limits}
@@ -10,10 +10,9 @@ use Rattle.rules_code.specs.CodeTrees.{SlottedFunction}
 use Rattle.slot_states.specs.SlotStates.{SlotState}
 use Rattle.slot_states.specs.Resting.{used}
 use Rattle.slot_rests.specs.Rests.{EagerMove}
-use Rattle.slot_entries.specs.Entering.{next}
 use Rattle.search_laws.specs.Shown.{Shown}
-use Rattle.search_laws.specs.Going.{EagerEntries, MayTake}
-use Rattle.search_laws.specs.Found.{Source, ComesBy, ComesOf, Comes, IsBefore, HasSource, HaveSources, Edge, IsTrueEdge, AreTrueEdges, AreInOrder, IsLed, IsFollowed, IsGone}
+use Rattle.search_laws.specs.Going.{EagerEntries}
+use Rattle.search_laws.specs.Found.{Source, ComesOf, Comes, IsBefore, HasSource, HaveSources, Edge, IsTrueEdge, AreTrueEdges, AreInOrder, IsFollowed, IsGone}
 use Rattle.search_laws.proofs.Candidates.{there_below}
 
 -- ---- lists

@@ -1,40 +1,36 @@
 -- How a run that comes to a state of a search has ended.
-use Rattle.std.proofs.Common.{◌≡◌, ◌↔◌, ℕ, Bool, true, false, cond, List, [], Option, Some, None, slice_get, refl, sym, ap, ◌∙◌, subst, inl, inr, ⊎_elim}
-use Rattle.std.proofs.lemmas.Option.{same_Some}
+use Rattle.std.proofs.Common.{◌≡◌, ℕ, Bool, true, false, cond, List, [], Option, Some, None, slice_get, refl, sym, ap, ◌∙◌, subst, inl, inr, ⊎_elim}
 use Rattle.hs_base.specs.declared.clock_choice.ClockChoice.{ClockChoice}
 use Rattle.hs_base.specs.declared.clock_choice.ClockChoice.TheVariants.{Real, Virtual}
 use Rattle.hs_base.specs.declared.tree.script.Script.{Script}
 use Rattle.hs_rules.specs.declared.entry.Entry.{Entry}
 use Rattle.hs_rules.specs.declared.entry.Entry.TheVariants as entry
 use Rattle.rules_trees.specs.Programs.{Fn, script_of}
-use Rattle.rules_meaning.specs.CoreMeaning.{Code, code_of}
+use Rattle.rules_meaning.specs.CoreMeaning.{code_of}
 use Rattle.rules_typing.specs.TypingScripts.{Accepted}
 use Rattle.rules_sorts.specs.Sorts.{Sort}
 use Rattle.rules_trees.specs.Trees.{T}
 use Rattle.rules_code.specs.CodeTrees.{SlottedFunction, code_trees}
-use Rattle.rules_waiting.specs.Waiting.{sleepers_of, sorted_sleepers, is_blocked}
-use Rattle.hs_rules.specs.Terms as named
+use Rattle.rules_waiting.specs.Waiting.{sorted_sleepers, is_blocked}
 use Rattle.hs_rules.specs.Terms.{Part}
 use Rattle.hs_rules.specs.State.{Thread, State}
-use Rattle.hs_rules.specs.Entries.{Leads}
 use Rattle.hs_rules.specs.Endings.{IsDone, IsUncaught, IsTick, IsQuiet, IsDeadlock, is_ret, result_of}
 use Rattle.hs_rules.specs.Endings as endings
 use Rattle.hs_rules.specs.Runs.{IsRun}
 use Rattle.outcome_laws.specs.Outcomes.{Final, Done, Uncaught, Deadlock, EndsBy}
-use Rattle.slot_laws.specs.SlotRules.{SlotPart, ret, throw, doing, performs}
+use Rattle.slot_laws.specs.SlotRules.{SlotPart}
 use Rattle.slot_laws.specs.Standing.{PartStands, ret_stands, throw_stands, do_stands, op_stands}
 use Rattle.hs_progress.specs.TypedStates.{has}
 use Rattle.slot_states.specs.SlotStates.{SlotThread, SlotState, Represents, SameThread}
 use Rattle.slot_states.proofs.AtRest.{nobody_sleeps}
 use Rattle.slot_states.proofs.Settled.{none_asleep}
-use Rattle.slot_states.proofs.Reading.{Named, named_of}
+use Rattle.slot_states.proofs.Reading.{named_of}
 use Rattle.slot_entries.specs.Entering.{next}
-use Rattle.slot_time.specs.WithoutTime.{untimed, undue, ReadsClock, ticked_to, due_first}
+use Rattle.slot_time.specs.WithoutTime.{untimed, undue, ticked_to, due_first}
 use Rattle.exn_flight.specs.Asleep.{due_of}
 use Rattle.slot_time.proofs.Sleepers.{none_sleeps}
-use Rattle.search_laws.specs.Shown.{forget, Shown, StandsAs}
-use Rattle.search_laws.specs.Going.{IsStill}
-use Rattle.search_laws.specs.Found.{is_value, finished_by, ended_by, IsStuck, EndsAs, HasKind, MayHaveKind}
+use Rattle.search_laws.specs.Shown.{forget, Shown}
+use Rattle.search_laws.specs.Found.{is_value, ended_by, IsStuck, EndsAs, HasKind, MayHaveKind}
 use Rattle.search_laws.proofs.Cited.{entered, legal, reads, back}
 use Rattle.search_laws.proofs.Reading.{reads_or, reads_any, next_forgotten}
 

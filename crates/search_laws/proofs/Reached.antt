@@ -10,7 +10,6 @@ use Rattle.hs_rules.specs.declared.entry.LimitKind.TheVariants as limit
 use Rattle.rules_trees.specs.Programs.{Fn, script_of}
 use Rattle.rules_typing.specs.TypingScripts.{Accepted}
 use Rattle.rules_code.specs.CodeTrees.{SlottedFunction, code_trees}
-use Rattle.hs_rules.specs.Runs.{IsRun}
 use Rattle.hs_rules.specs.Endings.{IsWithin}
 use Rattle.hs_laws.proofs.HowItEnds.{within_begins}
 use Rattle.hs_laws.proofs.RunParts.{same_after}
@@ -22,8 +21,8 @@ use Rattle.slot_time.specs.WithoutTime.{untimed}
 use Rattle.slot_rests.specs.Rests.{EagerMove}
 use Rattle.search_laws.specs.Shown.{forget, Shown, FitsIn, IsFirst, Arrives}
 use Rattle.search_laws.specs.Going.{EagerEntries, steps_by, Leaves, Takes}
-use Rattle.search_laws.specs.Found.{Source, ComesFirst, ComesBy, ComesOf, Comes, IsBefore, HasSource, HaveSources}
-use Rattle.search_laws.proofs.Walking.{At, Led, within_by, rest_on, led, at_same}
+use Rattle.search_laws.specs.Found.{Source, ComesFirst, ComesBy, ComesOf, Comes, IsBefore, HaveSources}
+use Rattle.search_laws.proofs.Walking.{At, within_by, rest_on, led, at_same}
 
 -- ---- eager local rules in exact time
 

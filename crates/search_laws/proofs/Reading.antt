@@ -1,48 +1,25 @@
 -- What reads the clock, and what is legal in a state and in what a search keeps of it.
-use Rattle.std.proofs.Common.{◌≡◌, ◌≤◌, ℕ, zero, suc, nat_le, Bool, true, false, cond, List, [], ◌∷◌, ◌++◌, length, Option, Some, None, slice_get, refl, sym, ap, ◌∙◌, subst, append-nil, ◌⊎◌, inl, inr, ⊎_elim}
-use Rattle.std.proofs.lemmas.Option.{same_Some}
+use Rattle.std.proofs.Common.{◌≡◌, ℕ, true, false, cond, List, [], ◌∷◌, Some, None, slice_get, refl, ap, ◌∙◌, subst, ◌⊎◌, inl, inr, ⊎_elim}
 use Rattle.hs_base.specs.declared.clock_choice.ClockChoice.{ClockChoice}
 use Rattle.hs_base.specs.declared.clock_choice.ClockChoice.TheVariants.{Real, Virtual}
-use Rattle.hs_base.specs.declared.limits.Limits.{Limits}
-use Rattle.hs_base.specs.declared.tree.script.Script.{Script}
 use Rattle.hs_base.specs.declared.mask.Mask.{Mask}
 use Rattle.hs_base.specs.declared.mask.Mask.TheVariants.{Unmasked}
 use Rattle.hs_rules.specs.declared.entry.Entry.{Entry}
 use Rattle.hs_rules.specs.declared.entry.Entry.TheVariants as entry
-use Rattle.rules_trees.specs.Programs.{Fn, script_of}
 use Rattle.rules_meaning.specs.Values.{V}
-use Rattle.rules_meaning.specs.CoreMeaning.{Code, code_of}
 use Rattle.rules_expansion.specs.declared.primitive.Primitive.{Primitive}
 use Rattle.rules_expansion.specs.declared.primitive.Primitive.TheVariants.{ClockMicros}
-use Rattle.rules_typing.specs.TypingScripts.{Accepted}
-use Rattle.rules_code.specs.CodeTrees.{SlottedFunction, code_trees}
-use Rattle.rules_waiting.specs.Waiting.{earliest}
-use Rattle.hs_rules.specs.State.{State}
-use Rattle.hs_rules.specs.Entries.{Leads}
-use Rattle.hs_rules.specs.Endings.{IsTick, IsQuiet}
-use Rattle.hs_rules.specs.Runs.{first_of, IsRun}
-use Rattle.hs_laws.proofs.RunParts.{run_more}
+use Rattle.rules_code.specs.CodeTrees.{SlottedFunction}
+use Rattle.hs_rules.specs.Endings.{IsTick}
 use Rattle.timing_laws.specs.WithoutTime.{is_clock_reading}
-use Rattle.outcome_laws.specs.Timings.{MayTick}
-use Rattle.outcome_laws.specs.Outcomes.{Outcome, ShowsOutcome, IsOutcomeOf}
-use Rattle.reduction_laws.specs.EagerRules.{EagerSteps}
-use Rattle.reduction_laws.specs.Paths.{IsTaken, IsClosed}
-use Rattle.reduction_laws.proofs.Closed.{script_outcome}
-use Rattle.slot_laws.specs.SlotRules.{SlotOp, calls, forks, forks_unmask, SlotPart, ret, throw, doing, performs, SlotFrame, mask_from}
-use Rattle.slot_states.specs.SlotStates.{SlotThread, SlotState, ticks, Represents}
-use Rattle.slot_states.specs.Printing.{output_by, errors_by}
-use Rattle.slot_states.proofs.Printed.{next_adds, nothing_yet, run_prints}
-use Rattle.slot_states.proofs.Settled.{same_due}
+use Rattle.slot_laws.specs.SlotRules.{calls, forks, forks_unmask, SlotPart, ret, throw, doing, performs, SlotFrame, mask_from}
+use Rattle.slot_states.specs.SlotStates.{SlotThread, SlotState}
 use Rattle.slot_entries.specs.Operating.{performed}
 use Rattle.slot_entries.specs.Entering.{next, on_thread, operates, op_entry}
-use Rattle.slot_entries.proofs.Passing.{passed, passed_not, thread_there, thread_leaves}
+use Rattle.slot_entries.proofs.Passing.{passed_not, thread_there, thread_leaves}
 use Rattle.slot_time.specs.WithoutTime.{untimed, ReadsClock, part_reads_clock, thread_reads_clock}
-use Rattle.slot_rests.specs.Rests.{EagerMoves}
-use Rattle.search_laws.specs.Shown.{forget, Shown, StandsAs, IsFirst}
-use Rattle.search_laws.specs.Going.{EagerEntries, IsStill, ReadsTime, MayTake, Takes}
-use Rattle.search_laws.specs.Found.{Edge, IsTrueEdge, AreTrueEdges, IsLed, IsGone, AreGone}
-use Rattle.search_laws.proofs.Cited.{entered, legal, reads, same_output, same_errors, forth, steps}
-use Rattle.search_laws.proofs.Reached.{exact_rests}
+use Rattle.search_laws.specs.Shown.{forget}
+use Rattle.search_laws.proofs.Cited.{forth}
 
 -- ---- what reads the clock is legal at any time
 

@@ -1,6 +1,5 @@
 -- Runs of a timing on the way of a search.
-use Rattle.std.proofs.Common.{◌≡◌, ◌≤◌, ◌<◌, ◌+◌, ℕ, zero, suc, ⊎_elim, nat_le, List, [], ◌∷◌, ◌++◌, length, true, false, cond, Option, Some, None, slice_get, refl, sym, ap, ◌∙◌, subst, arith, inl, inr, append_assoc, append-nil}
-use Rattle.std.proofs.lemmas.Option.{same_Some}
+use Rattle.std.proofs.Common.{◌≡◌, ◌≤◌, ◌<◌, ◌+◌, ℕ, ⊎_elim, nat_le, List, [], ◌∷◌, ◌++◌, length, true, false, cond, Option, Some, None, slice_get, refl, sym, ap, ◌∙◌, subst, arith, append-nil}
 use Rattle.std.proofs.lemmas.Bool.{cases_lt, le-leb}
 use Rattle.hs_base.specs.declared.clock_choice.ClockChoice.{ClockChoice}
 use Rattle.hs_base.specs.declared.clock_choice.ClockChoice.TheVariants.{Real, Virtual}
@@ -14,13 +13,11 @@ use Rattle.rules_trees.specs.Programs.{Fn, script_of}
 use Rattle.rules_meaning.specs.CoreMeaning.{Code, code_of}
 use Rattle.rules_typing.specs.TypingScripts.{Accepted}
 use Rattle.rules_code.specs.CodeTrees.{SlottedFunction, code_trees}
-use Rattle.rules_waiting.specs.Waiting.{earliest}
 use Rattle.hs_rules.specs.State.{State}
 use Rattle.hs_rules.specs.Entries.{Leads}
 use Rattle.hs_rules.specs.Endings.{IsTick, IsQuiet, IsWithin, allowed}
-use Rattle.hs_rules.specs.Endings as endings
 use Rattle.hs_rules.specs.Histories.{cost_of, steps_of}
-use Rattle.hs_rules.specs.Runs.{Run, first_of, after, IsRun}
+use Rattle.hs_rules.specs.Runs.{Run, first_of, IsRun}
 use Rattle.hs_laws.specs.HistoryEndings.{StaysWithin}
 use Rattle.hs_laws.proofs.RunParts.{is_after, run_more}
 use Rattle.hs_laws.proofs.HowItEnds.{within_more}
@@ -34,10 +31,10 @@ use Rattle.slot_states.proofs.Settled.{same_due}
 use Rattle.slot_states.proofs.Printed.{next_adds}
 use Rattle.exn_flight.specs.Asleep.{due_of}
 use Rattle.slot_entries.specs.Entering.{next, on_thread}
-use Rattle.slot_time.specs.WithoutTime.{untimed, ReadsClock, ticked_to, due_first}
+use Rattle.slot_time.specs.WithoutTime.{untimed, ticked_to, due_first}
 use Rattle.slot_rests.specs.Rests.{EagerMove}
-use Rattle.search_laws.specs.Shown.{forget, Shown, StandsAs, FitsIn, Arrives}
-use Rattle.search_laws.specs.Going.{EagerEntries, IsStill, ReadsTime, MayTake, steps_by, Leaves, Takes}
+use Rattle.search_laws.specs.Shown.{forget, FitsIn}
+use Rattle.search_laws.specs.Going.{EagerEntries, IsStill, MayTake, steps_by, Leaves}
 use Rattle.search_laws.proofs.Cited.{entered, legal, reads, same_output, same_errors, back, ticked, move_enters}
 
 -- ---- runs

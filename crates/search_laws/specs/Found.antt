@@ -1,5 +1,5 @@
 -- What a search has found (own): its states by number, where each came from, and how a run that comes to it has ended.
-use Rattle.std.specs.Prelude.{◌≡◌, ◌<◌, ◌≤◌, ◌⊎◌, ℕ, zero, suc, ◌+◌, Bool, true, false, cond, List, [], ◌∷◌, ◌++◌, length, map, Option, Some, None, slice_get}
+use Rattle.std.specs.Prelude.{◌≡◌, ◌<◌, ◌≤◌, ◌⊎◌, ℕ, suc, ◌+◌, Bool, true, false, cond, List, [], ◌∷◌, ◌++◌, length, map, Option, Some, None, slice_get}
 use Rattle.hs_base.specs.declared.clock_choice.ClockChoice.{ClockChoice}
 use Rattle.hs_base.specs.declared.limits.Limits.{Limits}
 use Rattle.hs_rules.specs.declared.entry.Entry.{Entry}
@@ -119,21 +119,27 @@ pub record AreGone (clock : ClockChoice) (funs : List SlottedFunction) (limits :
 
 -- ---- entries to try
 
--- the entries of a thread of its own, a Local of one step
-abbrev pub entries_of : ℕ → List Entry
-entries_of t = entry.Local t 1 ∷ entry.Op t ∷ entry.Receive t ∷ entry.Finish t ∷ []
+-- the entries of a thread of its own that may have a next state, a Local of one step: none where it has finished, and where it is
+-- blocked a Receive alone
+abbrev pub entries_at : ℕ → SlotThread → List Entry
+entries_at t th = cond th.finished [] (cond th.blocked (entry.Receive t ∷ []) (entry.Local t 1 ∷ entry.Op t ∷ entry.Receive t ∷ entry.Finish t ∷ []))
 
--- those of the threads below a number
-abbrev pub entries_below : ℕ → List Entry
-entries_below zero = []
-entries_below (suc n) = entries_below n ++ entries_of n
+-- those of these threads, which are numbered from t
+abbrev pub entries_from : ℕ → List SlotThread → List Entry
+entries_from t [] = []
+entries_from t (th ∷ ths) = entries_at t th ++ entries_from (suc t) ths
 
 abbrev pub wake_of : Sleeper → Entry
 wake_of r = entry.Wake r.thread
 
+-- where the main thread is there and hasn't finished these, else none
+abbrev pub where_main_goes : Option SlotThread → List Entry → List Entry
+where_main_goes None es = []
+where_main_goes (Some main) es = cond main.finished [] es
+
 -- whatever but a Tick may have a next state and be taken is among these
 abbrev pub candidates : SlotState → List Entry
-candidates x = (entries_below (length x.threads) ++ map wake_of x.sleepers) ++ entry.Stranded ∷ []
+candidates x = where_main_goes (slice_get x.threads 0) ((entries_from 0 x.threads ++ map wake_of x.sleepers) ++ entry.Stranded ∷ [])
 
 -- ---- how a run that comes to one has ended
 

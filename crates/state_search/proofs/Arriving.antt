@@ -10,7 +10,9 @@ use Rattle.number_states.specs.declared.state.NumberState.{NumberState}
 use Rattle.number_states.specs.Stocks.{Stock, HasGrown, text_at}
 use Rattle.number_states.specs.States.{AreIn, Becomes, slots}
 use Rattle.number_states.proofs.Growth.{text_at_on}
+use Rattle.number_rests.specs.declared.rules.EagerRules.{EagerRules}
 use Rattle.number_rests.specs.Resting.{Rests}
+use Rattle.number_rests.specs.Rules.{AreRules}
 use Rattle.search_laws.specs.Shown.{Shown, FitsIn, forget}
 use Rattle.search_laws.specs.Going.{EagerEntries, Takes}
 use Rattle.search_laws.specs.Found.{Comes, IsBefore}
@@ -31,9 +33,9 @@ module _ (bounds : Bounds) (b : Body) where
   meets_left f (Some e) parent x n l = (l.state, l.source, l.is, l.its, l.leaves, l.steps)
 
   -- it was left of a state that there is, whatever the tables have become
-  pub left_on : (f : Found) (g : Stock) (e : Option Entry) (parent : ℕ) (x : Shown) (n : ℕ) → Searched bounds b f → HasGrown f.numbers g → IsLeftBy bounds b f e parent x n → IsLeftBy bounds b (record f { numbers = g }) e parent x n
-  left_on f g None parent x n s grown l = record { slots = l.slots; output = l.output; errors = l.errors; steps = l.steps; none = l.none }
-  left_on f g (Some e) parent x n s grown l = record {
+  pub left_on : (f : Found) (g : Stock) (r : EagerRules) (e : Option Entry) (parent : ℕ) (x : Shown) (n : ℕ) → Searched bounds b f → HasGrown f.numbers g → IsLeftBy bounds b f e parent x n → IsLeftBy bounds b (record f { numbers = g; rules = r }) e parent x n
+  left_on f g r None parent x n s grown l = record { slots = l.slots; output = l.output; errors = l.errors; steps = l.steps; none = l.none }
+  left_on f g r (Some e) parent x n s grown l = record {
     state = l.state;
     is = subst (λ xs. slice_get xs parent ≡ Some l.state) (sym (same_states bounds b f g s.there grown)) l.is;
     source = l.source;
@@ -107,31 +109,31 @@ module _ (bounds : Bounds) (b : Body) where
     takes = takes_left f e parent x d n ls l r;
   }
 
-  pub extends_on : (f : Found) (g : Stock) (h : Found) → Searched bounds b f → HasGrown f.numbers g → Extends b (record f { numbers = g }) h → Extends b f h
-  extends_on f g h s grown e = record { states = subst (λ xs. Grows xs (states_of b h)) (same_states bounds b f g s.there grown) e.states; edges = e.edges; gap = e.gap }
+  pub extends_on : (f : Found) (g : Stock) (r : EagerRules) (h : Found) → Searched bounds b f → HasGrown f.numbers g → Extends b (record f { numbers = g; rules = r }) h → Extends b f h
+  extends_on f g r h s grown e = record { states = subst (λ xs. Grows xs (states_of b h)) (same_states bounds b f g s.there grown) e.states; edges = e.edges; gap = e.gap }
 
-  module _ (f : Found) (g : Stock) (x z : NumberState) (o : Origin) (n k : ℕ) (left : IsLeftBy bounds b f o.entry o.parent (shown f.numbers b x) n) (r : IsRested (shown f.numbers b x) o.rest.items (shown g b z) × (length o.rest.items ≡ k))
+  module _ (f : Found) (g : Stock) (known : EagerRules) (x z : NumberState) (o : Origin) (n k : ℕ) (left : IsLeftBy bounds b f o.entry o.parent (shown f.numbers b x) n) (r : IsRested (shown f.numbers b x) o.rest.items (shown g b z) × (length o.rest.items ≡ k))
       (steps : o.steps ≡ n + k) (found : Searched bounds b f) (more : HasGrown f.numbers g) where
     -- its origin is that of what is rested
-    pub comes_rested : ComesTo bounds b (record f { numbers = g }) o z
+    pub comes_rested : ComesTo bounds b (record f { numbers = g; rules = known }) o z
     comes_rested = record {
-      comes = comes_left (record f { numbers = g }) o.entry o.parent (shown f.numbers b x) (shown g b z) n o.steps o.rest.items (left_on f g o.entry o.parent (shown f.numbers b x) n found more left) r.0
+      comes = comes_left (record f { numbers = g; rules = known }) o.entry o.parent (shown f.numbers b x) (shown g b z) n o.steps o.rest.items (left_on f g known o.entry o.parent (shown f.numbers b x) n found more left) r.0
           (let many = r.1 in omega (arith, steps, many));
       before = before_left f o.entry o.parent (shown f.numbers b x) n left;
     }
 
     -- and where that is kept, it arrives there
-    pub arrives_rested : (h : Found) (to : ℕ) → Extends b (record f { numbers = g }) h → slice_get (states_of b h) to ≡ Some (shown g b z) → ArrivesAt bounds b h o.entry o.parent to k
+    pub arrives_rested : (h : Found) (to : ℕ) → Extends b (record f { numbers = g; rules = known }) h → slice_get (states_of b h) to ≡ Some (shown g b z) → ArrivesAt bounds b h o.entry o.parent to k
     arrives_rested h to e at =
-        arrives_at f h o.entry o.parent (shown f.numbers b x) (shown g b z) n to k o.rest.items left r.0 r.1 (extends_on f g h found more e).states at
+        arrives_at f h o.entry o.parent (shown f.numbers b x) (shown g b z) n to k o.rest.items left r.0 r.1 (extends_on f g known h found more e).states at
 
   -- ---- nothing yet
 
   no_place : {A : Type 0} → (xs : List A) (i : ℕ) (x : A) → xs ≡ [] → slice_get xs i ≡ Some x → ⊥
   no_place xs i x none at = let w = there_below xs i x at in let e = ap length none in absurd (omega (arith, w, e))
 
-  pub nothing_yet : (f : Found) → f.states ≡ [] → f.origins.items ≡ [] → f.kinds.items ≡ [] → f.moves.items ≡ [] → f.gap ≡ None → Going bounds b 0 f
-  nothing_yet f states origins kinds moves gap =
+  pub nothing_yet : (f : Found) → AreRules b f.numbers f.rules → f.states ≡ [] → f.origins.items ≡ [] → f.kinds.items ≡ [] → f.moves.items ≡ [] → f.gap ≡ None → Going bounds b 0 f
+  nothing_yet f rules states origins kinds moves gap =
       let shows : states_of b f ≡ [] = ap (map (shown f.numbers b)) states in
       let leads : edges_of f ≡ [] = ap (map edge_of) moves in
       record {
@@ -148,6 +150,7 @@ module _ (bounds : Bounds) (b : Body) where
           in_order = λ k l g h le at. absurd (no_place (edges_of f) k g leads at);
           gap = subst (GapIs bounds b f) (sym gap) tt;
         };
+        rules = rules;
         up_to = λ k g at. absurd (no_place (edges_of f) k g leads at);
         gone = λ none i c below at. absurd (no_place (states_of b f) i c shows at);
         looked = λ i c k below at. absurd (no_place (states_of b f) i c shows at);

@@ -1,5 +1,5 @@
 -- Where each entry of a state was tried, the search has gone on from it.
-use Rattle.std.proofs.Common.{◌≡◌, ◌≤◌, ◌<◌, ◌+◌, ℕ, zero, suc, Bool, true, false, List, [], ◌∷◌, ◌++◌, length, map, get_or, Option, Some, None, slice_get, refl, sym, ◌∙◌, subst, arith, below_more}
+use Rattle.std.proofs.Common.{◌≡◌, ◌≤◌, ◌<◌, ◌+◌, ℕ, zero, suc, Bool, true, false, cond, List, [], ◌∷◌, ◌++◌, length, map, get_or, Option, Some, None, slice_get, refl, sym, ◌∙◌, subst, arith, below_more}
 use Rattle.std.proofs.lemmas.Option.{same_Some}
 use Rattle.std.specs.List.{AllByRecursion, Contains}
 use Rattle.hs_rules.specs.declared.entry.Entry.{Entry}
@@ -7,13 +7,13 @@ use Rattle.hs_rules.specs.declared.entry.Entry.TheVariants as entry
 use Rattle.rules_code.specs.declared.code.Body.{Body}
 use Rattle.rules_waiting.specs.Waiting.{Sleeper}
 use Rattle.outcome_listing.specs.declared.bounds.Bounds.{Bounds}
-use Rattle.slot_states.specs.SlotStates.{SlotState}
+use Rattle.slot_states.specs.SlotStates.{SlotThread, SlotState}
 use Rattle.slot_entries.specs.Entering.{next}
 use Rattle.local_steps.specs.Machine.{funs_of}
 use Rattle.number_states.proofs.Changes.{got_read}
 use Rattle.search_laws.specs.Shown.{Shown}
 use Rattle.search_laws.specs.Going.{IsStill}
-use Rattle.search_laws.specs.Found.{IsFollowed, IsGone, entries_of, entries_below, wake_of, candidates}
+use Rattle.search_laws.specs.Found.{IsFollowed, IsGone, entries_at, entries_from, wake_of, where_main_goes, candidates}
 use Rattle.search_laws.proofs.Candidates.{all_still, all_gone}
 use Rattle.search_laws.proofs.Growing.{followed_more}
 use Rattle.state_search.specs.declared.found.Found.{Found}
@@ -35,27 +35,38 @@ all_both : {A : Type 0} (P : A → Type 0) (xs ys : List A) → AllByRecursion P
 all_both P [] ys h k = k
 all_both P (x ∷ xs) ys h k = (h.0, all_both P xs ys h.1 k)
 
-always_of : (t : ℕ) → AllByRecursion MayAlways (entries_of t)
-always_of t =
+always_by : (t : ℕ) (finished blocked : Bool) → AllByRecursion MayAlways (cond finished [] (cond blocked (entry.Receive t ∷ []) (entry.Local t 1 ∷ entry.Op t ∷ entry.Receive t ∷ entry.Finish t ∷ [])))
+always_by t true blocked = tt
+always_by t false true = (record { may = λ clock funs x. tt; plain = λ q. q }, tt)
+always_by t false false =
     let local : MayAlways (entry.Local t 1) = record { may = λ clock funs x. refl; plain = λ q. q } in
     let op : MayAlways (entry.Op t) = record { may = λ clock funs x. tt; plain = λ q. q } in
     let receive : MayAlways (entry.Receive t) = record { may = λ clock funs x. tt; plain = λ q. q } in
     let finish : MayAlways (entry.Finish t) = record { may = λ clock funs x. tt; plain = λ q. q } in
     (local, (op, (receive, (finish, tt))))
 
-always_below : (n : ℕ) → AllByRecursion MayAlways (entries_below n)
-always_below zero = tt
-always_below (suc n) = all_both MayAlways (entries_below n) (entries_of n) (always_below n) (always_of n)
+always_from : (t : ℕ) (ths : List SlotThread) → AllByRecursion MayAlways (entries_from t ths)
+always_from t [] = tt
+always_from t (th ∷ ths) = all_both MayAlways (entries_at t th) (entries_from (suc t) ths) (always_by t th.finished th.blocked) (always_from (suc t) ths)
 
 always_wakes : (rs : List Sleeper) → AllByRecursion MayAlways (map wake_of rs)
 always_wakes [] = tt
 always_wakes (r ∷ rs) = (record { may = λ clock funs x. tt; plain = λ q. q }, always_wakes rs)
 
+always_unless : (finished : Bool) (es : List Entry) → AllByRecursion MayAlways es → AllByRecursion MayAlways (cond finished [] es)
+always_unless true es all = tt
+always_unless false es all = all
+
+always_where : (main : Option SlotThread) (es : List Entry) → AllByRecursion MayAlways es → AllByRecursion MayAlways (where_main_goes main es)
+always_where None es all = tt
+always_where (Some main) es all = always_unless main.finished es all
+
 pub always_candidates : (x : SlotState) → AllByRecursion MayAlways (candidates x)
 always_candidates x =
-    all_both MayAlways (entries_below (length x.threads) ++ map wake_of x.sleepers) (entry.Stranded ∷ [])
-    (all_both MayAlways (entries_below (length x.threads)) (map wake_of x.sleepers) (always_below (length x.threads)) (always_wakes x.sleepers))
-    (record { may = λ clock funs y. tt; plain = λ q. q }, tt)
+    always_where (slice_get x.threads 0) ((entries_from 0 x.threads ++ map wake_of x.sleepers) ++ entry.Stranded ∷ [])
+    (all_both MayAlways (entries_from 0 x.threads ++ map wake_of x.sleepers) (entry.Stranded ∷ [])
+    (all_both MayAlways (entries_from 0 x.threads) (map wake_of x.sleepers) (always_from 0 x.threads) (always_wakes x.sleepers))
+    (record { may = λ clock funs y. tt; plain = λ q. q }, tt))
 
 -- ---- one more entry
 

@@ -18,6 +18,9 @@ use Rattle.number_states.specs.Keys.{state_key}
 use Rattle.number_states.proofs.Changes.{got_mapped}
 use Rattle.number_states.proofs.Exact.{exact_contents}
 use Rattle.number_states.proofs.Growth.{slots_of_on, all_in_on, text_at_on}
+use Rattle.number_rests.specs.declared.rules.EagerRules.{EagerRules}
+use Rattle.number_rests.specs.Rules.{AreRules}
+use Rattle.number_rests.proofs.Ruling.{rules_on}
 use Rattle.search_laws.specs.Shown.{Shown}
 use Rattle.search_laws.specs.Found.{Source, Comes, IsBefore, HaveSources, Edge, AreTrueEdges, AreInOrder, IsGone, ended_by}
 use Rattle.search_laws.proofs.Candidates.{there_below}
@@ -27,7 +30,7 @@ use Rattle.state_search.specs.declared.found.Gap.{Gap}
 use Rattle.state_search.specs.declared.found.Origin.{Origin}
 use Rattle.state_search.specs.Meaning.{shown, states_of, sources_of, edges_of, source_of, kinds_of, kind_of, begun}
 use Rattle.state_search.specs.Searching.{HasCause, ReadsBy, MeetsBy, GapIs, Searched}
-use Rattle.state_search.specs.Working.{AreUpTo, Going, Extends, ComesTo}
+use Rattle.state_search.specs.Working.{AreUpTo, Going, Extends, ComesTo, Bars}
 
 -- ---- what a state shows
 
@@ -64,6 +67,17 @@ added old new n x none (one, at, key) (inr e) = (
   e,
   ⊎_elim (λ h. absurd (none n (one, h, key))) (λ h. h.0) (before_or_last old x n one (subst (λ xs. slice_get xs n ≡ Some one) e at)),
 )
+
+-- a number below those that were there is that of one of them
+pub number_known : (old new : List NumberState) (n : ℕ) (x : NumberState) → IsNumberOf state_key new n x → (new ≡ old) ⊎ (new ≡ old ++ x ∷ []) → n < length old → ((m : ℕ) → IsNumberOf state_key old m x → new ≡ old) → (new ≡ old) × IsNumberOf state_key old n x
+number_known old new n x is (inl e) below stays = (e, subst (λ xs. IsNumberOf state_key xs n x) e is)
+number_known old new n x (one, at, key) (inr e) below stays =
+    ⊎_elim (λ h. let there : IsNumberOf state_key old n x = (one, h, key) in (stays n there, there)) (λ h. absurd (omega (arith, h.0, below)))
+    (before_or_last old x n one (subst (λ xs. slice_get xs n ≡ Some one) e at))
+
+-- any other is that of one that wasn't there
+pub number_new : (old new : List NumberState) (n : ℕ) (x : NumberState) → IsNumberOf state_key new n x → length old ≤ n → ((m : ℕ) → IsNumberOf state_key old m x → new ≡ old) → (m : ℕ) → IsNumberOf state_key old m x → ⊥
+number_new old new n x (one, at, key) above stays m there = let w = there_below old n one (subst (λ xs. slice_get xs n ≡ Some one) (stays m there) at) in absurd (omega (arith, w, above))
 
 -- no two have one key with it
 apart_more : (xs : List NumberState) (x : NumberState) → AreApart state_key xs → ((m : ℕ) → IsNumberOf state_key xs m x → ⊥) → AreApart state_key (xs ++ x ∷ [])
@@ -119,10 +133,17 @@ module _ (bounds : Bounds) (b : Body) where
 
   -- a gap that is noted
   pub noted : (n : ℕ) (f : Found) (g : Option Gap) → Going bounds b n f → (g ≡ None → ⊥) → Searched bounds b (record f { gap = g }) → Going bounds b n (record f { gap = g })
-  noted n f g h some s = record { searched = s; up_to = h.up_to; gone = λ e. absurd (some e); looked = h.looked; early = h.early }
+  noted n f g h some s = record { searched = s; rules = h.rules; up_to = h.up_to; gone = λ e. absurd (some e); looked = h.looked; early = h.early }
 
   pub noted_so : (n : ℕ) (f h : Found) → h ≡ record f { gap = h.gap } → Going bounds b n f → (h.gap ≡ None → ⊥) → Searched bounds b h → Going bounds b n h
   noted_so n f h same going some s = subst (Going bounds b n) (sym same) (noted n f h.gap going some (subst (Searched bounds b) same s))
+
+  -- what keeps a state from being added is the cause of a gap
+  pub barred : (f : Found) (x : NumberState) (o : Origin) (why : Cause) → Searched bounds b f → ComesTo bounds b f o x → Bars bounds f o.steps why → HasCause bounds b f o why
+  barred f x o cause.Fuel s comes past = (shown f.numbers b x, comes.comes, past)
+  barred f x o cause.States s comes full = let few = s.few in omega (arith, few, full)
+  barred f x o cause.Clock s comes never = absurd never
+  barred f x o (cause.Limit kind) s comes never = absurd never
 
   -- ---- the tables grow
 
@@ -152,10 +173,39 @@ module _ (bounds : Bounds) (b : Body) where
       let same : states_of b (record f { numbers = g }) ≡ states_of b f = same_states f g h.searched.there more in
       record {
         searched = searched_on f g h.searched more;
+        rules = rules_on b f.numbers g f.rules more h.rules;
         up_to = h.up_to;
         gone = λ none i c below at. h.gone none i c below (subst (λ xs. slice_get xs i ≡ Some c) same at);
         looked = λ i c k below at. h.looked i c k below (subst (λ xs. slice_get xs i ≡ Some c) same at);
         early = λ i c k above at. h.early i c k above (subst (λ xs. slice_get xs i ≡ Some c) same at);
+      }
+
+  -- more is known of eager rules
+  searched_ruled : (f : Found) (r : EagerRules) → Searched bounds b f → Searched bounds b (record f { rules = r })
+  searched_ruled f r s = record {
+    apart = s.apart;
+    origins = s.origins;
+    kinds = s.kinds;
+    few = s.few;
+    there = s.there;
+    sources = s.sources;
+    short = s.short;
+    ends = s.ends;
+    edges = s.edges;
+    in_order = s.in_order;
+    gap = gap_more f (record f { rules = r }) f.gap ([], sym (append-nil (states_of b f))) ([], sym (append-nil (sources_of f))) (λ e. e) s.gap;
+  }
+
+  pub ruled : (n : ℕ) (f : Found) (g : Stock) (r : EagerRules) → Going bounds b n f → HasGrown f.numbers g → AreRules b g r → Going bounds b n (record f { numbers = g; rules = r })
+  ruled n f g r h more known =
+      let next = grown n f g h more in
+      record {
+        searched = searched_ruled (record f { numbers = g }) r next.searched;
+        rules = known;
+        up_to = next.up_to;
+        gone = next.gone;
+        looked = next.looked;
+        early = next.early;
       }
 
   -- ---- one more state
@@ -167,6 +217,7 @@ module _ (bounds : Bounds) (b : Body) where
     pub states : h.states ≡ f.states ++ x ∷ []
     pub origins : h.origins.items ≡ f.origins.items ++ o ∷ []
     pub kinds : h.kinds.items ≡ f.kinds.items ++ kind ∷ []
+    pub rules : h.rules ≡ f.rules
     pub moves : edges_of h ≡ edges_of f
     pub gap : h.gap ≡ f.gap
     pub there : AreIn f.numbers x
@@ -270,6 +321,7 @@ module _ (bounds : Bounds) (b : Body) where
     pub kept_new : Going bounds b n h
     kept_new = record {
       searched = searched_added;
+      rules = subst (λ g. AreRules b g h.rules) (sym a.numbers) (subst (AreRules b f.numbers) (sym a.rules) old.rules);
       up_to = subst (AreUpTo n) (sym a.moves) old.up_to;
       gone = λ none i c below at.
           subst (λ es. IsGone bounds.clock (funs_of b) es i c) (sym a.moves)

@@ -38,6 +38,7 @@ pub going_next : (bounds : Bounds) (b : Body) (n : ℕ) (f : Found) → Going bo
     → ((c : Shown) (k : Option laws.Final) → slice_get (states_of b f) n ≡ Some c → slice_get (kinds_of f) n ≡ Some k → HasKind (funs_of b) c k) → Going bounds b (n + 1) f
 going_next bounds b n f going gone kind = record {
   searched = going.searched;
+  rules = going.rules;
   up_to = λ k g at. let h = going.up_to k g at in omega arith;
   gone = λ none i c below at.
       ⊎_elim (λ lt. going.gone none i c lt at) (λ is. subst (λ m. IsGone bounds.clock (funs_of b) (edges_of f) m c) (sym is) (gone none c (subst (λ m. slice_get (states_of b f) m ≡ Some c) is at))) (last_or_below i n below);
@@ -150,6 +151,7 @@ module _ (bounds : Bounds) (b : Body) (n : ℕ) (f h : Found) (k : Option Final)
   pub going_settled : Going bounds b (n + 1) h
   going_settled = subst (Going bounds b (n + 1)) (sym same) (record {
     searched = searched_settled;
+    rules = going.rules;
     up_to = λ l g at. let q = going.up_to l g at in omega arith;
     gone = λ none i c below at.
         ⊎_elim (λ lt. going.gone none i c lt at) (λ is. subst (λ m. IsGone bounds.clock (funs_of b) (edges_of f) m c) (sym is) (stuck_gone c (subst (λ m. slice_get (states_of b f) m ≡ Some c) is at))) (last_or_below i n below);

@@ -98,6 +98,7 @@ module _ (bounds : Bounds) (b : Body) (n : ℕ) (h k : Found) (m : Move) (move :
   pub going_move : Going bounds b n k
   going_move = subst (Going bounds b n) (sym move.0) (record {
     searched = searched_move;
+    rules = going.rules;
     up_to = subst (AreUpTo n) (sym edges) (up_to_one n (edges_of h) (edge_of m) going.up_to from);
     gone = λ none i c below at. subst (λ es. IsGone bounds.clock (funs_of b) es i c) (sym edges) (gone_more bounds.clock (funs_of b) bounds.limits (begun b) (edges_of h) (edge_of m ∷ []) i c (going.gone none i c below at));
     looked = going.looked;

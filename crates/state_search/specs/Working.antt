@@ -4,12 +4,15 @@ use Rattle.hs_rules.specs.declared.entry.Entry.{Entry}
 use Rattle.rules_code.specs.declared.code.Body.{Body}
 use Rattle.outcome_laws.specs.Outcomes as laws
 use Rattle.outcome_listing.specs.declared.bounds.Bounds.{Bounds}
+use Rattle.outcome_listing.specs.declared.explored.Cause.{Cause}
+use Rattle.outcome_listing.specs.declared.explored.Cause.TheVariants as cause
 use Rattle.outcome_listing.specs.declared.explored.Final.{Final}
 use Rattle.outcome_listing.specs.declared.explored.Final.TheVariants.{Deadlock}
 use Rattle.slot_states.specs.SlotStates.{SlotState}
 use Rattle.slot_entries.specs.Entering.{next}
 use Rattle.local_steps.specs.Machine.{funs_of}
 use Rattle.number_tables.specs.Tables.{Grows}
+use Rattle.number_rests.specs.Rules.{AreRules}
 use Rattle.search_laws.specs.Shown.{Shown}
 use Rattle.slot_states.specs.Printing.{output_by, errors_by}
 use Rattle.search_laws.specs.Going.{IsStill, MayTake, Leaves, steps_by}
@@ -25,8 +28,10 @@ abbrev pub AreUpTo : ℕ → List Edge → Type 0
 AreUpTo n edges = (k : ℕ) (g : Edge) → slice_get edges k ≡ Some g → g.from ≤ n
 
 -- The search has gone on from the states below this number, and knows of these how each has ended, of the others whether main has.
+-- What it knows of eager rules is so.
 pub record Going (bounds : Bounds) (b : Body) (n : ℕ) (f : Found) : Type 0 where
   pub searched : Searched bounds b f
+  pub rules : AreRules b f.numbers f.rules
   pub up_to : AreUpTo n (edges_of f)
   pub gone : f.gap ≡ None → (i : ℕ) (c : Shown) → i < n → slice_get (states_of b f) i ≡ Some c → IsGone bounds.clock (funs_of b) (edges_of f) i c
   pub looked : (i : ℕ) (c : Shown) (k : Option laws.Final) → i < n → slice_get (states_of b f) i ≡ Some c → slice_get (kinds_of f) i ≡ Some k → HasKind (funs_of b) c k
@@ -51,6 +56,17 @@ IsTried bounds b f i e false = (c : Shown) → slice_get (states_of b f) i ≡ S
 pub record ComesTo (bounds : Bounds) (b : Body) (f : Found) (o : Origin) (n : NumberState) : Type 0 where
   pub comes : Comes bounds.clock (funs_of b) bounds.limits (begun b) (states_of b f) (sources_of f) (source_of o) (shown f.numbers b n)
   pub before : IsBefore o.entry o.parent (length f.states)
+
+-- a state on a path of so many steps may be added
+abbrev pub MayAdd : Bounds → Found → ℕ → Type 0
+MayAdd bounds f steps = (steps ≤ bounds.fuel) × (length f.states < bounds.states)
+
+-- for this cause it may not
+abbrev pub Bars : Bounds → Found → ℕ → Cause → Type 0
+Bars bounds f steps cause.Fuel = bounds.fuel < steps
+Bars bounds f steps cause.States = bounds.states ≤ length f.states
+Bars bounds f steps cause.Clock = ⊥
+Bars bounds f steps (cause.Limit kind) = ⊥
 
 -- the state of this number shows what that one does
 abbrev pub IsKeptAt : Body → Found → ℕ → Shown → Type 0

@@ -1,4 +1,5 @@
 use hs_rules::Entry;
+use number_rests::EagerRules;
 use number_states::{NumberState, Numbers};
 use number_tables::Table;
 use outcome_listing::{Cause, Final};
@@ -37,6 +38,8 @@ pub struct Gap {
 #[derive(Drop)]
 pub struct Found {
     pub numbers: Numbers,
+    /// What is known of eager rules.
+    pub rules: EagerRules,
     /// By number, no two with one key.
     pub states: Table<NumberState>,
     /// For each state where it came from.

@@ -5,11 +5,12 @@ ghost use Rattle.rules_code.specs.declared.code.Body.{Body};
 ghost use Rattle.outcome_listing.specs.declared.bounds.Bounds.{Bounds};
 ghost use Rattle.outcome_listing.specs.declared.explored.Final.{Final};
 ghost use Rattle.number_states.specs.States.{AreIn, Becomes};
+ghost use Rattle.number_rests.specs.Rules.{AreRules};
 ghost use Rattle.search_laws.specs.Shown.{forget};
 ghost use Rattle.search_laws.specs.Going.{steps_by as steps_of_entry};
 ghost use Rattle.state_search.specs.Meaning.{shown};
 ghost use Rattle.state_search.specs.Searching.{HasCause, Searched};
-ghost use Rattle.state_search.specs.Working.{Going, Extends, IsTried, MayBeTaken, HasBegun, ComesTo, IsKeptAt, IsLeftBy, ArrivesAt, IsStillAt, settled};
+ghost use Rattle.state_search.specs.Working.{Going, Extends, IsTried, MayBeTaken, HasBegun, ComesTo, MayAdd, Bars, IsKeptAt, IsLeftBy, ArrivesAt, IsStillAt, settled};
 ghost use Rattle.state_search.specs.EachTried.{MayAlways, HasTried};
 
 use crate::candidates::entries_to_try;
@@ -18,7 +19,7 @@ use crate::kinds::{ended, exceeded, reads_time};
 use hs_base::{ClockChoice, NoMemory};
 use hs_rules::Entry;
 use number_moves::next;
-use number_rests::rest;
+use number_rests::{EagerRules, rest};
 use number_states::{NumberState, Numbers};
 use number_waits::first_due;
 use outcome_listing::{Bounds, Cause, Final};
@@ -36,7 +37,7 @@ fn steps_by(clock: ClockChoice, entry: Entry) -> u64
 }
 
 /// Takes the time off a state, in real timing.
-fn forget_time(state: &mut NumberState, numbers: &Numbers, clock: ClockChoice)
+pub fn forget_time(state: &mut NumberState, numbers: &Numbers, clock: ClockChoice)
     requires { AreIn numbers.now state.old }
     ensures { Becomes (λ b. forget clock) numbers.now state.old numbers.now state.new }
 {
@@ -57,6 +58,50 @@ impl Found {
         }
     }
 
+    /// Why a state on a path of so many steps may not be added, if it may not.
+    fn bar(&self, bounds: &Bounds, steps: u64) -> Option<Cause>
+        ensures { MatchOption result (MayAdd bounds.now self.now steps) (Bars bounds.now self.now steps) }
+    {
+        if steps > bounds.fuel as u64 {
+            return Some(Cause::Fuel);
+        }
+        if self.states.len() >= bounds.states as usize {
+            return Some(Cause::States);
+        }
+        None
+    }
+
+    /// The number of a state that may be added, which it is where it is new. Where memory runs out nothing is said of what was
+    /// found.
+    fn add(
+        &mut self,
+        alloc: Global,
+        bounds: &Bounds,
+        state: NumberState,
+        by: Origin,
+    ) -> Result<u32, NoMemory>
+        requires there { AreIn self.old.numbers state }
+        requires may { MayAdd bounds.now self.old by.steps }
+        ensures going { OnOk result ((b : Body) (n : ℕ) → n ≤ length self.old.states → Going bounds.now b n self.old → ComesTo bounds.now b self.old by state → Going bounds.now b n self.new) }
+        ensures kept { IfOk result (λ j. (b : Body) → IsKeptAt b self.new j (shown self.old.numbers b state)) }
+        ensures extends { OnOk result ((b : Body) → Extends b self.old self.new) }
+        ensures numbers { OnOk result (self.new.numbers ≡ self.old.numbers) }
+        ensures moves { OnOk result (self.new.moves ≡ self.old.moves) }
+    {
+        let _ = bounds;
+        let kind = ended(&self.numbers, &state);
+        let count = self.states.len();
+        let number = self.states.number(alloc, state)?;
+        if (number as usize) < count {
+            return Ok(number);
+        }
+        self.origins.reserve(1)?;
+        self.kinds.reserve(1)?;
+        self.origins.push_reserved(by);
+        self.kinds.push_reserved(kind);
+        Ok(number)
+    }
+
     /// The number of a state, which is added where it is new and may be; else that is a gap.
     fn keep(
         &mut self,
@@ -72,24 +117,16 @@ impl Found {
         ensures numbers { OnOk result (self.new.numbers ≡ self.old.numbers) }
         ensures moves { OnOk result (self.new.moves ≡ self.old.moves) }
     {
+        let Some(cause) = self.bar(bounds, by.steps) else {
+            // Not asked first whether it is known, since its key would be made twice.
+            let number = self.add(alloc, bounds, state, by)?;
+            return Ok(Some(number));
+        };
         if let Some(number) = self.states.known(alloc, &state)? {
             return Ok(Some(number));
         }
-        if by.steps > bounds.fuel as u64 {
-            self.note(Cause::Fuel, by);
-            return Ok(None);
-        }
-        if self.states.len() >= bounds.states as usize {
-            self.note(Cause::States, by);
-            return Ok(None);
-        }
-        let kind = ended(&self.numbers, &state);
-        self.origins.reserve(1)?;
-        self.kinds.reserve(1)?;
-        let number = self.states.number(alloc, state)?;
-        self.origins.push_reserved(by);
-        self.kinds.push_reserved(kind);
-        Ok(Some(number))
+        self.note(cause, by);
+        Ok(None)
     }
 
     /// Rests a state that an entry left, or with which a run begins, and keeps it; answers its number and how many eager rules
@@ -106,6 +143,7 @@ impl Found {
     ) -> Result<Option<(u32, u32)>, NoMemory>
         requires there { AreIn self.old.numbers state }
         requires few { steps < 2 ^ 33 }
+        requires rules { AreRules body.now self.old.numbers self.old.rules }
         requires left { IsLeftBy bounds.now body.now self.old entry parent (shown self.old.numbers body.now state) steps }
         ensures going { OnOk result ((n : ℕ) → n ≤ length self.old.states → Going bounds.now body.now n self.old → Going bounds.now body.now n self.new) }
         ensures arrived { IfOk result (λ found. MatchOption found (self.new.gap ≡ None → ⊥) (λ r. (n : ℕ) → n ≤ length self.old.states → Going bounds.now body.now n self.old → ArrivesAt bounds.now body.now self.new entry parent r.0 r.1)) }
@@ -128,6 +166,7 @@ impl Found {
             alloc,
             body,
             &mut self.numbers,
+            &mut self.rules,
             &mut state,
             bounds.limits.frames,
             &mut by.rest,
@@ -275,6 +314,7 @@ impl Found {
     {
         let mut found = Found {
             numbers: number_states::Numbers::new(alloc),
+            rules: EagerRules::new(alloc),
             states: number_tables::Table::new(alloc),
             origins: Vec::new(alloc),
             kinds: Vec::new(alloc),

@@ -15,5 +15,8 @@ mod going;
 mod kinds;
 mod searching;
 
+pub use candidates::entries_to_try;
 pub use found::{Found, Gap, Move, Origin};
+pub use going::forget_time;
+pub use kinds::{ended, exceeded, reads_time};
 pub use searching::search;

@@ -1,6 +1,7 @@
-use Rattle.std.proofs.Common.{◌≡◌, ◌≤◌, ℕ, Some, slice_get, refl, sym, ap, ◌∙◌, subst, arith, rules}
-use Rattle.number_states.specs.States.{AreIn, slots, Becomes}
-use Rattle.number_states.specs.Stocks.{HasGrown, IsTerm}
+use Rattle.std.proofs.Common.{◌≡◌, ◌≤◌, ℕ, sym, subst}
+use Rattle.number_states.specs.States.{AreIn}
+use Rattle.number_states.specs.Stocks.{Stock, IsTerm}
+use Rattle.number_states.specs.declared.state.NumberState.{NumberState}
 use Rattle.number_states.specs.declared.state.NumberThread.{NumberThread}
 use Rattle.number_states.proofs.Growth.{is_term_on}
 use Rattle.number_states.proofs.Changes.{becomes_same, all_at}
@@ -8,42 +9,50 @@ use Rattle.number_rests.specs.Resting.{IsFree}
 use Rattle.number_rests.proofs.Moving.{read_is, moved_eagerly, moved_back}
 use Rattle.number_rests.proofs.resting.move_on.Goals as goal
 
+-- the term of the thread that is free is there
+term_there : (g : Stock) (n : NumberState) (t term : ℕ) (free : IsFree n t) → AreIn g n → term ≡ free.thread.term → IsTerm g term
+term_there g n t term free there is = subst (IsTerm g) (sym is) (all_at (λ (th : NumberThread). IsTerm g th.term) n.threads.items t free.thread there.threads free.is)
+
+pub eager-requires-clause-there : goal.eager-requires-clause-there
+eager-requires-clause-there c =
+    let free = c.if-not-is_free.ensures in
+    term_there c.args.numbers.now c.args.state.now c.args.thread c.index.result.now.term free c.requires.state (read_is c.args.state.now c.args.thread free c.index.result.now c.index.ensures)
+
 pub returns-in_default-clause-moves : goal.returns-in_default-clause-moves
-returns-in_default-clause-moves c = (becomes_same c.args.numbers.now c.step.new.self c.args.state.now c.requires c.step.ensures.grows).is c.args.body.now
+returns-in_default-clause-moves c = (becomes_same c.args.numbers.now c.eager.new.numbers c.args.state.now c.requires.state c.eager.ensures.grows).is c.args.body.now
 
 pub returns-in_default-clause-there : goal.returns-in_default-clause-there
-returns-in_default-clause-there c = (becomes_same c.args.numbers.now c.step.new.self c.args.state.now c.requires c.step.ensures.grows).there
-
-pub returns-then-not-step-clause-moves : goal.returns-then-not-step-clause-moves
-returns-then-not-step-clause-moves c = (becomes_same c.args.numbers.now c.step.new.self c.args.state.now c.requires c.step.ensures.grows).is c.args.body.now
-
-pub returns-then-not-step-clause-there : goal.returns-then-not-step-clause-there
-returns-then-not-step-clause-there c = (becomes_same c.args.numbers.now c.step.new.self c.args.state.now c.requires c.step.ensures.grows).there
+returns-in_default-clause-there c = (becomes_same c.args.numbers.now c.eager.new.numbers c.args.state.now c.requires.state c.eager.ensures.grows).there
 
 pub move_to-requires-clause-state : goal.move_to-requires-clause-state
-move_to-requires-clause-state c = (becomes_same c.args.numbers.now c.step.new.self c.args.state.now c.requires c.step.ensures.grows).there
+move_to-requires-clause-state c = (becomes_same c.args.numbers.now c.eager.new.numbers c.args.state.now c.requires.state c.eager.ensures.grows).there
+
+pub move_to-requires-clause-term : goal.move_to-requires-clause-term
+move_to-requires-clause-term c = let rule = rw c.in-Some.is at c.in_ok-to.ensures.leads in rule.goes
 
 pub move_to-requires-then-branch-most_frames-clause-term : goal.move_to-requires-then-branch-most_frames-clause-term
 move_to-requires-then-branch-most_frames-clause-term c =
     let free = c.if-not-is_free.ensures in
     let term = read_is c.args.state.now c.args.thread free c.index.result.now c.index.ensures in
-    is_term_on c.args.numbers.now c.step.new.self c.step.ensures.grows c.index.result.now.term
-    (subst (IsTerm c.args.numbers.now) (sym term) (all_at (λ (th : NumberThread). IsTerm c.args.numbers.now th.term) c.args.state.now.threads.items c.args.thread free.thread c.requires.threads free.is))
+    is_term_on c.args.numbers.now c.eager.new.numbers c.eager.ensures.grows c.index.result.now.term
+    (term_there c.args.numbers.now c.args.state.now c.args.thread c.index.result.now.term free c.requires.state term)
 
 pub returns-then-branch-most_frames-clause-moves : goal.returns-then-branch-most_frames-clause-moves
 returns-then-branch-most_frames-clause-moves c =
-    let same = becomes_same c.args.numbers.now c.step.new.self c.args.state.now c.requires c.step.ensures.grows in
+    let same = becomes_same c.args.numbers.now c.eager.new.numbers c.args.state.now c.requires.state c.eager.ensures.grows in
     let free = c.if-not-is_free.ensures in
     let term = read_is c.args.state.now c.args.thread free c.index.result.now c.index.ensures in
-    moved_back c.args.body.now c.args.numbers.now c.step.new.self c.args.state.now c.move_to.new.self c.move_to-then-branch-most_frames.new.self c.args.thread c.index.result.now.term c.in-Some.step.term free term
+    moved_back c.args.body.now c.args.numbers.now c.eager.new.numbers c.args.state.now c.move_to.new.self c.move_to-then-branch-most_frames.new.self c.args.thread c.index.result.now.term c.in-Some.to free term
     (c.move_to.ensures.is c.args.body.now) (c.move_to-then-branch-most_frames.ensures.is c.args.body.now) (same.is c.args.body.now)
 
 pub returns-clause-moves : goal.returns-clause-moves
 returns-clause-moves c =
-    let same = becomes_same c.args.numbers.now c.step.new.self c.args.state.now c.requires c.step.ensures.grows in
+    let g = c.args.numbers.now in
+    let grown = c.eager.ensures.grows in
+    let same = becomes_same g c.eager.new.numbers c.args.state.now c.requires.state grown in
     let free = c.if-not-is_free.ensures in
     let term = read_is c.args.state.now c.args.thread free c.index.result.now c.index.ensures in
-    let is = rw c.in-Some.is at c.in_ok-step.ensures.is in
-    moved_eagerly c.args.body.now c.args.numbers.now c.step.new.self c.args.state.now c.move_to.new.self c.args.thread c.args.most_frames c.index.result.now.term c.in-Some.step.term free term
-    is.0 (sym is.1 ∙ c.if-not-step.false) (c.move_to.ensures.is c.args.body.now) (same.is c.args.body.now)
+    let rule = rw c.in-Some.is at c.in_ok-to.ensures.leads in
+    moved_eagerly c.args.body.now g c.eager.new.numbers c.args.state.now c.move_to.new.self c.args.thread c.args.most_frames c.index.result.now.term c.in-Some.to free term grown
+    (term_there g c.args.state.now c.args.thread c.index.result.now.term free c.requires.state term) rule (c.move_to.ensures.is c.args.body.now) (same.is c.args.body.now)
     (subst (λ n. n ≤ c.args.most_frames) (c.in_ok-used.ensures {u = tt} c.args.body.now) c.if-branch-most_frames.false)

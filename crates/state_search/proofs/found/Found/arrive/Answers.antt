@@ -1,7 +1,7 @@
 use Rattle.std.proofs.Common.{◌≡◌, ◌+◌, length, refl}
 use Rattle.state_search.specs.declared.found.Origin.{Origin}
 use Rattle.state_search.specs.Meaning.{shown}
-use Rattle.state_search.proofs.Keeping.{noted_so, grown}
+use Rattle.state_search.proofs.Keeping.{noted_so, ruled}
 use Rattle.state_search.proofs.Arriving.{meets_left, rested, IsRested, comes_rested, arrives_rested, extends_on}
 use Rattle.state_search.proofs.found.Found.arrive.Goals as goal
 
@@ -30,10 +30,10 @@ returns-in-None c =
     rested bounds b f.numbers g c.args.state c.forget_time.new.state c.rest.new.state c.new.result.items o.rest.items c.in_ok-eager.eager c.requires.there (fits b) c.forget_time.ensures rests.rests c.new.ensures.items rests.output rests.errors rests.grows in
     record {
       going = λ n within going.
-          keep.going b n within (grown bounds b n f g going rests.grows)
-          (comes_rested bounds b f g c.args.state c.rest.new.state o c.args.steps c.in_ok-eager.eager c.requires.left all refl going.searched rests.grows);
+          keep.going b n within (ruled bounds b n f g c.rest.new.rules going rests.grows rests.rules)
+          (comes_rested bounds b f g c.rest.new.rules c.args.state c.rest.new.state o c.args.steps c.in_ok-eager.eager c.requires.left all refl going.searched rests.grows);
       arrived = rw c.in-None.is at keep.kept;
-      extends = λ n within going. extends_on bounds b f g c.keep.new.self going.searched rests.grows (keep.extends b);
+      extends = λ n within going. extends_on bounds b f g c.rest.new.rules c.keep.new.self going.searched rests.grows (keep.extends b);
       moves = keep.moves;
     }
 
@@ -52,10 +52,10 @@ returns-in-Some-2 c =
     rested bounds b f.numbers g c.args.state c.forget_time.new.state c.rest.new.state c.new.result.items o.rest.items c.in_ok-eager.eager c.requires.there (fits b) c.forget_time.ensures rests.rests c.new.ensures.items rests.output rests.errors rests.grows in
     record {
       going = λ n within going.
-          keep.going b n within (grown bounds b n f g going rests.grows)
-          (comes_rested bounds b f g c.args.state c.rest.new.state o c.args.steps c.in_ok-eager.eager c.requires.left all refl going.searched rests.grows);
+          keep.going b n within (ruled bounds b n f g c.rest.new.rules going rests.grows rests.rules)
+          (comes_rested bounds b f g c.rest.new.rules c.args.state c.rest.new.state o c.args.steps c.in_ok-eager.eager c.requires.left all refl going.searched rests.grows);
       arrived = λ n within going.
-          arrives_rested bounds b f g c.args.state c.rest.new.state o c.args.steps c.in_ok-eager.eager c.requires.left all refl going.searched rests.grows c.keep.new.self c.in-Some-2.number (keep.extends b) (kept b);
-      extends = λ n within going. extends_on bounds b f g c.keep.new.self going.searched rests.grows (keep.extends b);
+          arrives_rested bounds b f g c.rest.new.rules c.args.state c.rest.new.state o c.args.steps c.in_ok-eager.eager c.requires.left all refl going.searched rests.grows c.keep.new.self c.in-Some-2.number (keep.extends b) (kept b);
+      extends = λ n within going. extends_on bounds b f g c.rest.new.rules c.keep.new.self going.searched rests.grows (keep.extends b);
       moves = keep.moves;
     }

@@ -3,6 +3,7 @@ use Rattle.local_steps.specs.Machine.{funs_of}
 use Rattle.number_states.specs.States.{contents, slots}
 use Rattle.number_states.proofs.Growth.{all_in_on}
 use Rattle.number_states.proofs.Changes.{got_mapped}
+use Rattle.number_rests.proofs.Ruling.{rules_on}
 use Rattle.search_laws.specs.Found.{IsFollowed}
 use Rattle.search_laws.proofs.Growing.{followed_last}
 use Rattle.state_search.specs.declared.found.Found.{Found}
@@ -63,6 +64,9 @@ overflow_add-steps c = let h : c.index.result.now.steps + c.steps_by.result < 2 
 
 pub arrive-requires-clause-few : goal.arrive-requires-clause-few
 arrive-requires-clause-few c = subst (λ n. c.index.result.now.steps + n < 2 ^ 33) (sym c.steps_by.ensures) (few_steps c.args.bounds.now c.args.body.now c.args.self.now c.args.at c.index.result.now c.args.entry c.args.bounds.now.clock c.requires.going.searched (origin_there c.args.bounds.now c.args.body.now c.args.self.now c.args.at c.index.result.now c.requires.going c.requires.there c.index.ensures) (omega arith))
+
+pub arrive-requires-clause-rules : goal.arrive-requires-clause-rules
+arrive-requires-clause-rules c = rules_on c.args.body.now c.args.self.now.numbers c.next.new.numbers c.args.self.now.rules c.in_ok-left.ensures.grows c.requires.going.rules
 
 pub arrive-requires-clause-left : goal.arrive-requires-clause-left
 arrive-requires-clause-left c =
