@@ -12,7 +12,7 @@ use Rattle.std.proofs.lemmas.List.{append-nil, get_or-drop}
 use Rattle.std.proofs.Math.Seq.{take-append_seam, drop-append_seam, drop-nil}
 use Rattle.hs_rules.specs.declared.entry.Entry.{Entry}
 use Rattle.hs_rules.specs.declared.entry.Entry.TheVariants.{Local, Op, Receive, Wake, Finish, Tick, Stranded}
-use Rattle.rules_traces.specs.Traces.{Fits, header, line_of, trace_of, script_line, document_of}
+use Rattle.rules_traces.specs.Traces.{Fits, Spells, header, line_of, trace_of, script_line, document_of}
 use Rattle.trace_text.specs.Reading.{DocumentsPart}
 
 -- ---- no byte of a trace is the `s` that begins the line `script`
@@ -149,3 +149,9 @@ documents_part es script fit =
       before = ap (take (length trace)) whole ∙ take-append_seam trace behind;
       behind = drop_drop (length trace) 7 (document_of es script) ∙ (ap (drop 7) seam ∙ drop_line script);
     }
+
+-- ---- the document, as it is put together
+
+pub document_is : (es : List Entry) (trace bytes begin first whole : List ℕ) → whole ≡ first ++ bytes → first ≡ begin ++ script_line → begin ≡ trace → Spells trace es → whole ≡ document_of es bytes
+document_is es trace bytes begin first whole last line same spelled =
+    last ∙ ap (λ z. z ++ bytes) (line ∙ ap (λ z. z ++ script_line) (same ∙ spelled.spelled ∙ append-nil (trace_of es)))

@@ -2,7 +2,8 @@ ghost use Rattle.std.specs.Prelude.{◌≡◌, ◌+◌, ◌≤◌, ◌==◌, ℕ
 ghost use Rattle.std.specs.List.{position};
 ghost use Rattle.rules_traces.specs.Traces.{IsScriptLine};
 
-const SCRIPT_LINE: &[u8] = b"script\n";
+/// The line between a trace and its script.
+pub const SCRIPT_LINE: &[u8] = b"script\n";
 
 /// Where the line `script` of a document begins, and where the script behind it begins: the first line that is exactly that
 /// word and ends with a line feed. `None` exactly where no line is.

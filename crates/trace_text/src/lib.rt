@@ -15,4 +15,4 @@ mod writing;
 pub use document::split;
 pub use laws::{documents_part, one_fault, one_reading, one_spelling, reads_on};
 pub use lines::{Line, Lines};
-pub use writing::write_trace;
+pub use writing::{write_document, write_trace};

@@ -1,7 +1,8 @@
 ghost use Rattle.std.specs.Prelude.{◌≡◌, ◌++◌, IfOk, OnOk, codes, string_bytes};
 ghost use Rattle.std.specs.Fmt.{decimal};
-ghost use Rattle.rules_traces.specs.Traces.{Fits, Spells, header, line_of};
+ghost use Rattle.rules_traces.specs.Traces.{Fits, Spells, document_of, header, line_of};
 
+use crate::document::SCRIPT_LINE;
 use hs_base::{NoMemory, Txt};
 use hs_rules::{Entry, History};
 use itoa::Buffer;
@@ -19,6 +20,17 @@ pub fn write_trace(alloc: Global, history: &History) -> Result<Txt, NoMemory>
         }
     }
     Txt::from_string(text)
+}
+
+/// The document of a history and of the bytes of its script. The only error is want of memory.
+pub fn write_document(alloc: Global, history: &History, script: &[u8]) -> Result<Vec<u8>, NoMemory>
+    ensures { IfOk result (λ document. document.items ≡ document_of history.now.list script.now) }
+{
+    let trace = write_trace(alloc, history)?;
+    let mut document = Vec::from_slice(alloc, trace.as_str().as_bytes())?;
+    document.extend_from_slice(SCRIPT_LINE)?;
+    document.extend_from_slice(script)?;
+    Ok(document)
 }
 
 #[tactic(auto, unfolding(rules_traces::specs::Traces::header))]
