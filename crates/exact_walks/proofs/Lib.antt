@@ -1,0 +1,4 @@
+pub mod OneMore
+pub mod Walks
+pub mod Judged
+pub mod Tried
