@@ -1,0 +1,4 @@
+pub mod Lists
+pub mod Listed
+pub mod Rounds
+pub mod Whole

@@ -1,0 +1,82 @@
+-- The parts of a listing put together.
+use Rattle.std.proofs.Common.{◌≡◌, ℕ, List, length, map, Option, Some, None, refl, sym, subst}
+use Rattle.std.specs.List.{AllByRecursion, Contains}
+use Rattle.hs_base.specs.declared.tree.script.Script.{Script}
+use Rattle.rules_trees.specs.Programs.{Fn, script_of}
+use Rattle.rules_code.specs.declared.code.Body.{Body}
+use Rattle.outcome_laws.specs.Outcomes as laws
+use Rattle.outcome_listing.specs.declared.bounds.Bounds.{Bounds}
+use Rattle.outcome_listing.specs.declared.explored.Extent.{Extent}
+use Rattle.outcome_listing.specs.declared.explored.Extent.TheVariants.{All, NotAll}
+use Rattle.outcome_listing.specs.declared.explored.Endless.{Endless}
+use Rattle.outcome_listing.specs.declared.explored.Endless.TheVariants as endless
+use Rattle.outcome_listing.specs.declared.explored.Outcome.{Outcome}
+use Rattle.outcome_listing.specs.declared.explored.Explored.{Explored}
+use Rattle.outcome_listing.specs.Finals.{outcomes_of}
+use Rattle.outcome_order.specs.declared.ended.Ended.{Ended}
+use Rattle.outcome_order.specs.Rising.{outcome_by, IsRising, Has}
+use Rattle.state_search.specs.declared.found.Found.{Found}
+use Rattle.state_search.specs.declared.found.Gap.{Gap}
+use Rattle.state_search.specs.Searching.{Searched, IsClosed, IsCodeOf, AreReached, Shows, ShowsAll}
+use Rattle.search_ends.specs.declared.marks.Ends.{Ends}
+use Rattle.search_ends.specs.declared.marks.Ends.TheVariants as ends
+use Rattle.search_ends.specs.Ending.{IsRightOf}
+use Rattle.conc_outcomes.specs.Exploring.{IsListed, AreRising, Lists, HasEnds, Explores}
+use Rattle.conc_outcomes.specs.Parts.{IsExtentOf, IsEndOf}
+use Rattle.conc_outcomes.proofs.Listed.{outcomes_rise, has_among}
+
+-- what the parts have promised
+pub record HasParts (bounds : Bounds) (b : Body) (f : Found) (es : List Ended) (e : Ends) (x : Explored) : Type 0 where
+  pub searched : Searched bounds b f
+  pub closed : f.gap ≡ None → IsClosed bounds b f
+  pub reached : (script : Script) → IsCodeOf b script → AreReached bounds script b f
+  pub complete : (script : Script) → IsCodeOf b script → f.gap ≡ None → ShowsAll bounds script b f
+  pub endings : (c : Body) (o : laws.Outcome) → Shows c f o → Has es o
+  pub rising : IsRising es
+  pub right : IsRightOf f e
+  pub listed : (script : Script) → IsCodeOf b script → AllByRecursion (IsListed bounds (script_of script)) x.outcomes
+  pub are : outcomes_of x.outcomes ≡ map outcome_by es
+  pub extent : (script : Script) → IsCodeOf b script → IsExtentOf bounds (script_of script) x.states f.gap x.extent
+  pub endless : (script : Script) → IsCodeOf b script → IsEndOf bounds.clock (script_of script) f.gap e x.endless
+  pub states : x.states ≡ length f.states
+
+lists_by : (bounds : Bounds) (ds : List Fn) (os : List Outcome) (n : ℕ) (gap : Option Gap) (x : Extent) → IsExtentOf bounds ds n gap x → (gap ≡ None → Lists bounds ds os n All) → Lists bounds ds os n x
+lists_by bounds ds os n None x is all = subst (Lists bounds ds os n) (sym is) (all refl)
+lists_by bounds ds os n (Some g) All is all = absurd is
+lists_by bounds ds os n (Some g) (NotAll why run) is all = is
+
+-- all is listed just where there is no gap
+all_if : (bounds : Bounds) (ds : List Fn) (n : ℕ) (gap : Option Gap) (x : Extent) → IsExtentOf bounds ds n gap x → gap ≡ None → x ≡ All
+all_if bounds ds n None x is none = is
+all_if bounds ds n (Some g) x is none = absurd (cc none)
+
+none_if : (bounds : Bounds) (ds : List Fn) (n : ℕ) (gap : Option Gap) (x : Extent) → IsExtentOf bounds ds n gap x → x ≡ All → gap ≡ None
+none_if bounds ds n None x is all = refl
+none_if bounds ds n (Some g) All is all = absurd is
+none_if bounds ds n (Some g) (NotAll why run) is all = absurd (cc all)
+
+module _ (bounds : Bounds) (b : Body) (f : Found) (es : List Ended) (script : Script) (code : IsCodeOf b script) where
+  abbrev ds : List Fn
+  ds = script_of script
+
+  ends_by : (e : Ends) (x : Explored) (p : HasParts bounds b f es e x) (d : Endless) → IsRightOf f e → IsEndOf bounds.clock ds f.gap e d → HasEnds bounds ds x.extent d
+  ends_by ends.Never x p endless.Never right none =
+      let h = right bounds b script p.searched (p.closed none) code in
+      (all_if bounds ds x.states f.gap x.extent (p.extent script code) none, h.0, h.1)
+  ends_by ends.Never x p (endless.Round to round) right is = absurd is
+  ends_by ends.Never x p endless.Unknown right some = λ all. some (none_if bounds ds x.states f.gap x.extent (p.extent script code) all)
+  ends_by (ends.Round at moves) x p endless.Never right is = absurd is
+  ends_by (ends.Round at moves) x p (endless.Round to round) right is = (is, right.1 bounds b script p.searched (p.reached script code) code)
+  ends_by (ends.Round at moves) x p endless.Unknown right is = absurd is
+
+  contained : (e : Ends) (x : Explored) (p : HasParts bounds b f es e x) → f.gap ≡ None → (o : laws.Outcome) → laws.IsOutcomeOf bounds.clock ds o → Contains (outcomes_of x.outcomes) o
+  contained e x p none o h = subst (λ os. Contains os o) (sym p.are) (has_among es o (p.endings b o (p.complete script code none o h)))
+
+  pub explored : (e : Ends) (x : Explored) → HasParts bounds b f es e x → Explores bounds script b x
+  explored e x p = record {
+    sound = p.listed script code;
+    rising = subst AreRising (sym p.are) (outcomes_rise es p.rising);
+    lists = lists_by bounds ds x.outcomes x.states f.gap x.extent (p.extent script code) (contained e x p);
+    ends = ends_by e x p x.endless p.right (p.endless script code);
+    counted = record { found = f; searched = p.searched; reached = p.reached script code; many = sym p.states };
+  }

@@ -1,0 +1,7 @@
+use Rattle.number_tables.specs.Tables.{Grows}
+use Rattle.number_states.specs.Stocks.{HasGrown}
+use Rattle.exact_walks.specs.Entering.{IsAt}
+use Rattle.conc_outcomes.proofs.ends.go_round.Given as goal
+
+abbrev pub invariant-loop-place : goal.invariant-loop-place
+invariant-loop-place l = record { at : IsAt l.bounds l.body l.numbers l.walk; history : Grows l.fn.walk.history.list l.walk.history.list; grows : HasGrown l.fn.numbers l.numbers }

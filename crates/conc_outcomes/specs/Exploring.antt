@@ -1,0 +1,91 @@
+-- What is promised of the outcomes that are listed (own).
+use Rattle.std.specs.Prelude.{◌≡◌, ◌≤◌, ◌<◌, ℕ, List, [], ◌∷◌, length}
+use Rattle.std.specs.List.{AllByRecursion, Contains}
+use Rattle.std.specs.declared.cmp.Ordering.TheVariants.{Less}
+use Rattle.hs_base.specs.declared.clock_choice.ClockChoice.TheVariants.{Real}
+use Rattle.hs_base.specs.declared.tree.script.Script.{Script}
+use Rattle.hs_rules.specs.declared.entry.Entry.{Entry}
+use Rattle.hs_rules.specs.State.{State}
+use Rattle.hs_rules.specs.Histories.{steps_of}
+use Rattle.rules_trees.specs.Programs.{Fn, script_of}
+use Rattle.rules_code.specs.declared.code.Body.{Body}
+use Rattle.outcome_laws.specs.Timings.{IsEndless}
+use Rattle.outcome_laws.specs.Outcomes as laws
+use Rattle.outcome_laws.specs.Outcomes.{HasOutcome, IsOutcomeOf, outcome_cmp}
+use Rattle.outcome_listing.specs.declared.bounds.Bounds.{Bounds}
+use Rattle.outcome_listing.specs.declared.explored.Cause.{Cause}
+use Rattle.outcome_listing.specs.declared.explored.Cause.TheVariants as cause
+use Rattle.outcome_listing.specs.declared.explored.Extent.{Extent}
+use Rattle.outcome_listing.specs.declared.explored.Extent.TheVariants.{All, NotAll}
+use Rattle.outcome_listing.specs.declared.explored.Endless.{Endless}
+use Rattle.outcome_listing.specs.declared.explored.Endless.TheVariants.{Never, Round, Unknown}
+use Rattle.outcome_listing.specs.declared.explored.Outcome.{Outcome}
+use Rattle.outcome_listing.specs.declared.explored.Explored.{Explored}
+use Rattle.outcome_listing.specs.Finals.{outcome_of, outcomes_of}
+use Rattle.ends_laws.specs.Rounds.{HaveBound}
+use Rattle.state_search.specs.declared.found.Found.{Found}
+use Rattle.state_search.specs.Searching.{Searched, AreReached}
+use Rattle.exact_walks.specs.Walking.{IsTimedRun, IsWitness, ExceedsLast, ReadsLast, ComesBack}
+
+-- ---- each outcome that is listed
+
+-- Its witness is a run of the timing, of at most so many steps and within the limits, which keeps the law of the clock with no early
+-- Tick, and comes to it.
+pub record IsListed (bounds : Bounds) (ds : List Fn) (o : Outcome) : Type 0 where
+  pub witness : IsWitness bounds.clock bounds.limits ds o.witness.list
+  pub short : steps_of o.witness.list ≤ bounds.fuel
+  pub comes : HasOutcome ds o.witness.list (outcome_of o)
+
+-- each comes before all that follow it, in the order of outcomes
+abbrev pub IsBefore : laws.Outcome → laws.Outcome → Type 0
+IsBefore o p = outcome_cmp o p ≡ Less
+
+abbrev pub AreRising : List laws.Outcome → Type 0
+AreRising [] = Unit {0}
+AreRising (o ∷ os) = AllByRecursion (IsBefore o) os × AreRising os
+
+-- ---- why there may be others
+
+-- some run leaves a state that is the end of these entries
+abbrev pub IsRunOf : Bounds → List Fn → List Entry → Type 0
+IsRunOf bounds ds es = (s : State) × IsTimedRun bounds.clock ds es s
+
+-- The evidence of each: in real timing the last entry of a run reads the clock; a run has more steps than may be; the last state of a
+-- run, and no other of it, exceeds that limit; there are as many states as may be, and this run.
+abbrev pub HasGap : Bounds → List Fn → ℕ → Cause → List Entry → Type 0
+HasGap bounds ds states cause.Clock es = (bounds.clock ≡ Real) × ReadsLast bounds.clock ds es
+HasGap bounds ds states cause.Fuel es = IsRunOf bounds ds es × (bounds.fuel < steps_of es)
+HasGap bounds ds states (cause.Limit kind) es = ExceedsLast kind bounds.clock bounds.limits ds es
+HasGap bounds ds states cause.States es = IsRunOf bounds ds es × (states ≡ bounds.states)
+
+-- where all are listed each outcome of the script in this timing is, whatever the length of its runs and whatever they use
+abbrev pub Lists : Bounds → List Fn → List Outcome → ℕ → Extent → Type 0
+Lists bounds ds os states All = (o : laws.Outcome) → IsOutcomeOf bounds.clock ds o → Contains (outcomes_of os) o
+Lists bounds ds os states (NotAll why run) = HasGap bounds ds states why run.list
+
+-- ---- whether every schedule ends
+
+-- Every schedule does, only where all is listed: some number bounds the entries other than Ticks of each run. Some schedule doesn't: a
+-- run comes back to a state. It isn't known, only where there may be others.
+abbrev pub HasEnds : Bounds → List Fn → Extent → Endless → Type 0
+HasEnds bounds ds extent Never = (extent ≡ All) × HaveBound bounds.clock ds × ¬ IsEndless bounds.clock ds
+HasEnds bounds ds extent (Round to round) = ComesBack bounds.clock ds to.list round.list × IsEndless bounds.clock ds
+HasEnds bounds ds extent Unknown = extent ≡ All → ⊥
+
+-- ---- how many states there are
+
+-- Each state of some search is one that a run of the timing leaves, no two of them have one key, and there are so many.
+pub record AreCounted (bounds : Bounds) (script : Script) (b : Body) (n : ℕ) : Type 0 where
+  pub found : Found
+  pub searched : Searched bounds b found
+  pub reached : AreReached bounds script b found
+  pub many : length found.states ≡ n
+
+-- ---- the whole
+
+pub record Explores (bounds : Bounds) (script : Script) (b : Body) (x : Explored) : Type 0 where
+  pub sound : AllByRecursion (IsListed bounds (script_of script)) x.outcomes
+  pub rising : AreRising (outcomes_of x.outcomes)
+  pub lists : Lists bounds (script_of script) x.outcomes x.states x.extent
+  pub ends : HasEnds bounds (script_of script) x.extent x.endless
+  pub counted : AreCounted bounds script b x.states

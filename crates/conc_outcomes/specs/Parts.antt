@@ -1,0 +1,29 @@
+-- What the parts of a listing promise each other (own).
+use Rattle.std.specs.Prelude.{◌≡◌, ℕ, List, Option, Some, None}
+use Rattle.rules_trees.specs.Programs.{Fn}
+use Rattle.hs_base.specs.declared.clock_choice.ClockChoice.{ClockChoice}
+use Rattle.outcome_listing.specs.declared.bounds.Bounds.{Bounds}
+use Rattle.outcome_listing.specs.declared.explored.Extent.{Extent}
+use Rattle.outcome_listing.specs.declared.explored.Extent.TheVariants.{All, NotAll}
+use Rattle.outcome_listing.specs.declared.explored.Endless.{Endless}
+use Rattle.outcome_listing.specs.declared.explored.Endless.TheVariants as endless
+use Rattle.state_search.specs.declared.found.Gap.{Gap}
+use Rattle.search_ends.specs.declared.marks.Ends.{Ends}
+use Rattle.search_ends.specs.declared.marks.Ends.TheVariants as ends
+use Rattle.exact_walks.specs.Walking.{ComesBack}
+use Rattle.conc_outcomes.specs.Exploring.{HasGap}
+
+-- Where a search left no gap all is listed, and nowhere else: there a run shows why.
+abbrev pub IsExtentOf : Bounds → List Fn → ℕ → Option Gap → Extent → Type 0
+IsExtentOf bounds ds states None x = x ≡ All
+IsExtentOf bounds ds states (Some g) All = ⊥
+IsExtentOf bounds ds states (Some g) (NotAll why run) = HasGap bounds ds states why run.list
+
+-- Where the moves go round nowhere every schedule ends if there is no gap, else it isn't known; where they go round a run does.
+abbrev pub IsEndOf : ClockChoice → List Fn → Option Gap → Ends → Endless → Type 0
+IsEndOf clock ds gap ends.Never endless.Never = gap ≡ None
+IsEndOf clock ds gap ends.Never (endless.Round to round) = ⊥
+IsEndOf clock ds gap ends.Never endless.Unknown = gap ≡ None → ⊥
+IsEndOf clock ds gap (ends.Round at moves) endless.Never = ⊥
+IsEndOf clock ds gap (ends.Round at moves) (endless.Round to round) = ComesBack clock ds to.list round.list
+IsEndOf clock ds gap (ends.Round at moves) endless.Unknown = ⊥

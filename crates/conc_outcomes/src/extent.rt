@@ -1,0 +1,127 @@
+//! Why there may be outcomes that are not listed, and a run that shows it.
+ghost use Rattle.std.specs.Prelude.{◌≡◌, IfOk, IsTrue};
+ghost use Rattle.hs_base.specs.declared.clock_choice.ClockChoice.TheVariants.{Real};
+ghost use Rattle.hs_base.specs.declared.tree.script.Script.{Script};
+ghost use Rattle.rules_trees.specs.Programs.{script_of};
+ghost use Rattle.state_search.specs.Searching.{IsCodeOf};
+ghost use Rattle.exact_walks.specs.Walking.{ReadsLast};
+ghost use Rattle.exact_walks.specs.Entering.{IsAt, Exceeds};
+ghost use Rattle.conc_outcomes.specs.Exploring.{HasGap};
+ghost use Rattle.conc_outcomes.specs.Parts.{IsExtentOf};
+
+use crate::paths::{walk_by, walk_to};
+use exact_walks::Walk;
+use hs_base::{ClockChoice, NoMemory};
+use hs_rules::{History, LimitKind};
+use number_states::Numbers;
+use outcome_listing::{Bounds, Cause, Extent};
+use rules_code::Body;
+use state_search::{Gap, Origin};
+use std::alloc::Global;
+
+/// A run whose last entry reads the clock.
+fn reading(
+    alloc: Global,
+    body: &Body,
+    bounds: &Bounds,
+    numbers: &mut Numbers,
+    origins: &[Origin],
+    by: &Origin,
+) -> Result<History, NoMemory>
+    ensures { IfOk result (λ h. (script : Script) → IsCodeOf body.now script → (bounds.now.clock ≡ Real) × ReadsLast bounds.now.clock (script_of script) h.list) }
+{
+    let Some(entry) = by.entry else {
+        return Err(NoMemory);
+    };
+    if bounds.clock != ClockChoice::Real {
+        return Err(NoMemory);
+    }
+    let mut walk = walk_to(alloc, body, bounds, numbers, origins, by.parent)?;
+    walk.enter_reading(alloc, body, bounds, numbers, entry)?;
+    let Walk { history, .. } = walk;
+    Ok(history)
+}
+
+/// Whether a walk's last state exceeds this limit, and none before it.
+fn shows_limit(
+    body: &Body,
+    bounds: &Bounds,
+    numbers: &Numbers,
+    kind: LimitKind,
+    walk: &Walk,
+) -> Result<bool, NoMemory>
+    requires { IsAt bounds.now body.now numbers.now walk.now }
+    ensures { IfOk result (λ yes. IsTrue yes → Exceeds bounds.now body.now walk.now kind) }
+{
+    match walk.exceeds(body, bounds, numbers)? {
+        None => Ok(false),
+        Some(first) => Ok(first == kind),
+    }
+}
+
+/// Whether a walk is the evidence of a gap, where a search has so many states. It never is of a clock that is read.
+fn shows(
+    body: &Body,
+    bounds: &Bounds,
+    numbers: &Numbers,
+    cause: Cause,
+    states: u32,
+    walk: &Walk,
+) -> Result<bool, NoMemory>
+    requires { IsAt bounds.now body.now numbers.now walk.now }
+    ensures { IfOk result (λ yes. IsTrue yes → (script : Script) → IsCodeOf body.now script → HasGap bounds.now (script_of script) states cause walk.now.history.list) }
+{
+    match cause {
+        Cause::Clock => Ok(false),
+        Cause::Fuel => Ok(walk.history.steps() > bounds.fuel as u64),
+        Cause::Limit(kind) => shows_limit(body, bounds, numbers, kind, walk),
+        Cause::States => Ok(states == bounds.states),
+    }
+}
+
+/// The evidence of a gap, where a search has so many states. That the way to it can be walked again is not promised: where it
+/// can't, the answer is want of memory.
+fn evidence(
+    alloc: Global,
+    body: &Body,
+    bounds: &Bounds,
+    numbers: &mut Numbers,
+    origins: &[Origin],
+    gap: &Gap,
+    states: u32,
+) -> Result<History, NoMemory>
+    ensures { IfOk result (λ h. (script : Script) → IsCodeOf body.now script → HasGap bounds.now (script_of script) states gap.now.cause h.list) }
+{
+    match gap.cause {
+        Cause::Clock => reading(alloc, body, bounds, numbers, origins, &gap.by),
+        cause => {
+            let walk = walk_by(alloc, body, bounds, numbers, origins, &gap.by)?;
+            if !shows(body, bounds, numbers, cause, states, &walk)? {
+                return Err(NoMemory);
+            }
+            let Walk { history, .. } = walk;
+            Ok(history)
+        }
+    }
+}
+
+/// Whether each outcome is listed, where a search has this gap and so many states; and the evidence where not.
+pub fn extent(
+    alloc: Global,
+    body: &Body,
+    bounds: &Bounds,
+    numbers: &mut Numbers,
+    origins: &[Origin],
+    gap: &Option<Gap>,
+    states: u32,
+) -> Result<Extent, NoMemory>
+    ensures { IfOk result (λ x. (script : Script) → IsCodeOf body.now script → IsExtentOf bounds.now (script_of script) states gap.now x) }
+{
+    match gap {
+        None => Ok(Extent::All),
+        Some(gap) => {
+            let run = evidence(alloc, body, bounds, numbers, origins, gap, states)?;
+            Ok(Extent::NotAll(gap.cause, run))
+        }
+    }
+}
