@@ -7,18 +7,19 @@ use Rattle.rules_code.specs.declared.code.Code.{Code}
 use Rattle.rules_code.specs.Codes.{body_of}
 use Rattle.conc_gen.specs.Ring.{ring_text}
 use Rattle.conc_words.specs.declared.command.Command.{Command}
-use Rattle.conc_words.specs.declared.command.Command.TheVariants.{Run, Check, Bench, Trace, Ask}
+use Rattle.conc_words.specs.declared.command.Command.TheVariants.{Run, Check, Bench, Trace, Outcomes, Ask}
 use Rattle.conc_words.specs.declared.command.Question.{Question}
 use Rattle.hs_compile.specs.declared.refusal.Refusal.{Refusal}
 use Rattle.hs_compile.specs.Verdicts.{IsAccepted, IsRefused, script_limit}
 use Rattle.conc_task.specs.declared.stop.Stop.{Stop}
 use Rattle.conc_task.specs.declared.stop.Stop.TheVariants.{Words, Refused, Read, NoScript, Memory}
 use Rattle.conc_task.specs.declared.task.Claim.{Claim}
+use Rattle.conc_task.specs.declared.task.Search.{Search}
 use Rattle.conc_task.specs.Documents.{IsLeft}
 use Rattle.conc_task.specs.Commands.{IsInput, ReadsSource, source_limit, Traces}
 use Rattle.conc_task.specs.Inputs.{HadBytes, HadScript, HadSome, TookFew}
 use Rattle.conc_task.specs.Stops.{HadNone, HasNone, IsDenied, IsUnclear, RefusesInput, WasRead}
-use Rattle.conc_task.specs.Tasks.{HasChecked, HasClaim, HasProgram, HasTraced}
+use Rattle.conc_task.specs.Tasks.{HasChecked, HasClaim, HasProgram, HasSearch, HasTraced}
 use Rattle.conc_task.proofs.Reading.{any_left}
 use Rattle.conc_task.proofs.Documents.{script_of}
 
@@ -66,6 +67,15 @@ traced_program command capabilities fuel clock before now code read is (had, sam
       read = same;
     }
 
+pub searched : (command : Option Command) (before now : Option (List ℕ)) (sought : Search) → command ≡ Some (Outcomes sought.clock sought.states sought.fuel sought.witness)
+    → HadBytes before now (body_of sought.code).of.value sought.script.items → HasSearch command before now sought
+searched command before now sought is (had, same) = record {
+  lists = is;
+  input = subst (λ c. IsInput c before sought.script.items) (sym is) (subst (IsLeft before) same had.left);
+  accepted = subst (λ bytes. IsAccepted bytes (body_of sought.code).of.value) same had.accepted;
+  through = had.through;
+}
+
 pub claimed : (command : Option Command) (before now : Option (List ℕ)) (question : Question) (claim : Claim) → command ≡ Some (Ask question) → HasClaim (Some (Ask question)) before now question claim
     → HasClaim command before now question claim
 claimed command before now question claim is has = subst (λ c. HasClaim c before now question claim) (sym is) has
@@ -82,12 +92,14 @@ ReadsScript (Run capabilities fuel clock) = Unit {0}
 ReadsScript Check = Unit {0}
 ReadsScript (Bench threads capabilities fuel) = ⊥
 ReadsScript (Trace capabilities fuel clock) = Unit {0}
+ReadsScript (Outcomes clock states fuel witness) = Unit {0}
 ReadsScript (Ask question) = ⊥
 
 reads_source : (c : Command) → ReadsScript c → ReadsSource (Some c)
 reads_source (Run capabilities fuel clock) reads = tt
 reads_source Check reads = tt
 reads_source (Trace capabilities fuel clock) reads = tt
+reads_source (Outcomes clock states fuel witness) reads = tt
 reads_source (Bench threads capabilities fuel) reads = absurd reads
 reads_source (Ask question) reads = absurd reads
 
@@ -95,6 +107,7 @@ limit_is : (c : Command) → ReadsScript c → source_limit (Some c) ≡ script_
 limit_is (Run capabilities fuel clock) reads = refl
 limit_is Check reads = refl
 limit_is (Trace capabilities fuel clock) reads = refl
+limit_is (Outcomes clock states fuel witness) reads = refl
 limit_is (Bench threads capabilities fuel) reads = refl
 limit_is (Ask question) reads = absurd reads
 
@@ -102,6 +115,7 @@ refused_input : (c : Command) (before : Option (List ℕ)) (bytes : List ℕ) (r
 refused_input (Run capabilities fuel clock) before bytes r reads why = why
 refused_input Check before bytes r reads why = why
 refused_input (Trace capabilities fuel clock) before bytes r reads why = why
+refused_input (Outcomes clock states fuel witness) before bytes r reads why = why
 refused_input (Bench threads capabilities fuel) before bytes r reads why = why
 refused_input (Ask question) before bytes r reads why = absurd reads
 
@@ -112,6 +126,7 @@ left_input : (c : Command) (before : Option (List ℕ)) (bytes : List ℕ) → R
 left_input (Run capabilities fuel clock) before bytes reads left = left
 left_input Check before bytes reads left = left
 left_input (Trace capabilities fuel clock) before bytes reads left = left
+left_input (Outcomes clock states fuel witness) before bytes reads left = left
 left_input (Bench threads capabilities fuel) before bytes reads left = absurd reads
 left_input (Ask question) before bytes reads left = absurd reads
 
@@ -164,6 +179,7 @@ any_input (Some (Run capabilities fuel clock)) before = any_left before
 any_input (Some Check) before = any_left before
 any_input (Some (Bench threads capabilities fuel)) before = (ring_text threads, refl)
 any_input (Some (Trace capabilities fuel clock)) before = any_left before
+any_input (Some (Outcomes clock states fuel witness)) before = any_left before
 any_input (Some (Ask question)) before =
     let (document, left) = any_left before in
     let (bytes, is) = script_of document in

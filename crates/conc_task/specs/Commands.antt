@@ -4,7 +4,7 @@ use Rattle.hs_base.specs.declared.clock_choice.ClockChoice.{ClockChoice}
 use Rattle.hs_base.specs.declared.clock_choice.ClockChoice.TheVariants.{Virtual}
 use Rattle.conc_gen.specs.Ring.{ring_text}
 use Rattle.conc_words.specs.declared.command.Command.{Command}
-use Rattle.conc_words.specs.declared.command.Command.TheVariants.{Run, Check, Bench, Trace, Ask}
+use Rattle.conc_words.specs.declared.command.Command.TheVariants.{Run, Check, Bench, Trace, Outcomes, Ask}
 use Rattle.conc_words.specs.declared.command.Question.{Question}
 use Rattle.hs_compile.specs.Verdicts.{script_limit}
 use Rattle.conc_task.specs.Documents.{document_limit, IsLeft, IsScriptOf}
@@ -16,6 +16,7 @@ ReadsSource (Some (Run capabilities fuel clock)) = ⊤
 ReadsSource (Some Check) = ⊤
 ReadsSource (Some (Bench threads capabilities fuel)) = ⊥
 ReadsSource (Some (Trace capabilities fuel clock)) = ⊤
+ReadsSource (Some (Outcomes clock states fuel witness)) = ⊤
 ReadsSource (Some (Ask question)) = ⊤
 
 -- The most bytes of what the command reads from the source: a script, or a document where something is asked of one.
@@ -25,6 +26,7 @@ source_limit (Some (Run capabilities fuel clock)) = script_limit
 source_limit (Some Check) = script_limit
 source_limit (Some (Bench threads capabilities fuel)) = script_limit
 source_limit (Some (Trace capabilities fuel clock)) = script_limit
+source_limit (Some (Outcomes clock states fuel witness)) = script_limit
 source_limit (Some (Ask question)) = document_limit
 
 -- These bytes are the input of the command: what the source had left, for `bench N` the text of the ring, and where
@@ -35,6 +37,7 @@ IsInput (Some (Run capabilities fuel clock)) left bytes = IsLeft left bytes
 IsInput (Some Check) left bytes = IsLeft left bytes
 IsInput (Some (Bench threads capabilities fuel)) left bytes = bytes ≡ ring_text threads
 IsInput (Some (Trace capabilities fuel clock)) left bytes = IsLeft left bytes
+IsInput (Some (Outcomes clock states fuel witness)) left bytes = IsLeft left bytes
 IsInput (Some (Ask question)) left bytes = (document : List ℕ) × IsLeft left document × IsScriptOf document bytes
 
 -- The command runs its input with this fuel, by this clock.
@@ -44,6 +47,7 @@ RunsWith (Some (Run capabilities fuel clock)) most choice = (most ≡ fuel) × (
 RunsWith (Some Check) most choice = ⊥
 RunsWith (Some (Bench threads capabilities fuel)) most choice = (most ≡ fuel) × (choice ≡ Virtual)
 RunsWith (Some (Trace capabilities fuel clock)) most choice = (most ≡ fuel) × (choice ≡ clock)
+RunsWith (Some (Outcomes clock states fuel witness)) most choice = ⊥
 RunsWith (Some (Ask question)) most choice = ⊥
 
 -- The command runs its input on so many capabilities.
@@ -53,6 +57,7 @@ RunsOn (Some (Run capabilities fuel clock)) count = count ≡ capabilities
 RunsOn (Some Check) count = ⊥
 RunsOn (Some (Bench threads capabilities fuel)) count = count ≡ capabilities
 RunsOn (Some (Trace capabilities fuel clock)) count = count ≡ capabilities
+RunsOn (Some (Outcomes clock states fuel witness)) count = ⊥
 RunsOn (Some (Ask question)) count = ⊥
 
 -- The command writes the history of what it runs, in place of what that prints.
@@ -62,7 +67,18 @@ Traces (Some (Run capabilities fuel clock)) = ⊥
 Traces (Some Check) = ⊥
 Traces (Some (Bench threads capabilities fuel)) = ⊥
 Traces (Some (Trace capabilities fuel clock)) = ⊤
+Traces (Some (Outcomes clock states fuel witness)) = ⊥
 Traces (Some (Ask question)) = ⊥
+
+-- The command lists the outcomes of its input, or writes down a run that comes to one. It runs nothing.
+abbrev pub Lists : Option Command → Type 0
+Lists None = ⊥
+Lists (Some (Run capabilities fuel clock)) = ⊥
+Lists (Some Check) = ⊥
+Lists (Some (Bench threads capabilities fuel)) = ⊥
+Lists (Some (Trace capabilities fuel clock)) = ⊥
+Lists (Some (Outcomes clock states fuel witness)) = ⊤
+Lists (Some (Ask question)) = ⊥
 
 -- the command asks this of a document
 abbrev pub Asks : Option Command → Question → Type 0

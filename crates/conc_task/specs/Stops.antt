@@ -1,7 +1,7 @@
 -- Why there is nothing to run, and nothing is accepted (own).
 use Rattle.std.specs.Prelude.{◌≡◌, ◌≤◌, ◌<◌, ◌⊎◌, ℕ, List, Option, Some, None, IsSome, length, ⊤}
 use Rattle.conc_words.specs.declared.command.Command.{Command}
-use Rattle.conc_words.specs.declared.command.Command.TheVariants.{Run, Check, Bench, Trace, Ask}
+use Rattle.conc_words.specs.declared.command.Command.TheVariants.{Run, Check, Bench, Trace, Outcomes, Ask}
 use Rattle.hs_compile.specs.declared.refusal.Refusal.{Refusal}
 use Rattle.hs_compile.specs.declared.refusal.Refusal.TheVariants as refusal
 use Rattle.hs_compile.specs.declared.refusal.CompileFault.{CompileFault}
@@ -24,6 +24,7 @@ RefusesInput (Some (Run capabilities fuel clock)) before bytes r = IsRefused r b
 RefusesInput (Some Check) before bytes r = IsRefused r bytes
 RefusesInput (Some (Bench threads capabilities fuel)) before bytes r = IsRefused r bytes
 RefusesInput (Some (Trace capabilities fuel clock)) before bytes r = IsRefused r bytes
+RefusesInput (Some (Outcomes clock states fuel witness)) before bytes r = IsRefused r bytes
 RefusesInput (Some (Ask question)) before bytes r = RefusesDocument before bytes r
 
 -- The cause of each, by the command that the words are, if they are one, what the source had left, and the bytes of the input.

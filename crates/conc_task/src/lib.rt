@@ -1,9 +1,11 @@
-//! What the words and the input come to: a script to run, word that one is accepted, a question about a document, or why there is none.
+//! What the words and the input come to: a script to run or to search, word that one is accepted, a question about a
+//! document, or why there is none.
 //!
-//! To a contract a task is the capabilities, the fuel, the clock and the script that it runs (`specs/Tasks`). The one promise is that
-//! of `task_of`: its answer is what the command that the words are asks for, of the bytes that the source had left, or of the ring that
-//! `bench` names; a refusal comes only for its cause, and of a script that was judged the whole source was taken. What words are
-//! a command is left to `conc_words`, which bytes are a script to `hs_compile`, and what is run and told to the top call.
+//! To a contract a task is the capabilities, the fuel, the clock and the script that it runs, or the script that it searches and how
+//! far (`specs/Tasks`). The one promise is that of `task_of`: its answer is what the command that the words are asks for, of the bytes
+//! that the source had left, or of the ring that `bench` names; a refusal comes only for its cause, and of a script that was judged the
+//! whole source was taken. What words are a command is left to `conc_words`, which bytes are a script to `hs_compile`, and what is run
+//! and told to the top call.
 #![tactic(auto)]
 
 mod input;
@@ -11,4 +13,4 @@ mod stop;
 mod task;
 
 pub use stop::Stop;
-pub use task::{Claim, Program, Task, task_of};
+pub use task::{Claim, Program, Search, Task, task_of};

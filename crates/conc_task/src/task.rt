@@ -10,7 +10,7 @@ ghost use Rattle.conc_words.specs.Commands.{command_of, IsWithin};
 ghost use Rattle.conc_task.specs.Commands.{ReadsSource};
 ghost use Rattle.conc_task.specs.Inputs.{HadBytes, HadScript, HadSome, IsScript, IsWhole};
 ghost use Rattle.conc_task.specs.Stops.{Counted, HadNone, HasNone, IsDenied, IsUnclaimed, IsUnclear, IsUnread, stop_of};
-ghost use Rattle.conc_task.specs.Tasks.{HasCapabilities, HasClaim, HasFuel, HasTask, IsClaimed};
+ghost use Rattle.conc_task.specs.Tasks.{HasCapabilities, HasClaim, HasFuel, HasNumber, HasStates, HasTask, IsClaimed};
 
 use crate::input::{Input, read_input};
 use crate::stop::Stop;
@@ -48,6 +48,21 @@ pub struct Claim {
     pub trace: Vec<u8>,
 }
 
+/// A script whose outcomes are to be listed, and how far.
+#[derive(Drop)]
+pub struct Search {
+    pub code: Code,
+    /// The bytes that it was made of.
+    pub script: Vec<u8>,
+    pub clock: ClockChoice,
+    /// The most states that are kept, 1 to 4,000,000.
+    pub states: u32,
+    /// The most steps of a run, 1 to 4,000,000.
+    pub fuel: u32,
+    /// The number of the outcome whose run is written, from 1.
+    pub witness: Option<u32>,
+}
+
 /// What is left to do once the words and the input are read.
 #[derive(Drop)]
 pub enum Task {
@@ -57,21 +72,25 @@ pub enum Task {
     Accept,
     /// To run a script and to write its history, and then the script, as it was read.
     Trace(Program, Vec<u8>),
+    /// To list the outcomes of a script, or to write down a run that comes to one.
+    Explore(Search),
     /// To answer a question about a trace and the script beside it.
     Ask(Question, Claim),
 }
 
 /// What the words after the program's name ask for.
 ///
-/// `run`, `check` and `trace` read the source to its end, or to the first byte that no script has, what asks something of a
-/// document to the first that no document has; no other words read it. Want of memory is free.
+/// `run`, `check`, `trace` and `outcomes` read the source to its end, or to the first byte that no script has, what asks
+/// something of a document to the first that no document has; no other words read it. Want of memory is free.
 pub fn task_of<S: Source>(alloc: Global, words: &[String], source: &mut S) -> Result<Task, Stop>
     ensures comes { MatchResult result
         (HasTask (command_of (map (λ word. string_bytes word) words.now)) (S.left source.old) (S.left source.new))
         (HasNone (command_of (map (λ word. string_bytes word) words.now)) (Rose (S.faults source.old) (S.faults source.new)) (S.left source.old) (S.left source.new)) }
 
-    // There is fuel for what is run, and not too much; and so with its capabilities.
+    // There is fuel for what is run, and not too much; and so with its capabilities, and with the states of a search.
     ensures fuel { IfOk result HasFuel }
+    ensures states { IfOk result HasStates }
+    ensures number { IfOk result HasNumber }
     ensures capabilities { IfOk result HasCapabilities }
 
     // A failed read is told, and nothing else raises the source's count of faults.
@@ -123,6 +142,22 @@ pub fn task_of<S: Source>(alloc: Global, words: &[String], source: &mut S) -> Re
                 clock,
             };
             Ok(Task::Trace(program, bytes))
+        }
+        Command::Outcomes {
+            clock,
+            states,
+            fuel,
+            witness,
+        } => {
+            let (code, script) = read_traced(alloc, source)?;
+            Ok(Task::Explore(Search {
+                code,
+                script,
+                clock,
+                states,
+                fuel,
+                witness,
+            }))
         }
         Command::Ask(question) => {
             let claim = read_claim(alloc, source)?;

@@ -316,6 +316,16 @@ default_there rows a v vs is = go (has_row a.id rows) refl
     go true e = e
     go false e = ap (λ ds. has_row a.id (default_rows a.id (reading_by a) ds rows)) is ∙ added a.id (reading_by a) DefaultValue (v ∷ vs) rows
 
+-- where no entry is there, there is no value of one
+pub no_entry : (id : Text) (rows : List Row) → has_row id rows ≡ false → one_of id rows ≡ None
+no_entry id [] has = refl
+no_entry id (r ∷ rs) has = go (bytes_eq r.id id) has (no_entry id rs)
+  where
+    go : (b : Bool) → (b || has_row id rs) ≡ false → (has_row id rs ≡ false → one_of id rs ≡ None)
+        → option_and_then (λ (x : Row). option_map (read_as x.reading) (slice_get x.values 0)) (cond b (Some r) (find (λ x. bytes_eq x.id id) rs)) ≡ None
+    go true has later = absurd (true≢false has)
+    go false has later = later has
+
 -- the first value of a list that passes
 first_passes : (a : Rule) (vs : List Text) → values_pass a vs ≡ true → 0 < length vs → (v : Text) × (value_passes a v ≡ true) × (slice_get vs 0 ≡ Some v)
 first_passes a [] e lt = absurd (omega arith)

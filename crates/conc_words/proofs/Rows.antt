@@ -2,7 +2,7 @@
 use Rattle.std.proofs.Common.{◌≡◌, [], ◌∷◌, Some, None, codes, refl}
 use Rattle.clap.proofs.OnLiterals.{clap_on_literals}
 use Rattle.hs_base.specs.declared.clock_choice.ClockChoice.TheVariants.{Real, Virtual}
-use Rattle.conc_words.specs.declared.command.Command.TheVariants.{Run, Check, Bench, Trace, Ask}
+use Rattle.conc_words.specs.declared.command.Command.TheVariants.{Run, Check, Bench, Trace, Outcomes, Ask}
 use Rattle.conc_words.specs.declared.command.Question.TheVariants.{Verify, Report, Picture}
 use Rattle.conc_words.specs.Commands.{command_of}
 
@@ -45,6 +45,18 @@ trace_alone = refl
 pub trace_all : command_of (codes "trace" ∷ codes "--caps" ∷ codes "4" ∷ codes "--fuel" ∷ codes "1000" ∷ codes "--clock" ∷ codes "virtual" ∷ []) ≡ Some (Trace 4 1000 Virtual)
 unfolding clap_on_literals
 trace_all = refl
+
+pub outcomes_alone : command_of (codes "outcomes" ∷ []) ≡ Some (Outcomes Real 1000000 1000000 None)
+unfolding clap_on_literals
+outcomes_alone = refl
+
+pub outcomes_all : command_of (codes "outcomes" ∷ codes "--clock" ∷ codes "virtual" ∷ codes "--states" ∷ codes "4000000" ∷ codes "--fuel" ∷ codes "1000" ∷ codes "--witness" ∷ codes "3" ∷ []) ≡ Some (Outcomes Virtual 4000000 1000 (Some 3))
+unfolding clap_on_literals
+outcomes_all = refl
+
+pub outcomes_last_witness : command_of (codes "outcomes" ∷ codes "--witness" ∷ codes "4294967295" ∷ []) ≡ Some (Outcomes Real 1000000 1000000 (Some 4294967295))
+unfolding clap_on_literals
+outcomes_last_witness = refl
 
 pub verify_alone : command_of (codes "verify" ∷ []) ≡ Some (Ask Verify)
 unfolding clap_on_literals
@@ -103,6 +115,30 @@ run_other_clock = refl
 pub trace_other_clock : command_of (codes "trace" ∷ codes "--clock" ∷ codes "wall" ∷ []) ≡ None
 unfolding clap_on_literals
 trace_other_clock = refl
+
+pub outcomes_other_clock : command_of (codes "outcomes" ∷ codes "--clock" ∷ codes "wall" ∷ []) ≡ None
+unfolding clap_on_literals
+outcomes_other_clock = refl
+
+pub outcomes_no_states : command_of (codes "outcomes" ∷ codes "--states" ∷ codes "0" ∷ []) ≡ None
+unfolding clap_on_literals
+outcomes_no_states = refl
+
+pub outcomes_4000001_states : command_of (codes "outcomes" ∷ codes "--states" ∷ codes "4000001" ∷ []) ≡ None
+unfolding clap_on_literals
+outcomes_4000001_states = refl
+
+pub outcomes_witness_0 : command_of (codes "outcomes" ∷ codes "--witness" ∷ codes "0" ∷ []) ≡ None
+unfolding clap_on_literals
+outcomes_witness_0 = refl
+
+pub outcomes_witness_past_32_bits : command_of (codes "outcomes" ∷ codes "--witness" ∷ codes "4294967296" ∷ []) ≡ None
+unfolding clap_on_literals
+outcomes_witness_past_32_bits = refl
+
+pub outcomes_caps : command_of (codes "outcomes" ∷ codes "--caps" ∷ codes "1" ∷ []) ≡ None
+unfolding clap_on_literals
+outcomes_caps = refl
 
 pub verify_fuel : command_of (codes "verify" ∷ codes "--fuel" ∷ codes "5" ∷ []) ≡ None
 unfolding clap_on_literals

@@ -12,13 +12,13 @@ use Rattle.clap.specs.Simple.{App, Shape, argument_words, built, built_leaf, ent
 use Rattle.clap.specs.Takes.{default_passes, entered_passes, is_given, level_passes, settle_passes, takes, walk_passes}
 use Rattle.hs_base.specs.declared.clock_choice.ClockChoice.{ClockChoice}
 use Rattle.conc_words.specs.declared.command.Command.{Command}
-use Rattle.conc_words.specs.declared.command.Command.TheVariants.{Run, Check, Bench, Trace, Ask}
+use Rattle.conc_words.specs.declared.command.Command.TheVariants.{Run, Check, Bench, Trace, Outcomes, Ask}
 use Rattle.conc_words.specs.declared.command.Question.TheVariants.{Verify, Report, Picture}
-use Rattle.conc_words.specs.Program.{bench, capabilities_option, check, clock_option, from_to, fuel_option, picture, program, report, run, runner, threads_place, trace, verify}
-use Rattle.conc_words.specs.Commands.{ChoosesClock, IsRefused, IsWithin, clock_of, command_in, command_of, number_of, runner_of, written}
+use Rattle.conc_words.specs.Program.{bench, capabilities_option, check, clock_option, from_to, fuel_option, outcomes, picture, program, report, run, runner, states_option, threads_place, trace, verify, witness_option}
+use Rattle.conc_words.specs.Commands.{ChoosesClock, IsNumbered, IsRefused, IsWithin, clock_of, command_in, command_of, number_of, runner_of, written}
 use Rattle.conc_words.proofs.Tests.{both}
 use Rattle.conc_words.proofs.Numbers.{range_is}
-use Rattle.conc_words.proofs.Entries.{IsGood, TakesOne, default_stays, default_there, entry_passes, level_keeps}
+use Rattle.conc_words.proofs.Entries.{IsGood, TakesOne, default_stays, default_there, entry_passes, level_keeps, no_entry}
 
 -- ---- what a level that passes says
 
@@ -64,6 +64,18 @@ number_is c id a bits low high known rows good has fits parser =
     let n = range_is bits low high a.ignore_case v.0 fits (subst (λ p. accepts a.ignore_case (parser_of_value p) v.0 ≡ true) parser v.1) in
     (n.0, ap (option_and_then (written bits)) (v.2 ∙ ap (λ p. Some (read_as (reading_of (parser_of_value p)) v.0)) parser) ∙ n.1, n.2, n.3)
 
+-- an entry that may be there has a number in the range of its argument, where it is there
+numbered : (c : List Rule) (id : Text) (a : Rule) (high : ℕ) → arg_by_id c id ≡ Some a → (rows : List Row) → AllByRecursion (IsGood c) rows → high < 2 ^ 32 → a.parser ≡ Some (from_to 1 high)
+    → IsNumbered (number_of 32 id rows)
+numbered c id a high known rows good fits parser = go (has_row id rows) refl
+  where
+    there : (n : ℕ) × (number_of 32 id rows ≡ Some n) × (1 ≤ n) × (n ≤ high) → IsNumbered (number_of 32 id rows)
+    there n = subst IsNumbered (sym n.1) (n.2, omega (arith, n.3, fits))
+
+    go : (b : Bool) → has_row id rows ≡ b → IsNumbered (number_of 32 id rows)
+    go true has = there (number_is c id a 32 1 high known rows good has fits parser)
+    go false has = subst IsNumbered (sym (ap (option_and_then (written 32)) (no_entry id rows has))) tt
+
 -- ---- the subcommands
 
 -- a subcommand, built
@@ -79,6 +91,12 @@ fuel_rule = filled fuel_option
 abbrev clock_rule : Rule
 clock_rule = filled clock_option
 
+abbrev states_rule : Rule
+states_rule = filled states_option
+
+abbrev witness_rule : Rule
+witness_rule = filled witness_option
+
 abbrev threads_rule : Rule
 threads_rule = with_index 1 (filled threads_place)
 
@@ -89,6 +107,9 @@ Reads sub = ((c : Command) × (command_in sub ≡ Some c) × IsWithin c)
 
 bench_ones : AllByRecursion (TakesOne (leaf bench).rules) (leaf bench).rules
 bench_ones = ((refl, omega arith, refl, refl), ((refl, omega arith, refl, refl), ((refl, omega arith, refl, refl), tt)))
+
+outcomes_ones : AllByRecursion (TakesOne (leaf outcomes).rules) (leaf outcomes).rules
+outcomes_ones = ((refl, omega arith, refl, refl), ((refl, omega arith, refl, refl), ((refl, omega arith, refl, refl), ((refl, omega arith, refl, refl), tt))))
 
 -- a command that runs a script: its name chooses a clock, and its numbers have the ranges of all of them
 module _ (name : Text) (make : ℕ → ℕ → ClockChoice → Command) (chooses : ChoosesClock name)
@@ -137,7 +158,7 @@ run_reads : (words : List Text) → level_passes (leaf run) [] nothing_held word
 run_reads = runner_reads (codes "run") Run (inl refl) (λ rows. refl) (λ caps fuel clock a b c d. (a, b, c, d))
 
 trace_reads : (words : List Text) → level_passes (leaf trace) [] nothing_held words false ≡ true → Reads (Some (codes "trace", rows_after (leaf trace).rules [] words))
-trace_reads = runner_reads (codes "trace") Trace (inr refl) (λ rows. refl) (λ caps fuel clock a b c d. (a, b, c, d))
+trace_reads = runner_reads (codes "trace") Trace (inr (inl refl)) (λ rows. refl) (λ caps fuel clock a b c d. (a, b, c, d))
 
 bench_reads : (words : List Text) → level_passes (leaf bench) [] nothing_held words false ≡ true → Reads (Some (codes "bench", rows_after (leaf bench).rules [] words))
 bench_reads words e =
@@ -165,32 +186,69 @@ bench_reads words e =
       (threads.2, threads.3, caps.2, caps.3, fuel.2, fuel.3),
     )
 
+outcomes_reads : (words : List Text) → level_passes (leaf outcomes) [] nothing_held words false ≡ true → Reads (Some (codes "outcomes", rows_after (leaf outcomes).rules [] words))
+outcomes_reads words e =
+    let rows = rows_after (leaf outcomes).rules [] words in
+    let start = (settled (leaf outcomes).rules (walk (leaf outcomes).rules [] nothing_held words).held).rows in
+    let good = level_keeps (leaf outcomes) outcomes_ones [] words false e in
+    let first = with_default start clock_rule in
+    let second = with_default first states_rule in
+    let third = with_default second fuel_rule in
+    let states_there : has_row (codes "states") rows ≡ true =
+    default_stays (codes "states") third witness_rule (default_stays (codes "states") second fuel_rule (default_there first states_rule (codes "1000000") [] refl)) in
+    let fuel_there : has_row (codes "fuel") rows ≡ true =
+    default_stays (codes "fuel") third witness_rule (default_there second fuel_rule (codes "1000000") [] refl) in
+    go rows
+    (number_is (leaf outcomes).rules (codes "states") states_rule 32 1 4000000 refl rows good states_there (omega arith) refl)
+    (number_is (leaf outcomes).rules (codes "fuel") fuel_rule 32 1 4000000 refl rows good fuel_there (omega arith) refl)
+    (numbered (leaf outcomes).rules (codes "witness") witness_rule 4294967295 refl rows good (omega arith) refl)
+    (clock_of rows) refl
+  where
+    go : (rows : List Row) → (n : ℕ) × (number_of 32 (codes "states") rows ≡ Some n) × (1 ≤ n) × (n ≤ 4000000)
+        → (n : ℕ) × (number_of 32 (codes "fuel") rows ≡ Some n) × (1 ≤ n) × (n ≤ 4000000) → IsNumbered (number_of 32 (codes "witness") rows)
+        → (o : Option ClockChoice) → clock_of rows ≡ o → Reads (Some (codes "outcomes", rows))
+    go rows states fuel witness (Some clock) found = inl (
+      Outcomes clock states.0 fuel.0 (number_of 32 (codes "witness") rows),
+      (λ i. option_and_then (λ k. option_and_then (λ n. option_map (λ m. Outcomes k n m (number_of 32 (codes "witness") rows)) (fuel.1 i)) (states.1 i)) (found i)),
+      (states.2, states.3, fuel.2, fuel.3, witness),
+    )
+    go rows states fuel witness None found = inr (
+      codes "outcomes",
+      rows,
+      inr (inr refl),
+      refl,
+      found,
+      (λ i. option_and_then (λ k. option_and_then (λ n. option_map (λ m. Outcomes k n m (number_of 32 (codes "witness") rows)) (fuel.1 i)) (states.1 i)) (found i)),
+    )
+
 -- ---- the words
 
 -- the subcommand that a name is
-abbrev chosen : (is_run is_check is_bench is_trace is_verify is_report is_picture : Bool) → Option Shape
-chosen is_run is_check is_bench is_trace is_verify is_report is_picture =
-    cond is_run (Some (leaf run)) (cond is_check (Some (leaf check)) (cond is_bench (Some (leaf bench)) (cond is_trace (Some (leaf trace)) (cond is_verify (Some (leaf verify)) (cond is_report (Some (leaf report)) (cond is_picture (Some (leaf picture)) None))))))
+abbrev chosen : (is_run is_check is_bench is_trace is_outcomes is_verify is_report is_picture : Bool) → Option Shape
+chosen is_run is_check is_bench is_trace is_outcomes is_verify is_report is_picture =
+    cond is_run (Some (leaf run)) (cond is_check (Some (leaf check)) (cond is_bench (Some (leaf bench)) (cond is_trace (Some (leaf trace)) (cond is_outcomes (Some (leaf outcomes))
+    (cond is_verify (Some (leaf verify)) (cond is_report (Some (leaf report)) (cond is_picture (Some (leaf picture)) None)))))))
 
 -- whichever subcommand a name is
-named_reads : (is_run is_check is_bench is_trace is_verify is_report is_picture : Bool) (words : List Text)
-    → option_map_or (λ s. level_passes s [] nothing_held words false) (chosen is_run is_check is_bench is_trace is_verify is_report is_picture) true ≡ true
-    → is_some (option_map (λ s. rows_at s words) (chosen is_run is_check is_bench is_trace is_verify is_report is_picture)) ≡ true
-    → Reads (option_map (λ s. rows_at s words) (chosen is_run is_check is_bench is_trace is_verify is_report is_picture))
-named_reads true is_check is_bench is_trace is_verify is_report is_picture words e there = run_reads words e
-named_reads false true is_bench is_trace is_verify is_report is_picture words e there = inl (Check, refl, tt)
-named_reads false false true is_trace is_verify is_report is_picture words e there = bench_reads words e
-named_reads false false false true is_verify is_report is_picture words e there = trace_reads words e
-named_reads false false false false true is_report is_picture words e there = inl (Ask Verify, refl, tt)
-named_reads false false false false false true is_picture words e there = inl (Ask Report, refl, tt)
-named_reads false false false false false false true words e there = inl (Ask Picture, refl, tt)
-named_reads false false false false false false false words e there = absurd (true≢false (sym there))
+named_reads : (is_run is_check is_bench is_trace is_outcomes is_verify is_report is_picture : Bool) (words : List Text)
+    → option_map_or (λ s. level_passes s [] nothing_held words false) (chosen is_run is_check is_bench is_trace is_outcomes is_verify is_report is_picture) true ≡ true
+    → is_some (option_map (λ s. rows_at s words) (chosen is_run is_check is_bench is_trace is_outcomes is_verify is_report is_picture)) ≡ true
+    → Reads (option_map (λ s. rows_at s words) (chosen is_run is_check is_bench is_trace is_outcomes is_verify is_report is_picture))
+named_reads true is_check is_bench is_trace is_outcomes is_verify is_report is_picture words e there = run_reads words e
+named_reads false true is_bench is_trace is_outcomes is_verify is_report is_picture words e there = inl (Check, refl, tt)
+named_reads false false true is_trace is_outcomes is_verify is_report is_picture words e there = bench_reads words e
+named_reads false false false true is_outcomes is_verify is_report is_picture words e there = trace_reads words e
+named_reads false false false false true is_verify is_report is_picture words e there = outcomes_reads words e
+named_reads false false false false false true is_report is_picture words e there = inl (Ask Verify, refl, tt)
+named_reads false false false false false false true is_picture words e there = inl (Ask Report, refl, tt)
+named_reads false false false false false false false true words e there = inl (Ask Picture, refl, tt)
+named_reads false false false false false false false false words e there = absurd (true≢false (sym there))
 
 stop_reads : (stop : Option (Text × List Text)) → entered_passes (built program) stop ≡ true → is_some (entered (built program) stop) ≡ true → Reads (entered (built program) stop)
 stop_reads None e there = absurd (true≢false (sym there))
 stop_reads (Some p) e there =
-    named_reads (answers_to p.0 (label_of run.top)) (answers_to p.0 (label_of check.top)) (answers_to p.0 (label_of bench.top))
-    (answers_to p.0 (label_of trace.top)) (answers_to p.0 (label_of verify.top)) (answers_to p.0 (label_of report.top)) (answers_to p.0 (label_of picture.top)) p.1 e there
+    named_reads (answers_to p.0 (label_of run.top)) (answers_to p.0 (label_of check.top)) (answers_to p.0 (label_of bench.top)) (answers_to p.0 (label_of trace.top))
+    (answers_to p.0 (label_of outcomes.top)) (answers_to p.0 (label_of verify.top)) (answers_to p.0 (label_of report.top)) (answers_to p.0 (label_of picture.top)) p.1 e there
 
 taken_reads : (words : List Text) → takes program words ≡ true → Reads (subcommand_of program words)
 taken_reads words e =

@@ -1,5 +1,5 @@
 -- Which command the words are (own).
-use Rattle.std.specs.Prelude.{◌≡◌, ◌≤◌, ◌⊎◌, ℕ, ◌^◌, ◌&&◌, List, Option, Some, None, codes, false, if◌then◌else◌, nat_lt, option_and_then, option_map}
+use Rattle.std.specs.Prelude.{◌≡◌, ◌≤◌, ◌<◌, ◌⊎◌, ℕ, ◌^◌, ◌&&◌, List, Option, Some, None, codes, false, if◌then◌else◌, nat_lt, option_and_then, option_map}
 use Rattle.std.specs.Str.{bytes_eq}
 use Rattle.std.specs.Str.Parse.{digits_value, without_leading_plus}
 use Rattle.clap.specs.ValueTests.{is_numeral}
@@ -9,7 +9,7 @@ use Rattle.clap.specs.Takes.{takes}
 use Rattle.hs_base.specs.declared.clock_choice.ClockChoice.{ClockChoice}
 use Rattle.hs_base.specs.declared.clock_choice.ClockChoice.TheVariants.{Real, Virtual}
 use Rattle.conc_words.specs.declared.command.Command.{Command}
-use Rattle.conc_words.specs.declared.command.Command.TheVariants.{Run, Check, Bench, Trace, Ask}
+use Rattle.conc_words.specs.declared.command.Command.TheVariants.{Run, Check, Bench, Trace, Outcomes, Ask}
 use Rattle.conc_words.specs.declared.command.Question.TheVariants.{Verify, Report, Picture}
 use Rattle.conc_words.specs.declared.command.WordsFault.{WordsFault}
 use Rattle.conc_words.specs.declared.command.WordsFault.TheVariants.{NotUnderstood, NoMemory}
@@ -56,6 +56,12 @@ bench_of rows =
     option_and_then (λ threads. option_and_then (λ capabilities. option_map (λ fuel. Bench threads capabilities fuel)
     (number_of 32 (codes "fuel") rows)) (number_of 8 (codes "caps") rows)) (number_of 32 (codes "threads") rows)
 
+-- `outcomes`, by its entries. It has a witness where they have one
+abbrev pub outcomes_of : List Row → Option Command
+outcomes_of rows =
+    option_and_then (λ clock. option_and_then (λ states. option_map (λ fuel. Outcomes clock states fuel (number_of 32 (codes "witness") rows))
+    (number_of 32 (codes "fuel") rows)) (number_of 32 (codes "states") rows)) (clock_of rows)
+
 -- the command of a subcommand, by its name and its entries
 abbrev pub named : Text × List Row → Option Command
 named sub =
@@ -63,6 +69,7 @@ named sub =
     else if bytes_eq sub.0 (codes "check") then Some Check
     else if bytes_eq sub.0 (codes "bench") then bench_of sub.1
     else if bytes_eq sub.0 (codes "trace") then trace_of sub.1
+    else if bytes_eq sub.0 (codes "outcomes") then outcomes_of sub.1
     else if bytes_eq sub.0 (codes "verify") then Some (Ask Verify)
     else if bytes_eq sub.0 (codes "report") then Some (Ask Report)
     else if bytes_eq sub.0 (codes "picture") then Some (Ask Picture)
@@ -80,6 +87,11 @@ abbrev pub WhenNotUnderstood : Type 0 → WordsFault → Type 0
 WhenNotUnderstood P NotUnderstood = P
 WhenNotUnderstood P NoMemory = Unit {0}
 
+-- the number of an outcome, where there is one, is from 1, and a number of 32 bits
+abbrev pub IsNumbered : Option ℕ → Type 0
+IsNumbered None = Unit {0}
+IsNumbered (Some number) = (1 ≤ number) × (number < 2 ^ 32)
+
 -- the numbers of a command lie in their ranges
 abbrev pub IsWithin : Command → Type 0
 IsWithin (Run capabilities fuel clock) = (1 ≤ capabilities) × (capabilities ≤ 16) × (1 ≤ fuel) × (fuel ≤ 4000000)
@@ -87,13 +99,14 @@ IsWithin Check = Unit {0}
 IsWithin (Bench threads capabilities fuel) =
     (1 ≤ threads) × (threads ≤ 4000) × (1 ≤ capabilities) × (capabilities ≤ 16) × (1 ≤ fuel) × (fuel ≤ 4000000)
 IsWithin (Trace capabilities fuel clock) = (1 ≤ capabilities) × (capabilities ≤ 16) × (1 ≤ fuel) × (fuel ≤ 4000000)
+IsWithin (Outcomes clock states fuel witness) = (1 ≤ states) × (states ≤ 4000000) × (1 ≤ fuel) × (fuel ≤ 4000000) × IsNumbered witness
 IsWithin (Ask question) = Unit {0}
 
 -- a command of this name goes by a clock that its words choose
 abbrev pub ChoosesClock : Text → Type 0
-ChoosesClock name = (name ≡ codes "run") ⊎ (name ≡ codes "trace")
+ChoosesClock name = (name ≡ codes "run") ⊎ (name ≡ codes "trace") ⊎ (name ≡ codes "outcomes")
 
--- the words give `run` or `trace` a clock of another name
+-- the words give `run`, `trace` or `outcomes` a clock of another name
 abbrev pub NamesOtherClock : List Text → Type 0
 NamesOtherClock words =
     (name : Text) × (rows : List Row) × ChoosesClock name × (subcommand_of program words ≡ Some (name, rows)) × (clock_of rows ≡ None)

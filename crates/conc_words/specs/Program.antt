@@ -3,10 +3,11 @@
 --     check
 --     bench N  --caps N --fuel N
 --     trace    --caps N --fuel N --clock C
+--     outcomes --clock C --states N --fuel N --witness K
 --     verify
 --     report
 --     picture
--- One of the seven has to stand. An option that is left out has its default.
+-- One of the eight has to stand. An option that is left out has its default; `--witness` has none.
 use Rattle.std.specs.Prelude.{ℕ, List, [], ◌∷◌, Some, codes, pos, true}
 use Rattle.clap.specs.Simple.{App, new_app, new_rule, on_top, with_rule, with_subcommand}
 use Rattle.clap.specs.Walk.{Rule}
@@ -25,12 +26,27 @@ capabilities_option = record (new_rule (codes "caps")) {
   defaults = codes "1" ∷ [];
 }
 
--- `--fuel N`
-abbrev pub fuel_option : Rule
-fuel_option = record (new_rule (codes "fuel")) {
-  long = Some (codes "fuel");
+-- an option that says how many steps or states there may be, by its name
+abbrev pub count_option : List ℕ → Rule
+count_option name = record (new_rule name) {
+  long = Some name;
   parser = Some (from_to 1 4000000);
   defaults = codes "1000000" ∷ [];
+}
+
+-- `--fuel N`
+abbrev pub fuel_option : Rule
+fuel_option = count_option (codes "fuel")
+
+-- `--states N`
+abbrev pub states_option : Rule
+states_option = count_option (codes "states")
+
+-- `--witness K`, which may be left out
+abbrev pub witness_option : Rule
+witness_option = record (new_rule (codes "witness")) {
+  long = Some (codes "witness");
+  parser = Some (from_to 1 4294967295);
 }
 
 -- `--clock C`. Which texts name a clock says `named_clock` in `Commands`
@@ -63,6 +79,9 @@ bench = with_rule (with_rule (with_rule (new_app (codes "bench")) threads_place)
 abbrev pub trace : App
 trace = runner (codes "trace")
 
+abbrev pub outcomes : App
+outcomes = with_rule (with_rule (with_rule (with_rule (new_app (codes "outcomes")) clock_option) states_option) fuel_option) witness_option
+
 abbrev pub verify : App
 verify = new_app (codes "verify")
 
@@ -84,4 +103,5 @@ alone = on_top (λ s. record s {
 -- the program with its subcommands
 abbrev pub program : App
 program =
-    with_subcommand (with_subcommand (with_subcommand (with_subcommand (with_subcommand (with_subcommand (with_subcommand alone run.top) check.top) bench.top) trace.top) verify.top) report.top) picture.top
+    with_subcommand (with_subcommand (with_subcommand (with_subcommand (with_subcommand (with_subcommand (with_subcommand (with_subcommand alone run.top) check.top) bench.top) trace.top)
+    outcomes.top) verify.top) report.top) picture.top

@@ -37,6 +37,16 @@ pub enum Command {
         fuel: u32,
         clock: ClockChoice,
     },
+    /// `outcomes`: lists every outcome of the script on the source, or writes down a run that comes to one of them.
+    Outcomes {
+        clock: ClockChoice,
+        /// The most states that are kept, 1 to 4,000,000.
+        states: u32,
+        /// The most steps of a run, 1 to 4,000,000.
+        fuel: u32,
+        /// The number of the outcome whose run is written, from 1.
+        witness: Option<u32>,
+    },
     /// `verify`, `report` and `picture`: answers a question about the document on the source.
     Ask(Question),
 }

@@ -3,7 +3,7 @@ ghost use Rattle.std.specs.Prelude.{◌≡◌, IfOk, false};
 ghost use Rattle.clap.specs.Simple.{new_app};
 ghost use Rattle.clap.specs.Words.{app_of, rule_of};
 ghost use Rattle.clap.specs.declared.builder.command.Command.TheViews.{out-Command as fields_of};
-ghost use Rattle.conc_words.specs.Program.{bench, capabilities_option, clock_option, fuel_option, program, runner, threads_place};
+ghost use Rattle.conc_words.specs.Program.{bench, capabilities_option, clock_option, count_option, outcomes, program, runner, threads_place, witness_option};
 
 use clap::{Arg, Command, value_parser};
 use std::alloc::{AllocError, Global};
@@ -17,6 +17,10 @@ pub(crate) const CLOCK: &str = "clock";
 
 pub(crate) const THREADS: &str = "threads";
 
+pub(crate) const STATES: &str = "states";
+
+pub(crate) const WITNESS: &str = "witness";
+
 fn capabilities_option<'a>(alloc: Global) -> Arg<'a>
     ensures rule { rule_of result ≡ capabilities_option }
     ensures local { result.global ≡ false }
@@ -27,12 +31,13 @@ fn capabilities_option<'a>(alloc: Global) -> Arg<'a>
         .default_value("1")
 }
 
-fn fuel_option<'a>(alloc: Global) -> Arg<'a>
-    ensures rule { rule_of result ≡ fuel_option }
+/// An option that says how many steps or states there may be, by its id.
+fn count_option<'a>(alloc: Global, id: &'a str) -> Arg<'a>
+    ensures rule { rule_of result ≡ count_option id.entry.now }
     ensures local { result.global ≡ false }
 {
-    Arg::new(alloc, FUEL)
-        .long(FUEL)
+    Arg::new(alloc, id)
+        .long(id)
         .value_parser(value_parser!(u32).range(1..=4_000_000))
         .default_value("1000000")
 }
@@ -42,6 +47,15 @@ fn clock_option<'a>(alloc: Global) -> Arg<'a>
     ensures local { result.global ≡ false }
 {
     Arg::new(alloc, CLOCK).long(CLOCK).default_value("real")
+}
+
+fn witness_option<'a>(alloc: Global) -> Arg<'a>
+    ensures rule { rule_of result ≡ witness_option }
+    ensures local { result.global ≡ false }
+{
+    Arg::new(alloc, WITNESS)
+        .long(WITNESS)
+        .value_parser(value_parser!(u32).range(1..=4_294_967_295))
 }
 
 fn threads_place<'a>(alloc: Global) -> Arg<'a>
@@ -60,7 +74,7 @@ fn runner<'a>(alloc: Global, name: &'a str) -> Result<Command<'a>, AllocError>
 {
     Command::new(alloc, name)
         .arg(capabilities_option(alloc))?
-        .arg(fuel_option(alloc))?
+        .arg(count_option(alloc, FUEL))?
         .arg(clock_option(alloc))
 }
 
@@ -79,7 +93,18 @@ fn bench<'a>(alloc: Global) -> Result<Command<'a>, AllocError>
     Command::new(alloc, "bench")
         .arg(threads_place(alloc))?
         .arg(capabilities_option(alloc))?
-        .arg(fuel_option(alloc))
+        .arg(count_option(alloc, FUEL))
+}
+
+fn outcomes<'a>(alloc: Global) -> Result<Command<'a>, AllocError>
+    ensures shape { IfOk result (λ c. app_of c ≡ outcomes) }
+    ensures local { IfOk result (λ c. (fields_of c).has_globals ≡ false) }
+{
+    Command::new(alloc, "outcomes")
+        .arg(clock_option(alloc))?
+        .arg(count_option(alloc, STATES))?
+        .arg(count_option(alloc, FUEL))?
+        .arg(witness_option(alloc))
 }
 
 /// The program, which takes the words after its name and one of its subcommands among them.
@@ -95,6 +120,7 @@ pub(crate) fn program<'a>(alloc: Global) -> Result<Command<'a>, AllocError>
         .subcommand(plain(alloc, "check"))?
         .subcommand(bench(alloc)?)?
         .subcommand(runner(alloc, "trace")?)?
+        .subcommand(outcomes(alloc)?)?
         .subcommand(plain(alloc, "verify"))?
         .subcommand(plain(alloc, "report"))?
         .subcommand(plain(alloc, "picture"))

@@ -1,9 +1,9 @@
 ghost use Rattle.std.specs.Prelude.{◌≡◌, IfErr, IfOk, MatchResult, None, Some, codes, false, map, string_bytes, true};
 ghost use Rattle.clap.specs.Words.{found_of, rows_of, subcommand_of, subcommand_rows_of, takes};
 ghost use Rattle.conc_words.specs.Program.{program};
-ghost use Rattle.conc_words.specs.Commands.{IsRefused, IsWithin, bench_of, command_in, command_of, number_of, run_of, trace_of, WhenNotUnderstood, clock_of};
+ghost use Rattle.conc_words.specs.Commands.{IsRefused, IsWithin, bench_of, command_in, command_of, number_of, outcomes_of, run_of, trace_of, WhenNotUnderstood, clock_of};
 
-use crate::program::{CAPABILITIES, CLOCK, FUEL, THREADS, program};
+use crate::program::{CAPABILITIES, CLOCK, FUEL, STATES, THREADS, WITNESS, program};
 use crate::{Command, Question, WordsFault};
 use clap::ArgMatches;
 use hs_base::ClockChoice;
@@ -45,6 +45,7 @@ fn command_in(matches: &ArgMatches<'_>) -> Option<Command>
         "check" => Some(Command::Check),
         "bench" => bench_in(entries),
         "trace" => trace_in(entries),
+        "outcomes" => outcomes_in(entries),
         "verify" => Some(Command::Ask(Question::Verify)),
         "report" => Some(Command::Ask(Question::Report)),
         "picture" => Some(Command::Ask(Question::Picture)),
@@ -82,6 +83,17 @@ fn trace_in(entries: &ArgMatches<'_>) -> Option<Command>
     })
 }
 
+fn outcomes_in(entries: &ArgMatches<'_>) -> Option<Command>
+    ensures { result ≡ outcomes_of (rows_of (found_of entries.now)) }
+{
+    Some(Command::Outcomes {
+        clock: clock_in(entries)?,
+        states: states_in(entries)?,
+        fuel: fuel_in(entries)?,
+        witness: witness_in(entries),
+    })
+}
+
 fn capabilities_in(entries: &ArgMatches<'_>) -> Option<u8>
     ensures { result ≡ number_of 8 (codes "caps") (rows_of (found_of entries.now)) }
 {
@@ -98,6 +110,18 @@ fn threads_in(entries: &ArgMatches<'_>) -> Option<u32>
     ensures { result ≡ number_of 32 (codes "threads") (rows_of (found_of entries.now)) }
 {
     entries.get_one(THREADS)
+}
+
+fn states_in(entries: &ArgMatches<'_>) -> Option<u32>
+    ensures { result ≡ number_of 32 (codes "states") (rows_of (found_of entries.now)) }
+{
+    entries.get_one(STATES)
+}
+
+fn witness_in(entries: &ArgMatches<'_>) -> Option<u32>
+    ensures { result ≡ number_of 32 (codes "witness") (rows_of (found_of entries.now)) }
+{
+    entries.get_one(WITNESS)
 }
 
 fn clock_in(entries: &ArgMatches<'_>) -> Option<ClockChoice>

@@ -1,8 +1,8 @@
 use Rattle.std.proofs.Common.{ap, refl, ◌∙◌}
 use Rattle.std.specs.Prelude.{Some}
 use Rattle.std.proofs.lemmas.Result.{err_from_is_err_and}
-use Rattle.conc_words.specs.declared.command.Command.TheVariants.{Check, Run, Trace}
-use Rattle.conc_task.proofs.Tasks.{checked, claim_none, claimed, ring_none, ring_task, run_task, source_none, traced_program, unclear}
+use Rattle.conc_words.specs.declared.command.Command.TheVariants.{Check, Outcomes, Run, Trace}
+use Rattle.conc_task.proofs.Tasks.{checked, claim_none, claimed, ring_none, ring_task, run_task, searched, source_none, traced_program, unclear}
 use Rattle.conc_task.proofs.task.task_of.Goals as goal
 
 pub returns-in_err-capabilities-clause-comes : goal.returns-in_err-capabilities-clause-comes
@@ -47,6 +47,17 @@ returns-in_err-code-in-Trace-clause-comes g c =
     let p = err_from_is_err_and c.from_residual-in_err-code-in-Trace.result c.from_residual-in_err-code-in-Trace.ensures.1 in
     rw (p.1, p.2)
     (source_none _ (Trace c.in-Trace.capabilities c.in-Trace.fuel c.in-Trace.clock) _ _ _ c.in_err-code-in-Trace.field-0.0 (c.in_ok-capabilities.ensures.exact ∙ ap Some c.in-Trace.is) tt c.in_err-code-in-Trace.ensures.comes)
+
+pub returns-in_ok-code-in-Outcomes-clause-comes : goal.returns-in_ok-code-in-Outcomes-clause-comes
+returns-in_ok-code-in-Outcomes-clause-comes g c =
+    searched _ _ _ _ (c.in_ok-capabilities.ensures.exact ∙ ap Some c.in-Outcomes.is) c.in_ok-code-in-Outcomes.ensures.comes
+
+pub returns-in_err-code-in-Outcomes-clause-comes : goal.returns-in_err-code-in-Outcomes-clause-comes
+returns-in_err-code-in-Outcomes-clause-comes g c =
+    let p = err_from_is_err_and c.from_residual-in_err-code-in-Outcomes.result c.from_residual-in_err-code-in-Outcomes.ensures.1 in
+    rw (p.1, p.2)
+    (source_none _ (Outcomes c.in-Outcomes.clock c.in-Outcomes.states c.in-Outcomes.fuel c.in-Outcomes.witness) _ _ _ c.in_err-code-in-Outcomes.field-0.0
+    (c.in_ok-capabilities.ensures.exact ∙ ap Some c.in-Outcomes.is) tt c.in_err-code-in-Outcomes.ensures.comes)
 
 pub returns-in_ok-claim-in-Ask-clause-comes : goal.returns-in_ok-claim-in-Ask-clause-comes
 returns-in_ok-claim-in-Ask-clause-comes g c =

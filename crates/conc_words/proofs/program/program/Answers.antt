@@ -34,6 +34,7 @@ returns c =
     let with_check = c.in_ok-subcommand-2.ensures.shape c.plain.ensures.local ∙ ap₂ with_subcommand with_run (ap top_of c.plain.ensures.shape) in
     let with_bench = c.in_ok-subcommand-3.ensures.shape c.in_ok-bench.ensures.local ∙ ap₂ with_subcommand with_check (ap top_of c.in_ok-bench.ensures.shape) in
     let with_trace = c.in_ok-subcommand-4.ensures.shape c.in_ok-runner-2.ensures.local ∙ ap₂ with_subcommand with_bench (ap top_of c.in_ok-runner-2.ensures.shape) in
-    let with_verify = c.in_ok-subcommand-5.ensures.shape c.plain-2.ensures.local ∙ ap₂ with_subcommand with_trace (ap top_of c.plain-2.ensures.shape) in
-    let with_report = c.in_ok-subcommand-6.ensures.shape c.plain-3.ensures.local ∙ ap₂ with_subcommand with_verify (ap top_of c.plain-3.ensures.shape) in
-    IfOk-weaker c.subcommand-7.result _ _ (λ r h. h.shape c.plain-4.ensures.local ∙ ap₂ with_subcommand with_report (ap top_of c.plain-4.ensures.shape)) c.subcommand-7.ensures
+    let with_outcomes = c.in_ok-subcommand-5.ensures.shape c.in_ok-outcomes.ensures.local ∙ ap₂ with_subcommand with_trace (ap top_of c.in_ok-outcomes.ensures.shape) in
+    let with_verify = c.in_ok-subcommand-6.ensures.shape c.plain-2.ensures.local ∙ ap₂ with_subcommand with_outcomes (ap top_of c.plain-2.ensures.shape) in
+    let with_report = c.in_ok-subcommand-7.ensures.shape c.plain-3.ensures.local ∙ ap₂ with_subcommand with_verify (ap top_of c.plain-3.ensures.shape) in
+    IfOk-weaker c.subcommand-8.result _ _ (λ r h. h.shape c.plain-4.ensures.local ∙ ap₂ with_subcommand with_report (ap top_of c.plain-4.ensures.shape)) c.subcommand-8.ensures
