@@ -24,7 +24,7 @@ use Rattle.conc_task.specs.Commands.{Asks, IsInput, source_limit, Traces}
 use Rattle.conc_task.specs.Inputs.{ReadThrough}
 use Rattle.conc_task.specs.Tasks.{HasClaim, HasTask}
 use Rattle.conc_top.specs.declared.ending.Ending.{Ending}
-use Rattle.conc_top.specs.declared.ending.Ending.TheVariants.{Memory, Verified, Reported, Pictured, NotDrawn}
+use Rattle.conc_top.specs.declared.ending.Ending.TheVariants.{Memory, Verified, Reported, Pictured}
 use Rattle.conc_top.specs.Lines.{line_of, verified_line}
 use Rattle.conc_top.specs.Causes.{HasIn, HasPicture, HasRunIn, HasTelling, HasTooMany, HasVerdict, IsDue, IsPictureOf, IsReadThrough, unfound, unverified}
 use Rattle.conc_top.specs.Answers.{Call, IsFound, IsIdle, IsShown, IsUnfound, IsVerified, Keeps, TellsAnswer, TellsAsked, TellsLine, WriteFault}

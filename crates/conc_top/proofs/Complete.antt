@@ -1,16 +1,20 @@
 -- Which answers are left where nothing fails and the words are a command.
 use Rattle.std.proofs.Common.{◌≡◌, ◌⊎◌, ◌≤◌, ◌+◌, ℕ, List, drop, length, true, false, refl, sym, ap, subst, ◌∙◌, inl, inr, arith}
 use Rattle.std.specs.Prelude.{Option, Some, None, IsSome, Result, Ok, Err}
+use Rattle.std.proofs.Math.Logic.{∥∥₁_elim}
+use Rattle.std.proofs.Props.{props}
 use Rattle.run_course.specs.declared.ends.RunEnd.{RunEnd}
 use Rattle.run_course.specs.declared.ends.RunEnd.TheVariants as end
 use Rattle.conc_words.specs.declared.command.Command.{Command}
 use Rattle.conc_words.specs.declared.command.Command.TheVariants.{Run, Check, Bench, Trace, Ask}
+use Rattle.conc_words.specs.declared.command.Command.TheVariants as commands
 use Rattle.conc_words.specs.declared.command.Question.{Question}
 use Rattle.conc_words.specs.declared.command.Question.TheVariants.{Verify, Report, Picture}
 use Rattle.hs_compile.specs.declared.refusal.Refusal.{Refusal}
 use Rattle.hs_compile.specs.Verdicts.{IsRefused}
 use Rattle.hs_compile.proofs.Verdicts.{not_both}
 use Rattle.hs_compile.specs.declared.refusal.Refusal.TheVariants as refusal
+use Rattle.outcome_listing.specs.declared.bounds.Bounds.{Bounds}
 use Rattle.trace_checker.specs.declared.verdict.Verified.{Verified as VerifiedRun}
 use Rattle.trace_checker.specs.declared.verdict.RunFault.{RunFault}
 use Rattle.trace_checker.specs.declared.verdict.RunFault.TheVariants as fault
@@ -21,7 +25,8 @@ use Rattle.conc_task.specs.Stops.{RefusesDocument, RefusesInput}
 use Rattle.conc_top.specs.declared.ending.NotRun.{NotRun as NoRun}
 use Rattle.conc_top.specs.declared.ending.NotRun.TheVariants as norun
 use Rattle.conc_top.specs.declared.ending.Ending.{Ending}
-use Rattle.conc_top.specs.declared.ending.Ending.TheVariants.{Ran, Accepted, Words, Refused, Read, Memory, Write, Verified, Reported, Pictured, NotRun, NotDrawn}
+use Rattle.conc_top.specs.declared.ending.Ending.TheVariants.{Ran, Accepted, Words, Refused, Read, Memory, Write, Verified, Reported, Pictured, NotRun, NotDrawn, Outcomes, NoOutcome}
+use Rattle.conc_top.specs.Searches.{Searches}
 use Rattle.conc_top.specs.Causes.{HasFault, HasIn, HasPicture, HasRunIn, HasTooMany, HasVerdict, IsDue, IsExpected, IsIn, IsJudged, IsNotRun, IsRefusal, IsRunIn, IsVerdict}
 
 -- a source that tells its bytes had one list of them
@@ -47,6 +52,7 @@ one_input (Some (Run capabilities fuel clock)) left x y good some h k = one_left
 one_input (Some Check) left x y good some h k = one_left left x y (some tt) h k
 one_input (Some (Bench threads capabilities fuel)) left x y good some h k = h ∙ sym k
 one_input (Some (Trace capabilities fuel clock)) left x y good some h k = one_left left x y (some tt) h k
+one_input (Some (commands.Outcomes clock states fuel witness)) left x y good some h k = one_left left x y (some tt) h k
 one_input (Some (Ask question)) left x y good some h k =
     one_script k.0 x y (subst (λ d. IsScriptOf d x) (one_left left h.0 k.0 (some tt) h.1 k.1) h.2) k.2
 
@@ -61,6 +67,7 @@ long_alone (Some (Run capabilities fuel clock)) left bytes r script refused = ab
 long_alone (Some Check) left bytes r script refused = absurd (not_both bytes script.0 r script.1 refused)
 long_alone (Some (Bench threads capabilities fuel)) left bytes r script refused = absurd (not_both bytes script.0 r script.1 refused)
 long_alone (Some (Trace capabilities fuel clock)) left bytes r script refused = absurd (not_both bytes script.0 r script.1 refused)
+long_alone (Some (commands.Outcomes clock states fuel witness)) left bytes r script refused = absurd (not_both bytes script.0 r script.1 refused)
 long_alone (Some (Ask question)) left bytes r script (inl refused) = absurd (not_both bytes script.0 r script.1 refused.2)
 long_alone (Some (Ask question)) left bytes r script (inr long) = ((question, refl), long.0, long.1)
 
@@ -77,6 +84,8 @@ expected command left bytes read_fault write_fault (Verified v) good script read
 expected command left bytes read_fault write_fault Reported good script read write due = due
 expected command left bytes read_fault write_fault Pictured good script read write due = due
 expected command left bytes read_fault write_fault (NotDrawn n) good script read write due = due
+expected command left bytes read_fault write_fault (Outcomes extent) good script read write due = due
+expected command left bytes read_fault write_fault (NoOutcome k) good script read write due = due
 expected command left bytes read_fault write_fault (NotRun why) good script read write due = due
 
 pub is_expected : (command : Option Command) (left : Option (List ℕ)) (read_fault out_fault err_fault : Type 0) (e : Ending)
@@ -111,6 +120,8 @@ module _ (left : Option (List ℕ)) (bytes : List ℕ) (r : Refusal) (refused : 
   is_refused command read_fault write_fault Reported good read write due = not_both bytes due.1.2 r due.1.3 refused
   is_refused command read_fault write_fault Pictured good read write due = not_both bytes due.1.2 r due.1.3 refused
   is_refused command read_fault write_fault (NotDrawn n) good read write due = not_both bytes due.1.2 r due.1.3 refused
+  is_refused command read_fault write_fault (Outcomes extent) good read write due = ∥∥₁_elim due.1.3 (hlevel props) (λ found. not_both bytes found.explored.script r found.explored.accepted refused)
+  is_refused command read_fault write_fault (NoOutcome k) good read write due = ∥∥₁_elim due.2 (hlevel props) (λ found. not_both bytes found.1.script r found.1.accepted refused)
   is_refused command read_fault write_fault (NotRun why) good read write due = let (same, bare) = bare_alone why due.1 in (due.0, same, bare)
 
 pub is_refusal : (command : Option Command) (left : Option (List ℕ)) (read_fault out_fault err_fault : Type 0) (e : Ending)
@@ -130,11 +141,16 @@ question_in (Some (Run capabilities fuel clock)) = Verify
 question_in (Some Check) = Verify
 question_in (Some (Bench threads capabilities fuel)) = Verify
 question_in (Some (Trace capabilities fuel clock)) = Verify
+question_in (Some (commands.Outcomes clock states fuel witness)) = Verify
 question_in None = Verify
 
 module _ (question : Question) (document bytes : List ℕ) where
   asks_this : (other : Question) → Asks (Some (Ask question)) other → question ≡ other
   asks_this other same = ap question_in same
+
+  -- it is not `outcomes`
+  other_command : (bounds : Bounds) (witness : Option ℕ) → Searches (Some (Ask question)) bounds witness → ⊥
+  other_command bounds witness searches = let same : Some (Ask question) ≡ Some (commands.Outcomes bounds.clock bounds.states bounds.fuel witness) = searches.0 in cc
 
   whole : {trace : List ℕ} (has : HasDocument (Some document) trace bytes) → (length document ≤ document_limit) × IsParted document trace bytes
   whole has = (omega (arith, has.short, ap length has.left), subst (λ d. IsParted d _ bytes) (sym has.left) has.parted)
@@ -172,6 +188,8 @@ module _ (question : Question) (document bytes : List ℕ) where
   verdict read_fault write_fault (Verified v) read write due = let found = judged (Ok v) due.1 in (asks_this Verify due.0, found.0, found.1, found.2)
   verdict read_fault write_fault Reported read write due = let found = run_in due.1 in (asks_this Report due.0, found.0, found.1, found.2)
   verdict read_fault write_fault Pictured read write due = let found = picture_in due.1 in (asks_this Picture due.0, found.0, found.1, found.2)
+  verdict read_fault write_fault (Outcomes extent) read write due = other_command due.1.0 due.1.1 due.1.2
+  verdict read_fault write_fault (NoOutcome k) read write due = other_command due.0 (Some k) due.1
   verdict read_fault write_fault (NotDrawn n) read write due = let found = large_in n due.1 in (asks_this Picture due.0, found.0, found.1, found.2)
   verdict read_fault write_fault (NotRun why) read write due = no_run why due.1
 

@@ -1,5 +1,5 @@
 -- What writing the history of a run comes to.
-use Rattle.std.proofs.Common.{◌≡◌, ◌≤◌, ◌<◌, ◌++◌, ◌⊎◌, ℕ, List, [], append-nil, length, take, true, false, sym, ap, subst, ◌∙◌, inl, inr, arith}
+use Rattle.std.proofs.Common.{◌≡◌, ◌≤◌, ◌<◌, ◌⊎◌, ℕ, List, [], length, take, true, false, sym, ap, subst, ◌∙◌, inl, inr, arith}
 use Rattle.std.specs.Prelude.{Option, Some, None, IfSome, IsSome}
 use Rattle.std.specs.Io.KnownBytes.{Appends}
 use Rattle.std.specs.declared.alloc.Global.{Global}
@@ -14,7 +14,7 @@ use Rattle.hs_io.specs.Causes.{Rose}
 use Rattle.hs_rules.specs.declared.entry.Entry.{Entry}
 use Rattle.hs_rules.specs.declared.kept.Plan.{Plan}
 use Rattle.rules_code.specs.Codes.{body_of}
-use Rattle.rules_traces.specs.Traces.{document_of, script_line, Spells, trace_of}
+use Rattle.rules_traces.specs.Traces.{document_of}
 use Rattle.rules_trees.specs.Programs.{Fn}
 use Rattle.hs_laws.specs.HistoryEndings.{StaysWithin}
 use Rattle.run_course.specs.declared.ends.RunEnd.{RunEnd}
@@ -34,7 +34,8 @@ use Rattle.conc_top.specs.declared.ending.Ending.{Ending}
 use Rattle.conc_top.specs.declared.ending.Ending.TheVariants.{Ran, Memory, Write}
 use Rattle.conc_top.specs.Lines.{line_of, run_line, status_of}
 use Rattle.conc_top.specs.Causes.{HasFault}
-use Rattle.conc_top.specs.Answers.{Call, HasRun, IsPlayed, IsWritten, limits, PutsDocument, RunsScript, Tells, TellsAnswer, TellsLine, TellsTrace, WriteFault, Writes, WritesRun}
+use Rattle.conc_top.specs.Searches.{limits}
+use Rattle.conc_top.specs.Answers.{Call, HasRun, IsPlayed, IsWritten, PutsDocument, RunsScript, Tells, TellsAnswer, TellsLine, TellsTrace, WriteFault, Writes, WritesRun}
 use Rattle.conc_top.proofs.Playing.{keeps_laws, program_through, retold}
 use Rattle.conc_top.proofs.Answering.{few_through, line_counted, memory_written, never_rose}
 
@@ -225,6 +226,7 @@ tells_as (Some (command.Run capabilities fuel clock)) bytes r given es lent now 
 tells_as (Some command.Check) bytes r given es lent now ds traces told = absurd traces
 tells_as (Some (command.Bench threads capabilities fuel)) bytes r given es lent now ds traces told = absurd traces
 tells_as (Some (command.Trace capabilities fuel clock)) bytes r given es lent now ds traces told = told
+tells_as (Some (command.Outcomes clock states fuel witness)) bytes r given es lent now ds traces told = absurd traces
 tells_as (Some (command.Ask question)) bytes r given es lent now ds traces told = absurd traces
 
 module _ (command : Option Command) (fault : Type 0) (a b : ℕ) (before left_now : Option (List ℕ)) (choice : Option ClockChoice) (program : Program) (read : List ℕ) (has : HasTraced command before left_now program read) where
@@ -268,6 +270,7 @@ left_of (Some (command.Run capabilities fuel clock)) left bytes traces input = a
 left_of (Some command.Check) left bytes traces input = absurd traces
 left_of (Some (command.Bench threads capabilities fuel)) left bytes traces input = absurd traces
 left_of (Some (command.Trace capabilities fuel clock)) left bytes traces input = input
+left_of (Some (command.Outcomes clock states fuel witness)) left bytes traces input = absurd traces
 left_of (Some (command.Ask question)) left bytes traces input = absurd traces
 
 pub trace_written : (command : Option Command) (before left_now : Option (List ℕ)) (program : Program) (read lent_bytes : List ℕ) (given : Ending) (es : List Entry) (told told_now : Option (List ℕ))
@@ -276,9 +279,3 @@ pub trace_written : (command : Option Command) (before left_now : Option (List �
 trace_written command before left_now program read lent_bytes given es told told_now has is written bytes traces left =
     let known : bytes ≡ has.made.bytes = subst (λ z. IsLeft z has.made.bytes) left (left_of command before has.made.bytes traces has.made.input) in
     subst (λ z. IsWritten (document_of es z) given told told_now) (is ∙ sym has.read ∙ sym known) written
-
--- ---- the document, as it is put together
-
-pub document_is : (es : List Entry) (trace bytes begin first whole : List ℕ) → whole ≡ first ++ bytes → first ≡ begin ++ script_line → begin ≡ trace → Spells trace es → whole ≡ document_of es bytes
-document_is es trace bytes begin first whole last line same spelled =
-    last ∙ ap (λ z. z ++ bytes) (line ∙ ap (λ z. z ++ script_line) (same ∙ spelled.spelled ∙ append-nil (trace_of es)))

@@ -2,4 +2,5 @@ mod Answering
 mod Playing
 mod Histories
 mod Claims
+mod Listings
 mod Complete

@@ -25,6 +25,7 @@ use Rattle.run_course.specs.Endings.{EndedBy}
 use Rattle.clocked_record.specs.Clocks.{TicksKept}
 use Rattle.conc_words.specs.declared.command.Command.{Command}
 use Rattle.conc_words.specs.declared.command.Command.TheVariants.{Run, Check, Bench, Trace, Ask}
+use Rattle.conc_words.specs.declared.command.Command.TheVariants as commands
 use Rattle.conc_world.specs.Runs.{IsRunOf, Shown, script}
 use Rattle.hs_compile.specs.Verdicts.{IsAccepted, script_limit}
 use Rattle.conc_task.specs.declared.task.Program.{Program}
@@ -34,10 +35,11 @@ use Rattle.conc_task.specs.Commands.{IsInput, ReadsSource, Runs, RunsWith, sourc
 use Rattle.conc_task.specs.Inputs.{IsScript, ReadThrough}
 use Rattle.conc_task.specs.Tasks.{HasProgram, HasTask}
 use Rattle.conc_top.specs.declared.ending.Ending.{Ending}
-use Rattle.conc_top.specs.declared.ending.Ending.TheVariants.{Ran, Accepted, Words, Refused, Read, Memory, Write, Verified, Reported, Pictured, NotRun, NotDrawn}
+use Rattle.conc_top.specs.declared.ending.Ending.TheVariants.{Ran, Accepted, Words, Refused, Read, Memory, Write, Verified, Reported, Pictured, NotRun, NotDrawn, Outcomes, NoOutcome}
 use Rattle.conc_top.specs.Lines.{line_of, run_line, run_status, status_of}
 use Rattle.conc_top.specs.Causes.{HasFault, IsDue, IsUnrun}
-use Rattle.conc_top.specs.Answers.{Call, HasRun, IsPlayed, KeepsLaws, limits, Plays, RunsScript, Tells, TellsAnswer, TellsBy, TellsLine, WriteFault}
+use Rattle.conc_top.specs.Searches.{limits}
+use Rattle.conc_top.specs.Answers.{Call, HasRun, IsPlayed, KeepsLaws, Plays, RunsScript, Tells, TellsAnswer, TellsBy, TellsLine, WriteFault}
 use Rattle.conc_top.proofs.Answering.{few_through, idle, line_counted, never_rose}
 
 -- ---- counts of faults
@@ -349,6 +351,7 @@ tells_as (Some (Run capabilities most choice)) fuel clock bytes r given es lent 
 tells_as (Some Check) fuel clock bytes r given es lent now ds runs prints told = told
 tells_as (Some (Bench threads capabilities most)) fuel clock bytes r given es lent now ds runs prints told = told
 tells_as (Some (Trace capabilities most choice)) fuel clock bytes r given es lent now ds runs prints told = absurd (prints tt)
+tells_as (Some (commands.Outcomes choice states most witness)) fuel clock bytes r given es lent now ds runs prints told = told
 tells_as (Some (Ask question)) fuel clock bytes r given es lent now ds runs prints told = told
 
 -- a command that runs its input reads a script
@@ -358,6 +361,7 @@ limit_is (Some (Run capabilities most choice)) fuel clock runs = refl
 limit_is (Some Check) fuel clock runs = refl
 limit_is (Some (Bench threads capabilities most)) fuel clock runs = refl
 limit_is (Some (Trace capabilities most choice)) fuel clock runs = refl
+limit_is (Some (commands.Outcomes choice states most witness)) fuel clock runs = refl
 limit_is (Some (Ask question)) fuel clock runs = absurd runs
 
 pub program_through : (command : Option Command) (before now : Option (List ℕ)) (program : Program) → HasProgram command before now program → ReadsSource command → ReadThrough (source_limit command) before now
@@ -416,6 +420,8 @@ played_ran write_fault Reported played unrun = played
 played_ran write_fault Pictured played unrun = played
 played_ran write_fault (NotDrawn n) played unrun = played
 played_ran write_fault (NotRun why) played unrun = played
+played_ran write_fault (Outcomes extent) played unrun = played
+played_ran write_fault (NoOutcome k) played unrun = played
 
 -- the cause of the answer
 played_due : (command : Option Command) (before : Option (List ℕ)) (bytes : List ℕ) (read_fault write_fault : Type 0) (given : Ending) → Runs command → IsScript bytes → IsPlayed write_fault given
@@ -432,6 +438,8 @@ played_due command before bytes read_fault write_fault Reported asked found play
 played_due command before bytes read_fault write_fault Pictured asked found played = absurd played
 played_due command before bytes read_fault write_fault (NotDrawn n) asked found played = absurd played
 played_due command before bytes read_fault write_fault (NotRun why) asked found played = absurd played
+played_due command before bytes read_fault write_fault (Outcomes extent) asked found played = absurd played
+played_due command before bytes read_fault write_fault (NoOutcome k) asked found played = absurd played
 
 pub program_due : (command : Option Command) (read_fault write_fault : Type 0) (before left_now : Option (List ℕ)) (program : Program) (given : Ending) → HasProgram command before left_now program
     → IsPlayed write_fault given → (bytes : List ℕ) × IsInput command before bytes × IsDue command before bytes read_fault write_fault given

@@ -2,7 +2,6 @@
 use Rattle.std.specs.Prelude.{◌≡◌, ◌≢◌, ◌⊎◌, ◌≤◌, ◌++◌, ℕ, Bool, true, false, List, [], take, Option, Some, None, IfSome, IsSome, Ok, Err, ⊤}
 use Rattle.std.specs.Io.KnownBytes.{Appends}
 use Rattle.hs_base.specs.declared.clock_choice.ClockChoice.{ClockChoice}
-use Rattle.hs_base.specs.declared.limits.Limits.{Limits}
 use Rattle.hs_base.specs.declared.tree.script.Script.{Script}
 use Rattle.hs_io.specs.Causes.{Rose}
 use Rattle.hs_rules.specs.declared.entry.Entry.{Entry}
@@ -24,23 +23,23 @@ use Rattle.run_course.specs.Endings.{EndedBy}
 use Rattle.conc_world.specs.Runs.{IsRunOf, Shown}
 use Rattle.conc_words.specs.declared.command.Command.{Command}
 use Rattle.conc_words.specs.declared.command.Command.TheVariants.{Run, Check, Bench, Trace, Ask}
+use Rattle.conc_words.specs.declared.command.Command.TheVariants as commands
 use Rattle.conc_words.specs.declared.command.Question.{Question}
 use Rattle.conc_words.specs.declared.command.Question.TheVariants.{Verify, Report, Picture}
 use Rattle.hs_compile.specs.Verdicts.{IsAccepted}
+use Rattle.conc_task.specs.declared.task.Search.{Search}
 use Rattle.conc_task.specs.Commands.{IsInput, ReadsSource, RunsWith, source_limit, Traces}
+use Rattle.outcome_listing.specs.declared.explored.Extent.{Extent}
 use Rattle.trace_checker.specs.declared.verdict.Verified.{Verified as VerifiedRun}
 use Rattle.trace_picture.specs.declared.fault.PictureFault.{PictureFault}
 use Rattle.trace_picture.specs.declared.fault.PictureFault.TheVariants as picture
 use Rattle.trace_checker.specs.Checking.{Judges, TellsOfRun}
 use Rattle.report_tally.specs.Reporting.{report_of}
 use Rattle.conc_top.specs.declared.ending.Ending.{Ending}
-use Rattle.conc_top.specs.declared.ending.Ending.TheVariants.{Ran, Accepted, Words, Refused, Read, Memory, Write, Verified, Reported, Pictured, NotRun, NotDrawn}
+use Rattle.conc_top.specs.declared.ending.Ending.TheVariants.{Ran, Accepted, Words, Refused, Read, Memory, Write, Verified, Reported, Pictured, NotRun, NotDrawn, Outcomes, NoOutcome}
+use Rattle.conc_top.specs.Searches.{HasListing, IsListingOf, IsUnlisted, limits}
 use Rattle.conc_top.specs.Causes.{HasFault, HasIn, HasTelling, HasTooMany, IsDue, IsPictureOf, IsReadThrough, unfound}
 use Rattle.conc_top.specs.Lines.{accepted_line, HasPlace, line_of, run_line, verified_line}
-
--- the limits of a run: threads and cells ever made, frames over all unfinished threads, bytes of output and error output
-abbrev pub limits : Limits
-limits = record { threads = 65536; cells = 262144; frames = 200000; output = 8388608 }
 
 -- the laws of every history hold of this one, which leaves this state; among them that each bracket of a finished thread was
 -- released exactly once
@@ -75,6 +74,7 @@ Tells (Some (Run capabilities fuel clock)) bytes r given es lent now ds = TellsB
 Tells (Some Check) bytes r given es lent now ds = TellsBy (is_write (Some r)) r given ds es lent now
 Tells (Some (Bench threads capabilities fuel)) bytes r given es lent now ds = TellsBy (is_write (Some r)) r given ds es lent now
 Tells (Some (Trace capabilities fuel clock)) bytes r given es lent now ds = TellsTrace bytes r given es lent now
+Tells (Some (commands.Outcomes clock states fuel witness)) bytes r given es lent now ds = TellsBy (is_write (Some r)) r given ds es lent now
 Tells (Some (Ask question)) bytes r given es lent now ds = TellsBy (is_write (Some r)) r given ds es lent now
 
 -- This history is a run of the script that these bytes are, from its first state to its ending, which came for its cause. Its
@@ -139,7 +139,7 @@ pub record IsUnwritten (given : Ending) (es : List Entry) (lent now : Shown) : T
   pub no_output : (now.output ≡ lent.output) × (now.out_faults ≡ lent.out_faults)
   pub told : TellsLine (line_of Memory) Memory given lent.errors now.errors lent.err_faults now.err_faults
 
--- what the answer keeps and tells: a run by the clock of the command, a line, or what is shown of a document
+-- what the answer keeps and tells: a run by the clock of the command, a line, or what is shown of a document or of a search
 abbrev pub Keeps : Option Command → (before : Option (List ℕ)) → List ℕ → (choice : Option ClockChoice) → (came given : Ending) → List Entry → (lent now : Shown) → Type 0
 Keeps command before bytes choice (Ran r) given es lent now =
     (fuel : ℕ) × (clock : ClockChoice) × RunsWith command fuel clock × (choice ≡ Some clock) × RunsScript fuel bytes r es lent now (Tells command bytes r given es lent now)
@@ -154,6 +154,8 @@ Keeps command before bytes choice Reported given es lent now = IsShown (HasTelli
 Keeps command before bytes choice Pictured given es lent now = IsShown (λ text. HasIn (IsPictureOf text) before bytes) Pictured given es lent now
 Keeps command before bytes choice (NotRun why) given es lent now = IsIdle (NotRun why) given es lent now
 Keeps command before bytes choice (NotDrawn n) given es lent now = IsIdle (NotDrawn n) given es lent now
+Keeps command before bytes choice (Outcomes extent) given es lent now = IsShown (HasListing command bytes extent) (Outcomes extent) given es lent now
+Keeps command before bytes choice (NoOutcome k) given es lent now = IsIdle (NoOutcome k) given es lent now
 
 -- some put failed
 abbrev pub WriteFault : (lent now : Shown) → Type 0
@@ -184,6 +186,14 @@ IsWritten document Reported told told_now = told_now ≡ told
 IsWritten document Pictured told told_now = told_now ≡ told
 IsWritten document (NotDrawn n) told told_now = told_now ≡ told
 IsWritten document (NotRun why) told told_now = told_now ≡ told
+IsWritten document (Outcomes extent) told told_now = told_now ≡ told
+IsWritten document (NoOutcome k) told told_now = told_now ≡ told
+
+-- Where `outcomes` has an answer the output sink was told exactly the list of the outcomes, or the document that is asked for, and
+-- the error sink nothing.
+abbrev pub TellsListing : Option Command → (bytes : List ℕ) → Extent → (told told_now errors errors_now : Option (List ℕ)) → Type 0
+TellsListing command bytes extent told told_now errors errors_now =
+    (text : List ℕ) × HasListing command bytes extent text × Appends told told_now text × (errors_now ≡ errors)
 
 -- What a desk leaves that was run to its ending: this script ran with so much fuel and within the limits, since the sinks and the
 -- clock showed the first until they showed the second.
@@ -212,6 +222,8 @@ IsPlayed write_fault Reported = ⊥
 IsPlayed write_fault Pictured = ⊥
 IsPlayed write_fault (NotDrawn n) = ⊥
 IsPlayed write_fault (NotRun why) = ⊥
+IsPlayed write_fault (Outcomes extent) = ⊥
+IsPlayed write_fault (NoOutcome k) = ⊥
 
 -- What a call came to, one answer that is due, and what it kept and told; where the put of its line failed, Write stands in the
 -- answer's place.
@@ -264,3 +276,10 @@ abbrev pub TellsAsked : Question → List Fn → (trace : List ℕ) → (given :
 TellsAsked question ds trace given told told_now faults faults_now errors errors_now err_faults err_faults_now =
     ((came : Ending) × (text : List ℕ) × IsFound question ds trace came text × TellsLine text came given told told_now faults faults_now × (errors_now ≡ errors) × (err_faults_now ≡ err_faults))
     ⊎ ((f : PictureFault) × IsUnfound question ds trace f × (told_now ≡ told) × (faults_now ≡ faults) × TellsAnswer (unfound f) given errors errors_now err_faults err_faults_now)
+
+-- What is told of a search: its text on the output sink, or the line of why it has none on the error sink.
+abbrev pub TellsSearch : Search → (given : Ending) → (told told_now : Option (List ℕ)) → (faults faults_now : ℕ)
+    → (errors errors_now : Option (List ℕ)) → (err_faults err_faults_now : ℕ) → Type 0
+TellsSearch sought given told told_now faults faults_now errors errors_now err_faults err_faults_now =
+    ((extent : Extent) × (text : List ℕ) × IsListingOf sought extent text × TellsLine text (Outcomes extent) given told told_now faults faults_now × (errors_now ≡ errors) × (err_faults_now ≡ err_faults))
+    ⊎ ((came : Ending) × IsUnlisted sought came × (told_now ≡ told) × (faults_now ≡ faults) × TellsAnswer came given errors errors_now err_faults err_faults_now)

@@ -28,7 +28,8 @@ use Rattle.conc_task.specs.Stops.{RefusesInput}
 use Rattle.conc_top.specs.declared.ending.NotRun.{NotRun as NoRun}
 use Rattle.conc_top.specs.declared.ending.NotRun.TheVariants as norun
 use Rattle.conc_top.specs.declared.ending.Ending.{Ending}
-use Rattle.conc_top.specs.declared.ending.Ending.TheVariants.{Ran, Accepted, Words, Refused, Read, Memory, Write, Verified, Reported, Pictured, NotRun, NotDrawn}
+use Rattle.conc_top.specs.declared.ending.Ending.TheVariants.{Ran, Accepted, Words, Refused, Read, Memory, Write, Verified, Reported, Pictured, NotRun, NotDrawn, Outcomes, NoOutcome}
+use Rattle.conc_top.specs.Searches.{IsListed, LacksOutcome}
 
 -- How much of the source was taken: all of it where a script was refused, accepted or run, or a document looked at, and never
 -- more than one byte past the limit.
@@ -45,6 +46,8 @@ IsReadThrough limit Reported before now = ReadThrough limit before now
 IsReadThrough limit Pictured before now = ReadThrough limit before now
 IsReadThrough limit (NotRun why) before now = ReadThrough limit before now
 IsReadThrough limit (NotDrawn n) before now = ReadThrough limit before now
+IsReadThrough limit (Outcomes extent) before now = ReadThrough limit before now
+IsReadThrough limit (NoOutcome k) before now = ReadThrough limit before now
 
 -- a run ends by a failed put only where one failed
 abbrev pub HasFault : RunEnd → (write_fault : Type 0) → Type 0
@@ -116,9 +119,12 @@ IsDue command before bytes read_fault write_fault Reported = Asks command Report
 IsDue command before bytes read_fault write_fault Pictured = Asks command Picture × HasIn HasPicture before bytes
 IsDue command before bytes read_fault write_fault (NotRun why) = AsksSomething command × IsNotRun before bytes why
 IsDue command before bytes read_fault write_fault (NotDrawn n) = Asks command Picture × HasIn (HasTooMany n) before bytes
+IsDue command before bytes read_fault write_fault (Outcomes extent) = IsListed command bytes extent
+IsDue command before bytes read_fault write_fault (NoOutcome k) = LacksOutcome command bytes k
 
 -- Where the words are a command, nothing fails and the input is an accepted script, only these answers come: a run's ending but
--- for that of a failed put, the word of `check`, what a document comes to of which something is asked, and want of memory, which is free.
+-- for that of a failed put, the word of `check`, what a document comes to of which something is asked, what a search comes to, and want
+-- of memory, which is free.
 abbrev pub IsExpected : Option Command → (before : Option (List ℕ)) → (bytes : List ℕ) → Ending → Type 0
 IsExpected command before bytes (Ran r) = Runs command × (r ≡ end.Write → ⊥)
 IsExpected command before bytes Accepted = command ≡ Some Check
@@ -131,6 +137,8 @@ IsExpected command before bytes (Verified v) = Asks command Verify × HasVerdict
 IsExpected command before bytes Reported = Asks command Report × HasRunIn before bytes
 IsExpected command before bytes Pictured = Asks command Picture × HasIn HasPicture before bytes
 IsExpected command before bytes (NotDrawn n) = Asks command Picture × HasIn (HasTooMany n) before bytes
+IsExpected command before bytes (Outcomes extent) = IsListed command bytes extent
+IsExpected command before bytes (NoOutcome k) = LacksOutcome command bytes k
 IsExpected command before bytes (NotRun why) = AsksSomething command × IsNotRun before bytes why
 
 -- Where the words are a command, nothing fails and the input is refused, only a refusal of it comes, or want of memory; where
@@ -147,6 +155,8 @@ IsRefusal command before bytes (Verified v) = ⊥
 IsRefusal command before bytes Reported = ⊥
 IsRefusal command before bytes Pictured = ⊥
 IsRefusal command before bytes (NotDrawn n) = ⊥
+IsRefusal command before bytes (Outcomes extent) = ⊥
+IsRefusal command before bytes (NoOutcome k) = ⊥
 IsRefusal command before bytes (NotRun why) = AsksSomething command × (why ≡ norun.NoScript) × HasBareDocument before
 
 -- A document of which this is asked comes to this: it is too long; or no line of it is `script`; or its script is refused; or else what the check of its
@@ -170,6 +180,8 @@ IsVerdict question document Accepted = ⊥
 IsVerdict question document Words = ⊥
 IsVerdict question document Read = ⊥
 IsVerdict question document Write = ⊥
+IsVerdict question document (Outcomes extent) = ⊥
+IsVerdict question document (NoOutcome k) = ⊥
 
 -- a fault of the source or of a sink is told
 abbrev pub IsFault : Ending → Type 0
@@ -184,6 +196,8 @@ IsFault (Verified v) = ⊥
 IsFault Reported = ⊥
 IsFault Pictured = ⊥
 IsFault (NotDrawn n) = ⊥
+IsFault (Outcomes extent) = ⊥
+IsFault (NoOutcome k) = ⊥
 IsFault (NotRun why) = ⊥
 
 -- these answers come without a run
@@ -199,6 +213,8 @@ IsUnrun (Verified v) = ⊤
 IsUnrun Reported = ⊤
 IsUnrun Pictured = ⊤
 IsUnrun (NotDrawn n) = ⊤
+IsUnrun (Outcomes extent) = ⊤
+IsUnrun (NoOutcome k) = ⊤
 IsUnrun (NotRun why) = ⊤
 
 -- the answer where there is nothing to run and nothing is accepted

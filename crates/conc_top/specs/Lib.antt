@@ -1,3 +1,4 @@
 pub mod Lines
+pub mod Searches
 pub mod Causes
 pub mod Answers

@@ -15,6 +15,8 @@ use Rattle.run_course.specs.declared.ends.RunEnd.TheVariants as end
 use Rattle.hs_compile.specs.declared.refusal.Refusal.{Refusal}
 use Rattle.hs_compile.specs.declared.refusal.Refusal.TheVariants as refusal
 use Rattle.trace_checker.specs.declared.verdict.Verified.{Verified as VerifiedRun}
+use Rattle.outcome_listing.specs.declared.explored.Extent.{Extent}
+use Rattle.outcome_listing.specs.declared.explored.Extent.TheVariants.{All, NotAll}
 use Rattle.history_player.specs.declared.player.Reached.{Reached}
 use Rattle.history_player.specs.declared.player.Reached.TheVariants as reached
 use Rattle.conc_top.specs.declared.ending.NotRun.{NotRun as NoRun}
@@ -22,7 +24,7 @@ use Rattle.conc_top.specs.declared.ending.NotRun.TheVariants as norun
 use Rattle.conc_top.specs.declared.ending.Line.{Line}
 use Rattle.conc_top.specs.declared.ending.Line.TheVariants.{Fixed, Made}
 use Rattle.conc_top.specs.declared.ending.Ending.{Ending}
-use Rattle.conc_top.specs.declared.ending.Ending.TheVariants.{Ran, Accepted, Words, Refused, Read, Memory, Write, Verified, Reported, Pictured, NotRun, NotDrawn}
+use Rattle.conc_top.specs.declared.ending.Ending.TheVariants.{Ran, Accepted, Words, Refused, Read, Memory, Write, Verified, Reported, Pictured, NotRun, NotDrawn, Outcomes, NoOutcome}
 
 abbrev pub run_status : RunEnd → ℕ
 run_status end.Done = 0
@@ -32,6 +34,10 @@ run_status end.Fuel = 5
 run_status end.Memory = 6
 run_status end.Write = 8
 run_status (end.Limit kind entry) = 9
+
+abbrev pub extent_status : Extent → ℕ
+extent_status All = 0
+extent_status (NotAll why run) = 11
 
 -- the status with which the program ends
 abbrev pub status_of : Ending → ℕ
@@ -47,6 +53,8 @@ status_of Reported = 0
 status_of Pictured = 0
 status_of (NotRun why) = 10
 status_of (NotDrawn n) = 13
+status_of (Outcomes extent) = extent_status extent
+status_of (NoOutcome k) = 12
 
 abbrev pub run_line : RunEnd → List ℕ
 run_line end.Done = []
@@ -125,6 +133,10 @@ norun_line (norun.Illegal number) = numbered_line (codes "not a run: Illegal at 
 abbrev pub undrawn_line : ℕ → List ℕ
 undrawn_line n = codes "not drawn: " ++ decimal n ++ codes " entries, at most 10000\n"
 
+-- no outcome K
+abbrev pub absent_line : ℕ → List ℕ
+absent_line k = codes "no outcome " ++ decimal k ++ line_feed
+
 -- the line that goes to the error sink, or nothing
 abbrev pub line_of : Ending → List ℕ
 line_of (Ran r) = run_line r
@@ -139,6 +151,8 @@ line_of Reported = []
 line_of Pictured = []
 line_of (NotRun why) = norun_line why
 line_of (NotDrawn n) = undrawn_line n
+line_of (Outcomes extent) = []
+line_of (NoOutcome k) = absent_line k
 
 -- the line has a place in it; that of a missing `main` is the same text each time
 abbrev pub PlacesLexFault : LexFault → Type 0
@@ -191,6 +205,8 @@ HasPlace Reported = ⊥
 HasPlace Pictured = ⊥
 HasPlace (NotRun why) = NumbersALine why
 HasPlace (NotDrawn n) = ⊤
+HasPlace (Outcomes extent) = ⊥
+HasPlace (NoOutcome k) = ⊤
 
 -- the bytes of a line as it is told
 abbrev pub text_of : Line → List ℕ

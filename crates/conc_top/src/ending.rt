@@ -1,5 +1,5 @@
 ghost use Rattle.std.specs.Prelude.{◌≡◌, IfOk, OnErr, string_bytes};
-ghost use Rattle.conc_top.specs.Lines.{HasPlace, line_of, norun_line, numbered_line, NumbersALine, placed_line, PlacesTypeFault, reached_word, refusal_line, RefusesAPlace, run_line, run_status, status_of, text_of, types_line, undrawn_line, verified_line};
+ghost use Rattle.conc_top.specs.Lines.{absent_line, extent_status, HasPlace, line_of, norun_line, numbered_line, NumbersALine, placed_line, PlacesTypeFault, reached_word, refusal_line, RefusesAPlace, run_line, run_status, status_of, text_of, types_line, undrawn_line, verified_line};
 
 use conc_world::RunEnd;
 use hs_base::{NoMemory, Pos};
@@ -8,6 +8,7 @@ use hs_lex::LexFault;
 use hs_parse::ParseFault;
 use hs_rules::{History, LimitKind};
 use hs_types::TypeFault;
+use outcome_listing::Extent;
 use std::alloc::Global;
 use trace_checker::{Reached, Verified};
 
@@ -44,6 +45,21 @@ pub enum Ending {
     NotRun(NotRun),
     /// A document is a run with so many entries, and these are too many for a picture.
     NotDrawn(u32),
+    /// The outcomes of a script were listed, or a run that comes to one of them was written.
+    Outcomes(Extent),
+    /// There is no outcome of this number.
+    NoOutcome(u32),
+}
+
+impl From<NoMemory> for Ending {
+    ghost use Rattle.std.specs.Prelude.{◌≡◌};
+    ghost use Rattle.conc_top.specs.declared.ending.Ending.TheVariants as ending;
+
+    ghost from_gives = { λ _ e. e ≡ ending.Memory };
+
+    fn from(_: NoMemory) -> Ending {
+        Ending::Memory
+    }
 }
 
 /// Why a document is no run of its script.
@@ -85,6 +101,8 @@ impl Ending {
             Ending::Write => 8,
             Ending::NotRun(_) => 10,
             Ending::NotDrawn(_) => 13,
+            Ending::Outcomes(extent) => extent_status(extent),
+            Ending::NoOutcome(_) => 12,
         }
     }
 
@@ -100,6 +118,7 @@ impl Ending {
             | Ending::Verified(_)
             | Ending::Reported
             | Ending::Pictured
+            | Ending::Outcomes(_)
             | Ending::Write => Ok(Line::Fixed("")),
             Ending::Words => Ok(Line::Fixed("words not understood\n")),
             Ending::Refused(refusal) => refusal_line(alloc, refusal),
@@ -107,6 +126,7 @@ impl Ending {
             Ending::Read => Ok(Line::Fixed("read fault\n")),
             Ending::NotRun(why) => norun_line(alloc, why),
             Ending::NotDrawn(entries) => undrawn_line(alloc, *entries),
+            Ending::NoOutcome(number) => absent_line(alloc, *number),
         }
     }
 }
@@ -140,6 +160,15 @@ fn run_status(end: &RunEnd) -> u8
         RunEnd::Memory => 6,
         RunEnd::Write => 8,
         RunEnd::Limit(..) => 9,
+    }
+}
+
+fn extent_status(extent: &Extent) -> u8
+    ensures { result ≡ extent_status extent.now }
+{
+    match extent {
+        Extent::All => 0,
+        Extent::NotAll(..) => 11,
     }
 }
 
@@ -198,6 +227,13 @@ fn undrawn_line(alloc: Global, entries: u32) -> Result<Line, NoMemory>
     ensures { IfOk result (λ line. text_of line ≡ undrawn_line entries) }
 {
     let line = format!(in alloc; "not drawn: {} entries, at most 10000\n", entries)?;
+    Ok(Line::Made(line))
+}
+
+fn absent_line(alloc: Global, number: u32) -> Result<Line, NoMemory>
+    ensures { IfOk result (λ line. text_of line ≡ absent_line number) }
+{
+    let line = format!(in alloc; "no outcome {}\n", number)?;
     Ok(Line::Made(line))
 }
 

@@ -8,13 +8,15 @@ ghost use Rattle.conc_words.specs.Commands.{command_of};
 ghost use Rattle.conc_task.specs.Commands.{Asks, IsChosen, IsInput, ReadsSource, Runs, Traces};
 ghost use Rattle.conc_task.specs.Inputs.{IsScript};
 ghost use Rattle.rules_traces.specs.Traces.{document_of};
-ghost use Rattle.conc_top.specs.declared.ending.Ending.TheVariants.{Ran};
-ghost use Rattle.conc_top.specs.Answers.{Call, IsPlayed, IsWritten, Plays, TellsLine, WasToldNothing};
+ghost use Rattle.outcome_listing.specs.declared.explored.Extent.{Extent};
+ghost use Rattle.conc_top.specs.declared.ending.Ending.TheVariants.{Outcomes, Ran};
+ghost use Rattle.conc_top.specs.Answers.{Call, IsPlayed, IsWritten, Plays, TellsLine, TellsListing, WasToldNothing};
 ghost use Rattle.conc_top.specs.Causes.{ending_of, IsDue, IsExpected, IsFault, IsRefusal, IsUnrun, IsVerdict};
 ghost use Rattle.conc_top.specs.Lines.{line_of, status_of};
 
 use crate::asking::answer;
 use crate::ending::{Done, Ending, NotRun, run_line};
+use crate::listing::list;
 use crate::running::run_program;
 use crate::telling::{put_line, tell, tell_accepted};
 use crate::tracing::trace;
@@ -31,7 +33,9 @@ use std::thread::Threads;
 /// `words` are the words after the program's name (`conc_words`). What a run prints goes to `out` and to `err` while it runs,
 /// each entry's as one piece, and then the line of the ending to `err` as one piece; `check` puts `accepted` on `out`. `trace` prints
 /// nothing of that: once the run is over it puts its document on `out` as one piece. `verify` puts what it found on `out`,
-/// and `report` its lines and `picture` its document as one piece, where the document is a run. An empty piece is not put, and nothing is put after a failed put. The clock is told its choice before a run begins. Want of memory is
+/// and `report` its lines and `picture` its document as one piece, where the document is a run. `outcomes` runs nothing: it puts
+/// the list of all outcomes, or the document of a run that comes to one of them, on `out` as one piece. An empty piece is not put,
+/// and nothing is put after a failed put. The clock is told its choice before a run begins. Want of memory is
 /// free.
 ///
 /// A run on one capability needs no other thread and calls no gate. One on more starts threads by `rt`, waits for all of them
@@ -87,6 +91,11 @@ pub fn run<
     ensures written { (bytes : List ℕ) → Traces (command_of (map (λ word. string_bytes word) words.now)) → S.left source.old ≡ Some bytes
         → IsWritten (document_of result.history.list bytes) result.ending (O.told out) (O.told result.out) }
 
+    // What `outcomes` tells where it has an answer: exactly the list of the outcomes of the bytes that the source had, or the document
+    // of a run that comes to the one that is asked for.
+    ensures listed { (bytes : List ℕ) (extent : Extent) → S.left source.old ≡ Some bytes → result.ending ≡ Outcomes extent
+        → TellsListing (command_of (map (λ word. string_bytes word) words.now)) bytes extent (O.told out) (O.told result.out) (E.told err) (E.told result.err) }
+
     // The answer that the call came to, the run that it kept, and what it told.
     ensures call { ∥ Call (command_of (map (λ word. string_bytes word) words.now)) (Rose (S.faults source.old) (S.faults source.new)) (S.faults source.old < S.faults source.new)
         (S.left source.old) (S.left source.new) (K.choice result.clock) result.ending result.history.list
@@ -115,6 +124,7 @@ pub fn run<
         Ok(Task::Trace(program, bytes)) => {
             trace(alloc, rt, program, &bytes, gate, out, err, clock)
         }
+        Ok(Task::Explore(sought)) => list(alloc, &sought, out, err, clock),
         Ok(Task::Ask(question, claim)) => answer(alloc, question, &claim, out, err, clock),
         Err(stop) => tell(alloc, ending_of(stop), out, err, clock),
     }

@@ -18,7 +18,7 @@ use hs_rules::History;
 use std::alloc::Global;
 use std::sync::Wait;
 use std::thread::Threads;
-use trace_text::write_trace;
+use trace_text::write_document;
 
 /// Runs the program by the clock that it chooses, and puts the document of its history and of the bytes that it was read from.
 pub(crate) fn trace<
@@ -75,7 +75,7 @@ fn write_closed<O: Sink, E: Sink, K: Clock>(
         parts: Parts { clock, .. },
     } = closed;
     let end = end.unwrap();
-    match document_of(alloc, &history, bytes) {
+    match write_document(alloc, &history, bytes) {
         Ok(document) => {
             let ending = put_document(end, &document, &mut out, &mut err);
             Done {
@@ -100,15 +100,4 @@ fn put_document<O: Sink, E: Sink>(end: RunEnd, document: &[u8], out: &mut O, err
         Ok(()) => put_line(Ending::Ran(end), run_line(&end).as_bytes(), err),
         Err(Failed) => Ending::Write,
     }
-}
-
-// The document of a history and of the bytes of its script.
-fn document_of(alloc: Global, history: &History, script: &[u8]) -> Result<Vec<u8>, NoMemory>
-    ensures { IfOk result (λ document. document.items ≡ document_of history.now.list script.now) }
-{
-    let trace = write_trace(alloc, history)?;
-    let mut document = Vec::from_slice(alloc, trace.as_str().as_bytes())?;
-    document.extend_from_slice(b"script\n")?;
-    document.extend_from_slice(script)?;
-    Ok(document)
 }

@@ -1,0 +1,89 @@
+-- What a search of a script answers, and what is told of it (own).
+use Rattle.std.specs.Prelude.{◌≡◌, ◌<◌, ◌+◌, ◌⊎◌, ℕ, List, length, slice_get, Option, Some, None}
+use Rattle.hs_base.specs.declared.limits.Limits.{Limits}
+use Rattle.hs_base.specs.declared.tree.script.Script.{Script}
+use Rattle.rules_code.specs.declared.code.Body.{Body}
+use Rattle.rules_code.specs.Codes.{body_of}
+use Rattle.rules_traces.specs.Traces.{document_of}
+use Rattle.hs_compile.specs.Verdicts.{IsAccepted}
+use Rattle.outcome_listing.specs.declared.bounds.Bounds.{Bounds}
+use Rattle.outcome_listing.specs.declared.explored.Explored.{Explored}
+use Rattle.outcome_listing.specs.declared.explored.Extent.{Extent}
+use Rattle.outcome_listing.specs.declared.explored.Outcome.{Outcome}
+use Rattle.outcome_listing.specs.Listing.{listing_of}
+use Rattle.state_search.specs.Searching.{IsCodeOf}
+use Rattle.conc_outcomes.specs.Exploring.{Explores}
+use Rattle.conc_words.specs.declared.command.Command.{Command}
+use Rattle.conc_words.specs.declared.command.Command.TheVariants as commands
+use Rattle.conc_task.specs.declared.task.Search.{Search}
+use Rattle.conc_top.specs.declared.ending.Ending.{Ending}
+use Rattle.conc_top.specs.declared.ending.Ending.TheVariants.{Memory, NoOutcome}
+
+-- the limits of a run: threads and cells ever made, frames over all unfinished threads, bytes of output and error output
+abbrev pub limits : Limits
+limits = record { threads = 65536; cells = 262144; frames = 200000; output = 8388608 }
+
+-- the command searches its input within these bounds, of which the limits are those of a run, and asks for the run of this outcome
+-- where it asks for one
+abbrev pub Searches : Option Command → Bounds → (witness : Option ℕ) → Type 0
+Searches words bounds witness = (words ≡ Some (commands.Outcomes bounds.clock bounds.states bounds.fuel witness)) × (bounds.limits ≡ limits)
+
+-- this is what is promised of a search of the script that these bytes are
+pub record IsExplored (bounds : Bounds) (bytes : List ℕ) (x : Explored) : Type 0 where
+  pub script : Script
+  pub accepted : IsAccepted bytes script
+  pub body : Body
+  pub code : IsCodeOf body script
+  pub explores : Explores bounds script body x
+
+-- the text that is told of it: the list of its outcomes; or where an outcome is named, of which the first is 1, the document of
+-- the run that comes to it and of the bytes that were read
+abbrev pub IsToldOf : (witness : Option ℕ) → (bytes : List ℕ) → Explored → (text : List ℕ) → Type 0
+IsToldOf None bytes x text = text ≡ listing_of x
+IsToldOf (Some number) bytes x text =
+    (place : ℕ) × (o : Outcome) × (number ≡ place + 1) × (slice_get x.outcomes place ≡ Some o) × (text ≡ document_of o.witness.list bytes)
+
+-- such a search has this extent, and this text is told of it
+pub record IsListing (bounds : Bounds) (witness : Option ℕ) (bytes : List ℕ) (extent : Extent) (text : List ℕ) : Type 0 where
+  pub found : Explored
+  pub explored : IsExplored bounds bytes found
+  pub whole : found.extent ≡ extent
+  pub told : IsToldOf witness bytes found text
+
+-- that of the command is so
+abbrev pub HasListing : Option Command → (bytes : List ℕ) → Extent → (text : List ℕ) → Type 0
+HasListing words bytes extent text = (bounds : Bounds) × (witness : Option ℕ) × Searches words bounds witness × ∥ IsListing bounds witness bytes extent text ∥₁
+
+-- it has some text
+abbrev pub IsListed : Option Command → (bytes : List ℕ) → Extent → Type 0
+IsListed words bytes extent = (text : List ℕ) × HasListing words bytes extent text
+
+-- such a search has fewer outcomes
+abbrev pub HasFewer : Bounds → (bytes : List ℕ) → ℕ → Type 0
+HasFewer bounds bytes number = (x : Explored) × IsExplored bounds bytes x × (length x.outcomes < number)
+
+-- the command asks for the run of the outcome of this number, and there is none
+abbrev pub LacksOutcome : Option Command → (bytes : List ℕ) → ℕ → Type 0
+LacksOutcome words bytes number = (bounds : Bounds) × Searches words bounds (Some number) × ∥ HasFewer bounds bytes number ∥₁
+
+-- ---- the steps of it
+
+-- the bounds of a search
+abbrev pub bounds_of : Search → Bounds
+bounds_of sought = record { states = sought.states; fuel = sought.fuel; limits = limits; clock = sought.clock }
+
+-- this is what is promised of the search, whatever script its code is that of
+abbrev pub IsSearched : Search → Explored → Type 0
+IsSearched sought x = (script : Script) → IsCodeOf (body_of sought.code) script → Explores (bounds_of sought) script (body_of sought.code) x
+
+-- no text is told of what was found, for want of memory, or since it has no outcome of the number that is named
+abbrev pub IsUntold : (witness : Option ℕ) → Explored → Ending → Type 0
+IsUntold witness x came = (came ≡ Memory) ⊎ ((number : ℕ) × (came ≡ NoOutcome number) × (witness ≡ Some number) × (length x.outcomes < number))
+
+-- the search has this extent, and this text is told of it
+abbrev pub IsListingOf : Search → Extent → (text : List ℕ) → Type 0
+IsListingOf sought extent text = (x : Explored) × IsSearched sought x × (x.extent ≡ extent) × IsToldOf sought.witness sought.script.items x text
+
+-- no text is told of it, for this cause
+abbrev pub IsUnlisted : Search → Ending → Type 0
+IsUnlisted sought came = (came ≡ Memory) ⊎ ((x : Explored) × IsSearched sought x × IsUntold sought.witness x came)
