@@ -2,8 +2,9 @@
 
 use crate::came::call;
 use crate::flaw::Flaw;
-use crate::row::{Cases, Row};
+use crate::row::{Cases, Row, Wanted};
 use crate::wanted::{Case, difference};
+use crate::witnesses::{Search, problem_witnessed};
 use crate::written::problem_written;
 use std::alloc::Global;
 use std::sync::Wait;
@@ -109,8 +110,15 @@ fn problem_at<R: Threads + Wait + Sync>(
     case: &Case<'_>,
 ) -> Result<Option<String>, Flaw> {
     let came = call(alloc, rt, &row.plan, words, input)?;
-    match (difference(alloc, &row.wanted, case, &came)?, &row.report) {
-        (None, Some(lines)) => problem_written(alloc, rt, lines, words, input, &came),
-        (problem, _) => Ok(problem),
+    if let Some(problem) = difference(alloc, &row.wanted, case, &came)? {
+        return Ok(Some(problem));
+    }
+    let came = &came;
+    match (&row.wanted, &row.report) {
+        (Wanted::Listed(listing), _) => {
+            problem_witnessed(alloc, rt, listing, Search { words, input, came })
+        }
+        (_, Some(lines)) => problem_written(alloc, rt, lines, words, input, came),
+        _ => Ok(None),
     }
 }

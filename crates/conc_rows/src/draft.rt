@@ -1,7 +1,7 @@
 //! A row while its lines are read.
 
 use crate::flaw::Flaw;
-use crate::row::{Plan, Refusal, Row, Told, Wanted};
+use crate::row::{Listing, Others, Outcome, Plan, Refusal, Row, Schedules, Told, Wanted};
 use crate::text::Text;
 use std::alloc::{AllocError, Global};
 
@@ -17,6 +17,9 @@ pub struct Draft {
     pub only_status: Option<u8>,
     pub refusals: Vec<Refusal>,
     pub accepted: bool,
+    pub outcomes: Vec<Outcome>,
+    pub others: Option<Others>,
+    pub schedules: Option<Schedules>,
     pub report: Option<Text>,
 }
 
@@ -33,13 +36,16 @@ impl Draft {
             only_status: None,
             refusals: Vec::new(alloc),
             accepted: false,
+            outcomes: Vec::new(alloc),
+            others: None,
+            schedules: None,
             report: None,
         })
     }
 
     /// The row, where its lines say what it gives in one way.
     pub fn finish(self) -> Result<Row, Flaw> {
-        let outcome = self.outcome()?;
+        let way = self.way()?;
         let Draft {
             alloc: _,
             name,
@@ -50,13 +56,21 @@ impl Draft {
             only_status: _,
             refusals,
             accepted: _,
+            outcomes,
+            others: _,
+            schedules: _,
             report,
         } = self;
-        let wanted = match outcome {
-            Outcome::Told(status) => Wanted::Told(status, told),
-            Outcome::Status(status) => Wanted::Status(status),
-            Outcome::Accepted => Wanted::Accepted,
-            Outcome::Refused => Wanted::Refused(refusals),
+        let wanted = match way {
+            Way::Told(status) => Wanted::Told(status, told),
+            Way::Status(status) => Wanted::Status(status),
+            Way::Accepted => Wanted::Accepted,
+            Way::Refused => Wanted::Refused(refusals),
+            Way::Listed(others, schedules) => Wanted::Listed(Listing {
+                outcomes,
+                others,
+                schedules,
+            }),
         };
         Ok(Row {
             name,
@@ -80,25 +94,40 @@ impl Draft {
     }
 
     // The one way in which the lines say what the row gives.
-    fn outcome(&self) -> Result<Outcome, Flaw> {
+    fn way(&self) -> Result<Way, Flaw> {
         let (silent, unrefused) = (self.told.is_silent(), self.refusals.is_empty());
-        match (self.status, self.only_status, self.accepted) {
-            (Some(status), None, false) if unrefused => Ok(Outcome::Told(status)),
-            (None, Some(status), false) if silent && unrefused => Ok(Outcome::Status(status)),
-            (None, None, true) if silent && unrefused => Ok(Outcome::Accepted),
-            (None, None, false) if silent && !unrefused => Ok(Outcome::Refused),
+        match (self.status, self.only_status, self.accepted, self.listed()?) {
+            (Some(status), None, false, None) if unrefused => Ok(Way::Told(status)),
+            (None, Some(status), false, None) if silent && unrefused => Ok(Way::Status(status)),
+            (None, None, true, None) if silent && unrefused => Ok(Way::Accepted),
+            (None, None, false, None) if silent && !unrefused => Ok(Way::Refused),
+            (None, None, false, Some(way)) if silent && unrefused => Ok(way),
             _ => Err(Flaw::Says(
-                "the row above says what it gives in no way or in two: by `status` and what is told, by `refused`, by `accepted` or by `only status`",
+                "the row above says what it gives in no way or in two: by `status` and what is told, by `refused`, by `accepted`, by `only status` or by `others` and `schedules`",
+            )),
+        }
+    }
+
+    // The list of outcomes, where the lines say one.
+    fn listed(&self) -> Result<Option<Way>, Flaw> {
+        match (self.others, self.schedules) {
+            (Some(others), Some(schedules)) if self.report.is_none() => {
+                Ok(Some(Way::Listed(others, schedules)))
+            }
+            (None, None) if self.outcomes.is_empty() => Ok(None),
+            _ => Err(Flaw::Says(
+                "the row above lists outcomes, and so it says `others` and `schedules`, and not `written` or `report`",
             )),
         }
     }
 }
 
-// In which of four ways a row says what it gives.
+// In which of five ways a row says what it gives.
 #[derive(Clone, Copy)]
-enum Outcome {
+enum Way {
     Told(u8),
     Status(u8),
     Accepted,
     Refused,
+    Listed(Others, Schedules),
 }

@@ -2,6 +2,7 @@
 
 use crate::draft::Draft;
 use crate::flaw::Flaw;
+use crate::outcomes::{others_of, outcome_of, schedules_of};
 use crate::plans::{
     byte_ranges, entries_of, entry_of, number_of, numbers_of, refusal_of, sink_of, source_of,
     words_of,
@@ -93,6 +94,9 @@ fn read_key(draft: &mut Draft, key: &str, value: &str) -> Result<(), Flaw> {
         "only status" => draft.only_status = Some(number_of(value)?),
         "report" => draft.add_report(value)?,
         "refused" | "or refused" => draft.refusals.push(refusal_of(alloc, value)?)?,
+        "outcome" => draft.outcomes.push(outcome_of(alloc, value)?)?,
+        "others" => draft.others = Some(others_of(value)?),
+        "schedules" => draft.schedules = Some(schedules_of(value)?),
         _ => read_plan(alloc, &mut draft.plan, key, value)?,
     }
     Ok(())

@@ -11,11 +11,15 @@ mod cases;
 mod draft;
 mod flaw;
 mod keys;
+mod listing;
+mod outcomes;
 mod plans;
 mod reader;
 mod row;
+mod shown;
 mod text;
 mod wanted;
+mod witnesses;
 mod written;
 
 use crate::cases::problem_of;
@@ -30,7 +34,7 @@ use std::sync::Wait;
 use std::thread::Threads;
 
 /// The files of rows, by topic.
-const FILES: [&str; 10] = [
+const FILES: [&str; 11] = [
     "tokens.rows",
     "grammar.rows",
     "typing.rows",
@@ -41,6 +45,7 @@ const FILES: [&str; 10] = [
     "running.rows",
     "tour.rows",
     "capabilities.rows",
+    "outcomes.rows",
 ];
 
 const FAILED: u8 = 1;

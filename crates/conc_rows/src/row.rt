@@ -65,6 +65,46 @@ pub struct Told {
     pub limit_at: Option<Entry>,
 }
 
+/// How a run ends of itself.
+#[derive(Clone, Copy)]
+pub enum End {
+    Done,
+    Uncaught,
+    Deadlock,
+}
+
+/// What runs come to.
+#[derive(Drop)]
+pub struct Outcome {
+    pub end: End,
+    pub out: Text,
+    pub err: Text,
+}
+
+/// Whether there may be outcomes that are not listed.
+#[derive(Clone, Copy)]
+pub enum Others {
+    None,
+    /// There may be others for this cause.
+    For(&'static str),
+}
+
+/// Whether every schedule ends.
+#[derive(Clone, Copy)]
+pub enum Schedules {
+    End,
+    MayRunForEver,
+    NotKnown,
+}
+
+/// What a search is to list, beside the numbers of states and of entries.
+#[derive(Drop)]
+pub struct Listing {
+    pub outcomes: Vec<Outcome>,
+    pub others: Others,
+    pub schedules: Schedules,
+}
+
 /// What a row gives.
 #[derive(Drop)]
 pub enum Wanted {
@@ -76,6 +116,8 @@ pub enum Wanted {
     Accepted,
     /// This status, whatever is told.
     Status(u8),
+    /// These outcomes, and for each of them a run that comes to it.
+    Listed(Listing),
 }
 
 /// How the top call is called.
@@ -122,6 +164,37 @@ impl Told {
             && self.entries.is_none()
             && self.steps.is_none()
             && self.limit_at.is_none()
+    }
+}
+
+impl End {
+    pub fn word(self) -> &'static str {
+        match self {
+            End::Done => "done",
+            End::Uncaught => "uncaught",
+            End::Deadlock => "deadlock",
+        }
+    }
+}
+
+impl Schedules {
+    /// How a listing says it.
+    pub fn sentence(self) -> &'static str {
+        match self {
+            Schedules::End => "every schedule ends",
+            Schedules::MayRunForEver => "a schedule may run for ever",
+            Schedules::NotKnown => "whether every schedule ends is not known",
+        }
+    }
+}
+
+impl Listing {
+    /// The status of the search.
+    pub fn status(&self) -> u8 {
+        match self.others {
+            Others::None => 0,
+            Others::For(_) => 11,
+        }
     }
 }
 

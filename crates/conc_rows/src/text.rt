@@ -37,6 +37,13 @@ impl Text {
         }
     }
 
+    /// These letters, once.
+    fn once(alloc: Global, letters: Vec<Letter>) -> Result<Text, AllocError> {
+        let mut text = Text::new(alloc);
+        text.pieces.push(Piece { times: 1, letters })?;
+        Ok(text)
+    }
+
     pub fn is_empty(&self) -> bool {
         self.pieces.is_empty()
     }
@@ -134,6 +141,38 @@ pub fn letters_of(alloc: Global, quoted: &str) -> Result<Vec<Letter>, Flaw> {
         Reading::End => Ok(letters),
         _ => Err(Flaw::Says("a text in quotes is wanted here")),
     }
+}
+
+/// The texts in quotes that stand here, with a blank between two of them.
+pub fn texts_of(alloc: Global, quoted: &str) -> Result<Vec<Text>, Flaw> {
+    let mut texts = Vec::new(alloc);
+    let mut letters = Vec::new(alloc);
+    let mut reading = Reading::Start;
+    for byte in quoted.as_bytes() {
+        if is_between(reading, *byte) {
+            texts.push(Text::once(alloc, letters)?)?;
+            letters = Vec::new(alloc);
+            reading = Reading::Start;
+        } else {
+            let (letter, next) = read_byte(reading, *byte)?;
+            if let Some(letter) = letter {
+                letters.push(letter)?;
+            }
+            reading = next;
+        }
+    }
+    match reading {
+        Reading::End => {
+            texts.push(Text::once(alloc, letters)?)?;
+            Ok(texts)
+        }
+        _ => Err(Flaw::Says("a text in quotes is wanted here")),
+    }
+}
+
+// Whether another text in quotes may follow the byte.
+fn is_between(reading: Reading, byte: u8) -> bool {
+    matches!(reading, Reading::End) && byte == b' '
 }
 
 // The letter that the byte completes, if any, and how the reading goes on.

@@ -2,7 +2,9 @@
 
 use crate::came::Came;
 use crate::flaw::Flaw;
-use crate::row::{Place, Refusal, Told, Wanted};
+use crate::listing::listing_difference;
+use crate::row::{Listing, Place, Refusal, Told, Wanted};
+use crate::shown::{says, shown};
 use crate::text::Text;
 use hs_rules::{Entry, History};
 use std::alloc::{AllocError, Global};
@@ -16,11 +18,18 @@ pub enum Case<'a> {
     Part(&'a [u8], &'a [u8]),
 }
 
-/// The words that are not understood, a refused script and a read fault: nothing ran.
-const IDLE: [u8; 5] = [2, 3, 7, 10, 13];
+impl Case<'_> {
+    /// The byte that the case has, or another one where it has none.
+    fn byte(&self) -> u8 {
+        match self {
+            Case::Byte(byte) => *byte,
+            _ => 0,
+        }
+    }
+}
 
-/// How much of a text is shown.
-const SHOWN: usize = 120;
+/// The words that are not understood, a refused script, a read fault, a refused document, a search and what it lacks: nothing ran.
+const IDLE: [u8; 7] = [2, 3, 7, 10, 11, 12, 13];
 
 /// The first difference between what is wanted and what came.
 pub fn difference(
@@ -41,11 +50,8 @@ pub fn difference(
             Ok(Some(format!(in alloc; "wanted an accepted script, came {err}")?))
         }
         Wanted::Status(status) => status_difference(alloc, *status, came),
+        Wanted::Listed(listing) => listed_difference(alloc, listing, case, came),
     }
-}
-
-fn says(alloc: Global, text: &str) -> Result<Option<String>, Flaw> {
-    Ok(Some(String::from_str(alloc, text)?))
 }
 
 fn status_difference(alloc: Global, status: u8, came: &Came) -> Result<Option<String>, Flaw> {
@@ -82,16 +88,30 @@ fn text_difference(
     case: &Case<'_>,
     came: &[u8],
 ) -> Result<Option<String>, Flaw> {
-    let byte = match case {
-        Case::Byte(byte) => *byte,
-        _ => 0,
-    };
-    let wanted = wanted.spell(byte)?;
+    let wanted = wanted.spell(case.byte())?;
     if wanted.as_slice() == came {
         return Ok(None);
     }
     let (wanted, came) = (shown(alloc, &wanted)?, shown(alloc, came)?);
     Ok(Some(format!(in alloc; "wanted {sink} {wanted}, came {came}")?))
+}
+
+fn listed_difference(
+    alloc: Global,
+    listing: &Listing,
+    case: &Case<'_>,
+    came: &Came,
+) -> Result<Option<String>, Flaw> {
+    if came.history.len() != 0 {
+        return says(alloc, "nothing ran, but there is a history");
+    }
+    if let Some(text) = text_difference(alloc, "err", &Text::new(alloc), case, &came.err)? {
+        return Ok(Some(text));
+    }
+    if let Some(text) = status_difference(alloc, listing.status(), came)? {
+        return Ok(Some(text));
+    }
+    listing_difference(alloc, listing, case.byte(), &came.out)
 }
 
 // The history, its steps and the entry that an ending carries, where the row names them.
@@ -243,29 +263,4 @@ fn place_after(alloc: Global, bytes: &[u8]) -> Result<String, AllocError> {
         }
     }
     format!(in alloc; "{line}:{column}")
-}
-
-// Bytes as a text in quotes, of which the first are shown.
-fn shown(alloc: Global, bytes: &[u8]) -> Result<String, AllocError> {
-    let mut text = String::new(alloc);
-    text.push('"')?;
-    for byte in bytes.iter().take(SHOWN) {
-        push_shown(alloc, &mut text, *byte)?;
-    }
-    text.push('"')?;
-    if bytes.len() > SHOWN {
-        let length = bytes.len();
-        text.push_str(format!(in alloc; " and on to {length} bytes")?.as_str())?;
-    }
-    Ok(text)
-}
-
-fn push_shown(alloc: Global, text: &mut String, byte: u8) -> Result<(), AllocError> {
-    match byte {
-        b'\n' => text.push_str("\\n"),
-        b'"' => text.push_str("\\\""),
-        b'\\' => text.push_str("\\\\"),
-        b' '..=b'~' => text.push(char::from(byte)),
-        byte => text.push_str(format!(in alloc; "\\x{byte:02X}")?.as_str()),
-    }
 }

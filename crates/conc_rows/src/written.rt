@@ -74,15 +74,15 @@ fn shown(alloc: Global, bytes: &[u8]) -> Result<String, AllocError> {
     Ok(text)
 }
 
-// No fault, and room for a document.
-fn ample_plan(alloc: Global) -> Result<Plan, AllocError> {
+/// No fault, and room for a document.
+pub fn ample_plan(alloc: Global) -> Result<Plan, AllocError> {
     let mut plan = Plan::new(alloc)?;
     plan.out.room = ROOM;
     Ok(plan)
 }
 
-// This command, with the options of these words.
-fn with_name(alloc: Global, words: &[String], name: &str) -> Result<Vec<String>, AllocError> {
+/// This command, with the options of these words.
+pub fn with_name(alloc: Global, words: &[String], name: &str) -> Result<Vec<String>, AllocError> {
     let mut all = Vec::new(alloc);
     all.push(String::from_str(alloc, name)?)?;
     for word in words.iter().skip(1) {
