@@ -1,5 +1,5 @@
-//! Tests of what rows can't say of a run: the calls on a desk one by one, jobs that are held while the run goes on, and slices
-//! that come back late.
+//! Tests of what rows can't say of a run: the calls on a desk one by one, jobs that are held while the run goes on, slices that
+//! come back late, and a desk under a turn.
 #![tactic(auto)]
 
 mod desks;
@@ -14,3 +14,5 @@ mod cutting;
 mod overtaken;
 #[cfg(test)]
 mod reading;
+#[cfg(test)]
+mod turns;

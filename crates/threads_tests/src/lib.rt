@@ -20,4 +20,6 @@ pub use several::{Count, Tally, run_four};
 pub use two::{four_hands, two_hands};
 
 #[cfg(test)]
+mod beside;
+#[cfg(test)]
 mod tests;
