@@ -1,6 +1,7 @@
 """Shapes of scripts at n, 2n and 4n, what each run takes, and how that grows. No gate calls this: no proof speaks of time."""
 
 import os
+import re
 import statistics
 import subprocess
 import sys
@@ -9,7 +10,7 @@ import time
 
 from tools import bitcode
 from tools.rows import is_new, say
-from tools.sources import TOP
+from tools.sources import TOP, here, read
 
 FUEL = 4_000_000
 
@@ -38,6 +39,16 @@ main :: IO () = {{ d <- newEmptyMVar @Int;
   w <- takeMVar d; x <- takeMVar d; y <- takeMVar d; z <- takeMVar d; putStrLn (show (w + x + y + z)) }};"""
 
 SLEEPERS = """main :: IO () = {{ threadDelay {n} }};"""
+
+# Five workers that add to one number, which by their order has very many values on the way.
+WORKERS = """work (n :: Int) (m :: MVar Int) (d :: MVar ()) :: IO () = {
+  x <- takeMVar m; putMVar m (x + n); y <- takeMVar m; putMVar m (y + n); putMVar d () };
+main :: IO () = { m <- newMVar 0; d <- newEmptyMVar @();
+  _ <- forkIO { work 1 m d }; _ <- forkIO { work 10 m d }; _ <- forkIO { work 100 m d }; _ <- forkIO { work 1000 m d };
+  _ <- forkIO { work 10000 m d };
+  takeMVar d; takeMVar d; takeMVar d; takeMVar d; takeMVar d; r <- takeMVar m; putStr (show r) };"""
+# The threads of this example count, so that a search of it takes minutes.
+LONG_SEARCHES = {"counts"}
 
 
 class Shape:
@@ -132,6 +143,28 @@ def written(program, runs):
     print(f"the largest document has {len(document)} bytes")
 
 
+def states_of(told):
+    """How many states a list of outcomes tells."""
+    found = re.search(rb"^(\d+) states; ", told, re.M)
+    return int(found[1]) if found else sys.exit("bench: this is no list of outcomes")
+
+
+def search(program, runs):
+    """A search of workers that meets its bound on states, by that bound; and those of the examples, which end."""
+    print(f"{'':44}{'states':>9}{'ms':>9}{'cpu ms':>9}{'MB':>8}{'us each':>9}")
+    for bound in (1_000, 10_000, 100_000, 1_000_000):
+        told_of("search of workers", median(program, ["outcomes", "--states", str(bound)], WORKERS.encode(), runs if bound < 1_000_000 else 1))
+    for path in here("examples/*.conc"):
+        name = os.path.basename(path).removesuffix(".conc")
+        if name not in LONG_SEARCHES:
+            told_of(f"search of {name}.conc", median(program, ["outcomes"], read(path).encode(), runs))
+
+
+def told_of(name, took):
+    states = states_of(took.told)
+    print(f"{name:44}{states:9}{took.clock * 1000:9.1f}{took.processor * 1000:9.1f}{took.memory:8.0f}{took.clock * 1e6 / states:9.1f}", flush=True)
+
+
 def program_of(words):
     if words:
         return words[0]
@@ -154,13 +187,16 @@ def main(words):
         else:
             names.append(word)
     known = {it.name: it for it in SHAPES}
-    if unknown := [it for it in names if it not in known and it != "written"]:
-        sys.exit(f"bench: no shape {unknown[0]}; there are {' '.join(known)} written")
+    if unknown := [it for it in names if it not in known and it not in ("written", "search")]:
+        sys.exit(f"bench: no shape {unknown[0]}; there are {' '.join(known)} written search")
     where = program_of(program)
-    head()
+    if names != ["search"]:
+        head()
     for it in SHAPES:
         if not names or it.name in names:
             shape(where, it, runs)
     if not names or "written" in names:
         written(where, runs)
+    if not names or "search" in names:
+        search(where, runs)
     return 0

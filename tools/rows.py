@@ -11,7 +11,7 @@ import sys
 import tempfile
 import time
 
-from tools.sources import TOP, below, blocks, here, lines, read
+from tools.sources import TOP, below, blocks, documents, here, lines, read
 
 # The most processor seconds of a row, among all and in one file.
 SHORT, LONG = 1, 20
@@ -79,6 +79,16 @@ def pictures():
         name = f"picture-of-{os.path.basename(path).removesuffix('.svg')}"
         if drawn.get(name) != read(path).removesuffix("\n").split("\n"):
             yield f"{path}: the row {name} of crates/conc_rows/data doesn't have the program draw it"
+
+
+def lists():
+    """Each list of outcomes in the documents is what a row has the program print."""
+    printed = {tuple(re.sub(r"^out: ?", "", it) for it in row if it.startswith("out:")) for path in here("crates/conc_rows/data/*.rows") for _, _, row in rows_of(path)}
+    for path in documents():
+        for block in blocks(path):
+            told = [it for it in block.lines if not it.lstrip().startswith("```")]
+            if block.kind == "code" and told and re.match(r"\d+ outcomes?, and there ", told[0]) and tuple(told) not in printed:
+                yield f"{block.at(0)}: no row of crates/conc_rows/data has the program print this list"
 
 
 def comments():

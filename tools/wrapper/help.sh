@@ -9,14 +9,18 @@ conc_run: what interrupted and masked Concurrent Haskell code may really do
   ./conc_run check [FILE]                                   says whether it is accepted
   ./conc_run bench N [--caps N] [--fuel N]                  runs a ring of N threads (1 to 4000)
   ./conc_run trace [FILE] [--caps N] [--fuel N] [--clock C] runs it and writes its history, in place of what it prints
+  ./conc_run outcomes [FILE] [--clock C] [--states N] [--fuel N] [--witness K]
+                                                            lists all that it may come to, over all schedules
   ./conc_run verify [FILE]                                  says whether a written history is a run of its script
   ./conc_run report [FILE]                                  says what each thread and each cell of such a history did
   ./conc_run picture [FILE] [options of trace]              draws such a history as SVG, or that of a script that it runs first
   ./conc_run test [--quick]                                 proves and tries everything; --quick: the rows alone
 
   --caps N     threads that evaluate at the same time, 1 to 16 (1)
-  --fuel N     the most steps of the run, 1 to 4000000 (1000000)
+  --fuel N     the most steps of a run, 1 to 4000000 (1000000)
   --clock C    real, or virtual: it stands until all threads wait, and then jumps (real)
+  --states N   the most states that a search keeps, 1 to 4000000 (1000000)
+  --witness K  prints a history that comes to the K-th outcome, in place of the list
 
 Options stand before or behind the file. With no FILE, or with -, the script is read from standard input. A file whose name
 begins with - is given behind --, or as ./-NAME.
@@ -28,14 +32,15 @@ begins with - is given behind --, or as ./-NAME.
 
 What the script prints goes to standard output, and the line of its ending to standard error. The status says how it ended:
 
-  0  done, accepted, or a run    7  a read failed
-  1  main ended by an exception  8  a write failed
-  2  words not understood        9  a limit
-  3  the script is refused      10  not a run
-  4  deadlock                   66  the file can't be read
-  5  out of fuel                70  the program could not be built
-  6  out of memory              71  too little stack
- 13  too long to be drawn
+  0  done, accepted, a run,       8  a write failed
+     or no other outcomes         9  a limit
+  1  main ended by an exception  10  not a run
+  2  words not understood        11  there may be other outcomes
+  3  the script is refused       12  no outcome of this number
+  4  deadlock                    13  too long to be drawn
+  5  out of fuel                 66  the file can't be read
+  6  out of memory               70  the program could not be built
+  7  a read failed               71  too little stack
 
 examples/*.conc are scripts to begin with, and docs/TOUR.md leads through them; docs/LANGUAGE.md has the language and what
 each refusal means.

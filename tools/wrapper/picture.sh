@@ -4,7 +4,9 @@
 # Makes the history of a script standard input, with the options of the words; a document stays what it is.
 trace_first() {
   local given made status=0
-  given=$(mktemp 2> /dev/null) && made=$(mktemp 2> /dev/null) || cannot_build "no room in ${TMPDIR:-/tmp} to keep what is to be drawn"
+  if ! { given=$(mktemp 2> /dev/null) && made=$(mktemp 2> /dev/null); }; then
+    cannot_build "no room in ${TMPDIR:-/tmp} to keep what is to be drawn"
+  fi
   if ! { head -c "${document_bytes[picture]}" > "$given"; } 2> /dev/null; then
     rm -f "$given" "$made"
     return

@@ -2,7 +2,7 @@
 # shellcheck shell=bash disable=SC2034,SC2154
 
 # The commands that read a document, and the most bytes that each of them takes: one more than it accepts.
-declare -A document_bytes=([run]=1048577 [check]=1048577 [trace]=1048577 [verify]=100663297 [report]=100663297 [picture]=100663297)
+declare -A document_bytes=([run]=1048577 [check]=1048577 [trace]=1048577 [outcomes]=1048577 [verify]=100663297 [report]=100663297 [picture]=100663297)
 
 # What the words come to. The program gets `words`, as they stand.
 action='program'
