@@ -1,13 +1,11 @@
 -- What a walk shows where it is.
-use Rattle.std.proofs.Common.{◌≡◌, ◌<◌, List, [], ◌∷◌, ◌++◌, Some, None, slice_get, refl, sym, ap, ◌∙◌, subst, inl, inr, append-nil}
+use Rattle.std.proofs.Common.{◌≡◌, List, [], ◌∷◌, ◌++◌, Some, None, slice_get, refl, ap, ◌∙◌, subst, inl, inr, append-nil}
 use Rattle.hs_base.specs.declared.clock_choice.ClockChoice.TheVariants.{Real, Virtual}
 use Rattle.hs_base.specs.declared.limits.Limits.{Limits}
 use Rattle.hs_base.specs.declared.tree.script.Script.{Script}
 use Rattle.hs_rules.specs.declared.entry.Entry.{Entry}
 use Rattle.hs_rules.specs.declared.entry.LimitKind.{LimitKind}
-use Rattle.hs_rules.specs.declared.entry.LimitKind.TheVariants as limit
 use Rattle.hs_rules.specs.State.{State}
-use Rattle.hs_rules.specs.Endings.{FirstExceeded}
 use Rattle.hs_rules.specs.Endings as endings
 use Rattle.hs_rules.specs.Runs.{after, IsRun}
 use Rattle.rules_trees.specs.Programs.{Fn, script_of}
@@ -20,8 +18,6 @@ use Rattle.outcome_listing.specs.declared.bounds.Bounds.{Bounds}
 use Rattle.outcome_listing.specs.declared.explored.Final.{Final}
 use Rattle.outcome_listing.specs.declared.explored.Final.TheVariants as final
 use Rattle.outcome_listing.specs.Finals.{final_of}
-use Rattle.slot_states.specs.SlotStates.{SlotState}
-use Rattle.slot_states.specs.Resting.{used}
 use Rattle.slot_states.proofs.AtRest.{same_used}
 use Rattle.local_steps.specs.Machine.{funs_of}
 use Rattle.number_waits.specs.Sleeping.{sleepers}
@@ -34,6 +30,7 @@ use Rattle.search_laws.proofs.Walking.{within_by}
 use Rattle.search_laws.proofs.HowTheyEnd.{main_right}
 use Rattle.state_search.specs.Meaning.{shown}
 use Rattle.state_search.specs.Searching.{ExceedsFirst, IsCodeOf}
+use Rattle.state_search.proofs.Promised.{exceeds_so}
 use Rattle.exact_walks.specs.declared.walk.Walk.{Walk}
 use Rattle.exact_walks.specs.Walking.{StaysBefore, ReadsLast}
 use Rattle.exact_walks.specs.Entering.{IsAt, EndsIn, IsWithin, Exceeds}
@@ -45,18 +42,6 @@ use Rattle.exact_walks.proofs.OneMore.{exactly, run_of}
 all_within : (limits : Limits) (ds : List Fn) (es : List Entry) (s : State) → IsRun ds es s → endings.IsWithin limits s → StaysBefore limits ds es → StaysWithin limits ds es
 all_within limits ds es s run within before front [] u split a = subst (endings.IsWithin limits) (same_after ds es s u run (ap (after ds) (split ∙ append-nil front) ∙ a)) within
 all_within limits ds es s run within before front (e ∷ back) u split a = before front back e u split a
-
-exceeds_so : (kind : LimitKind) (limits : Limits) (x : SlotState) (u : State) → ((k : LimitKind) → endings.used k u ≡ used k x) → ExceedsFirst kind limits x → FirstExceeded kind limits u
-exceeds_so limit.Threads limits x u same h = subst (λ n. limits.threads < n) (sym (same limit.Threads)) h
-exceeds_so limit.Cells limits x u same h = (λ q. h.0 (subst (λ n. limits.threads < n) (same limit.Threads) q), subst (λ n. limits.cells < n) (sym (same limit.Cells)) h.1)
-exceeds_so limit.Frames limits x u same h =
-    (λ q. h.0 (subst (λ n. limits.threads < n) (same limit.Threads) q), λ q. h.1 (subst (λ n. limits.cells < n) (same limit.Cells) q), subst (λ n. limits.frames < n) (sym (same limit.Frames)) h.2)
-exceeds_so limit.Output limits x u same h = (
-  λ q. h.0 (subst (λ n. limits.threads < n) (same limit.Threads) q),
-  λ q. h.1 (subst (λ n. limits.cells < n) (same limit.Cells) q),
-  λ q. h.2 (subst (λ n. limits.frames < n) (same limit.Frames) q),
-  subst (λ n. limits.output < n) (sym (same limit.Output)) h.3,
-)
 
 module _ (bounds : Bounds) (b : Body) (g : Stock) (w : Walk) (at : IsAt bounds b g w) where
   abbrev here : Shown

@@ -5,7 +5,7 @@
 //! law of the clock, how it has ended, which limit its last state exceeds, or that it came back to a state.
 //!
 //! Its promise: whatever a walk answers is so of its history. That the path of a search can be walked is not promised: where an
-//! entry can't be entered the answer is want of memory, which a search's own paths never meet.
+//! entry can't be entered the answer is want of memory. No row has met that.
 #![tactic(auto)]
 
 mod judging;

@@ -61,7 +61,8 @@ there_at (x ∷ xs) (suc n) h = there_at xs n (omega arith)
 
 -- ---- limits
 
-exceeds_so : (kind : LimitKind) (limits : Limits) (x : SlotState) (u : State) → ((k : LimitKind) → endings.used k u ≡ used k x) → ExceedsFirst kind limits x → FirstExceeded kind limits u
+-- a state of the rules that uses as much exceeds the same limit first
+pub exceeds_so : (kind : LimitKind) (limits : Limits) (x : SlotState) (u : State) → ((k : LimitKind) → endings.used k u ≡ used k x) → ExceedsFirst kind limits x → FirstExceeded kind limits u
 exceeds_so limit.Threads limits x u same h = subst (λ n. limits.threads < n) (sym (same limit.Threads)) h
 exceeds_so limit.Cells limits x u same h = (λ q. h.0 (subst (λ n. limits.threads < n) (same limit.Threads) q), subst (λ n. limits.cells < n) (sym (same limit.Cells)) h.1)
 exceeds_so limit.Frames limits x u same h =
