@@ -9,19 +9,20 @@ use Rattle.hs_base.specs.declared.tree.script.Script.{Script}
 use Rattle.hs_base.specs.declared.tree.forms.UnaryForm.TheVariants as u
 use Rattle.hs_base.specs.declared.tree.forms.BinaryForm.TheVariants as b
 use Rattle.hs_base.specs.declared.tree.forms.EmptyForm.TheVariants as n
+use Rattle.hs_base.specs.declared.tree.forms.SideForm.TheVariants as d
 use Rattle.rules_code.specs.declared.node.Node.{Node}
 use Rattle.rules_code.specs.declared.act.ActId.{ActId}
 use Rattle.rules_code.specs.declared.act.Act.{Act}
 use Rattle.rules_code.specs.declared.act.Act.TheVariants as a
 use Rattle.rules_code.specs.declared.code.Fun.{Fun}
-use Rattle.rules_trees.specs.Trees.{number, exception}
+use Rattle.rules_trees.specs.Trees.{number, nothing_more, exception}
 use Rattle.rules_trees.specs.Programs.{Fn, script_of}
 use Rattle.rules_expansion.specs.Names.{Name, Added, same_name, Unread}
-use Rattle.rules_expansion.specs.Core.{CoreEx, OfScript, Read, JustRead, NoValue, BelowZero, IsZero, SameExn, Killed, Core, Return, ThrowIo, Let, Bind, If, CaseMaybe, CaseEither, CaseList, CasePair, Call, Perform, Fork, ForkUnmask, Catch, MaskWith, MaskHard, Restore, ActionFunction}
+use Rattle.rules_expansion.specs.Core.{CoreEx, OfScript, Read, JustRead, NoValue, BelowZero, IsZero, SameExn, Killed, Nil, LeftRead, RightRead, RightLeft, RightRight, RightNil, PairRead, FirstOf, SecondOf, Core, Return, ThrowIo, Let, Bind, If, CaseMaybe, CaseEither, CaseList, CasePair, Call, Perform, Fork, ForkUnmask, Catch, MaskWith, MaskHard, Restore, ActionFunction}
 use Rattle.rules_expansion.specs.declared.primitive.Primitive.{Primitive}
 use Rattle.rules_expansion.specs.Expansion.{actions_of}
 use Rattle.rules_expansion.specs.Expansion.{main_of}
-use Rattle.rules_code.specs.Slots.{Sx, Sxs, s_literal, s_empty, s_slot, s_unary, s_binary, s_none, s_more, Scope, slot_of, Root, slotted, slotted_all, roots_of, tree_in, trees_in, trees}
+use Rattle.rules_code.specs.Slots.{Sx, Sxs, s_literal, s_empty, s_slot, s_unary, s_side, s_binary, s_none, s_more, Scope, slot_of, Root, slotted, slotted_all, roots_of, tree_in, trees_in, trees}
 use Rattle.rules_typing.specs.TypingScripts.{Accepted}
 
 -- a core action with slots
@@ -94,6 +95,15 @@ slotted_core_ex rs s (BelowZero y) = s_binary b.Less (slot_read s y) (s_literal 
 slotted_core_ex rs s (IsZero y) = s_binary b.Equal (slot_read s y) (s_literal (number (pos 0)))
 slotted_core_ex rs s (SameExn y z) = s_binary b.Equal (slot_read s y) (slot_read s z)
 slotted_core_ex rs s Killed = s_literal (exception x.ThreadKilled)
+slotted_core_ex rs s Nil = s_literal nothing_more
+slotted_core_ex rs s (LeftRead y) = s_side d.Left (slot_read s y)
+slotted_core_ex rs s (RightRead y) = s_side d.Right (slot_read s y)
+slotted_core_ex rs s (RightLeft y) = s_side d.Right (s_side d.Left (slot_read s y))
+slotted_core_ex rs s (RightRight y) = s_side d.Right (s_side d.Right (slot_read s y))
+slotted_core_ex rs s RightNil = s_side d.Right (s_literal nothing_more)
+slotted_core_ex rs s (PairRead y z) = s_binary b.Pair (slot_read s y) (slot_read s z)
+slotted_core_ex rs s (FirstOf y) = s_unary u.Fst (slot_read s y)
+slotted_core_ex rs s (SecondOf y) = s_unary u.Snd (slot_read s y)
 
 -- the expressions of a primitive
 abbrev pub slotted_core_exs : List Root → Scope → List CoreEx → Sxs

@@ -21,6 +21,24 @@ pub data CoreEx : Type 0 where
   SameExn : (x y : Name) → CoreEx
   -- ThreadKilled
   Killed : CoreEx
+  -- ()
+  Nil : CoreEx
+  -- Left x
+  LeftRead : Name → CoreEx
+  -- Right x
+  RightRead : Name → CoreEx
+  -- Right (Left x)
+  RightLeft : Name → CoreEx
+  -- Right (Right x)
+  RightRight : Name → CoreEx
+  -- Right ()
+  RightNil : CoreEx
+  -- (x, y)
+  PairRead : (x y : Name) → CoreEx
+  -- fst x
+  FirstOf : Name → CoreEx
+  -- snd x
+  SecondOf : Name → CoreEx
 
 pub data Core : Type 0 where
   -- return e

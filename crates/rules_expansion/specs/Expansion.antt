@@ -15,14 +15,14 @@ use Rattle.hs_base.specs.declared.tree.forms.GuardAction.{GuardAction}
 use Rattle.hs_base.specs.declared.tree.forms.GuardAction.TheVariants as g
 use Rattle.rules_trees.specs.Programs as tree
 use Rattle.rules_trees.specs.Programs.{Act, Bl, ActArms, Par, Bd, Fn}
-use Rattle.rules_expansion.specs.declared.hidden.Hidden.TheVariants.{Restorer, Instance, BracketResult, BracketFault}
+use Rattle.rules_expansion.specs.declared.hidden.Hidden.TheVariants.{Restorer, Caught, Instance, BracketResult, BracketFault, ScopeCell, Child, ChildEnding, ScopeResult, Awaited, ActionResult}
 use Rattle.rules_expansion.specs.declared.primitive.Primitive.TheVariants.{PutStr, PutStrLn, HPutStrLn, NewMVar, NewEmptyMVar, TakeMVar, PutMVar, ReadMVar, TryTakeMVar, TryPutMVar, MyThreadId, GetMaskingState, ClockMicros, ThreadDelay, ThrowTo, Acquired, Release}
 use Rattle.rules_expansion.specs.declared.template.Derived.{Derived}
 use Rattle.rules_expansion.specs.declared.template.Derived.TheVariants as d
 use Rattle.rules_expansion.specs.declared.template.Part.{Part}
 use Rattle.rules_expansion.specs.declared.template.Part.TheVariants as part
 use Rattle.rules_expansion.specs.Names.{Name, Written, Added, Unread}
-use Rattle.rules_expansion.specs.Core.{CoreEx, OfScript, Read, NoValue, Killed, Core, Return, ThrowIo, Let, Bind, If, CaseMaybe, CaseEither, CaseList, CasePair, Call, Perform, Fork, ForkUnmask, Catch, MaskWith, MaskHard, Restore, ActionFunction, action_named}
+use Rattle.rules_expansion.specs.Core.{CoreEx, OfScript, Read, NoValue, Killed, Nil, LeftRead, RightRead, PairRead, Core, Return, ThrowIo, Let, Bind, If, CaseMaybe, CaseEither, CaseList, CasePair, Call, Perform, Fork, ForkUnmask, Catch, MaskWith, MaskHard, Restore, ActionFunction, action_named}
 use Rattle.rules_expansion.specs.Templates.{Filling, template, fill}
 
 -- ---- forms by their templates
@@ -52,6 +52,13 @@ on_bound e x a = filling e x a a a
 
 abbrev pub on_both : CoreEx → Core → Filling
 on_both e a = filling e [] a a a
+
+-- a form without a block: none stands in its template
+abbrev pub on_subject : CoreEx → Filling
+on_subject e = filling e [] (Return NoValue) (Return NoValue) (Return NoValue)
+
+abbrev pub on_named : Core → List ℕ → Core → Filling
+on_named a x c = filling NoValue x a c c
 
 abbrev pub derived : Derived → Filling → Core
 derived o f = fill f (template o)
@@ -99,6 +106,74 @@ bracket_marked b c = Bind (Added Instance) acquire (bracket_acquired b c)
 abbrev pub bracket_masked : Core → Name → Core → Core → Core
 bracket_masked a x b c = Bind x a (bracket_marked b c)
 
+-- ---- the parts of an async scope, of which laws speak:
+-- { $v <- newEmptyMVar; mask $r {
+--   $t <- forkIO { $z <- catch { $x <- restore $r A; return (Right $x) } $e { return (Left $e) }; putMVar $v $z };
+--   let a = ($t, $v);
+--   $y <- catch { restore $r B } $e { STOP; throwIO $e }; STOP; return $y } },
+-- where STOP is uninterruptibleMask_ { throwTo $t ThreadKilled; $w <- readMVar $v; return () }
+
+-- $w <- readMVar $v; return ()
+abbrev pub scope_await : Core
+scope_await = Bind (Added Awaited) (Perform ReadMVar (Read (Added ScopeCell) ∷ [])) (Return Nil)
+
+-- throwTo $t ThreadKilled; $w <- readMVar $v; return ()
+abbrev pub scope_kill : Core
+scope_kill = Bind Unread (Perform ThrowTo (Read (Added Child) ∷ Killed ∷ [])) scope_await
+
+-- STOP
+abbrev pub scope_stop : Core
+scope_stop = MaskHard (Added Restorer) scope_kill
+
+-- return $y
+abbrev pub scope_return : Core
+scope_return = Return (Read (Added ScopeResult))
+
+-- STOP; return $y
+abbrev pub scope_exit : Core
+scope_exit = Bind Unread scope_stop scope_return
+
+-- throwIO $e
+abbrev pub scope_throw : Core
+scope_throw = ThrowIo (Read (Added Caught))
+
+-- STOP; throwIO $e
+abbrev pub scope_handler : Core
+scope_handler = Bind Unread scope_stop scope_throw
+
+-- catch { restore $r B } $e { STOP; throwIO $e }
+abbrev pub scope_guarded : Core → Core
+scope_guarded b = Catch (Restore (Added Restorer) b) (Added Caught) scope_handler
+
+-- what follows the `let`
+abbrev pub scope_run : Core → Core
+scope_run b = Bind (Added ScopeResult) (scope_guarded b) scope_exit
+
+-- what follows `$t <-`
+abbrev pub scope_named : Name → Core → Core
+scope_named x b = Let x (PairRead (Added Child) (Added ScopeCell)) (scope_run b)
+
+-- putMVar $v $z
+abbrev pub child_put : Core
+child_put = Perform PutMVar (Read (Added ScopeCell) ∷ Read (Added ChildEnding) ∷ [])
+
+-- catch { $x <- restore $r A; return (Right $x) } $e { return (Left $e) }
+abbrev pub child_action : Core → Core
+child_action a =
+    Catch (Bind (Added ActionResult) (Restore (Added Restorer) a) (Return (RightRead (Added ActionResult))))
+    (Added Caught) (Return (LeftRead (Added Caught)))
+
+-- the block of the thread of the scope
+abbrev pub child_block : Core → Core
+child_block a = Bind (Added ChildEnding) (child_action a) child_put
+
+-- what is masked
+abbrev pub scope_masked : Core → Name → Core → Core
+scope_masked a x b = Bind (Added Child) (Fork (child_block a)) (scope_named x b)
+
+abbrev pub scope : Core → Name → Core → Core
+scope a x b = Bind (Added ScopeCell) (Perform NewEmptyMVar []) (MaskWith (Added Restorer) (scope_masked a x b))
+
 -- ---- forms of one shape
 
 abbrev pub bare_core : BareAction → Core
@@ -117,6 +192,8 @@ unary_core u.ReadMVar a = Perform ReadMVar (a ∷ [])
 unary_core u.TryTakeMVar a = Perform TryTakeMVar (a ∷ [])
 unary_core u.KillThread a = Perform ThrowTo (a ∷ Killed ∷ [])
 unary_core u.ThreadDelay a = Perform ThreadDelay (a ∷ [])
+unary_core u.Wait a = derived d.Wait (on_subject a)
+unary_core u.Cancel a = derived d.Cancel (on_subject a)
 
 abbrev pub binary_core : BinaryAction → CoreEx → CoreEx → Core
 binary_core b.PutMVar a c = Perform PutMVar (a ∷ c ∷ [])
@@ -136,6 +213,8 @@ masking_core m.UninterruptibleMask r a = MaskHard r a
 abbrev pub guard_core : GuardAction → Core → Core → Core
 guard_core g.OnException a c = derived d.OnException (on_two a c)
 guard_core g.Finally a c = derived d.Finally (on_two a c)
+guard_core g.Race a c = derived d.Race (on_two a c)
+guard_core g.Concurrently a c = derived d.Concurrently (on_two a c)
 
 -- ---- actions and blocks
 
@@ -157,6 +236,7 @@ abbrev mutual
   core (tree.guard w p a c) = guard_core w (block_core a) (block_core c)
   core (tree.bracket p a x c h) = derived d.Bracket (on_three (block_core a) x.text (block_core c) (block_core h))
   core (tree.timeout p e a) = derived d.Timeout (on_both (OfScript e) (block_core a))
+  core (tree.with_async p a x c) = derived d.WithAsync (on_named (block_core a) x.text (block_core c))
 
   -- a block is nested binds and lets
   pub block_core : Bl → Core

@@ -17,6 +17,21 @@ hidden_number h.Owner = 10
 hidden_number h.Expiry = 11
 hidden_number h.Helper = 12
 hidden_number h.HelperRestorer = 13
+hidden_number h.ScopeCell = 14
+hidden_number h.Child = 15
+hidden_number h.ChildEnding = 16
+hidden_number h.ScopeResult = 17
+hidden_number h.Awaited = 18
+hidden_number h.Scope = 19
+hidden_number h.Ended = 20
+hidden_number h.ActionResult = 21
+hidden_number h.FirstEnd = 22
+hidden_number h.SideEnding = 23
+hidden_number h.WasFirst = 24
+hidden_number h.FirstSide = 25
+hidden_number h.SecondSide = 26
+hidden_number h.FirstResult = 27
+hidden_number h.SecondResult = 28
 
 -- a name of a script, by its bytes, one that an expansion adds, or what a statement without a name binds, which nothing
 -- reads

@@ -3,7 +3,7 @@
 -- `restore`, patterns and types are no nodes.
 use Rattle.std.specs.Prelude.{ℕ, ◌+◌, List, [], ◌∷◌}
 use Rattle.rules_trees.specs.Trees.{Ex, Exs, Links, Arms, lit, name, unary, binary, chain, conses, choose, items, empty, side, given, case, none, more, end, link, maybe_arms, either_arms, list_arms, pair_arms}
-use Rattle.rules_expansion.specs.Core.{CoreEx, OfScript, Read, JustRead, NoValue, BelowZero, IsZero, SameExn, Killed, Core, Return, ThrowIo, Let, Bind, If, CaseMaybe, CaseEither, CaseList, CasePair, Call, Perform, Fork, ForkUnmask, Catch, MaskWith, MaskHard, Restore}
+use Rattle.rules_expansion.specs.Core.{CoreEx, OfScript, Read, JustRead, NoValue, BelowZero, IsZero, SameExn, Killed, Nil, LeftRead, RightRead, RightLeft, RightRight, RightNil, PairRead, FirstOf, SecondOf, Core, Return, ThrowIo, Let, Bind, If, CaseMaybe, CaseEither, CaseList, CasePair, Call, Perform, Fork, ForkUnmask, Catch, MaskWith, MaskHard, Restore}
 use Rattle.rules_trees.specs.Programs.{Bd, pure_body, io_body}
 use Rattle.rules_expansion.specs.declared.template.Operand.{Operand}
 use Rattle.rules_expansion.specs.declared.template.Operand.TheVariants as x
@@ -51,6 +51,15 @@ core_ex_size (BelowZero x) = 3
 core_ex_size (IsZero x) = 3
 core_ex_size (SameExn x y) = 3
 core_ex_size Killed = 1
+core_ex_size Nil = 1
+core_ex_size (LeftRead x) = 2
+core_ex_size (RightRead x) = 2
+core_ex_size (RightLeft x) = 3
+core_ex_size (RightRight x) = 3
+core_ex_size RightNil = 2
+core_ex_size (PairRead x y) = 3
+core_ex_size (FirstOf x) = 2
+core_ex_size (SecondOf x) = 2
 
 abbrev pub core_exs_size : List CoreEx → ℕ
 core_exs_size [] = 0
@@ -93,6 +102,15 @@ operand_size m (x.BelowZero y) = 3
 operand_size m (x.IsZero y) = 3
 operand_size m (x.SameExn y z) = 3
 operand_size m x.Killed = 1
+operand_size m x.Nil = 1
+operand_size m (x.LeftRead y) = 2
+operand_size m (x.RightRead y) = 2
+operand_size m (x.RightLeft y) = 3
+operand_size m (x.RightRight y) = 3
+operand_size m x.RightNil = 2
+operand_size m (x.PairRead y z) = 3
+operand_size m (x.FirstOf y) = 2
+operand_size m (x.SecondOf y) = 2
 
 -- what a step puts on: a name that enters the scope or leaves it is no node
 abbrev pub step_size : ℕ → (Part → ℕ) → Step → ℕ
@@ -106,9 +124,11 @@ step_size m n s.Let = 1
 step_size m n s.Bind = 1
 step_size m n s.Then = 1
 step_size m n s.If = 1
+step_size m n s.CaseEither = 1
 step_size m n (s.Perform q) = 1
 step_size m n (s.PerformOne q) = 1
 step_size m n (s.PerformTwo q) = 1
+step_size m n s.Fork = 1
 step_size m n s.ForkUnmask = 1
 step_size m n s.Catch = 1
 step_size m n s.Mask = 1

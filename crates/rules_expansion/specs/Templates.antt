@@ -1,10 +1,11 @@
 -- Core actions with holes: what the actions that stand for others expand to.
 --
--- What the forms do follows `Control.Exception`, `Control.Concurrent.MVar` and `System.Timeout`; the texts of their
--- expansions, the helper thread of `timeout` among them, are this project's own. In the comments a name that an expansion
+-- What the forms do follows `Control.Exception`, `Control.Concurrent.MVar`, `System.Timeout` and `Control.Concurrent.Async`; the
+-- texts of their expansions, the helper thread of `timeout` among them, and that a scope is cancelled by ThreadKilled, are this
+-- project's own. In the comments a name that an expansion
 -- adds is written with a `$`.
 use Rattle.std.specs.Prelude.{ℕ, List, [], ◌∷◌}
-use Rattle.rules_expansion.specs.declared.hidden.Hidden.TheVariants.{Restorer, Given, Caught, TheCell, Instance, BracketResult, BracketFault, Allowed, InTime, Owner, Expiry, Helper, HelperRestorer}
+use Rattle.rules_expansion.specs.declared.hidden.Hidden.TheVariants.{Restorer, Given, Caught, TheCell, Instance, BracketResult, BracketFault, Allowed, InTime, Owner, Expiry, Helper, HelperRestorer, ScopeCell, Child, ChildEnding, ScopeResult, Awaited, Scope, Ended, ActionResult, FirstEnd, SideEnding, WasFirst, FirstSide, SecondSide, FirstResult, SecondResult}
 use Rattle.rules_expansion.specs.declared.primitive.Primitive.{Primitive}
 use Rattle.rules_expansion.specs.declared.primitive.Primitive.TheVariants as p
 use Rattle.rules_expansion.specs.declared.template.Binder.{Binder}
@@ -36,9 +37,13 @@ pub data Template : Type 0 where
   then : Template → Template → Template
   -- if e then A else B
   choose : Operand → Template → Template → Template
+  -- case e of { Left x -> A; Right y -> B }
+  either : Operand → Binder → Template → Binder → Template → Template
   perform : Primitive → Template
   perform_one : Primitive → Operand → Template
   perform_two : Primitive → Operand → Operand → Template
+  -- forkIO A
+  fork : Template → Template
   -- forkIOWithUnmask r A
   fork_unmask : Binder → Template → Template
   -- catch A x B
@@ -130,6 +135,110 @@ timing_out a =
     (bind (b.Own Expiry) (perform p.NewTimeout)
     (timed a)))))
 
+-- ---- async scopes
+
+-- { $x <- restore $r A; return (S $x) }, where S is told by the operand
+abbrev pub ending_as : Operand → Template → Template
+ending_as e a = bind (b.Own ActionResult) (restored a) (give e)
+
+-- catch { $x <- restore $r A; return (S $x) } $e { return (Left $e) }
+abbrev pub ended : Operand → Template → Template
+ended e a = catch (ending_as e a) (b.Own Caught) (give (x.LeftRead (b.Own Caught)))
+
+-- STOP: uninterruptibleMask_ { throwTo $t ThreadKilled; $w <- readMVar $v; return () }
+abbrev pub stopping : Template
+stopping =
+    masked_hard
+    (then (killing (x.Read (b.Own Child)))
+    (bind (b.Own Awaited) (perform_one p.ReadMVar (x.Read (b.Own ScopeCell)))
+    (give x.Nil)))
+
+-- { $v <- newEmptyMVar; mask $r {
+--   $t <- forkIO { $z <- catch { $x <- restore $r A; return (Right $x) } $e { return (Left $e) }; putMVar $v $z };
+--   let a = ($t, $v);
+--   $y <- catch { restore $r B } $e { STOP; throwIO $e }; STOP; return $y } }
+abbrev pub scoping : Template → Binder → Template → Template
+scoping a y c =
+    bind (b.Own ScopeCell) (perform p.NewEmptyMVar)
+    (masked
+    (bind (b.Own Child)
+    (fork
+    (bind (b.Own ChildEnding) (ended (x.RightRead (b.Own ActionResult)) a)
+    (perform_two p.PutMVar (x.Read (b.Own ScopeCell)) (x.Read (b.Own ChildEnding)))))
+    (let_in y (x.PairRead (b.Own Child) (b.Own ScopeCell))
+    (bind (b.Own ScopeResult) (guarding (restored c) stopping)
+    (then stopping
+    (give (x.Read (b.Own ScopeResult))))))))
+
+-- case $z of { Left $e -> { throwIO $e }; Right $x -> A }
+abbrev pub unless_thrown : Binder → Template → Template
+unless_thrown y a = either (x.Read (b.Own Ended)) (b.Own Caught) (throw (x.Read (b.Own Caught))) y a
+
+-- { let $a = x; $z <- readMVar (snd $a); case $z of { Left $e -> { throwIO $e }; Right $x -> { return $x } } }
+abbrev pub waiting : Operand → Template
+waiting e =
+    let_in (b.Own Scope) e
+    (bind (b.Own Ended) (perform_one p.ReadMVar (x.SecondOf (b.Own Scope)))
+    (unless_thrown (b.Own ActionResult) (give (x.Read (b.Own ActionResult)))))
+
+-- { let $a = x; throwTo (fst $a) ThreadKilled; $w <- readMVar (snd $a); return () }
+abbrev pub cancelling : Template
+cancelling =
+    let_in (b.Own Scope) x.Subject
+    (then (killing (x.FirstOf (b.Own Scope)))
+    (bind (b.Own Awaited) (perform_one p.ReadMVar (x.SecondOf (b.Own Scope)))
+    (give x.Nil)))
+
+-- $q <- tryPutMVar $c E; A
+abbrev pub offering : Operand → Template → Template
+offering e a = bind (b.Own WasFirst) (perform_two p.TryPutMVar (x.Read (b.Own FirstEnd)) e) a
+
+-- N(A, S): { mask $m { $p <- catch { $x <- restore $m A; return (Right (S $x)) } $e { return (Left $e) };
+--   $q <- tryPutMVar $c $p; return () } }
+abbrev pub racing_side : Operand → Template → Template
+racing_side e a = masked (bind (b.Own SideEnding) (ended e a) (offering (x.Read (b.Own SideEnding)) (give x.Nil)))
+
+-- M(A): { mask $m { $p <- catch { $x <- restore $m A; return (Right $x) } $e { return (Left $e) };
+--   case $p of { Left $e -> { $q <- tryPutMVar $c (Left $e); throwIO $e };
+--     Right $x -> { $q <- tryPutMVar $c (Right ()); return $x } } } }
+abbrev pub concurrent_side : Template → Template
+concurrent_side a =
+    masked
+    (bind (b.Own SideEnding) (ended (x.RightRead (b.Own ActionResult)) a)
+    (either (x.Read (b.Own SideEnding))
+    (b.Own Caught) (offering (x.LeftRead (b.Own Caught)) (throw (x.Read (b.Own Caught))))
+    (b.Own ActionResult) (offering x.RightNil (give (x.Read (b.Own ActionResult))))))
+
+-- { $c <- newEmptyMVar; withAsync A $a { withAsync B $b { $z <- takeMVar $c;
+--   case $z of { Left $e -> { throwIO $e }; Right y -> C } } } }
+abbrev pub both_sides : Template → Template → Binder → Template → Template
+both_sides a c y e =
+    bind (b.Own FirstEnd) (perform p.NewEmptyMVar)
+    (scoping a (b.Own FirstSide)
+    (scoping c (b.Own SecondSide)
+    (bind (b.Own Ended) (perform_one p.TakeMVar (x.Read (b.Own FirstEnd)))
+    (unless_thrown y e))))
+
+-- the sides are N(A, Left) and N(B, Right): the first to end decides
+abbrev pub racing : Template → Template → Template
+racing a c =
+    both_sides
+    (racing_side (x.RightLeft (b.Own ActionResult)) a)
+    (racing_side (x.RightRight (b.Own ActionResult)) c)
+    (b.Own ActionResult) (give (x.Read (b.Own ActionResult)))
+
+-- the sides are M(A) and M(B): where the first to end failed its exception goes on, else $x <- wait $a; $y <- wait $b;
+-- return ($x, $y)
+abbrev pub running_both : Template → Template → Template
+running_both a c =
+    both_sides (concurrent_side a) (concurrent_side c)
+    (b.Own ActionResult)
+    (bind (b.Own FirstResult) (waiting (x.Read (b.Own FirstSide)))
+    (bind (b.Own SecondResult) (waiting (x.Read (b.Own SecondSide)))
+    (give (x.PairRead (b.Own FirstResult) (b.Own SecondResult)))))
+
+-- ---- the table itself
+
 -- what stands for each action that stands for others
 abbrev pub template : Derived → Template
 template d.MaskOnly = masked (hole part.First)
@@ -139,6 +248,11 @@ template d.Finally = finishing (hole part.First) (hole part.Second)
 template d.Bracket = bracketing (hole part.First) b.Given (hole part.Second) (hole part.Third)
 template d.ModifyMVar = modifying (hole part.First)
 template d.Timeout = timing_out (hole part.First)
+template d.WithAsync = scoping (hole part.First) b.Given (hole part.Second)
+template d.Wait = waiting x.Subject
+template d.Cancel = cancelling
+template d.Race = racing (hole part.First) (hole part.Second)
+template d.Concurrently = running_both (hole part.First) (hole part.Second)
 
 -- ---- filled
 
@@ -161,6 +275,15 @@ operand f (x.BelowZero y) = core.BelowZero (named f.given y)
 operand f (x.IsZero y) = core.IsZero (named f.given y)
 operand f (x.SameExn y z) = core.SameExn (named f.given y) (named f.given z)
 operand f x.Killed = core.Killed
+operand f x.Nil = core.Nil
+operand f (x.LeftRead y) = core.LeftRead (named f.given y)
+operand f (x.RightRead y) = core.RightRead (named f.given y)
+operand f (x.RightLeft y) = core.RightLeft (named f.given y)
+operand f (x.RightRight y) = core.RightRight (named f.given y)
+operand f x.RightNil = core.RightNil
+operand f (x.PairRead y z) = core.PairRead (named f.given y) (named f.given z)
+operand f (x.FirstOf y) = core.FirstOf (named f.given y)
+operand f (x.SecondOf y) = core.SecondOf (named f.given y)
 
 -- the template with these in it
 abbrev pub fill : Filling → Template → Core
@@ -171,9 +294,11 @@ fill f (let_in y e a) = core.Let (named f.given y) (operand f e) (fill f a)
 fill f (bind y a c) = core.Bind (named f.given y) (fill f a) (fill f c)
 fill f (then a c) = core.Bind Unread (fill f a) (fill f c)
 fill f (choose e a c) = core.If (operand f e) (fill f a) (fill f c)
+fill f (either e y a z c) = core.CaseEither (operand f e) (named f.given y) (fill f a) (named f.given z) (fill f c)
 fill f (perform q) = core.Perform q []
 fill f (perform_one q e) = core.Perform q (operand f e ∷ [])
 fill f (perform_two q e h) = core.Perform q (operand f e ∷ operand f h ∷ [])
+fill f (fork a) = core.Fork (fill f a)
 fill f (fork_unmask y a) = core.ForkUnmask (named f.given y) (fill f a)
 fill f (catch a y c) = core.Catch (fill f a) (named f.given y) (fill f c)
 fill f (mask y a) = core.MaskWith (named f.given y) (fill f a)
@@ -191,9 +316,11 @@ flat (let_in y e a) k = s.Push e ∷ s.Under y ∷ flat a (s.Off ∷ s.Let ∷ k
 flat (bind y a c) k = flat a (s.Under y ∷ flat c (s.Off ∷ s.Bind ∷ k))
 flat (then a c) k = flat a (flat c (s.Then ∷ k))
 flat (choose e a c) k = s.Push e ∷ flat a (flat c (s.If ∷ k))
+flat (either e y a z c) k = s.Push e ∷ s.Under y ∷ flat a (s.Off ∷ s.Under z ∷ flat c (s.Off ∷ s.CaseEither ∷ k))
 flat (perform q) k = s.Perform q ∷ k
 flat (perform_one q e) k = s.Push e ∷ s.PerformOne q ∷ k
 flat (perform_two q e h) k = s.Push e ∷ s.Push h ∷ s.PerformTwo q ∷ k
+flat (fork a) k = flat a (s.Fork ∷ k)
 flat (fork_unmask y a) k = s.Under y ∷ flat a (s.Off ∷ s.ForkUnmask ∷ k)
 flat (catch a y c) k = flat a (s.Under y ∷ flat c (s.Off ∷ s.Catch ∷ k))
 flat (mask y a) k = s.Under y ∷ flat a (s.Off ∷ s.Mask ∷ k)

@@ -30,6 +30,36 @@ pub enum Hidden {
     Helper,
     /// the unmasked state of that helper
     HelperRestorer,
+    /// the cell in which the thread of an async scope leaves how its action ended
+    ScopeCell,
+    /// the thread of an async scope
+    Child,
+    /// how the action of that thread ended
+    ChildEnding,
+    /// what the second block of a `withAsync` gave
+    ScopeResult,
+    /// what a wait for the end of a scope's thread read, where nothing else is asked
+    Awaited,
+    /// the async that a `wait` or a `cancel` is given
+    Scope,
+    /// how the action of another thread ended
+    Ended,
+    /// what an action gave that ended by itself
+    ActionResult,
+    /// the cell for the side of a `race` or a `concurrently` that ends first
+    FirstEnd,
+    /// how one side of them ended
+    SideEnding,
+    /// whether that side was the first
+    WasFirst,
+    /// the scope of the first side
+    FirstSide,
+    /// the scope of the second side
+    SecondSide,
+    /// what the first side of a `concurrently` gave
+    FirstResult,
+    /// what the second side of it gave
+    SecondResult,
 }
 
 impl Hidden {
@@ -54,6 +84,21 @@ impl Hidden {
             Hidden::Expiry => 11,
             Hidden::Helper => 12,
             Hidden::HelperRestorer => 13,
+            Hidden::ScopeCell => 14,
+            Hidden::Child => 15,
+            Hidden::ChildEnding => 16,
+            Hidden::ScopeResult => 17,
+            Hidden::Awaited => 18,
+            Hidden::Scope => 19,
+            Hidden::Ended => 20,
+            Hidden::ActionResult => 21,
+            Hidden::FirstEnd => 22,
+            Hidden::SideEnding => 23,
+            Hidden::WasFirst => 24,
+            Hidden::FirstSide => 25,
+            Hidden::SecondSide => 26,
+            Hidden::FirstResult => 27,
+            Hidden::SecondResult => 28,
         }
     }
 }

@@ -8,6 +8,7 @@
 
 mod hidden;
 mod primitive;
+mod scopes;
 mod table;
 mod template;
 

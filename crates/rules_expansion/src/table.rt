@@ -1,9 +1,10 @@
-//! The steps of each form that stands for others: its template, written out.
+//! The steps of each form that stands for others: its template, written out. Those of async scopes are in `scopes`.
 ghost use Rattle.std.specs.Prelude.{◌≡◌};
 ghost use Rattle.rules_expansion.specs.Templates.{steps};
 
 use crate::hidden::Hidden;
 use crate::primitive::Primitive;
+use crate::scopes::{CANCEL, CONCURRENTLY, RACE, WAIT, WITH_ASYNC};
 use crate::template::{Binder, Derived, Operand, Part, Step};
 
 /// `mask_ A`
@@ -233,5 +234,10 @@ pub fn steps(form: Derived) -> &'static [Step]
         Derived::Bracket => &BRACKET,
         Derived::ModifyMVar => &MODIFY_MVAR,
         Derived::Timeout => &TIMEOUT,
+        Derived::WithAsync => &WITH_ASYNC,
+        Derived::Wait => &WAIT,
+        Derived::Cancel => &CANCEL,
+        Derived::Race => &RACE,
+        Derived::Concurrently => &CONCURRENTLY,
     }
 }

@@ -13,6 +13,11 @@ pub enum Derived {
     Bracket,
     ModifyMVar,
     Timeout,
+    WithAsync,
+    Wait,
+    Cancel,
+    Race,
+    Concurrently,
 }
 
 /// A block of a form, in the order in which they are written.
@@ -51,6 +56,24 @@ pub enum Operand {
     SameExn(Binder, Binder),
     /// `ThreadKilled`
     Killed,
+    /// `()`
+    Nil,
+    /// `Left x`
+    LeftRead(Binder),
+    /// `Right x`
+    RightRead(Binder),
+    /// `Right (Left x)`
+    RightLeft(Binder),
+    /// `Right (Right x)`
+    RightRight(Binder),
+    /// `Right ()`
+    RightNil,
+    /// `(x, y)`
+    PairRead(Binder, Binder),
+    /// `fst x`
+    FirstOf(Binder),
+    /// `snd x`
+    SecondOf(Binder),
 }
 
 /// A step of making a template's nodes, parts before wholes: expressions and actions wait on a stack each, and the names
@@ -78,12 +101,16 @@ pub enum Step {
     Then,
     /// `if e then A else B`
     If,
+    /// `case e of { Left x -> A; Right y -> B }`
+    CaseEither,
     /// a primitive without operands
     Perform(Primitive),
     /// a primitive with one operand
     PerformOne(Primitive),
     /// a primitive with two operands
     PerformTwo(Primitive),
+    /// `forkIO A`
+    Fork,
     /// `forkIOWithUnmask r A`
     ForkUnmask,
     /// `catch A x B`

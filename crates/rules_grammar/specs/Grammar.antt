@@ -79,7 +79,7 @@ number_of _ = pos 0
 abbrev pub name : Rule Name
 name = one name_kind (λ t. record { text = text_of t.tok; pos = t.pos })
 
--- ---- type   = "Maybe" atype | "Either" atype atype | "MVar" atype | atype
+-- ---- type   = "Maybe" atype | "Either" atype atype | "MVar" atype | "Async" atype | atype
 -- ---- atype  = "Int" | "Bool" | "Text" | "ThreadId" | "SomeException" | "(" ")" | "(" type ")" | "(" type "," type ")" | "[" type "]"
 abbrev pub written : Ty → Pos → Written
 written t p = record { ty = t; pos = p }
@@ -102,7 +102,8 @@ type =
     alt (give (λ p t. written (ty.Maybe t.ty) p) ⊛ at k.Maybe ⊛ atype)
     (alt (give (λ p s t. written (ty.Either s.ty t.ty) p) ⊛ at k.Either ⊛ atype ⊛ atype)
     (alt (give (λ p t. written (ty.Cell t.ty) p) ⊛ at k.MVar ⊛ atype)
-    atype))
+    (alt (give (λ p t. written (ty.Async t.ty) p) ⊛ at k.Async ⊛ atype)
+    atype)))
 
 -- behind the first type of a ( : its end, or the second type of a pair
 unfoldable pub type_end : Rule (Ty → Ty)
@@ -351,6 +352,7 @@ guarded_block = give (λ b c. (b, c.0, c.1)) ⊛ block ⊛ named_block
 -- ----          bare | unary arg | binary arg arg | "hPutStrLn" "stderr" arg | "throwIO" "@" atype arg | "newEmptyMVar" "@" atype
 -- ----          | scoped block | masking NAME block | guard block block | "modifyMVar_" arg NAME block | "restore" NAME block
 -- ----          | "catch" block NAME block | "bracket" block NAME block block | "timeout" arg block
+-- ----          | "withAsync" block NAME block
 -- ---- bare     = "myThreadId" | "clockMicros" | "getMaskingState"
 unfoldable pub bare_action_word : Rule (BareAction × Pos)
 bare_action_word = one_of ((k.myThreadId, bare.MyThreadId) ∷ (k.clockMicros, bare.ClockMicros) ∷ []) (k.getMaskingState, bare.GetMaskingState)
@@ -359,11 +361,13 @@ unfoldable pub bare_action : Rule Action
 bare_action = map (λ w. a.Bare w.0 w.1) bare_action_word
 
 -- ---- unary    = "return" | "putStr" | "putStrLn" | "newMVar" | "takeMVar" | "readMVar" | "tryTakeMVar" | "killThread" | "threadDelay"
+-- ----          | "wait" | "cancel"
 unfoldable pub unary_action_word : Rule (UnaryAction × Pos)
 unary_action_word =
     one_of
     ((k.return, unary.Return) ∷ (k.putStr, unary.PutStr) ∷ (k.putStrLn, unary.PutStrLn) ∷ (k.newMVar, unary.NewMVar) ∷ (k.takeMVar, unary.TakeMVar)
-    ∷ (k.readMVar, unary.ReadMVar) ∷ (k.tryTakeMVar, unary.TryTakeMVar) ∷ (k.killThread, unary.KillThread) ∷ []) (k.threadDelay, unary.ThreadDelay)
+    ∷ (k.readMVar, unary.ReadMVar) ∷ (k.tryTakeMVar, unary.TryTakeMVar) ∷ (k.killThread, unary.KillThread)
+    ∷ (k.threadDelay, unary.ThreadDelay) ∷ (k.wait, unary.Wait) ∷ []) (k.cancel, unary.Cancel)
 
 unfoldable pub unary_action : Rule Action
 unary_action = give (λ w x. a.Unary w.0 w.1 x) ⊛ unary_action_word ⊛ arg
@@ -400,9 +404,10 @@ masking_action_word =
 unfoldable pub masking_action : Rule Action
 masking_action = give (λ w b. a.Masking w.0 w.1 b.0 b.1) ⊛ masking_action_word ⊛ named_block
 
--- ---- guard    = "onException" | "finally"
+-- ---- guard    = "onException" | "finally" | "race" | "concurrently"
 unfoldable pub guard_action_word : Rule (GuardAction × Pos)
-guard_action_word = one_of ((k.onException, guard.OnException) ∷ []) (k.finally', guard.Finally)
+guard_action_word =
+    one_of ((k.onException, guard.OnException) ∷ (k.finally', guard.Finally) ∷ (k.race, guard.Race) ∷ []) (k.concurrently, guard.Concurrently)
 
 unfoldable pub guard_action : Rule Action
 guard_action = give (λ w b. a.Guard w.0 w.1 b.0 b.1) ⊛ guard_action_word ⊛ two_blocks
@@ -421,6 +426,9 @@ bracket_form = give (λ p b c. a.Bracket p b.0 b.1 b.2 c) ⊛ at k.bracket ⊛ g
 
 unfoldable pub timeout_form : Rule Action
 timeout_form = give a.Timeout ⊛ at k.timeout ⊛ arg ⊛ block
+
+unfoldable pub with_async_form : Rule Action
+with_async_form = give (λ p b. a.WithAsync p b.0 b.1 b.2) ⊛ at k.withAsync ⊛ guarded_block
 
 -- the forms with no block, and all that begin with a reserved word but `if` and `case`
 unfoldable pub plain_action : Rule Action
@@ -442,7 +450,8 @@ word_action =
     (alt catch_form
     (alt bracket_form
     (alt timeout_form
-    plain_action)))))))
+    (alt with_async_form
+    plain_action))))))))
 
 unfoldable pub other_action : Rule Action
 other_action =

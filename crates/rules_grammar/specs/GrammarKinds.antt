@@ -198,6 +198,24 @@ finally' = word words.FINALLY
 abbrev pub timeout : Kind
 timeout = word words.TIMEOUT
 
+abbrev pub Async : Kind
+Async = word words.ASYNC
+
+abbrev pub withAsync : Kind
+withAsync = word words.WITH_ASYNC
+
+abbrev pub wait : Kind
+wait = word words.WAIT
+
+abbrev pub cancel : Kind
+cancel = word words.CANCEL
+
+abbrev pub race : Kind
+race = word words.RACE
+
+abbrev pub concurrently : Kind
+concurrently = word words.CONCURRENTLY
+
 -- ::
 abbrev pub double_colon : Kind
 double_colon = symbol symbols.DOUBLE_COLON

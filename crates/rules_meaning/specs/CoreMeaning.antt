@@ -2,13 +2,14 @@
 -- action gives.
 use Rattle.std.specs.Prelude.{ℕ, pos, List, [], ◌∷◌, Option, Some, None}
 use Rattle.hs_base.specs.declared.exn.Exn.TheVariants as exn
+use Rattle.hs_base.specs.declared.tree.forms.UnaryForm.TheVariants as u
 use Rattle.hs_base.specs.declared.tree.forms.BinaryForm.TheVariants as b
 use Rattle.rules_trees.specs.Programs.{Fn}
 use Rattle.rules_expansion.specs.Names.{Name}
-use Rattle.rules_expansion.specs.Core.{CoreEx, OfScript, Read, JustRead, NoValue, BelowZero, IsZero, SameExn, Killed, ActionFunction}
+use Rattle.rules_expansion.specs.Core.{CoreEx, OfScript, Read, JustRead, NoValue, BelowZero, IsZero, SameExn, Killed, Nil, LeftRead, RightRead, RightLeft, RightRight, RightNil, PairRead, FirstOf, SecondOf, ActionFunction}
 use Rattle.rules_expansion.specs.Expansion.{actions_of}
-use Rattle.rules_meaning.specs.Values.{V, Int, Just, Nothing, Exception, Env, value_at, Outcome, Gives, Stuck, Outcomes, AllGive, and_then}
-use Rattle.rules_meaning.specs.Meaning.{Functions, functions_of, value_of_ex, binary_of}
+use Rattle.rules_meaning.specs.Values.{V, UnitValue, Int, Just, Nothing, Left, Right, Exception, Env, value_at, Outcome, Gives, Stuck, Outcomes, AllGive, and_then}
+use Rattle.rules_meaning.specs.Meaning.{Functions, functions_of, value_of_ex, unary_of, binary_of}
 
 -- what a script defines: what its pure functions answer, and its action functions
 pub record Code : Type 0 where
@@ -34,6 +35,15 @@ value_of_core fs env (BelowZero x) = read (value_at x env) (λ v. binary_of b.Le
 value_of_core fs env (IsZero x) = read (value_at x env) (λ v. binary_of b.Equal v (Int (pos 0)))
 value_of_core fs env (SameExn x y) = read (value_at x env) (λ v. read (value_at y env) (λ w. binary_of b.Equal v w))
 value_of_core fs env Killed = Gives (Exception exn.ThreadKilled)
+value_of_core fs env Nil = Gives UnitValue
+value_of_core fs env (LeftRead x) = read (value_at x env) (λ v. Gives (Left v))
+value_of_core fs env (RightRead x) = read (value_at x env) (λ v. Gives (Right v))
+value_of_core fs env (RightLeft x) = read (value_at x env) (λ v. Gives (Right (Left v)))
+value_of_core fs env (RightRight x) = read (value_at x env) (λ v. Gives (Right (Right v)))
+value_of_core fs env RightNil = Gives (Right UnitValue)
+value_of_core fs env (PairRead x y) = read (value_at x env) (λ v. read (value_at y env) (λ w. binary_of b.Pair v w))
+value_of_core fs env (FirstOf x) = read (value_at x env) (unary_of u.Fst)
+value_of_core fs env (SecondOf x) = read (value_at x env) (unary_of u.Snd)
 
 -- from the left to the right, up to the first exception
 abbrev pub values_of_core : Functions → Env → List CoreEx → Outcomes

@@ -10,6 +10,8 @@ pub data Sort : Type 0 where
   a_masking_name : Sort
   -- the number of one use of `bracket`, which an expansion binds
   an_instance : Sort
+  -- the cell in which the thread of an async scope leaves how its action, which gives this type, ended: an expansion binds it too
+  a_scope_cell : T → Sort
 
 -- a scope: names with their sorts, the last bound first
 pub record Bound : Type 0 where

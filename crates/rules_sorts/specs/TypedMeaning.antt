@@ -2,7 +2,7 @@
 use Rattle.std.specs.Prelude.{◌≡◌, ◌+◌, ℕ, ltb, List, [], ◌∷◌, Bool, true, false, Option, Some, None}
 use Rattle.hs_base.specs.declared.tree.forms.BinaryForm.{BinaryForm}
 use Rattle.hs_base.specs.declared.tree.forms.BinaryForm.TheVariants as b
-use Rattle.rules_trees.specs.Trees.{T, unit, int, bool, text, thread, exn, pair, maybe, either, list, cell, Ex, Exs, Links, Arms, lit, name, unary, binary, chain, conses, choose, items, empty, side, given, case, none, more, end, link, maybe_arms, either_arms, list_arms, pair_arms}
+use Rattle.rules_trees.specs.Trees.{T, unit, int, bool, text, thread, exn, pair, maybe, either, list, cell, async, Ex, Exs, Links, Arms, lit, name, unary, binary, chain, conses, choose, items, empty, side, given, case, none, more, end, link, maybe_arms, either_arms, list_arms, pair_arms}
 use Rattle.rules_meaning.specs.Values as val
 use Rattle.rules_meaning.specs.Values.{V, UnitValue, Int, Truth, Text, Pair, Nothing, Just, Left, Right, Nil, Cons, Exception, Restore, Env, value_at, Outcome, Gives, Throws, Stuck, Outcomes, AllGive, OneThrows, OneStuck}
 use Rattle.rules_expansion.specs.Names.{Written}
@@ -11,7 +11,8 @@ use Rattle.rules_typing.specs.Typing as typing
 use Rattle.rules_typing.specs.TypingScripts.{params_in}
 use Rattle.rules_trees.specs.Programs.{Bd, pure_body, io_body, Fn}
 
--- ---- values of a type, where cells says which number is of which type: a cell's of an `MVar` type, a thread's of `ThreadId`
+-- ---- values of a type, where cells says which number is of which type: a cell's of an `MVar` type, that of an async scope's
+-- cell of an `Async` type, a thread's of `ThreadId`
 abbrev pub of_unit : V → Type 0
 of_unit UnitValue = Unit {0}
 of_unit _ = ⊥
@@ -72,6 +73,7 @@ module _ (cells : ℕ → T → Type 0) where
   HasV (either a c) = of_either (HasV a) (HasV c)
   HasV (list a) = of_list (HasV a)
   HasV (cell a) = of_cell (λ m. cells m (cell a))
+  HasV (async a) = of_pair (of_thread (λ m. cells m thread)) (of_cell (λ m. cells m (async a)))
 
   -- a value of the type, or an exception
   abbrev pub Good : T → Outcome → Type 0

@@ -130,9 +130,21 @@ pub const BRACKET: u8 = 62;
 pub const FINALLY: u8 = 63;
 /// `timeout`
 pub const TIMEOUT: u8 = 64;
+/// `Async`
+pub const ASYNC: u8 = 65;
+/// `withAsync`
+pub const WITH_ASYNC: u8 = 66;
+/// `wait`
+pub const WAIT: u8 = 67;
+/// `cancel`
+pub const CANCEL: u8 = 68;
+/// `race`
+pub const RACE: u8 = 69;
+/// `concurrently`
+pub const CONCURRENTLY: u8 = 70;
 
 /// The words, in the order of their numbers.
-pub const TEXTS: [&str; 65] = [
+pub const TEXTS: [&str; 71] = [
     "True",
     "False",
     "Nothing",
@@ -198,4 +210,10 @@ pub const TEXTS: [&str; 65] = [
     "bracket",
     "finally",
     "timeout",
+    "Async",
+    "withAsync",
+    "wait",
+    "cancel",
+    "race",
+    "concurrently",
 ];

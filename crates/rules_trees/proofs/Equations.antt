@@ -23,7 +23,7 @@ use Rattle.hs_base.specs.declared.tree.forms.BinaryForm.{BinaryForm}
 use Rattle.hs_base.specs.declared.tree.forms.BinaryForm.TheVariants as b
 use Rattle.hs_base.specs.declared.tree.forms.EmptyForm.{EmptyForm}
 use Rattle.hs_base.specs.declared.tree.forms.SideForm.{SideForm}
-use Rattle.rules_trees.specs.Trees.{T, unit, int, bool, text, thread, exn, pair, maybe, either, list, cell, ty_step, ty_of, Wr, wr_of, Lit, number, letters, truth, nothing_more, exception, Ex, lit, name, unary, binary, chain, conses, choose, items, empty, side, given, case, Exs, none, more, Links, end, link, Arms, maybe_arms, either_arms, list_arms, pair_arms, constant_of, compare_form, sum_form, cons_form, to_exs, Linked, Joined, to_links, all_by, ex_step, arms_step, link_step, list_link_step, sum_link_step, ex_of, arms_of, joined_of, list_linked_of, sum_linked_of, exs_of, links_of, list_links_of, sum_links_of}
+use Rattle.rules_trees.specs.Trees.{T, unit, int, bool, text, thread, exn, pair, maybe, either, list, cell, async, ty_step, ty_of, Wr, wr_of, Lit, number, letters, truth, nothing_more, exception, Ex, lit, name, unary, binary, chain, conses, choose, items, empty, side, given, case, Exs, none, more, Links, end, link, Arms, maybe_arms, either_arms, list_arms, pair_arms, constant_of, compare_form, sum_form, cons_form, to_exs, Linked, Joined, to_links, all_by, ex_step, arms_step, link_step, list_link_step, sum_link_step, ex_of, arms_of, joined_of, list_linked_of, sum_linked_of, exs_of, links_of, list_links_of, sum_links_of}
 
 pub ty-Unit : ty_of t.Unit ≡ unit
 ty-Unit = ap ty_of (sym t.rolls-Unit) ∙ fold-roll-Ty T ty_step Ty-F.Unit
@@ -52,13 +52,16 @@ ty-List a = ap ty_of (sym (t.rolls-List a)) ∙ fold-roll-Ty T ty_step (Ty-F.Lis
 pub ty-Cell : (a : Ty) → ty_of (t.Cell a) ≡ cell (ty_of a)
 ty-Cell a = ap ty_of (sym (t.rolls-Cell a)) ∙ fold-roll-Ty T ty_step (Ty-F.Cell a)
 
+pub ty-Async : (a : Ty) → ty_of (t.Async a) ≡ async (ty_of a)
+ty-Async a = ap ty_of (sym (t.rolls-Async a)) ∙ fold-roll-Ty T ty_step (Ty-F.Async a)
+
 pub ty-Pair : (a b : Ty) → ty_of (t.Pair a b) ≡ pair (ty_of a) (ty_of b)
 ty-Pair a b = ap ty_of (sym (t.rolls-Pair a b)) ∙ fold-roll-Ty T ty_step (Ty-F.Pair a b)
 
 pub ty-Either : (a b : Ty) → ty_of (t.Either a b) ≡ either (ty_of a) (ty_of b)
 ty-Either a b = ap ty_of (sym (t.rolls-Either a b)) ∙ fold-roll-Ty T ty_step (Ty-F.Either a b)
 
-pub ruleset ty_rules = (ty-Unit, ty-Int, ty-Bool, ty-Text, ty-Thread, ty-Exn, ty-Maybe, ty-List, ty-Cell, ty-Pair, ty-Either)
+pub ruleset ty_rules = (ty-Unit, ty-Int, ty-Bool, ty-Text, ty-Thread, ty-Exn, ty-Maybe, ty-List, ty-Cell, ty-Async, ty-Pair, ty-Either)
 
 exs_are : (es : List Expr) → to_exs (map ex_of es) ≡ exs_of es
 exs_are [] = refl

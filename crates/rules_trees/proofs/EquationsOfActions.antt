@@ -20,7 +20,7 @@ use Rattle.hs_base.specs.declared.tree.forms.BlockAction.{BlockAction}
 use Rattle.hs_base.specs.declared.tree.forms.MaskingAction.{MaskingAction}
 use Rattle.hs_base.specs.declared.tree.forms.GuardAction.{GuardAction}
 use Rattle.rules_trees.specs.Trees.{wr_of, ex_of, exs_of}
-use Rattle.rules_trees.specs.Programs.{Act, bare, unary_act, binary_act, throw_io, new_empty, call, choose_act, case_act, modify, scoped, masking, restore, catch, guard, bracket, timeout, Bl, last, then, bind, let_in, ActArms, maybe_acts, either_acts, list_acts, pair_acts, before, act_step, act_arms_step, stmt_step, block_step, act_of, stmt_of, bl_of, act_arms_of, rest_of}
+use Rattle.rules_trees.specs.Programs.{Act, bare, unary_act, binary_act, throw_io, new_empty, call, choose_act, case_act, modify, scoped, masking, restore, catch, guard, bracket, timeout, with_async, Bl, last, then, bind, let_in, ActArms, maybe_acts, either_acts, list_acts, pair_acts, before, act_step, act_arms_step, stmt_step, block_step, act_of, stmt_of, bl_of, act_arms_of, rest_of}
 
 pub act-ThrowIo : (p : Pos) (w : Written) (e : Expr) → act_of (a.ThrowIo p w e) ≡ throw_io p (wr_of w) (ex_of e)
 act-ThrowIo p w e = ap act_of (sym (a.rolls-ThrowIo p w e)) ∙ fold-roll-Action Act ActArms (Bl → Bl) Bl act_step act_arms_step stmt_step block_step (Action-F.ThrowIo p w e)
@@ -70,7 +70,10 @@ act-Bracket p c x d h = ap act_of (sym (a.rolls-Bracket p c x d h)) ∙ fold-rol
 pub act-Timeout : (p : Pos) (e : Expr) (c : Block) → act_of (a.Timeout p e c) ≡ timeout p (ex_of e) (bl_of c)
 act-Timeout p e c = ap act_of (sym (a.rolls-Timeout p e c)) ∙ fold-roll-Action Act ActArms (Bl → Bl) Bl act_step act_arms_step stmt_step block_step (Action-F.Timeout p e c)
 
-pub ruleset act_rules = (act-Bare, act-Unary, act-Binary, act-ThrowIo, act-NewEmptyMVar, act-Call, act-If, act-Case, act-ModifyMVar, act-Scoped, act-Masking, act-Restore, act-Catch, act-Guard, act-Bracket, act-Timeout)
+pub act-WithAsync : (p : Pos) (c : Block) (x : Name) (d : Block) → act_of (a.WithAsync p c x d) ≡ with_async p (bl_of c) x (bl_of d)
+act-WithAsync p c x d = ap act_of (sym (a.rolls-WithAsync p c x d)) ∙ fold-roll-Action Act ActArms (Bl → Bl) Bl act_step act_arms_step stmt_step block_step (Action-F.WithAsync p c x d)
+
+pub ruleset act_rules = (act-Bare, act-Unary, act-Binary, act-ThrowIo, act-NewEmptyMVar, act-Call, act-If, act-Case, act-ModifyMVar, act-Scoped, act-Masking, act-Restore, act-Catch, act-Guard, act-Bracket, act-Timeout, act-WithAsync)
 
 pub stmt-Bind : (x : Name) (c : Action) → stmt_of (s.Bind x c) ≡ bind x (act_of c)
 stmt-Bind x c = ap stmt_of (sym (s.rolls-Bind x c)) ∙ fold-roll-Stmt Act ActArms (Bl → Bl) Bl act_step act_arms_step stmt_step block_step (Stmt-F.Bind x c)

@@ -42,6 +42,7 @@ mutual
     guard : GuardAction → Pos → Bl → Bl → Act
     bracket : Pos → Bl → Name → Bl → Bl → Act
     timeout : Pos → Ex → Bl → Act
+    with_async : Pos → Bl → Name → Bl → Act
 
   pub data Bl : Type 0 where
     last : Act → Bl
@@ -79,6 +80,7 @@ act_step (Action-F.Catch p a x c) = catch p a x c
 act_step (Action-F.Guard w p a c) = guard w p a c
 act_step (Action-F.Bracket p a x c e) = bracket p a x c e
 act_step (Action-F.Timeout p e a) = timeout p (ex_of e) a
+act_step (Action-F.WithAsync p a x c) = with_async p a x c
 
 abbrev pub stmt_step : Stmt-F Act ActArms (Bl → Bl) Bl → Bl → Bl
 stmt_step (Stmt-F.Bind x a) c = bind x a c

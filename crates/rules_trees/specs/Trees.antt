@@ -45,6 +45,8 @@ pub data T : Type 0 where
   either : T → T → T
   list : T → T
   cell : T → T
+  -- `Async a`
+  async : T → T
 
 abbrev pub ty_step : Ty-F T → T
 ty_step Ty-F.Unit = unit
@@ -58,6 +60,7 @@ ty_step (Ty-F.Maybe a) = maybe a
 ty_step (Ty-F.Either a b) = either a b
 ty_step (Ty-F.List a) = list a
 ty_step (Ty-F.Cell a) = cell a
+ty_step (Ty-F.Async a) = async a
 
 abbrev pub ty_of : Ty → T
 ty_of = fold-Ty T ty_step

@@ -15,7 +15,7 @@ use Rattle.hs_base.specs.declared.tree.forms.EmptyForm.{EmptyForm}
 use Rattle.hs_base.specs.declared.tree.forms.EmptyForm.TheVariants as n
 use Rattle.hs_base.specs.declared.tree.forms.SideForm.{SideForm}
 use Rattle.hs_base.specs.declared.tree.forms.SideForm.TheVariants as d
-use Rattle.rules_trees.specs.Trees.{T, unit, int, bool, text, thread, exn, pair, maybe, either, list, cell, Wr, Lit, number, letters, truth, nothing_more, exception, Ex, lit, name, unary, binary, chain, conses, choose, items, empty, side, given, case, Exs, none, more, Links, end, link, Arms, maybe_arms, either_arms, list_arms, pair_arms}
+use Rattle.rules_trees.specs.Trees.{T, unit, int, bool, text, thread, exn, pair, maybe, either, list, cell, async, Wr, Lit, number, letters, truth, nothing_more, exception, Ex, lit, name, unary, binary, chain, conses, choose, items, empty, side, given, case, Exs, none, more, Links, end, link, Arms, maybe_arms, either_arms, list_arms, pair_arms}
 
 -- ---- broken rules
 
@@ -26,6 +26,7 @@ pub data Form : Type 0 where
   a_list : Form
   a_pair : Form
   a_cell : Form
+  an_async : Form
   equal : Form
   order : Form
   shown : Form
@@ -62,6 +63,7 @@ nodes (maybe a) = 1 + nodes a
 nodes (either a b) = 1 + nodes a + nodes b
 nodes (list a) = 1 + nodes a
 nodes (cell a) = 1 + nodes a
+nodes (async a) = 1 + nodes a
 
 -- the types of a form
 abbrev pub Has : Form → T → Type 0
@@ -70,6 +72,7 @@ Has an_either t = (a b : T) × (t ≡ either a b)
 Has a_list t = (a : T) × (t ≡ list a)
 Has a_pair t = (a b : T) × (t ≡ pair a b)
 Has a_cell t = (a : T) × (t ≡ cell a)
+Has an_async t = (a : T) × (t ≡ async a)
 Has equal t = (t ≡ int) ⊎ (t ≡ bool) ⊎ (t ≡ text) ⊎ (t ≡ thread) ⊎ (t ≡ exn)
 Has order t = (t ≡ int) ⊎ (t ≡ text)
 Has shown t = (t ≡ int) ⊎ (t ≡ bool) ⊎ (t ≡ thread) ⊎ (t ≡ exn)
@@ -89,6 +92,7 @@ abbrev pub inner_of : T → T
 inner_of (maybe a) = a
 inner_of (list a) = a
 inner_of (cell a) = a
+inner_of (async a) = a
 inner_of _ = unit
 
 -- ---- rows

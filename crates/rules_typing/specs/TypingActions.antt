@@ -1,5 +1,6 @@
 -- The typing rules of actions and blocks (own; types follow the signatures of `base`, of `Control.Concurrent.MVar` and
--- of `Control.Exception`; `getMaskingState` gives a Text and `clockMicros` is this project's own).
+-- of `Control.Exception`; `getMaskingState` gives a Text and `clockMicros` is this project's own; those of `withAsync`, `wait`,
+-- `cancel`, `race` and `concurrently` follow `Control.Concurrent.Async`).
 --
 -- A block binds each name for the statements after it and has its last action's type. A statement whose part is broken
 -- ends the judging of its block.
@@ -15,9 +16,11 @@ use Rattle.hs_base.specs.declared.tree.forms.BlockAction.{BlockAction}
 use Rattle.hs_base.specs.declared.tree.forms.BlockAction.TheVariants as k
 use Rattle.hs_base.specs.declared.tree.forms.MaskingAction.{MaskingAction}
 use Rattle.hs_base.specs.declared.tree.forms.MaskingAction.TheVariants as m
-use Rattle.rules_trees.specs.Trees.{T, unit, int, bool, text, thread, exn, maybe, cell}
-use Rattle.rules_trees.specs.Programs.{Act, bare, unary_act, binary_act, throw_io, new_empty, call, choose_act, case_act, modify, scoped, masking, restore, catch, guard, bracket, timeout, Bl, last, then, bind, let_in, ActArms, maybe_acts, either_acts, list_acts, pair_acts}
-use Rattle.rules_typing.specs.Typing.{Form, a_maybe, an_either, a_list, a_pair, a_cell, Fault, Has, first_of, second_of, inner_of, is, of, Row, gives, makes, FirstUnmet, Gives, Breaks, row_choose, row_arms, IsWritten, WrittenBreaks, Bound, bound, masked, Ctx, wrong, meant_act, no_mask, Calls, BreaksCall, NotFull, NoRoom, count, HasType, HaveTypes, BreaksIn, BreaksAny}
+use Rattle.hs_base.specs.declared.tree.forms.GuardAction.{GuardAction}
+use Rattle.hs_base.specs.declared.tree.forms.GuardAction.TheVariants as g
+use Rattle.rules_trees.specs.Trees.{T, unit, int, bool, text, thread, exn, pair, maybe, either, cell, async}
+use Rattle.rules_trees.specs.Programs.{Act, bare, unary_act, binary_act, throw_io, new_empty, call, choose_act, case_act, modify, scoped, masking, restore, catch, guard, bracket, timeout, with_async, Bl, last, then, bind, let_in, ActArms, maybe_acts, either_acts, list_acts, pair_acts}
+use Rattle.rules_typing.specs.Typing.{Form, a_maybe, an_either, a_list, a_pair, a_cell, an_async, Fault, Has, first_of, second_of, inner_of, is, of, Row, gives, makes, FirstUnmet, Gives, Breaks, row_choose, row_arms, IsWritten, WrittenBreaks, Bound, bound, masked, Ctx, wrong, meant_act, no_mask, Calls, BreaksCall, NotFull, NoRoom, count, HasType, HaveTypes, BreaksIn, BreaksAny}
 
 -- ---- the table of actions
 
@@ -37,6 +40,8 @@ row_unary_act u.ReadMVar a = gives (of a_cell a ∷ []) (inner_of a)
 row_unary_act u.TryTakeMVar a = makes (of a_cell a ∷ []) (maybe (inner_of a))
 row_unary_act u.KillThread a = gives (is thread a ∷ []) unit
 row_unary_act u.ThreadDelay a = gives (is int a ∷ []) unit
+row_unary_act u.Wait a = gives (of an_async a ∷ []) (inner_of a)
+row_unary_act u.Cancel a = gives (of an_async a ∷ []) unit
 
 abbrev pub row_binary_act : BinaryAction → T → T → Row
 row_binary_act b.PutMVar a e = gives (of a_cell a ∷ is (inner_of a) e ∷ []) unit
@@ -66,8 +71,11 @@ abbrev pub row_modify : T → T → Row
 row_modify a e = gives (is (inner_of a) e ∷ []) unit
 
 -- onException and finally: the first block's type
-abbrev pub row_guard : T → T → Row
-row_guard a e = gives [] a
+abbrev pub row_guard : GuardAction → T → T → Row
+row_guard g.OnException a e = gives [] a
+row_guard g.Finally a e = gives [] a
+row_guard g.Race a e = makes [] (either a e)
+row_guard g.Concurrently a e = makes [] (pair a e)
 
 -- bracket: of the block that releases, and of the one that uses
 abbrev pub row_bracket : T → T → Row
@@ -75,6 +83,10 @@ row_bracket e g = gives [] g
 
 abbrev pub row_timeout : T → T → Row
 row_timeout a e = makes (is int a ∷ []) (maybe e)
+
+-- what withAsync binds, where its first block has type a
+abbrev pub row_async : T → Row
+row_async a = makes [] (async a)
 
 abbrev pub form_of_acts : ActArms → Form
 form_of_acts (maybe_acts a x e) = a_maybe
@@ -99,9 +111,10 @@ abbrev mutual
   ActHas c s (masking o p x a) t = (u : T) × (NotFull s × BlHas c (masked x ∷ s) a u) × Gives (row_masking o u) t
   ActHas c s (restore p x a) t = (no_mask c s x ≡ None) × BlHas c s a t
   ActHas c s (catch p a x g) t = (u v : T) × BlHas c s a u × (NotFull s × BlHas c (bound x exn ∷ s) g v) × Gives (row_arms u v) t
-  ActHas c s (guard o p a g) t = (u v : T) × BlHas c s a u × BlHas c s g v × Gives (row_guard u v) t
+  ActHas c s (guard o p a g) t = (u v : T) × BlHas c s a u × BlHas c s g v × Gives (row_guard o u v) t
   ActHas c s (bracket p a x g h) t = (u : T) × BlHas c s a u × (NotFull s × ((v z : T) × BlHas c (bound x u ∷ s) g v × BlHas c (bound x u ∷ s) h z × Gives (row_bracket v z) t))
   ActHas c s (timeout p e a) t = (u v : T) × HasType c s e u × BlHas c s a v × Gives (row_timeout u v) t
+  ActHas c s (with_async p a x g) t = (u : T) × BlHas c s a u × ((v : T) × Gives (row_async u) v × (NotFull s × BlHas c (bound x v ∷ s) g t))
 
   pub BlHas : Ctx → List Bound → Bl → T → Type 0
   BlHas c s (last a) t = ActHas c s a t
@@ -134,11 +147,13 @@ abbrev mutual
   ActBreaks c s (masking o p x a) f = (NoRoom s x f ⊎ (NotFull s × BlBreaks c (masked x ∷ s) a f)) ⊎ ((u : T) × (NotFull s × BlHas c (masked x ∷ s) a u) × Breaks p (row_masking o u) f)
   ActBreaks c s (restore p x a) f = (no_mask c s x ≡ Some f) ⊎ BlBreaks c s a f
   ActBreaks c s (catch p a x g) f = (BlBreaks c s a f ⊎ (NoRoom s x f ⊎ (NotFull s × BlBreaks c (bound x exn ∷ s) g f))) ⊎ ((u v : T) × BlHas c s a u × (NotFull s × BlHas c (bound x exn ∷ s) g v) × Breaks p (row_arms u v) f)
-  ActBreaks c s (guard o p a g) f = (BlBreaks c s a f ⊎ BlBreaks c s g f) ⊎ ((u v : T) × BlHas c s a u × BlHas c s g v × Breaks p (row_guard u v) f)
+  ActBreaks c s (guard o p a g) f = (BlBreaks c s a f ⊎ BlBreaks c s g f) ⊎ ((u v : T) × BlHas c s a u × BlHas c s g v × Breaks p (row_guard o u v) f)
   ActBreaks c s (bracket p a x g h) f = BlBreaks c s a f ⊎ ((u : T) × BlHas c s a u × (NoRoom s x f
       ⊎ (NotFull s × ((BlBreaks c (bound x u ∷ s) g f ⊎ BlBreaks c (bound x u ∷ s) h f)
       ⊎ ((v z : T) × BlHas c (bound x u ∷ s) g v × BlHas c (bound x u ∷ s) h z × Breaks p (row_bracket v z) f)))))
   ActBreaks c s (timeout p e a) f = (BreaksIn c s e f ⊎ BlBreaks c s a f) ⊎ ((u v : T) × HasType c s e u × BlHas c s a v × Breaks p (row_timeout u v) f)
+  ActBreaks c s (with_async p a x g) f = BlBreaks c s a f ⊎ ((u : T) × BlHas c s a u × (Breaks p (row_async u) f
+      ⊎ ((v : T) × Gives (row_async u) v × (NoRoom s x f ⊎ (NotFull s × BlBreaks c (bound x v ∷ s) g f)))))
 
   pub BlBreaks : Ctx → List Bound → Bl → Fault → Type 0
   BlBreaks c s (last a) f = ActBreaks c s a f

@@ -6,7 +6,7 @@
 -- of it, however long.
 use Rattle.std.specs.Prelude.{ℕ, ◌+◌, ◌<◌, ◌⊎◌, List, [], ◌∷◌, ◌++◌, Option, Some, None, max, get_or}
 use Rattle.rules_trees.specs.Trees.{Ex, lit, name, unary, binary, chain, conses, choose, items, empty, side, given, case, Exs, none, more, Links, end, link, Arms, maybe_arms, either_arms, list_arms, pair_arms}
-use Rattle.rules_trees.specs.Programs.{Act, bare, unary_act, binary_act, throw_io, new_empty, call, choose_act, case_act, modify, scoped, masking, restore, catch, guard, bracket, timeout, Bl, last, then, bind, let_in, ActArms, maybe_acts, either_acts, list_acts, pair_acts, Par, Bd, pure_body, io_body, Fn}
+use Rattle.rules_trees.specs.Programs.{Act, bare, unary_act, binary_act, throw_io, new_empty, call, choose_act, case_act, modify, scoped, masking, restore, catch, guard, bracket, timeout, with_async, Bl, last, then, bind, let_in, ActArms, maybe_acts, either_acts, list_acts, pair_acts, Par, Bd, pure_body, io_body, Fn}
 use Rattle.rules_expansion.specs.Sizes.{body_size}
 use Rattle.rules_typing.specs.Typing.{Sort, Bound, Sig, masked, look, find}
 
@@ -103,6 +103,7 @@ abbrev mutual
   worst_act gs xs s (guard o p a h) = worse (worst_bl gs xs s a) (worst_bl gs xs s h)
   worst_act gs xs s (bracket p a x h j) = worse (worse (worst_bl gs xs s a) (worst_bl gs xs (masked x ∷ s) h)) (worst_bl gs xs (masked x ∷ s) j)
   worst_act gs xs s (timeout p e a) = worse (extent gs xs s e) (worst_bl gs xs s a)
+  worst_act gs xs s (with_async p a x h) = worse (worst_bl gs xs s a) (worst_bl gs xs (masked x ∷ s) h)
 
   pub worst_bl : List Sig → List Extent → List Bound → Bl → Extent
   worst_bl gs xs s (last a) = worst_act gs xs s a

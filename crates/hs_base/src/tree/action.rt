@@ -74,12 +74,14 @@ pub enum Action {
     Restore(Pos, Name, Block),
     /// `catch A e B`
     Catch(Pos, Block, Name, Block),
-    /// a word, a block and what is run after it
+    /// a word and two blocks
     Guard(GuardAction, Pos, Block, Block),
     /// `bracket A x B C`
     Bracket(Pos, Block, Name, Block, Block),
     /// `timeout n A`
     Timeout(Pos, Expr, Block),
+    /// `withAsync A a B`
+    WithAsync(Pos, Block, Name, Block),
 }
 
 // Written out, so that it is proved once, here, and not in each function above that lets one go.
@@ -103,6 +105,7 @@ impl Drop for Action {
             Action::Guard(_, _, _, _) => {}
             Action::Bracket(_, _, _, _, _) => {}
             Action::Timeout(_, _, _) => {}
+            Action::WithAsync(_, _, _, _) => {}
         }
     }
 }

@@ -68,6 +68,8 @@ pub enum UnaryAction {
     TryTakeMVar,
     KillThread,
     ThreadDelay,
+    Wait,
+    Cancel,
 }
 
 /// An action with two expressions.
@@ -94,9 +96,11 @@ pub enum MaskingAction {
     UninterruptibleMask,
 }
 
-/// An action with a block and what is run after it.
+/// An action with two blocks.
 #[derive(Clone, Copy, Debug, PartialEq, Eq)]
 pub enum GuardAction {
     OnException,
     Finally,
+    Race,
+    Concurrently,
 }

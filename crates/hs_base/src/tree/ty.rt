@@ -30,6 +30,8 @@ pub enum Ty {
     List(Boxed<Ty>),
     /// `MVar a`
     Cell(Boxed<Ty>),
+    /// `Async a`
+    Async(Boxed<Ty>),
 }
 
 // Written out, so that it is proved once, here, and not in each function above that lets one go.
@@ -48,6 +50,7 @@ impl Drop for Ty {
             Ty::Either(_, _) => {}
             Ty::List(_) => {}
             Ty::Cell(_) => {}
+            Ty::Async(_) => {}
         }
     }
 }
@@ -88,6 +91,7 @@ impl Ty {
             )),
             Ty::List(a) => Ok(Ty::List(boxed(alloc, a.get().copy(alloc)?)?)),
             Ty::Cell(a) => Ok(Ty::Cell(boxed(alloc, a.get().copy(alloc)?)?)),
+            Ty::Async(a) => Ok(Ty::Async(boxed(alloc, a.get().copy(alloc)?)?)),
         }
     }
 
@@ -107,6 +111,7 @@ impl Ty {
             (Ty::Either(a, b), Ty::Either(c, d)) => a.get().same(c.get()) && b.get().same(d.get()),
             (Ty::List(a), Ty::List(b)) => a.get().same(b.get()),
             (Ty::Cell(a), Ty::Cell(b)) => a.get().same(b.get()),
+            (Ty::Async(a), Ty::Async(b)) => a.get().same(b.get()),
             (_, _) => false,
         }
     }
