@@ -128,7 +128,7 @@ near_part B items_or_none = true
 
 -- its rules opened
 unfoldable pub opened : Type 0
-unfolding may_be_empty firsts g.atype g.type g.type_end g.constant_word g.plain_atom g.atom g.arg g.two_args g.unary_word g.unary_expr g.side_word g.side_types g.side_expr g.nothing_form g.div_form g.mod_form g.list_or_empty g.call g.list_form g.app g.product_link g.product g.first_term g.sum_operator g.sum_link g.sum g.cons_operator g.cons_link g.cons g.compare_operator g.compare_end g.comparison g.and_link g.and g.or_link g.or g.expr g.expr_end g.bare_arm g.named_arm g.empty_arm g.cons_arm g.maybe_arms g.either_arms g.list_arms g.pair_arm g.next_item g.items g.block g.named_block g.two_blocks g.guarded_block g.bare_action_word g.bare_action g.unary_action_word g.unary_action g.binary_action_word g.binary_action g.error_line g.throw_form g.new_empty_form g.scoped_action_word g.scoped_action g.masking_action_word g.masking_action g.guard_action_word g.guard_action g.modify_form g.restore_form g.catch_form g.bracket_form g.timeout_form g.plain_action g.word_action g.other_action g.action g.after_name g.block_item g.param g.def_body g.def g.script g.rule_of
+unfolding may_be_empty firsts g.atype g.type g.type_end g.constant_word g.plain_atom g.atom g.arg g.two_args g.unary_word g.unary_expr g.side_word g.side_types g.side_expr g.nothing_form g.div_form g.mod_form g.list_or_empty g.call g.list_form g.app g.product_link g.product g.first_term g.sum_operator g.sum_link g.sum g.cons_operator g.cons_link g.cons g.compare_operator g.compare_end g.comparison g.and_link g.and g.or_link g.or g.expr g.expr_end g.bare_arm g.named_arm g.empty_arm g.cons_arm g.maybe_arms g.either_arms g.list_arms g.pair_arm g.next_item g.items g.block g.named_block g.two_blocks g.guarded_block g.bare_action_word g.bare_action g.unary_action_word g.unary_action g.binary_action_word g.binary_action g.error_line g.throw_form g.new_empty_form g.scoped_action_word g.scoped_action g.masking_action_word g.masking_action g.guard_action_word g.guard_action g.modify_form g.restore_form g.catch_form g.bracket_form g.timeout_form g.with_async_form g.plain_action g.word_action g.other_action g.action g.after_name g.block_item g.param g.def_body g.def g.script g.rule_of
 opened = Unit {0}
 
 pub fine_script : fine script ≡ true

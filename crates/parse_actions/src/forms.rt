@@ -47,6 +47,9 @@ pub fn word_action<'a, F: Fn(&mut Cursor<'a>, u32) -> Result<Block, Halt>>(
     if cursor.at_word(word::TIMEOUT) {
         return timeout(cursor, alloc, depth, inner);
     }
+    if cursor.at_word(word::WITH_ASYNC) {
+        return with_async(cursor, alloc, depth, inner);
+    }
     plain_action(cursor, alloc, depth)
 }
 
@@ -169,4 +172,19 @@ fn timeout<'a, F: Fn(&mut Cursor<'a>, u32) -> Result<Block, Halt>>(
     let arg = arg(cursor, alloc, depth)?;
     let body = nested_block(cursor, depth, inner)?;
     Ok(Action::Timeout(pos, arg, body))
+}
+
+fn with_async<'a, F: Fn(&mut Cursor<'a>, u32) -> Result<Block, Halt>>(
+    cursor: &mut Cursor<'a>,
+    alloc: Global,
+    depth: u32,
+    inner: &F,
+) -> Result<Action, Halt>
+    requires { ReadsBelow F.Fn inner.now g.block (depth + 1) }
+    ensures reads { Reads (parser.read (parser.enter depth) g.with_async_form cursor.old) result cursor.new }
+    ensures shorter { OnOk result (length cursor.new < length cursor.old) }
+{
+    let pos = cursor.word(word::WITH_ASYNC)?;
+    let parts = guarded_block(cursor, alloc, depth, inner)?;
+    Ok(Action::WithAsync(pos, parts.0, parts.1, parts.2))
 }

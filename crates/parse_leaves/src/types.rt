@@ -131,6 +131,12 @@ impl<'a> Cursor<'a> {
             let ty = Ty::Cell(Boxed::new(alloc, item.ty)?);
             return Ok(Written { ty, pos });
         }
+        if self.at_word(word::ASYNC) {
+            let pos = self.word(word::ASYNC)?;
+            let item = self.atype(alloc, depth)?;
+            let ty = Ty::Async(Boxed::new(alloc, item.ty)?);
+            return Ok(Written { ty, pos });
+        }
         self.atype(alloc, depth)
     }
 

@@ -45,7 +45,7 @@ const BARE_ACTIONS: [(u8, BareAction); 2] = [
 
 const LAST_BARE_ACTION: (u8, BareAction) = (word::GET_MASKING_STATE, BareAction::GetMaskingState);
 
-const UNARY_ACTIONS: [(u8, UnaryAction); 8] = [
+const UNARY_ACTIONS: [(u8, UnaryAction); 10] = [
     (word::RETURN, UnaryAction::Return),
     (word::PUT_STR, UnaryAction::PutStr),
     (word::PUT_STR_LN, UnaryAction::PutStrLn),
@@ -54,9 +54,11 @@ const UNARY_ACTIONS: [(u8, UnaryAction); 8] = [
     (word::READ_MVAR, UnaryAction::ReadMVar),
     (word::TRY_TAKE_MVAR, UnaryAction::TryTakeMVar),
     (word::KILL_THREAD, UnaryAction::KillThread),
+    (word::THREAD_DELAY, UnaryAction::ThreadDelay),
+    (word::WAIT, UnaryAction::Wait),
 ];
 
-const LAST_UNARY_ACTION: (u8, UnaryAction) = (word::THREAD_DELAY, UnaryAction::ThreadDelay);
+const LAST_UNARY_ACTION: (u8, UnaryAction) = (word::CANCEL, UnaryAction::Cancel);
 
 const BINARY_ACTIONS: [(u8, BinaryAction); 2] = [
     (word::PUT_MVAR, BinaryAction::PutMVar),
@@ -85,9 +87,13 @@ const LAST_MASKING_ACTION: (u8, MaskingAction) = (
     MaskingAction::UninterruptibleMask,
 );
 
-const GUARD_ACTIONS: [(u8, GuardAction); 1] = [(word::ON_EXCEPTION, GuardAction::OnException)];
+const GUARD_ACTIONS: [(u8, GuardAction); 3] = [
+    (word::ON_EXCEPTION, GuardAction::OnException),
+    (word::FINALLY, GuardAction::Finally),
+    (word::RACE, GuardAction::Race),
+];
 
-const LAST_GUARD_ACTION: (u8, GuardAction) = (word::FINALLY, GuardAction::Finally);
+const LAST_GUARD_ACTION: (u8, GuardAction) = (word::CONCURRENTLY, GuardAction::Concurrently);
 
 impl<'a> Cursor<'a> {
     /// The row of the next token, or the last one.

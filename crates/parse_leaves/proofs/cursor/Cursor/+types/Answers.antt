@@ -122,6 +122,14 @@ pub ty-returns-then-at_word-3-clause-reads : goal.ty-returns-then-at_word-3-clau
 unfolding firsts may_be_empty read_then type
 ty-returns-then-at_word-3-clause-reads t c = search (rules, steps)
 
+pub ty-returns-in_err-item-3-clause-reads : goal.ty-returns-in_err-item-3-clause-reads
+unfolding firsts may_be_empty read_then type
+ty-returns-in_err-item-3-clause-reads t c = search (rules, steps)
+
+pub ty-returns-then-at_word-4-clause-reads : goal.ty-returns-then-at_word-4-clause-reads
+unfolding firsts may_be_empty read_then type
+ty-returns-then-at_word-4-clause-reads t c = search (rules, steps)
+
 pub ty-returns-clause-reads : goal.ty-returns-clause-reads
 unfolding firsts may_be_empty read_then type
 ty-returns-clause-reads t c = search (rules, steps)
