@@ -1,7 +1,7 @@
 -- The greatest expressions of actions, in counts: over tables of extents that are the same in counts they are so too.
 use Rattle.std.proofs.Common.{List, ◌∷◌, refl, arith}
 use Rattle.rules_trees.specs.Trees.{Exs, none, more}
-use Rattle.rules_trees.specs.Programs.{Act, bare, unary_act, binary_act, throw_io, new_empty, call, choose_act, case_act, modify, scoped, masking, restore, catch, guard, bracket, timeout, Bl, last, then, bind, let_in, ActArms, maybe_acts, either_acts, list_acts, pair_acts, Bd, pure_body, io_body}
+use Rattle.rules_trees.specs.Programs.{Act, bare, unary_act, binary_act, throw_io, new_empty, call, choose_act, case_act, modify, scoped, masking, restore, catch, guard, bracket, timeout, with_async, Bl, last, then, bind, let_in, ActArms, maybe_acts, either_acts, list_acts, pair_acts, Bd, pure_body, io_body}
 use Rattle.rules_typing.specs.Typing.{Bound, Sig, masked}
 use Rattle.rules_typing.specs.TypingSizes.{Extent, nil, worse, worst_exs, worst_act, worst_bl, worst_arms, worst_body, called_extent}
 use Rattle.typing_judge.proofs.Capped.{Same, SameTable, same_extent}
@@ -34,6 +34,7 @@ mutual
   same_worst_act gs xs ys h s (guard o p a i) = same_worse _ _ _ _ (same_worst_bl gs xs ys h s a) (same_worst_bl gs xs ys h s i)
   same_worst_act gs xs ys h s (bracket p a x i j) = same_worse _ _ _ _ (same_worse _ _ _ _ (same_worst_bl gs xs ys h s a) (same_worst_bl gs xs ys h (masked x ∷ s) i)) (same_worst_bl gs xs ys h (masked x ∷ s) j)
   same_worst_act gs xs ys h s (timeout p e a) = same_worse _ _ _ _ (same_extent gs xs ys h s e) (same_worst_bl gs xs ys h s a)
+  same_worst_act gs xs ys h s (with_async p a x i) = same_worse _ _ _ _ (same_worst_bl gs xs ys h s a) (same_worst_bl gs xs ys h (masked x ∷ s) i)
 
   same_worst_bl : (gs : List Sig) (xs ys : List Extent) → SameTable xs ys → (s : List Bound) (a : Bl) → Same (worst_bl gs xs s a) (worst_bl gs ys s a)
   same_worst_bl gs xs ys h s (last a) = same_worst_act gs xs ys h s a

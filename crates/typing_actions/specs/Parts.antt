@@ -8,7 +8,7 @@ use Rattle.typing_actions.specs.declared.closing.TwoParts.{TwoParts}
 use Rattle.typing_actions.specs.declared.closing.TwoParts.TheVariants as o
 
 abbrev pub row_two : TwoParts → T → T → Row
-row_two o.Guard u v = row_guard u v
+row_two (o.Guard w) u v = row_guard w u v
 row_two o.Bracket u v = row_bracket u v
 row_two o.Timeout u v = row_timeout u v
 

@@ -5,7 +5,7 @@ ghost use Rattle.rules_trees.specs.Trees.{exn};
 ghost use Rattle.typing_table.specs.Meaning.{type_in};
 ghost use Rattle.rules_trees.specs.Programs.{act_of, bl_of, stmt_of, act_arms_of, scoped, masking};
 ghost use Rattle.rules_typing.specs.Typing.{a_cell, bound, inner_of, no_mask, of, row_arms, row_choose};
-ghost use Rattle.rules_typing.specs.TypingActions.{form_of_acts, row_modify};
+ghost use Rattle.rules_typing.specs.TypingActions.{form_of_acts, row_async, row_modify};
 ghost use Rattle.typing_judge.specs.Judging.{needing, own, part, unless_full, unless_wrong, with1};
 ghost use Rattle.typing_judge.specs.JudgingActions.{judge_act, judge_act_arms, judge_bl};
 ghost use Rattle.typing_parts.specs.Views.{opt_ty, part_of};
@@ -66,9 +66,9 @@ fn action(
             let t = block(checker, alloc, funs, b)?;
             caught(checker, alloc, funs, d, *p, t, x)
         }
-        Action::Guard(_, p, b, d) => {
+        Action::Guard(w, p, b, d) => {
             let t = block(checker, alloc, funs, b)?;
-            second(checker, alloc, funs, d, *p, TwoParts::Guard, t)
+            second(checker, alloc, funs, d, *p, TwoParts::Guard(*w), t)
         }
         Action::Bracket(p, b, x, d, h) => match block(checker, alloc, funs, b)? {
             None => Ok(None),
@@ -85,6 +85,10 @@ fn action(
         Action::Timeout(p, e, b) => {
             let t = type_of(checker, alloc, funs, e)?;
             second(checker, alloc, funs, b, *p, TwoParts::Timeout, t)
+        }
+        Action::WithAsync(p, b, x, d) => {
+            let t = block(checker, alloc, funs, b)?;
+            in_scope(checker, alloc, funs, d, *p, t, x)
         }
     }
 }
@@ -235,6 +239,32 @@ fn in_cell(
             let r = checker.close_modify(alloc, &funs.types, p, &t, u)?;
             Ok(r)
         }
+    }
+}
+
+/// The block of an async scope, after the type of the one that runs beside it.
+#[cycle(acts)]
+#[tactic(auto, using(typing_parts::proofs::Noted::step_rules))]
+fn in_scope(
+    checker: &mut Checker,
+    alloc: Global,
+    funs: &Funs,
+    b: &Block,
+    p: Pos,
+    t: Option<TypeTerm>,
+    x: &Name,
+) -> Result<Option<TypeTerm>, NoMemory>
+    ensures { IfOk result (λ r. Judged funs.now.types.nodes checker.old checker.new (opt_ty funs.now.types.nodes r) (with1 (opt_ty funs.now.types.nodes t) (λ u. part (own p (row_async u)) (λ v. unless_full (names funs.now.types.nodes checker.old) x.now (judge_bl (ctx_of funs.now) (bound x.now v ∷ names funs.now.types.nodes checker.old) (bl_of b.now)))))) }
+{
+    match t {
+        None => Ok(None),
+        Some(t) => match checker.scope_type(alloc, &funs.types, p, &t)? {
+            None => Ok(None),
+            Some(u) => {
+                let r = under(checker, alloc, funs, b, x, Part::Whole, &u)?;
+                Ok(r)
+            }
+        },
     }
 }
 

@@ -6,6 +6,7 @@ ghost use Rattle.typing_parts.specs.Views.{opt_ty};
 ghost use Rattle.typing_parts.specs.Judged.{Judged};
 ghost use Rattle.typing_actions.specs.Parts.{row_two};
 
+use hs_base::tree::forms::GuardAction;
 use hs_base::{NoMemory, Pos};
 use std::alloc::Global;
 use typing_parts::checker::Checker;
@@ -15,8 +16,8 @@ use typing_table::ty::TypeTerm;
 /// An action with two parts, of which the second is a block in the scope of the first.
 #[derive(Clone, Copy)]
 pub enum TwoParts {
-    /// `onException` and `finally`
-    Guard,
+    /// a word and two blocks
+    Guard(GuardAction),
     /// the two blocks under the name of a `bracket`
     Bracket,
     Timeout,
@@ -35,7 +36,7 @@ pub fn close_two(
     ensures { IfOk result (λ r. Judged types.now.nodes checker.old checker.new (opt_ty types.now.nodes r) (with2 (opt_ty types.now.nodes t) (opt_ty types.now.nodes u) (λ u v. own p (row_two o u v)))) }
 {
     match o {
-        TwoParts::Guard => Ok(checker.close_guard(types, p, t, u)),
+        TwoParts::Guard(w) => checker.close_guard(alloc, types, p, w, t, u),
         TwoParts::Bracket => Ok(checker.close_bracket(types, p, t, u)),
         TwoParts::Timeout => checker.close_timeout(alloc, types, p, t, u),
     }

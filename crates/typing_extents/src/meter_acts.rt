@@ -87,6 +87,11 @@ impl Meter {
                 let y = self.block(alloc, funs, b)?;
                 Ok(worse(x, y))
             }
+            Action::WithAsync(_, b, v, d) => {
+                let x = self.block(alloc, funs, b)?;
+                let y = self.under_block(alloc, funs, v, d)?;
+                Ok(worse(x, y))
+            }
         }
     }
 

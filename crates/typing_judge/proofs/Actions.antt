@@ -2,9 +2,9 @@
 use Rattle.std.proofs.Common.{◌⊎◌, List, ◌∷◌}
 use Rattle.hs_base.specs.declared.pos.Pos.{Pos}
 use Rattle.rules_trees.specs.Trees.{T, exn}
-use Rattle.rules_trees.specs.Programs.{Act, bare, unary_act, binary_act, throw_io, new_empty, call, choose_act, case_act, modify, scoped, masking, restore, catch, guard, bracket, timeout, Bl, last, then, bind, let_in, ActArms, maybe_acts, either_acts, list_acts, pair_acts}
+use Rattle.rules_trees.specs.Programs.{Act, bare, unary_act, binary_act, throw_io, new_empty, call, choose_act, case_act, modify, scoped, masking, restore, catch, guard, bracket, timeout, with_async, Bl, last, then, bind, let_in, ActArms, maybe_acts, either_acts, list_acts, pair_acts}
 use Rattle.rules_typing.specs.Typing.{a_cell, first_of, second_of, inner_of, row_choose, row_arms, Bound, bound, masked, Ctx, meant_act, no_mask, count, Gives, Breaks, NotFull, NoRoom, IsWritten, WrittenBreaks, HasType, HaveTypes, BreaksIn, BreaksAny}
-use Rattle.rules_typing.specs.TypingActions.{type_of_bare, row_unary_act, row_binary_act, row_throw, row_new_empty, row_scoped, row_masking, row_modify, row_guard, row_bracket, row_timeout, form_of_acts, ActHas, BlHas, ActArmsHave, ActBreaks, BlBreaks, ActArmsBreak}
+use Rattle.rules_typing.specs.TypingActions.{type_of_bare, row_unary_act, row_binary_act, row_throw, row_new_empty, row_scoped, row_masking, row_modify, row_guard, row_bracket, row_timeout, row_async, form_of_acts, ActHas, BlHas, ActArmsHave, ActBreaks, BlBreaks, ActArmsBreak}
 use Rattle.typing_judge.specs.Judging.{own, written, unless_full, judge, judges}
 use Rattle.typing_judge.specs.JudgingActions.{judge_act, judge_bl, judge_act_arms}
 use Rattle.typing_judge.proofs.Laws.{Agrees, agree_good, agree_part, agree_parts2, agree_parts3, agree_called, agree_own, agree_written, agree_room, agree_given, agree_formed, agree_unless}
@@ -25,9 +25,10 @@ mutual
   agree_act c s (masking o p x a) = agree_part (unless_full s x (judge_bl c (masked x ∷ s) a)) (λ t. NotFull s × BlHas c (masked x ∷ s) a t) (λ f. NoRoom s x f ⊎ (NotFull s × BlBreaks c (masked x ∷ s) a f)) (λ u. own p (row_masking o u)) (λ u. Gives (row_masking o u)) (λ u. Breaks p (row_masking o u)) (agree_room s x (judge_bl c (masked x ∷ s) a) (BlHas c (masked x ∷ s) a) (BlBreaks c (masked x ∷ s) a) (agree_bl c (masked x ∷ s) a)) (λ u. agree_own p (row_masking o u))
   agree_act c s (restore p x a) = agree_unless (no_mask c s x) (judge_bl c s a) (BlHas c s a) (BlBreaks c s a) (agree_bl c s a)
   agree_act c s (catch p a x g) = agree_parts2 (judge_bl c s a) (unless_full s x (judge_bl c (bound x exn ∷ s) g)) (BlHas c s a) (λ t. NotFull s × BlHas c (bound x exn ∷ s) g t) (BlBreaks c s a) (λ f. NoRoom s x f ⊎ (NotFull s × BlBreaks c (bound x exn ∷ s) g f)) (λ u v. own p (row_arms u v)) (λ u v. Gives (row_arms u v)) (λ u v. Breaks p (row_arms u v)) (agree_bl c s a) (agree_room s x (judge_bl c (bound x exn ∷ s) g) (BlHas c (bound x exn ∷ s) g) (BlBreaks c (bound x exn ∷ s) g) (agree_bl c (bound x exn ∷ s) g)) (λ u v. agree_own p (row_arms u v))
-  agree_act c s (guard o p a g) = agree_parts2 (judge_bl c s a) (judge_bl c s g) (BlHas c s a) (BlHas c s g) (BlBreaks c s a) (BlBreaks c s g) (λ u v. own p (row_guard u v)) (λ u v. Gives (row_guard u v)) (λ u v. Breaks p (row_guard u v)) (agree_bl c s a) (agree_bl c s g) (λ u v. agree_own p (row_guard u v))
+  agree_act c s (guard o p a g) = agree_parts2 (judge_bl c s a) (judge_bl c s g) (BlHas c s a) (BlHas c s g) (BlBreaks c s a) (BlBreaks c s g) (λ u v. own p (row_guard o u v)) (λ u v. Gives (row_guard o u v)) (λ u v. Breaks p (row_guard o u v)) (agree_bl c s a) (agree_bl c s g) (λ u v. agree_own p (row_guard o u v))
   agree_act c s (bracket p a x g h) = agree_part (judge_bl c s a) (BlHas c s a) (BlBreaks c s a) _ _ _ (agree_bl c s a) (λ u. agree_room s x _ _ _ (agree_parts2 (judge_bl c (bound x u ∷ s) g) (judge_bl c (bound x u ∷ s) h) (BlHas c (bound x u ∷ s) g) (BlHas c (bound x u ∷ s) h) (BlBreaks c (bound x u ∷ s) g) (BlBreaks c (bound x u ∷ s) h) (λ v z. own p (row_bracket v z)) (λ v z. Gives (row_bracket v z)) (λ v z. Breaks p (row_bracket v z)) (agree_bl c (bound x u ∷ s) g) (agree_bl c (bound x u ∷ s) h) (λ v z. agree_own p (row_bracket v z))))
   agree_act c s (timeout p e a) = agree_parts2 (judge c s e) (judge_bl c s a) (HasType c s e) (BlHas c s a) (BreaksIn c s e) (BlBreaks c s a) (λ u v. own p (row_timeout u v)) (λ u v. Gives (row_timeout u v)) (λ u v. Breaks p (row_timeout u v)) (agree c s e) (agree_bl c s a) (λ u v. agree_own p (row_timeout u v))
+  agree_act c s (with_async p a x g) = agree_part (judge_bl c s a) (BlHas c s a) (BlBreaks c s a) _ _ _ (agree_bl c s a) (λ u. agree_part (own p (row_async u)) (Gives (row_async u)) (Breaks p (row_async u)) _ _ _ (agree_own p (row_async u)) (λ v. agree_room s x _ _ _ (agree_bl c (bound x v ∷ s) g)))
 
   pub agree_bl : (c : Ctx) (s : List Bound) (g : Bl) → Agrees (judge_bl c s g) (BlHas c s g) (BlBreaks c s g)
   agree_bl c s (last a) = agree_act c s a

@@ -3,8 +3,8 @@ use Rattle.std.proofs.Common.{◌≡◌, ◌<◌, ◌≤◌, ◌&&◌, List, [],
 use Rattle.std.proofs.lemmas.Bool.{ltb-true}
 use Rattle.hs_base.specs.declared.pos.Pos.{Pos}
 use Rattle.hs_base.specs.declared.tree.expr.Name.{Name}
-use Rattle.rules_trees.specs.Trees.{T, unit, int, bool, text, thread, exn, pair, maybe, either, list, cell, Wr}
-use Rattle.rules_typing.specs.Typing.{Form, a_maybe, an_either, a_list, a_pair, a_cell, equal, order, shown, Fault, scope, wide, nodes, Need, is, of, refusal, Row, Bound, Meant, wrong, takes, is_each, Has, Met, AllMet, FirstUnmet, Makes, TooWide, Gives, Breaks, NotFull, NoRoom, Calls, BreaksCall, IsWritten, WrittenBreaks}
+use Rattle.rules_trees.specs.Trees.{T, unit, int, bool, text, thread, exn, pair, maybe, either, list, cell, async, Wr}
+use Rattle.rules_typing.specs.Typing.{Form, a_maybe, an_either, a_list, a_pair, a_cell, an_async, equal, order, shown, Fault, scope, wide, nodes, Need, is, of, refusal, Row, Bound, Meant, wrong, takes, is_each, Has, Met, AllMet, FirstUnmet, Makes, TooWide, Gives, Breaks, NotFull, NoRoom, Calls, BreaksCall, IsWritten, WrittenBreaks}
 use Rattle.rules_typing.specs.TypingFaults.{In}
 use Rattle.typing_judge.specs.Judging.{same, has, met, Found, good, bad, lost, after, with1, with2, with3, with_all, needing, made, own, written, unless_full, unless_wrong, scope_faults, unless, Founds, joined, called, part, parts2, parts3, parts_all, join, not_full}
 
@@ -41,6 +41,7 @@ same_true (either a b) (either c d) h =
     let k = both_true (same a c) (same b d) h in ap (λ z. either z b) (same_true a c k.0) ∙ ap (λ z. either c z) (same_true b d k.1)
 same_true (list a) (list c) h = ap list (same_true a c h)
 same_true (cell a) (cell c) h = ap cell (same_true a c h)
+same_true (async a) (async c) h = ap async (same_true a c h)
 same_true _ _ h = cc
 
 pub same_self : (a : T) → same a a ≡ true
@@ -55,6 +56,7 @@ same_self (maybe a) = same_self a
 same_self (either a b) = ap (λ z. z && same b b) (same_self a) ∙ same_self b
 same_self (list a) = same_self a
 same_self (cell a) = same_self a
+same_self (async a) = same_self a
 
 pub has_true : (f : Form) (t : T) → has f t ≡ true → Has f t
 has_true a_maybe (maybe a) h = (a, refl)
@@ -62,6 +64,7 @@ has_true an_either (either a b) h = (a, b, refl)
 has_true a_list (list a) h = (a, refl)
 has_true a_pair (pair a b) h = (a, b, refl)
 has_true a_cell (cell a) h = (a, refl)
+has_true an_async (async a) h = (a, refl)
 has_true equal int h = inl refl
 has_true equal bool h = inr (inl refl)
 has_true equal text h = inr (inr (inl refl))
@@ -81,6 +84,7 @@ true_has an_either t h = ap (has an_either) h.2
 true_has a_list t h = ap (has a_list) h.1
 true_has a_pair t h = ap (has a_pair) h.2
 true_has a_cell t h = ap (has a_cell) h.1
+true_has an_async t h = ap (has an_async) h.1
 true_has equal t (inl e) = ap (has equal) e
 true_has equal t (inr (inl e)) = ap (has equal) e
 true_has equal t (inr (inr (inl e))) = ap (has equal) e

@@ -2,8 +2,8 @@
 use Rattle.std.specs.Prelude.{◌&&◌, List, [], ◌∷◌, ◌++◌, length, Bool, true, false, cond, Option, Some, None, ltb}
 use Rattle.hs_base.specs.declared.pos.Pos.{Pos}
 use Rattle.hs_base.specs.declared.tree.expr.Name.{Name}
-use Rattle.rules_trees.specs.Trees.{T, unit, int, bool, text, thread, exn, pair, maybe, either, list, cell, Wr, Ex, lit, name, unary, binary, chain, conses, choose, items, empty, side, given, case, Exs, none, more, Links, end, link, Arms, maybe_arms, either_arms, list_arms, pair_arms}
-use Rattle.rules_typing.specs.Typing.{Form, a_maybe, an_either, a_list, a_pair, a_cell, equal, order, shown, Fault, scope, wide, nodes, Need, is, of, refusal, Row, type_of_lit, row_unary, row_binary, row_empty, row_side, row_choose, row_items, row_arms, form_of_arms, first_of, second_of, inner_of, Ctx, Bound, bound, Meant, wrong, takes, meant, is_each, count}
+use Rattle.rules_trees.specs.Trees.{T, unit, int, bool, text, thread, exn, pair, maybe, either, list, cell, async, Wr, Ex, lit, name, unary, binary, chain, conses, choose, items, empty, side, given, case, Exs, none, more, Links, end, link, Arms, maybe_arms, either_arms, list_arms, pair_arms}
+use Rattle.rules_typing.specs.Typing.{Form, a_maybe, an_either, a_list, a_pair, a_cell, an_async, equal, order, shown, Fault, scope, wide, nodes, Need, is, of, refusal, Row, type_of_lit, row_unary, row_binary, row_empty, row_side, row_choose, row_items, row_arms, form_of_arms, first_of, second_of, inner_of, Ctx, Bound, bound, Meant, wrong, takes, meant, is_each, count}
 
 abbrev pub same : T → T → Bool
 same unit unit = true
@@ -17,6 +17,7 @@ same (maybe a) (maybe c) = same a c
 same (either a b) (either c d) = same a c && same b d
 same (list a) (list c) = same a c
 same (cell a) (cell c) = same a c
+same (async a) (async c) = same a c
 same _ _ = false
 
 abbrev pub has : Form → T → Bool
@@ -25,6 +26,7 @@ has an_either (either a b) = true
 has a_list (list a) = true
 has a_pair (pair a b) = true
 has a_cell (cell a) = true
+has an_async (async a) = true
 has equal int = true
 has equal bool = true
 has equal text = true

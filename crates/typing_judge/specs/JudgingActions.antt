@@ -2,9 +2,9 @@
 use Rattle.std.specs.Prelude.{List, [], ◌∷◌}
 use Rattle.hs_base.specs.declared.pos.Pos.{Pos}
 use Rattle.rules_trees.specs.Trees.{T, exn}
-use Rattle.rules_trees.specs.Programs.{Act, bare, unary_act, binary_act, throw_io, new_empty, call, choose_act, case_act, modify, scoped, masking, restore, catch, guard, bracket, timeout, Bl, last, then, bind, let_in, ActArms, maybe_acts, either_acts, list_acts, pair_acts}
+use Rattle.rules_trees.specs.Programs.{Act, bare, unary_act, binary_act, throw_io, new_empty, call, choose_act, case_act, modify, scoped, masking, restore, catch, guard, bracket, timeout, with_async, Bl, last, then, bind, let_in, ActArms, maybe_acts, either_acts, list_acts, pair_acts}
 use Rattle.rules_typing.specs.Typing.{a_cell, of, first_of, second_of, inner_of, row_choose, row_arms, Bound, bound, masked, Ctx, meant_act, no_mask, count}
-use Rattle.rules_typing.specs.TypingActions.{type_of_bare, row_unary_act, row_binary_act, row_throw, row_new_empty, row_scoped, row_masking, row_modify, row_guard, row_bracket, row_timeout, form_of_acts}
+use Rattle.rules_typing.specs.TypingActions.{type_of_bare, row_unary_act, row_binary_act, row_throw, row_new_empty, row_scoped, row_masking, row_modify, row_guard, row_bracket, row_timeout, row_async, form_of_acts}
 use Rattle.typing_judge.specs.Judging.{Found, good, after, needing, own, written, unless_full, unless_wrong, scope_faults, called, part, parts2, parts3, parts_all, not_full, judge, judges}
 
 abbrev mutual
@@ -22,9 +22,10 @@ abbrev mutual
   judge_act c s (masking o p x a) = part (unless_full s x (judge_bl c (masked x ∷ s) a)) (λ u. own p (row_masking o u))
   judge_act c s (restore p x a) = unless_wrong (no_mask c s x) (judge_bl c s a)
   judge_act c s (catch p a x g) = parts2 (judge_bl c s a) (unless_full s x (judge_bl c (bound x exn ∷ s) g)) (λ u v. own p (row_arms u v))
-  judge_act c s (guard o p a g) = parts2 (judge_bl c s a) (judge_bl c s g) (λ u v. own p (row_guard u v))
+  judge_act c s (guard o p a g) = parts2 (judge_bl c s a) (judge_bl c s g) (λ u v. own p (row_guard o u v))
   judge_act c s (bracket p a x g h) = part (judge_bl c s a) (λ u. unless_full s x (parts2 (judge_bl c (bound x u ∷ s) g) (judge_bl c (bound x u ∷ s) h) (λ v z. own p (row_bracket v z))))
   judge_act c s (timeout p e a) = parts2 (judge c s e) (judge_bl c s a) (λ u v. own p (row_timeout u v))
+  judge_act c s (with_async p a x g) = part (judge_bl c s a) (λ u. part (own p (row_async u)) (λ v. unless_full s x (judge_bl c (bound x v ∷ s) g)))
 
   pub judge_bl : Ctx → List Bound → Bl → Found
   judge_bl c s (last a) = judge_act c s a

@@ -2,9 +2,9 @@
 use Rattle.std.proofs.Common.{ℕ, ◌+◌, ◌≤◌, List, [], ◌∷◌, ◌++◌, arith}
 use Rattle.hs_base.specs.declared.pos.Pos.{Pos}
 use Rattle.rules_trees.specs.Trees.{T, exn}
-use Rattle.rules_trees.specs.Programs.{Act, bare, unary_act, binary_act, throw_io, new_empty, call, choose_act, case_act, modify, scoped, masking, restore, catch, guard, bracket, timeout, Bl, last, then, bind, let_in, ActArms, maybe_acts, either_acts, list_acts, pair_acts}
+use Rattle.rules_trees.specs.Programs.{Act, bare, unary_act, binary_act, throw_io, new_empty, call, choose_act, case_act, modify, scoped, masking, restore, catch, guard, bracket, timeout, with_async, Bl, last, then, bind, let_in, ActArms, maybe_acts, either_acts, list_acts, pair_acts}
 use Rattle.rules_typing.specs.Typing.{Fault, a_cell, of, first_of, second_of, inner_of, row_choose, row_arms, Bound, bound, masked, Ctx, look, meant_act, no_mask, count}
-use Rattle.rules_typing.specs.TypingActions.{row_unary_act, row_binary_act, row_throw, row_new_empty, row_scoped, row_masking, row_modify, row_guard, row_bracket, row_timeout, form_of_acts}
+use Rattle.rules_typing.specs.TypingActions.{row_unary_act, row_binary_act, row_throw, row_new_empty, row_scoped, row_masking, row_modify, row_guard, row_bracket, row_timeout, row_async, form_of_acts}
 use Rattle.typing_judge.specs.Judging.{Found, own, written, unless_full, part, parts2, judge, judges}
 use Rattle.typing_judge.specs.JudgingActions.{judge_act, judge_bl, judge_act_arms}
 use Rattle.typing_laws.specs.Positions.{ex_positions, exs_positions, act_positions, bl_positions, act_arm_positions}
@@ -27,6 +27,10 @@ module _ (q : Pos) (r : ℕ) where
   -- the first block, and then its name and the two others
   bracketed : (a : Found) (k : T → Found) (p x : Pos) (A B C : List Pos) → Most q r a (times q A) → ((u : T) → Most q r (k u) (here q x + (times q B + times q C + here q p))) → Most q r (part a k) (times q (p ∷ (A ++ x ∷ (B ++ C))))
   bracketed a k p x A B C h g = omega (arith, part_most q r a k (times q A) (here q x + (times q B + times q C + here q p)) h g, times-append q A (x ∷ (B ++ C)), times-append q B C)
+
+  -- the first block, what its node makes, and then a name and the second block
+  scoped_by : (a : Found) (k : T → Found) (p x : Pos) (A B : List Pos) → Most q r a (times q A) → ((u : T) → Most q r (k u) (here q p + (here q x + times q B))) → Most q r (part a k) (times q (p ∷ (A ++ x ∷ B)))
+  scoped_by a k p x A B h g = omega (arith, part_most q r a k (times q A) (here q p + (here q x + times q B)) h g, times-append q A (x ∷ B))
 
   restored : (p x : Pos) (fs : List Fault) (A : List Pos) → tally q r fs ≤ here q x + times q A → tally q r fs ≤ times q (p ∷ x ∷ A)
   restored p x fs A h = omega (arith, h)
@@ -61,13 +65,17 @@ module _ (q : Pos) (r : ℕ) where
     act_most c s (catch p a x g) =
         node2 (judge_bl c s a) (unless_full s x (judge_bl c (bound x exn ∷ s) g)) (λ u v. own p (row_arms u v)) p (bl_positions a) (x.pos ∷ bl_positions g)
         (bl_most c s a) (named q r s x (judge_bl c (bound x exn ∷ s) g) (bl_positions g) (bl_most c (bound x exn ∷ s) g)) (λ u v. own_most q r p (row_arms u v))
-    act_most c s (guard o p a g) = node2 (judge_bl c s a) (judge_bl c s g) (λ u v. own p (row_guard u v)) p (bl_positions a) (bl_positions g) (bl_most c s a) (bl_most c s g) (λ u v. own_most q r p (row_guard u v))
+    act_most c s (guard o p a g) = node2 (judge_bl c s a) (judge_bl c s g) (λ u v. own p (row_guard o u v)) p (bl_positions a) (bl_positions g) (bl_most c s a) (bl_most c s g) (λ u v. own_most q r p (row_guard o u v))
     act_most c s (bracket p a x g h) =
         bracketed (judge_bl c s a) _ p x.pos (bl_positions a) (bl_positions g) (bl_positions h) (bl_most c s a)
         (λ u. let k : List Bound = bound x u ∷ s in
         unless_full_most q r s x (parts2 (judge_bl c k g) (judge_bl c k h) (λ v z. own p (row_bracket v z))) (times q (bl_positions g) + times q (bl_positions h) + here q p)
         (parts2_most q r (judge_bl c k g) (judge_bl c k h) _ (times q (bl_positions g)) (times q (bl_positions h)) (here q p) (bl_most c k g) (bl_most c k h) (λ v z. own_most q r p (row_bracket v z))))
     act_most c s (timeout p e a) = node2 (judge c s e) (judge_bl c s a) (λ u v. own p (row_timeout u v)) p (ex_positions e) (bl_positions a) (judge_most q r c s e) (bl_most c s a) (λ u v. own_most q r p (row_timeout u v))
+    act_most c s (with_async p a x g) =
+        scoped_by (judge_bl c s a) _ p x.pos (bl_positions a) (bl_positions g) (bl_most c s a)
+        (λ u. part_most q r (own p (row_async u)) (λ v. unless_full s x (judge_bl c (bound x v ∷ s) g)) (here q p) (here q x.pos + times q (bl_positions g)) (own_most q r p (row_async u))
+        (λ v. unless_full_most q r s x (judge_bl c (bound x v ∷ s) g) (times q (bl_positions g)) (bl_most c (bound x v ∷ s) g)))
 
     pub bl_most : (c : Ctx) (s : List Bound) (g : Bl) → Most q r (judge_bl c s g) (times q (bl_positions g))
     bl_most c s (last a) = act_most c s a

@@ -20,7 +20,7 @@ use Rattle.hs_base.specs.declared.tree.forms.BlockAction.{BlockAction}
 use Rattle.hs_base.specs.declared.tree.forms.MaskingAction.{MaskingAction}
 use Rattle.hs_base.specs.declared.tree.forms.GuardAction.{GuardAction}
 use Rattle.rules_trees.specs.Trees.{wr_of, ex_of, exs_of, maybe_arms, either_arms, list_arms, pair_arms}
-use Rattle.rules_trees.specs.Programs.{Fn, before, stmt_of, bare, unary_act, binary_act, throw_io, new_empty, call, choose_act, case_act, modify, scoped, masking, restore, catch, guard, bracket, timeout, last, then, bind, let_in, maybe_acts, either_acts, list_acts, pair_acts, act_of, bl_of, act_arms_of, fn_of}
+use Rattle.rules_trees.specs.Programs.{Fn, before, stmt_of, bare, unary_act, binary_act, throw_io, new_empty, call, choose_act, case_act, modify, scoped, masking, restore, catch, guard, bracket, timeout, with_async, last, then, bind, let_in, maybe_acts, either_acts, list_acts, pair_acts, act_of, bl_of, act_arms_of, fn_of}
 use Rattle.rules_trees.proofs.Equations.{arms-OfMaybe, arms-OfEither, arms-OfList, arms-OfPair}
 use Rattle.rules_trees.proofs.EquationsOfActions as eq
 use Rattle.rules_grammar.specs.Grammar as g
@@ -78,6 +78,9 @@ module _ (q : Pos) where
 
   timeout_weighs : (p : Pos) (x : Expr) (c : Block) (n : ℕ) → here q p + expr_weight q x + block_weight q c ≡ n → action_weight q (a.Timeout p x c) ≡ n
   timeout_weighs p x c n h = weigh_act q (a.Timeout p x c) (timeout p (ex_of x) (bl_of c)) n (eq.act-Timeout p x c) (omega (arith, h, times-append q (ex_positions (ex_of x)) (bl_positions (bl_of c))))
+
+  with_async_weighs : (p : Pos) (c : Block) (y : Name) (d : Block) (n : ℕ) → here q p + block_weight q c + here q y.pos + block_weight q d ≡ n → action_weight q (a.WithAsync p c y d) ≡ n
+  with_async_weighs p c y d n h = weigh_act q (a.WithAsync p c y d) (with_async p (bl_of c) y (bl_of d)) n (eq.act-WithAsync p c y d) (omega (arith, h, times-append q (bl_positions (bl_of c)) (y.pos ∷ bl_positions (bl_of d))))
 
   -- ---- statements and blocks
   bind_weighs : (x : Name) (c : Action) (n : ℕ) → here q x.pos + action_weight q c ≡ n → Stated q (s.Bind x c) n
@@ -210,7 +213,7 @@ module _ (q : Pos) (inner : (B : Type 0) → Part B → Spelling B) (parts : (B 
 
   fit_unary_word : Fit g.unary_action_word (Weighs (λ w. here q w.1))
   unfolding g.unary_action_word
-  fit_unary_word = search (fit_alt, fit_word) depth 12
+  fit_unary_word = search (fit_alt, fit_word) depth 14
 
   fit_unary_action : FitsAction g.unary_action
   unfolding g.unary_action
@@ -283,6 +286,10 @@ module _ (q : Pos) (inner : (B : Type 0) → Part B → Spelling B) (parts : (B 
   unfolding g.timeout_form
   fit_timeout_form = fit_part fit_block (fit_part (fit_arg q inner parts) (fit_part (fit_at q inner) (fit_give (λ p m h x n i c l j. timeout_weighs q p x c (0 + m + n + l) (omega (arith, h, i, j))))))
 
+  fit_with_async_form : FitsAction g.with_async_form
+  unfolding g.with_async_form
+  fit_with_async_form = fit_part fit_guarded_block (fit_part (fit_at q inner) (fit_give (λ p m h c n i. with_async_weighs q p c.0 c.1 c.2 (0 + m + n) (omega (arith, h, i)))))
+
   fit_plain_action : FitsAction g.plain_action
   unfolding g.plain_action
   fit_plain_action = fit_alt fit_bare_action (fit_alt fit_unary_action (fit_alt fit_binary_action (fit_alt fit_error_line (fit_alt fit_throw_form fit_new_empty_form))))
@@ -298,7 +305,8 @@ module _ (q : Pos) (inner : (B : Type 0) → Part B → Spelling B) (parts : (B 
       (fit_alt fit_catch_form
       (fit_alt fit_bracket_form
       (fit_alt fit_timeout_form
-      fit_plain_action)))))))
+      (fit_alt fit_with_async_form
+      fit_plain_action))))))))
 
   fit_other_action : FitsAction g.other_action
   unfolding g.other_action

@@ -157,7 +157,8 @@ module _ (q : Pos) (inner : (B : Type 0) → Part B → Spelling B) where
         fit_alt (fit_part part_atype (fit_part fit_at (fit_give (λ p m h t n w. omega (arith, h, w)))))
         (fit_alt (fit_part part_atype (fit_part part_atype (fit_part fit_at (fit_give (λ p m h s n v t l w. omega (arith, h, v, w))))))
         (fit_alt (fit_part part_atype (fit_part fit_at (fit_give (λ p m h t n w. omega (arith, h, w)))))
-        fit_atype))
+        (fit_alt (fit_part part_atype (fit_part fit_at (fit_give (λ p m h t n w. omega (arith, h, w)))))
+        fit_atype)))
 
     pub part_type : Fit g.type Free
     unfolding g.type
@@ -165,7 +166,8 @@ module _ (q : Pos) (inner : (B : Type 0) → Part B → Spelling B) where
         fit_alt (fit_part part_atype (fit_part (fit_end refl) (fit_give (λ p m h t n w. omega (arith, h, w)))))
         (fit_alt (fit_part part_atype (fit_part part_atype (fit_part (fit_end refl) (fit_give (λ p m h s n v t l w. omega (arith, h, v, w))))))
         (fit_alt (fit_part part_atype (fit_part (fit_end refl) (fit_give (λ p m h t n w. omega (arith, h, w)))))
-        part_atype))
+        (fit_alt (fit_part part_atype (fit_part (fit_end refl) (fit_give (λ p m h t n w. omega (arith, h, w)))))
+        part_atype)))
 
     pub fit_type_end : Fit g.type_end Free
     unfolding g.type_end

@@ -6,8 +6,8 @@ use Rattle.hs_base.specs.declared.tree.ty.Ty.TheVariants as t
 use Rattle.hs_base.specs.declared.tree.ty.Ty.TheOpen.{Ty-F}
 use Rattle.hs_base.specs.declared.tree.ty.Ty.TheViews.{roll-Ty}
 use Rattle.hs_base.specs.declared.tree.ty.Ty.TheFolds.{map-Ty, ind-Ty}
-use Rattle.rules_trees.specs.Trees.{T, unit, int, bool, text, thread, exn, pair, maybe, either, list, cell, ty_of}
-use Rattle.rules_trees.proofs.Equations.{ty-Unit, ty-Int, ty-Bool, ty-Text, ty-Thread, ty-Exn, ty-Maybe, ty-List, ty-Cell, ty-Pair, ty-Either}
+use Rattle.rules_trees.specs.Trees.{T, unit, int, bool, text, thread, exn, pair, maybe, either, list, cell, async, ty_of}
+use Rattle.rules_trees.proofs.Equations.{ty-Unit, ty-Int, ty-Bool, ty-Text, ty-Thread, ty-Exn, ty-Maybe, ty-List, ty-Cell, ty-Async, ty-Pair, ty-Either}
 use Rattle.rules_tokens.specs.declared.token.Token.{Token}
 use Rattle.rules_grammar.specs.Grammar.{Spells}
 use Rattle.rules_typing.specs.Typing as rule
@@ -40,6 +40,7 @@ ty_back (maybe c) = t.Maybe (ty_back c)
 ty_back (either c d) = t.Either (ty_back c) (ty_back d)
 ty_back (list c) = t.List (ty_back c)
 ty_back (cell c) = t.Cell (ty_back c)
+ty_back (async c) = t.Async (ty_back c)
 
 abbrev Comes : Ty → Type 0
 Comes c = ty_back (ty_of c) ≡ c
@@ -58,6 +59,7 @@ layer (Ty-F.Maybe c) = subst Comes (sym (t.rolls-Maybe c.0)) (ap ty_back (ty-May
 layer (Ty-F.Either c d) = subst Comes (sym (t.rolls-Either c.0 d.0)) (ap ty_back (ty-Either c.0 d.0) ∙ (ap (λ z. t.Either z (ty_back (ty_of d.0))) c.1 ∙ ap (λ z. t.Either c.0 z) d.1))
 layer (Ty-F.List c) = subst Comes (sym (t.rolls-List c.0)) (ap ty_back (ty-List c.0) ∙ ap t.List c.1)
 layer (Ty-F.Cell c) = subst Comes (sym (t.rolls-Cell c.0)) (ap ty_back (ty-Cell c.0) ∙ ap t.Cell c.1)
+layer (Ty-F.Async c) = subst Comes (sym (t.rolls-Async c.0)) (ap ty_back (ty-Async c.0) ∙ ap t.Async c.1)
 
 ty_comes : (c : Ty) → Comes c
 ty_comes = ind-Ty Comes (λ z y is. subst (λ v. Comes (roll-Ty v)) is (layer y))
@@ -68,6 +70,7 @@ form_back rule.an_either = f.Either
 form_back rule.a_list = f.List
 form_back rule.a_pair = f.Pair
 form_back rule.a_cell = f.Cell
+form_back rule.an_async = f.Async
 form_back rule.equal = f.Equal
 form_back rule.order = f.Order
 form_back rule.shown = f.Show
@@ -78,6 +81,7 @@ form_comes f.Either = refl
 form_comes f.List = refl
 form_comes f.Pair = refl
 form_comes f.Cell = refl
+form_comes f.Async = refl
 form_comes f.Equal = refl
 form_comes f.Order = refl
 form_comes f.Show = refl

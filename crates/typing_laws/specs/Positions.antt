@@ -15,7 +15,7 @@ use Rattle.rules_tokens.specs.declared.word.TheConstants as w
 use Rattle.rules_grammar.specs.GrammarParts as g
 use Rattle.rules_grammar.specs.GrammarParts.{Kind}
 use Rattle.rules_trees.specs.Trees.{Ex, lit, name, unary, binary, chain, conses, choose, items, empty, side, given, case, Exs, none, more, Links, end, link, Arms, maybe_arms, either_arms, list_arms, pair_arms}
-use Rattle.rules_trees.specs.Programs.{Act, bare, unary_act, binary_act, throw_io, new_empty, call, choose_act, case_act, modify, scoped, masking, restore, catch, guard, bracket, timeout, Bl, last, then, bind, let_in, ActArms, maybe_acts, either_acts, list_acts, pair_acts, Par, Bd, pure_body, io_body, Fn, script_of}
+use Rattle.rules_trees.specs.Programs.{Act, bare, unary_act, binary_act, throw_io, new_empty, call, choose_act, case_act, modify, scoped, masking, restore, catch, guard, bracket, timeout, with_async, Bl, last, then, bind, let_in, ActArms, maybe_acts, either_acts, list_acts, pair_acts, Par, Bd, pure_body, io_body, Fn, script_of}
 
 -- ---- expressions
 
@@ -69,6 +69,7 @@ abbrev mutual
   act_positions (guard o p a g) = p ∷ (bl_positions a ++ bl_positions g)
   act_positions (bracket p a x g h) = p ∷ (bl_positions a ++ x.pos ∷ (bl_positions g ++ bl_positions h))
   act_positions (timeout p e a) = p ∷ (ex_positions e ++ bl_positions a)
+  act_positions (with_async p a x g) = p ∷ (bl_positions a ++ x.pos ∷ bl_positions g)
 
   pub bl_positions : Bl → List Pos
   bl_positions (last a) = act_positions a
@@ -119,7 +120,7 @@ among ns n = list_any (λ m. m == n) ns
 -- a form
 abbrev pub words_aside : List ℕ
 words_aside =
-    w.INT ∷ w.BOOL ∷ w.TEXT ∷ w.THREAD_ID ∷ w.SOME_EXCEPTION ∷ w.MAYBE ∷ w.EITHER ∷ w.MVAR ∷ w.IO
+    w.INT ∷ w.BOOL ∷ w.TEXT ∷ w.THREAD_ID ∷ w.SOME_EXCEPTION ∷ w.MAYBE ∷ w.EITHER ∷ w.MVAR ∷ w.ASYNC ∷ w.IO
     ∷ w.NOTHING ∷ w.JUST ∷ w.LEFT ∷ w.RIGHT
     ∷ w.THEN ∷ w.ELSE ∷ w.OF ∷ w.LET ∷ w.IN ∷ w.STDERR ∷ []
 

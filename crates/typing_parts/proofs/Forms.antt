@@ -1,7 +1,7 @@
 -- Which types are of a form, by their outermost form.
 use Rattle.std.proofs.Common.{◌≡◌, refl}
-use Rattle.rules_trees.specs.Trees.{T, int, bool, text, thread, exn, pair, maybe, either, list, cell}
-use Rattle.rules_typing.specs.Typing.{Form, a_maybe, an_either, a_list, a_pair, a_cell, equal, order, shown}
+use Rattle.rules_trees.specs.Trees.{T, int, bool, text, thread, exn, pair, maybe, either, list, cell, async}
+use Rattle.rules_typing.specs.Typing.{Form, a_maybe, an_either, a_list, a_pair, a_cell, an_async, equal, order, shown}
 use Rattle.typing_judge.specs.Judging.{has}
 use Rattle.typing_table.specs.Meaning.{kind_of}
 use Rattle.typing_parts.specs.Views.{kind_has}
@@ -12,6 +12,7 @@ has_kind an_either (either a b) = refl
 has_kind a_list (list a) = refl
 has_kind a_pair (pair a b) = refl
 has_kind a_cell (cell a) = refl
+has_kind an_async (async a) = refl
 has_kind equal int = refl
 has_kind equal bool = refl
 has_kind equal text = refl

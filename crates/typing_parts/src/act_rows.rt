@@ -1,20 +1,22 @@
 ghost use Rattle.std.specs.Prelude.{◌≡◌, [], ◌∷◌, IfOk};
 ghost use Rattle.typing_table.specs.Meaning.{base_of, type_in};
 ghost use Rattle.rules_typing.specs.Typing.{a_cell, inner_of, is, of, gives};
-ghost use Rattle.rules_typing.specs.TypingActions.{type_of_bare, row_unary_act, row_binary_act, row_throw, row_new_empty, row_scoped, row_masking, row_modify, row_guard, row_bracket, row_timeout};
+ghost use Rattle.rules_typing.specs.TypingActions.{type_of_bare, row_unary_act, row_binary_act, row_throw, row_new_empty, row_scoped, row_masking, row_modify, row_guard, row_bracket, row_timeout, row_async};
 ghost use Rattle.typing_judge.specs.Judging.{own, with1, with2};
 ghost use Rattle.typing_parts.specs.Views.{opt_ty};
 ghost use Rattle.typing_parts.specs.Judged.{Judged};
 
 use crate::checker::Checker;
 use crate::fault::Form;
-use hs_base::tree::forms::{BareAction, BinaryAction, BlockAction, MaskingAction, UnaryAction};
+use hs_base::tree::forms::{
+    BareAction, BinaryAction, BlockAction, GuardAction, MaskingAction, UnaryAction,
+};
 use hs_base::{NoMemory, Pos};
 use std::alloc::Global;
 use typing_table::base::Base;
 use typing_table::parts::inner_part;
 use typing_table::table::TypeTable;
-use typing_table::ty::{TypeTerm, cell_of, maybe_of};
+use typing_table::ty::{TypeTerm, async_of, cell_of, either_of, maybe_of, pair_of};
 
 /// The type of an action without parts.
 pub fn bare_type(o: BareAction) -> Base
@@ -53,6 +55,40 @@ impl Checker {
             UnaryAction::TryTakeMVar => self.row_try_take(alloc, types, p, a),
             UnaryAction::KillThread => self.one(alloc, types, p, Base::Thread, a, Base::Unit),
             UnaryAction::ThreadDelay => self.one(alloc, types, p, Base::Int, a, Base::Unit),
+            UnaryAction::Wait => self.row_wait(alloc, types, p, a),
+            UnaryAction::Cancel => self.row_cancel(alloc, types, p, a),
+        }
+    }
+
+    fn row_wait(
+        &mut self,
+        alloc: Global,
+        types: &TypeTable,
+        p: Pos,
+        a: &TypeTerm,
+    ) -> Result<Option<TypeTerm>, NoMemory>
+        ensures { IfOk result (λ t. Judged types.now.nodes self.old self.new (opt_ty types.now.nodes t) (own p (row_unary_act UnaryAction.Wait (type_in types.now.nodes a.now)))) }
+    {
+        if self.fits(alloc, types, p, Form::Async, a)? {
+            Ok(Some(inner_part(alloc, types, a)?))
+        } else {
+            Ok(None)
+        }
+    }
+
+    fn row_cancel(
+        &mut self,
+        alloc: Global,
+        types: &TypeTable,
+        p: Pos,
+        a: &TypeTerm,
+    ) -> Result<Option<TypeTerm>, NoMemory>
+        ensures { IfOk result (λ t. Judged types.now.nodes self.old self.new (opt_ty types.now.nodes t) (own p (row_unary_act UnaryAction.Cancel (type_in types.now.nodes a.now)))) }
+    {
+        if self.fits(alloc, types, p, Form::Async, a)? {
+            Ok(Some(TypeTerm::Base(Base::Unit)))
+        } else {
+            Ok(None)
         }
     }
 
@@ -324,23 +360,64 @@ impl Checker {
         }
     }
 
-    /// The first block's type, where both have one.
+    /// The first block's type, or one of both.
+    fn row_guard(
+        &mut self,
+        alloc: Global,
+        types: &TypeTable,
+        p: Pos,
+        o: GuardAction,
+        a: TypeTerm,
+        b: &TypeTerm,
+    ) -> Result<Option<TypeTerm>, NoMemory>
+        ensures { IfOk result (λ t. Judged types.now.nodes self.old self.new (opt_ty types.now.nodes t) (own p (row_guard o (type_in types.now.nodes a) (type_in types.now.nodes b.now)))) }
+    {
+        match o {
+            GuardAction::OnException => Ok(Some(a)),
+            GuardAction::Finally => Ok(Some(a)),
+            GuardAction::Race => {
+                let t = either_of(alloc, &a, b)?;
+                Ok(self.unless_wide(types, p, t))
+            }
+            GuardAction::Concurrently => {
+                let t = pair_of(alloc, &a, b)?;
+                Ok(self.unless_wide(types, p, t))
+            }
+        }
+    }
+
     pub fn close_guard(
         &mut self,
-        _types: &TypeTable,
+        alloc: Global,
+        types: &TypeTable,
         p: Pos,
+        o: GuardAction,
         a: Option<TypeTerm>,
         b: Option<TypeTerm>,
-    ) -> Option<TypeTerm>
-        ensures { Judged _types.now.nodes self.old self.new (opt_ty _types.now.nodes result) (with2 (opt_ty _types.now.nodes a) (opt_ty _types.now.nodes b) (λ u v. own p (row_guard u v))) }
+    ) -> Result<Option<TypeTerm>, NoMemory>
+        ensures { IfOk result (λ t. Judged types.now.nodes self.old self.new (opt_ty types.now.nodes t) (with2 (opt_ty types.now.nodes a) (opt_ty types.now.nodes b) (λ u v. own p (row_guard o u v)))) }
     {
         match a {
-            None => None,
+            None => Ok(None),
             Some(a) => match b {
-                None => None,
-                Some(_) => Some(a),
+                None => Ok(None),
+                Some(b) => self.row_guard(alloc, types, p, o, a, &b),
             },
         }
+    }
+
+    /// What a `withAsync` binds, where the action that runs beside its block has type `a`.
+    pub fn scope_type(
+        &mut self,
+        alloc: Global,
+        types: &TypeTable,
+        p: Pos,
+        a: &TypeTerm,
+    ) -> Result<Option<TypeTerm>, NoMemory>
+        ensures { IfOk result (λ t. Judged types.now.nodes self.old self.new (opt_ty types.now.nodes t) (own p (row_async (type_in types.now.nodes a.now)))) }
+    {
+        let t = async_of(alloc, a)?;
+        Ok(self.unless_wide(types, p, t))
     }
 
     /// The type of the block that uses, where both have one.

@@ -8,6 +8,7 @@ pub enum Form {
     List,
     Pair,
     Cell,
+    Async,
     Equal,
     Order,
     Show,

@@ -22,6 +22,7 @@ fn kind_has(form: Form, kind: Kind) -> bool
         Form::List => matches!(kind, Kind::List),
         Form::Pair => matches!(kind, Kind::Pair),
         Form::Cell => matches!(kind, Kind::Cell),
+        Form::Async => matches!(kind, Kind::Async),
         Form::Equal => match kind {
             Kind::Base(base) => base != Base::Unit,
             _ => false,
@@ -50,7 +51,7 @@ pub fn is_form(types: &TypeTable, form: Form, a: &TypeTerm) -> bool
 pub enum Part {
     /// the type itself
     Whole,
-    /// what a `Maybe`, a list or an `MVar` is of
+    /// what a `Maybe`, a list, an `MVar` or an `Async` is of
     Inner,
     /// the first of a pair or an `Either`
     First,

@@ -7,7 +7,7 @@ use Rattle.rules_expansion.specs.declared.template.Part.{Part}
 use Rattle.rules_expansion.specs.declared.template.Part.TheVariants as part
 use Rattle.rules_expansion.specs.declared.template.Step.{Step}
 use Rattle.rules_expansion.specs.declared.template.Step.TheVariants as s
-use Rattle.rules_expansion.specs.Templates.{Template, hole, give, throw, let_in, bind, then, choose, perform, perform_one, perform_two, fork_unmask, catch, mask, mask_hard, restore, Filling, operand, fill, flat, steps, template}
+use Rattle.rules_expansion.specs.Templates.{Template, hole, give, throw, let_in, bind, then, choose, either, perform, perform_one, perform_two, fork, fork_unmask, catch, mask, mask_hard, restore, Filling, operand, fill, flat, steps, template}
 use Rattle.rules_expansion.specs.Expansion.{of_three, derived}
 use Rattle.rules_expansion.specs.Sizes.{core_ex_size, core_size, operand_size, step_size, steps_size}
 use Rattle.typing_sizes.specs.Counted.{Counted}
@@ -21,6 +21,15 @@ operand_is f (x.BelowZero y) = refl
 operand_is f (x.IsZero y) = refl
 operand_is f (x.SameExn y z) = refl
 operand_is f x.Killed = refl
+operand_is f x.Nil = refl
+operand_is f (x.LeftRead y) = refl
+operand_is f (x.RightRead y) = refl
+operand_is f (x.RightLeft y) = refl
+operand_is f (x.RightRight y) = refl
+operand_is f x.RightNil = refl
+operand_is f (x.PairRead y z) = refl
+operand_is f (x.FirstOf y) = refl
+operand_is f (x.SecondOf y) = refl
 
 abbrev filled : Filling → List Step → ℕ
 filled f k = steps_size (core_ex_size f.subject) (λ i. core_size (f.block i)) k
@@ -34,9 +43,12 @@ flat_size f (let_in y e a) k = let h = operand_is f e in let i = flat_size f a (
 flat_size f (bind y a c) k = let i = flat_size f a (s.Under y ∷ flat c (s.Off ∷ s.Bind ∷ k)) in let j = flat_size f c (s.Off ∷ s.Bind ∷ k) in omega (arith, i, j)
 flat_size f (then a c) k = let i = flat_size f a (flat c (s.Then ∷ k)) in let j = flat_size f c (s.Then ∷ k) in omega (arith, i, j)
 flat_size f (choose e a c) k = let h = operand_is f e in let i = flat_size f a (flat c (s.If ∷ k)) in let j = flat_size f c (s.If ∷ k) in omega (arith, h, i, j)
+flat_size f (either e y a z c) k =
+    let h = operand_is f e in let i = flat_size f a (s.Off ∷ s.Under z ∷ flat c (s.Off ∷ s.CaseEither ∷ k)) in let j = flat_size f c (s.Off ∷ s.CaseEither ∷ k) in omega (arith, h, i, j)
 flat_size f (perform q) k = omega arith
 flat_size f (perform_one q e) k = let h = operand_is f e in omega (arith, h)
 flat_size f (perform_two q e d) k = let h = operand_is f e in let i = operand_is f d in omega (arith, h, i)
+flat_size f (fork a) k = let i = flat_size f a (s.Fork ∷ k) in omega (arith, i)
 flat_size f (fork_unmask y a) k = let i = flat_size f a (s.Off ∷ s.ForkUnmask ∷ k) in omega (arith, i)
 flat_size f (catch a y c) k = let i = flat_size f a (s.Under y ∷ flat c (s.Off ∷ s.Catch ∷ k)) in let j = flat_size f c (s.Off ∷ s.Catch ∷ k) in omega (arith, i, j)
 flat_size f (mask y a) k = let i = flat_size f a (s.Off ∷ s.Mask ∷ k) in omega (arith, i)

@@ -11,6 +11,9 @@ use rules_expansion::{Derived, Operand, Part, Step, steps};
 /// What stands for the expression of a form that has none: `Nothing`.
 pub const NO_EXPRESSION: u32 = 1;
 
+/// What stands for the block of a form that has none: `return Nothing`.
+pub const NO_BLOCK: u32 = 2;
+
 /// The nodes of a form, by those of its expression and of its blocks. A form with fewer than three has its last one in
 /// their places: no step asks for those.
 pub fn derived_nodes(form: Derived, subject: u32, first: u32, second: u32, third: u32) -> u32
@@ -33,7 +36,8 @@ fn step_nodes(step: Step, subject: u32, first: u32, second: u32, third: u32) -> 
         Step::Hole(Part::Third) => third,
         Step::Push(e) => operand_nodes(e, subject),
         Step::Under(_) | Step::Off => 0,
-        Step::Return | Step::Throw | Step::Let | Step::Bind | Step::Then | Step::If => 1,
+        Step::Return | Step::Throw | Step::Let | Step::Bind | Step::Then => 1,
+        Step::If | Step::CaseEither | Step::Fork => 1,
         Step::Perform(_) | Step::PerformOne(_) | Step::PerformTwo(_) => 1,
         Step::ForkUnmask | Step::Catch | Step::Mask | Step::MaskHard | Step::Restore(_) => 1,
     }
@@ -45,8 +49,10 @@ fn operand_nodes(e: Operand, subject: u32) -> u32
 {
     match e {
         Operand::Subject => subject,
-        Operand::Read(_) | Operand::NoValue | Operand::Killed => 1,
-        Operand::JustRead(_) => 2,
+        Operand::Read(_) | Operand::NoValue | Operand::Killed | Operand::Nil => 1,
+        Operand::JustRead(_) | Operand::LeftRead(_) | Operand::RightRead(_) => 2,
+        Operand::RightNil | Operand::FirstOf(_) | Operand::SecondOf(_) => 2,
         Operand::BelowZero(_) | Operand::IsZero(_) | Operand::SameExn(_, _) => 3,
+        Operand::RightLeft(_) | Operand::RightRight(_) | Operand::PairRead(_, _) => 3,
     }
 }

@@ -6,7 +6,7 @@ ghost use Rattle.rules_expansion.specs.Expansion.{unary_core, scoped_core, guard
 ghost use Rattle.rules_expansion.specs.Sizes.{ex_size, exs_size, links_size, arms_size, core_ex_size, core_size, body_size};
 
 use crate::count::add;
-use crate::derived::{NO_EXPRESSION, derived_nodes};
+use crate::derived::{NO_BLOCK, NO_EXPRESSION, derived_nodes};
 use hs_base::tree::forms::{BinaryForm, BlockAction, GuardAction, UnaryAction};
 use hs_base::tree::{
     Action, Block, BlockArms, Body, Expr, ExprArms, Link, ListLink, Stmt, SumLink,
@@ -155,6 +155,10 @@ fn act_nodes(a: &Action) -> u32
             let n = bl_nodes(b);
             derived_nodes(Derived::Timeout, ex_nodes(e), n, n, n)
         }
+        Action::WithAsync(_, b, _, d) => {
+            let n = bl_nodes(d);
+            derived_nodes(Derived::WithAsync, NO_EXPRESSION, bl_nodes(b), n, n)
+        }
     }
 }
 
@@ -165,6 +169,8 @@ fn unary_nodes(w: UnaryAction, n: u32) -> u32
     match w {
         // `throwTo` with the exception `ThreadKilled`
         UnaryAction::KillThread => add(1, add(n, 1)),
+        UnaryAction::Wait => derived_nodes(Derived::Wait, n, NO_BLOCK, NO_BLOCK, NO_BLOCK),
+        UnaryAction::Cancel => derived_nodes(Derived::Cancel, n, NO_BLOCK, NO_BLOCK, NO_BLOCK),
         _ => add(1, n),
     }
 }
@@ -182,13 +188,15 @@ fn scoped_nodes(w: BlockAction, n: u32) -> u32
     }
 }
 
-/// A word over a block of `m` nodes and what is run after it, of `n`.
+/// A word over two blocks, of `m` nodes and of `n`.
 fn guard_nodes(w: GuardAction, m: u32, n: u32) -> u32
     ensures { (a c : Core) → m ≡ min (core_size a) 1000001 → n ≡ min (core_size c) 1000001 → result ≡ min (core_size (guard_core w a c)) 1000001 }
 {
     match w {
         GuardAction::OnException => derived_nodes(Derived::OnException, NO_EXPRESSION, m, n, n),
         GuardAction::Finally => derived_nodes(Derived::Finally, NO_EXPRESSION, m, n, n),
+        GuardAction::Race => derived_nodes(Derived::Race, NO_EXPRESSION, m, n, n),
+        GuardAction::Concurrently => derived_nodes(Derived::Concurrently, NO_EXPRESSION, m, n, n),
     }
 }
 

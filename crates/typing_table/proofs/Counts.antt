@@ -1,6 +1,6 @@
 -- Each type has a node.
 use Rattle.std.proofs.Common.{◌<◌, arith}
-use Rattle.rules_trees.specs.Trees.{T, unit, int, bool, text, thread, exn, pair, maybe, either, list, cell}
+use Rattle.rules_trees.specs.Trees.{T, unit, int, bool, text, thread, exn, pair, maybe, either, list, cell, async}
 use Rattle.rules_typing.specs.Typing.{nodes}
 
 pub nodes_some : (a : T) → 0 < nodes a
@@ -15,3 +15,4 @@ nodes_some (maybe a) = omega arith
 nodes_some (either a b) = omega arith
 nodes_some (list a) = omega arith
 nodes_some (cell a) = omega arith
+nodes_some (async a) = omega arith

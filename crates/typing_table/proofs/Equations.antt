@@ -1,6 +1,6 @@
 -- Which tree each type of the checker stands for.
 use Rattle.std.proofs.Common.{◌≡◌, ℕ, List, ap, ◌∙◌, sym}
-use Rattle.rules_trees.specs.Trees.{T, pair, maybe, either, list, cell}
+use Rattle.rules_trees.specs.Trees.{T, pair, maybe, either, list, cell, async}
 use Rattle.typing_table.specs.declared.base.Base.{Base}
 use Rattle.typing_table.specs.declared.table.Node.{Node}
 use Rattle.typing_table.specs.declared.ty.TypeTerm.{TypeTerm}
@@ -27,7 +27,10 @@ type-List ms a = ap (type_in ms) (sym (t.rolls-List a)) ∙ fold-roll-TypeTerm T
 pub type-Cell : (ms : List Node) (a : TypeTerm) → type_in ms (t.Cell a) ≡ cell (type_in ms a)
 type-Cell ms a = ap (type_in ms) (sym (t.rolls-Cell a)) ∙ fold-roll-TypeTerm T (type_step ms) (TypeTerm-F.Cell a)
 
+pub type-Async : (ms : List Node) (a : TypeTerm) → type_in ms (t.Async a) ≡ async (type_in ms a)
+type-Async ms a = ap (type_in ms) (sym (t.rolls-Async a)) ∙ fold-roll-TypeTerm T (type_step ms) (TypeTerm-F.Async a)
+
 pub type-Known : (ms : List Node) (i : ℕ) → type_in ms (t.Known i) ≡ known ms i
 type-Known ms i = ap (type_in ms) (sym (t.rolls-Known i)) ∙ fold-roll-TypeTerm T (type_step ms) (TypeTerm-F.Known i)
 
-pub ruleset type_rules = (type-Base, type-Pair, type-Maybe, type-Either, type-List, type-Cell, type-Known)
+pub ruleset type_rules = (type-Base, type-Pair, type-Maybe, type-Either, type-List, type-Cell, type-Async, type-Known)

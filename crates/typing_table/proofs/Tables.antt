@@ -4,7 +4,7 @@ use Rattle.std.proofs.lemmas.List.{get_or_past}
 use Rattle.std.proofs.Math.ListN.{get_or-append}
 use Rattle.std.proofs.Math.Seq.{get_or-append_seam}
 use Rattle.std.specs.List.{slice_get}
-use Rattle.rules_trees.specs.Trees.{T, unit, pair, maybe, either, list, cell}
+use Rattle.rules_trees.specs.Trees.{T, unit, pair, maybe, either, list, cell, async}
 use Rattle.typing_table.specs.declared.table.Node.{Node}
 use Rattle.typing_table.specs.declared.table.Node.TheVariants as n
 use Rattle.typing_table.specs.Meaning.{item, node_type, types_after, types_at, known, reach, Ordered, Grows}
@@ -55,6 +55,7 @@ node_type-within ts us (n.Maybe i) h = ap maybe (h i (omega arith))
 node_type-within ts us (n.Either i j) h = ap (λ z. either z (item ts j)) (h i (omega arith)) ∙ ap (either (item us i)) (h j (omega arith))
 node_type-within ts us (n.List i) h = ap list (h i (omega arith))
 node_type-within ts us (n.Cell i) h = ap cell (h i (omega arith))
+node_type-within ts us (n.Async i) h = ap async (h i (omega arith))
 
 -- the first node after some types
 head-after : (ts : List T) (m : Node) (ms : List Node) → reach m ≤ length ts

@@ -1,6 +1,6 @@
 -- The type that a type of the checker stands for, by a table of types.
 use Rattle.std.specs.Prelude.{◌≡◌, ℕ, suc, ◌≤◌, max, List, [], ◌∷◌, ◌++◌, get_or, slice_get, Some}
-use Rattle.rules_trees.specs.Trees.{T, unit, int, bool, text, thread, exn, pair, maybe, either, list, cell}
+use Rattle.rules_trees.specs.Trees.{T, unit, int, bool, text, thread, exn, pair, maybe, either, list, cell, async}
 use Rattle.typing_table.specs.declared.base.Base.{Base}
 use Rattle.typing_table.specs.declared.base.Base.TheVariants as b
 use Rattle.typing_table.specs.declared.kind.Kind.{Kind}
@@ -32,6 +32,7 @@ kind_of (maybe t) = k.Maybe
 kind_of (either s t) = k.Either
 kind_of (list t) = k.List
 kind_of (cell t) = k.Cell
+kind_of (async t) = k.Async
 
 -- ---- the table
 
@@ -47,6 +48,7 @@ node_type ts (n.Maybe i) = maybe (item ts i)
 node_type ts (n.Either i j) = either (item ts i) (item ts j)
 node_type ts (n.List i) = list (item ts i)
 node_type ts (n.Cell i) = cell (item ts i)
+node_type ts (n.Async i) = async (item ts i)
 
 -- the types at the places of a table, after those that stand before it
 abbrev pub types_after : List T → List Node → List T
@@ -68,6 +70,7 @@ reach (n.Maybe i) = suc i
 reach (n.Either i j) = max (suc i) (suc j)
 reach (n.List i) = suc i
 reach (n.Cell i) = suc i
+reach (n.Async i) = suc i
 
 -- a node's parts stand before a place
 abbrev pub Below : Node → ℕ → Type 0
@@ -90,6 +93,7 @@ type_step ms (TypeTerm-F.Maybe t) = maybe t
 type_step ms (TypeTerm-F.Either s t) = either s t
 type_step ms (TypeTerm-F.List t) = list t
 type_step ms (TypeTerm-F.Cell t) = cell t
+type_step ms (TypeTerm-F.Async t) = async t
 type_step ms (TypeTerm-F.Known i) = known ms i
 
 -- the type that a type of the checker stands for

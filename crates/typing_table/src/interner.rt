@@ -93,6 +93,10 @@ impl Interner {
                 let part = self.intern(a.get())?;
                 self.put(Node::Cell(part))
             }
+            Ty::Async(a) => {
+                let part = self.intern(a.get())?;
+                self.put(Node::Async(part))
+            }
         }
     }
 }

@@ -14,6 +14,7 @@ pub enum Kind {
     Either,
     List,
     Cell,
+    Async,
 }
 
 /// The outermost form of the type at a place.
@@ -27,6 +28,7 @@ fn kind_at(types: &TypeTable, place: usize) -> Kind
         Node::Either(_, _) => Kind::Either,
         Node::List(_) => Kind::List,
         Node::Cell(_) => Kind::Cell,
+        Node::Async(_) => Kind::Async,
     }
 }
 
@@ -42,6 +44,7 @@ pub fn kind_in(types: &TypeTable, t: &TypeTerm) -> Kind
         TypeTerm::Either(_, _) => Kind::Either,
         TypeTerm::List(_) => Kind::List,
         TypeTerm::Cell(_) => Kind::Cell,
+        TypeTerm::Async(_) => Kind::Async,
         TypeTerm::Known(place) => kind_at(types, *place),
     }
 }

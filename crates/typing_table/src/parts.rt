@@ -8,7 +8,7 @@ use crate::ty::TypeTerm;
 use hs_base::NoMemory;
 use std::alloc::Global;
 
-/// What the `Maybe`, the list or the `MVar` at a place is of; `()` for all others.
+/// What the `Maybe`, the list, the `MVar` or the `Async` at a place is of; `()` for all others.
 #[tactic(auto, using(crate::proofs::Equations::type_rules))]
 fn inner_at(types: &TypeTable, place: usize) -> TypeTerm
     ensures { type_in types.now.nodes result ≡ inner_of (known types.now.nodes place) }
@@ -17,13 +17,14 @@ fn inner_at(types: &TypeTable, place: usize) -> TypeTerm
         Node::Maybe(part) => TypeTerm::Known(part),
         Node::List(part) => TypeTerm::Known(part),
         Node::Cell(part) => TypeTerm::Known(part),
+        Node::Async(part) => TypeTerm::Known(part),
         Node::Base(_) => TypeTerm::Base(Base::Unit),
         Node::Pair(_, _) => TypeTerm::Base(Base::Unit),
         Node::Either(_, _) => TypeTerm::Base(Base::Unit),
     }
 }
 
-/// What a `Maybe`, a list or an `MVar` is of; `()` for all others.
+/// What a `Maybe`, a list, an `MVar` or an `Async` is of; `()` for all others.
 #[tactic(auto, using(crate::proofs::Equations::type_rules))]
 pub fn inner_part(alloc: Global, types: &TypeTable, a: &TypeTerm) -> Result<TypeTerm, NoMemory>
     ensures { IfOk result (λ b. type_in types.now.nodes b ≡ inner_of (type_in types.now.nodes a.now)) }
@@ -32,6 +33,7 @@ pub fn inner_part(alloc: Global, types: &TypeTable, a: &TypeTerm) -> Result<Type
         TypeTerm::Maybe(b) => Ok(b.get().copy(alloc)?),
         TypeTerm::List(b) => Ok(b.get().copy(alloc)?),
         TypeTerm::Cell(b) => Ok(b.get().copy(alloc)?),
+        TypeTerm::Async(b) => Ok(b.get().copy(alloc)?),
         TypeTerm::Base(_) => Ok(TypeTerm::Base(Base::Unit)),
         TypeTerm::Pair(_, _) => Ok(TypeTerm::Base(Base::Unit)),
         TypeTerm::Either(_, _) => Ok(TypeTerm::Base(Base::Unit)),
@@ -51,6 +53,7 @@ fn first_at(types: &TypeTable, place: usize) -> TypeTerm
         Node::Maybe(_) => TypeTerm::Base(Base::Unit),
         Node::List(_) => TypeTerm::Base(Base::Unit),
         Node::Cell(_) => TypeTerm::Base(Base::Unit),
+        Node::Async(_) => TypeTerm::Base(Base::Unit),
     }
 }
 
@@ -66,6 +69,7 @@ pub fn first_part(alloc: Global, types: &TypeTable, a: &TypeTerm) -> Result<Type
         TypeTerm::Maybe(_) => Ok(TypeTerm::Base(Base::Unit)),
         TypeTerm::List(_) => Ok(TypeTerm::Base(Base::Unit)),
         TypeTerm::Cell(_) => Ok(TypeTerm::Base(Base::Unit)),
+        TypeTerm::Async(_) => Ok(TypeTerm::Base(Base::Unit)),
         TypeTerm::Known(place) => Ok(first_at(types, *place)),
     }
 }
@@ -82,6 +86,7 @@ fn second_at(types: &TypeTable, place: usize) -> TypeTerm
         Node::Maybe(_) => TypeTerm::Base(Base::Unit),
         Node::List(_) => TypeTerm::Base(Base::Unit),
         Node::Cell(_) => TypeTerm::Base(Base::Unit),
+        Node::Async(_) => TypeTerm::Base(Base::Unit),
     }
 }
 
@@ -97,6 +102,7 @@ pub fn second_part(alloc: Global, types: &TypeTable, a: &TypeTerm) -> Result<Typ
         TypeTerm::Maybe(_) => Ok(TypeTerm::Base(Base::Unit)),
         TypeTerm::List(_) => Ok(TypeTerm::Base(Base::Unit)),
         TypeTerm::Cell(_) => Ok(TypeTerm::Base(Base::Unit)),
+        TypeTerm::Async(_) => Ok(TypeTerm::Base(Base::Unit)),
         TypeTerm::Known(place) => Ok(second_at(types, *place)),
     }
 }

@@ -23,6 +23,7 @@ fn same_places(types: &TypeTable, m: usize, n: usize) -> bool
         }
         (Node::List(a), Node::List(b)) => same_places(types, a, b),
         (Node::Cell(a), Node::Cell(b)) => same_places(types, a, b),
+        (Node::Async(a), Node::Async(b)) => same_places(types, a, b),
         (_, _) => false,
     }
 }
@@ -44,6 +45,7 @@ fn stands_at(types: &TypeTable, t: &TypeTerm, place: usize) -> bool
         }
         (TypeTerm::List(a), Node::List(b)) => stands_at(types, a.get(), b),
         (TypeTerm::Cell(a), Node::Cell(b)) => stands_at(types, a.get(), b),
+        (TypeTerm::Async(a), Node::Async(b)) => stands_at(types, a.get(), b),
         (_, _) => false,
     }
 }
@@ -66,6 +68,7 @@ pub fn same_types(types: &TypeTable, a: &TypeTerm, b: &TypeTerm) -> bool
         }
         (TypeTerm::List(a), TypeTerm::List(b)) => same_types(types, a.get(), b.get()),
         (TypeTerm::Cell(a), TypeTerm::Cell(b)) => same_types(types, a.get(), b.get()),
+        (TypeTerm::Async(a), TypeTerm::Async(b)) => same_types(types, a.get(), b.get()),
         (_, _) => false,
     }
 }

@@ -15,6 +15,7 @@ pub enum Node {
     Either(usize, usize),
     List(usize),
     Cell(usize),
+    Async(usize),
 }
 
 /// Types by their places, each behind its parts.

@@ -19,6 +19,8 @@ pub enum TypeTerm {
     List(Boxed<TypeTerm>),
     /// `MVar a`
     Cell(Boxed<TypeTerm>),
+    /// `Async a`
+    Async(Boxed<TypeTerm>),
     /// A type of the table, by its place.
     Known(usize),
 }
@@ -34,6 +36,7 @@ impl Drop for TypeTerm {
             TypeTerm::Either(_, _) => {}
             TypeTerm::List(_) => {}
             TypeTerm::Cell(_) => {}
+            TypeTerm::Async(_) => {}
             TypeTerm::Known(_) => {}
         }
     }
@@ -60,6 +63,7 @@ impl TypeTerm {
             }
             TypeTerm::List(a) => list_of(alloc, a.get()),
             TypeTerm::Cell(a) => cell_of(alloc, a.get()),
+            TypeTerm::Async(a) => async_of(alloc, a.get()),
             TypeTerm::Known(place) => Ok(TypeTerm::Known(*place)),
         }
     }
@@ -95,6 +99,14 @@ pub fn cell_of(alloc: Global, t: &TypeTerm) -> Result<TypeTerm, NoMemory>
     ensures { IfOk result (λ b. b ≡ TypeTerm.Cell t.now) }
 {
     Ok(TypeTerm::Cell(boxed_copy(alloc, t)?))
+}
+
+/// `Async t`
+#[cycle(copies)]
+pub fn async_of(alloc: Global, t: &TypeTerm) -> Result<TypeTerm, NoMemory>
+    ensures { IfOk result (λ b. b ≡ TypeTerm.Async t.now) }
+{
+    Ok(TypeTerm::Async(boxed_copy(alloc, t)?))
 }
 
 /// `(s, t)`

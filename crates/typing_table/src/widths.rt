@@ -28,6 +28,7 @@ fn spend_at(types: &TypeTable, place: usize, left: u32) -> Option<u32>
         }
         Node::List(a) => spend_at(types, a, left - 1),
         Node::Cell(a) => spend_at(types, a, left - 1),
+        Node::Async(a) => spend_at(types, a, left - 1),
     }
 }
 
@@ -52,6 +53,7 @@ fn spend(types: &TypeTable, t: &TypeTerm, left: u32) -> Option<u32>
         }
         TypeTerm::List(a) => spend(types, a.get(), left - 1),
         TypeTerm::Cell(a) => spend(types, a.get(), left - 1),
+        TypeTerm::Async(a) => spend(types, a.get(), left - 1),
         TypeTerm::Known(place) => spend_at(types, *place, left),
     }
 }
@@ -92,6 +94,7 @@ fn spend_written(t: &Ty, left: u32) -> Option<u32>
         }
         Ty::List(a) => spend_written(a.get(), left - 1),
         Ty::Cell(a) => spend_written(a.get(), left - 1),
+        Ty::Async(a) => spend_written(a.get(), left - 1),
     }
 }
 

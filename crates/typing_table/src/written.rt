@@ -48,6 +48,7 @@ fn written_at(alloc: Global, types: &TypeTable, place: usize) -> Result<Ty, NoMe
         )),
         Node::List(a) => Ok(Ty::List(boxed_at(alloc, types, a)?)),
         Node::Cell(a) => Ok(Ty::Cell(boxed_at(alloc, types, a)?)),
+        Node::Async(a) => Ok(Ty::Async(boxed_at(alloc, types, a)?)),
     }
 }
 
@@ -78,6 +79,7 @@ pub fn to_written(alloc: Global, types: &TypeTable, t: &TypeTerm) -> Result<Ty, 
         )),
         TypeTerm::List(a) => Ok(Ty::List(boxed_written(alloc, types, a.get())?)),
         TypeTerm::Cell(a) => Ok(Ty::Cell(boxed_written(alloc, types, a.get())?)),
+        TypeTerm::Async(a) => Ok(Ty::Async(boxed_written(alloc, types, a.get())?)),
         TypeTerm::Known(place) => written_at(alloc, types, *place),
     }
 }
@@ -114,5 +116,6 @@ pub fn from_written(alloc: Global, t: &Ty) -> Result<TypeTerm, NoMemory>
         )),
         Ty::List(a) => Ok(TypeTerm::List(boxed_type(alloc, a.get())?)),
         Ty::Cell(a) => Ok(TypeTerm::Cell(boxed_type(alloc, a.get())?)),
+        Ty::Async(a) => Ok(TypeTerm::Async(boxed_type(alloc, a.get())?)),
     }
 }

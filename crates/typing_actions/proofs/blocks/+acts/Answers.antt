@@ -3,8 +3,8 @@ use Rattle.hs_base.specs.declared.tree.action.BlockArms.{BlockArms}
 use Rattle.rules_trees.specs.Trees.{ex_of}
 use Rattle.rules_trees.specs.Programs.{case_act, act_of, act_arms_of, bl_of, stmt_of}
 use Rattle.rules_typing.specs.Typing.{a_cell, bound, inner_of, of}
-use Rattle.rules_typing.specs.TypingActions.{form_of_acts, row_modify, row_timeout}
-use Rattle.rules_trees.proofs.EquationsOfActions.{act-NewEmptyMVar, act-ThrowIo, act-Call, act-Unary, act-Binary, act-Scoped, act-Masking, act-Restore, act-Case, act-ModifyMVar, act-Timeout, stmt-Bind, stmt-Let}
+use Rattle.rules_typing.specs.TypingActions.{form_of_acts, row_async, row_modify, row_timeout}
+use Rattle.rules_trees.proofs.EquationsOfActions.{act-NewEmptyMVar, act-ThrowIo, act-Call, act-Unary, act-Binary, act-Scoped, act-Masking, act-Restore, act-Case, act-ModifyMVar, act-Timeout, act-WithAsync, stmt-Bind, stmt-Let}
 use Rattle.typing_judge.specs.Judging.{judge, needing, own, part, unless_full}
 use Rattle.typing_judge.specs.JudgingActions.{judge_act, judge_act_arms, judge_bl}
 use Rattle.typing_parts.specs.Contexts.{ctx_of}
@@ -56,6 +56,12 @@ action-returns-in_ok-t-in-Timeout t c =
     let k = ctx_of c.args.funs.now in
     tail2 c.args.funs.now.types.nodes c.args.checker.now c.type_of-in-Timeout.new.checker _ _ _ _ _ (λ s. judge_bl k s (bl_of c.in-Timeout.b)) (λ u v. own c.in-Timeout.p (row_timeout u v))
     (ap (judge_act (ctx_of c.args.funs.now) (names c.args.funs.now.types.nodes c.args.checker.now)) (ap act_of c.in-Timeout.is ∙ act-Timeout c.in-Timeout.p c.in-Timeout.e c.in-Timeout.b)) c.in_ok-t-in-Timeout.ensures c.second-in-Timeout.ensures
+
+pub action-returns-in_ok-t-in-WithAsync : goal.action-returns-in_ok-t-in-WithAsync
+action-returns-in_ok-t-in-WithAsync t c =
+    let k = ctx_of c.args.funs.now in
+    tail1 c.args.funs.now.types.nodes c.args.checker.now c.block-in-WithAsync.new.checker _ _ _ _ _ (λ s u. part (own c.in-WithAsync.p (row_async u)) (λ v. unless_full s c.in-WithAsync.x (judge_bl k (bound c.in-WithAsync.x v ∷ s) (bl_of c.in-WithAsync.d))))
+    (ap (judge_act (ctx_of c.args.funs.now) (names c.args.funs.now.types.nodes c.args.checker.now)) (ap act_of c.in-WithAsync.is ∙ act-WithAsync c.in-WithAsync.p c.in-WithAsync.b c.in-WithAsync.x c.in-WithAsync.d)) c.in_ok-t-in-WithAsync.ensures c.in_scope.ensures
 
 pub stmt-returns-in_ok-b-in-Bind : goal.stmt-returns-in_ok-b-in-Bind
 stmt-returns-in_ok-b-in-Bind t c =

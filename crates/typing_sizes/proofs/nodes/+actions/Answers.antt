@@ -1,9 +1,9 @@
 use Rattle.std.proofs.Common.{◌∙◌, refl, ap}
 use Rattle.rules_trees.specs.Trees.{ex_of}
 use Rattle.rules_trees.specs.Programs.{act_of, bl_of}
-use Rattle.rules_trees.proofs.EquationsOfActions.{act-ModifyMVar, act-Bracket, act-Timeout}
+use Rattle.rules_trees.proofs.EquationsOfActions.{act-ModifyMVar, act-Bracket, act-Timeout, act-WithAsync}
 use Rattle.rules_expansion.specs.Core.{OfScript}
-use Rattle.rules_expansion.specs.Expansion.{on_bound, on_three, on_both, block_core}
+use Rattle.rules_expansion.specs.Expansion.{on_bound, on_three, on_both, on_named, block_core}
 use Rattle.typing_sizes.proofs.nodes.+actions.Goals as goal
 
 pub act_nodes-returns-in-ModifyMVar : goal.act_nodes-returns-in-ModifyMVar
@@ -23,3 +23,9 @@ act_nodes-returns-in-Timeout t c =
     rw (ap act_of c.in-Timeout.is ∙ act-Timeout _ _ _)
     (c.derived_nodes-in-Timeout.ensures (on_both (OfScript (ex_of c.in-Timeout.e)) (block_core (bl_of c.in-Timeout.b)))
     (record { subject = c.ex_nodes-in-Timeout.ensures; first = c.bl_nodes-n-in-Timeout.ensures; second = c.bl_nodes-n-in-Timeout.ensures; third = c.bl_nodes-n-in-Timeout.ensures }))
+
+pub act_nodes-returns-in-WithAsync : goal.act_nodes-returns-in-WithAsync
+act_nodes-returns-in-WithAsync t c =
+    rw (ap act_of c.in-WithAsync.is ∙ act-WithAsync _ _ _ _)
+    (c.derived_nodes-in-WithAsync.ensures (on_named (block_core (bl_of c.in-WithAsync.b)) c.in-WithAsync.field-2.text (block_core (bl_of c.in-WithAsync.d)))
+    (record { subject = refl; first = c.bl_nodes-in-WithAsync.ensures; second = c.bl_nodes-n-in-WithAsync.ensures; third = c.bl_nodes-n-in-WithAsync.ensures }))

@@ -1,8 +1,8 @@
 use Rattle.std.proofs.Common.{ap, ◌∙◌, sym}
-use Rattle.rules_trees.specs.Trees.{ty_of, pair, maybe, either, list, cell}
-use Rattle.rules_trees.proofs.Equations.{ty-Pair, ty-Maybe, ty-Either, ty-List, ty-Cell}
+use Rattle.rules_trees.specs.Trees.{ty_of, pair, maybe, either, list, cell, async}
+use Rattle.rules_trees.proofs.Equations.{ty-Pair, ty-Maybe, ty-Either, ty-List, ty-Cell, ty-Async}
 use Rattle.typing_table.specs.Meaning.{type_in}
-use Rattle.typing_table.proofs.Equations.{type-Pair, type-Maybe, type-Either, type-List, type-Cell}
+use Rattle.typing_table.proofs.Equations.{type-Pair, type-Maybe, type-Either, type-List, type-Cell, type-Async}
 use Rattle.typing_table.proofs.written.+types_written.Goals as goal
 
 pub boxed_type-returns : goal.boxed_type-returns
@@ -39,3 +39,9 @@ from_written-returns-in_ok-boxed_type-in-Cell t c = λ ms.
     type-Cell ms c.in_ok-boxed_type-in-Cell.field-0
     ∙ (ap cell (c.in_ok-boxed_type-in-Cell.ensures ms ∙ ap ty_of c.get-in-Cell.ensures)
     ∙ (sym (ty-Cell c.in-Cell.a) ∙ ap ty_of (sym c.in-Cell.is)))
+
+pub from_written-returns-in_ok-boxed_type-in-Async : goal.from_written-returns-in_ok-boxed_type-in-Async
+from_written-returns-in_ok-boxed_type-in-Async t c = λ ms.
+    type-Async ms c.in_ok-boxed_type-in-Async.field-0
+    ∙ (ap async (c.in_ok-boxed_type-in-Async.ensures ms ∙ ap ty_of c.get-in-Async.ensures)
+    ∙ (sym (ty-Async c.in-Async.a) ∙ ap ty_of (sym c.in-Async.is)))

@@ -1,6 +1,6 @@
 use Rattle.std.proofs.Common.{refl, ap, ◌∙◌, sym}
 use Rattle.rules_trees.specs.Programs.{act_of}
-use Rattle.rules_trees.proofs.EquationsOfActions.{act-Bare, act-NewEmptyMVar, act-ThrowIo, act-Call, act-Unary, act-Binary, act-Scoped, act-Masking, act-Restore, act-If, act-Case, act-ModifyMVar, act-Catch, act-Guard, act-Bracket, act-Timeout}
+use Rattle.rules_trees.proofs.EquationsOfActions.{act-Bare, act-NewEmptyMVar, act-ThrowIo, act-Call, act-Unary, act-Binary, act-Scoped, act-Masking, act-Restore, act-If, act-Case, act-ModifyMVar, act-Catch, act-Guard, act-Bracket, act-Timeout, act-WithAsync}
 use Rattle.rules_typing.specs.TypingSizes as rule
 use Rattle.typing_parts.specs.Views.{sigs_of}
 use Rattle.typing_extents.proofs.Steps.{at, act_at, ex_at, bl_at, under_bl_at, act_arms_at, empty, worse_two, tail0}
@@ -108,6 +108,14 @@ action-returns-in_ok-y-in-Timeout t c =
     let v = c.in-Timeout in
     worse_two o c.extent-in-Timeout.new.self c.block-in-Timeout.new.self c.in_ok-x-in-Timeout.x c.in_ok-y-in-Timeout.y c.worse-in-Timeout.result (at (ex_at gs v.e) o) _ (bl_at gs v.b)
     (ap (λ z. at (act_at gs z) o) (ap act_of v.is ∙ act-Timeout _ v.e v.b)) c.in_ok-x-in-Timeout.ensures c.in_ok-y-in-Timeout.ensures c.worse-in-Timeout.ensures
+
+pub action-returns-in_ok-y-in-WithAsync : goal.action-returns-in_ok-y-in-WithAsync
+action-returns-in_ok-y-in-WithAsync t c =
+    let gs = sigs_of c.args.funs.now.types.nodes c.args.funs.now.sigs in
+    let o = c.args.self.now in
+    let v = c.in-WithAsync in
+    worse_two o c.block-in-WithAsync.new.self c.under_block-in-WithAsync.new.self c.in_ok-x-in-WithAsync.x c.in_ok-y-in-WithAsync.y c.worse-in-WithAsync.result (at (bl_at gs v.b) o) _ (under_bl_at gs v.v v.d)
+    (ap (λ z. at (act_at gs z) o) (ap act_of v.is ∙ act-WithAsync _ v.b v.v v.d)) c.in_ok-x-in-WithAsync.ensures c.in_ok-y-in-WithAsync.ensures c.worse-in-WithAsync.ensures
 
 pub action-returns-in_ok-z-in-If : goal.action-returns-in_ok-z-in-If
 action-returns-in_ok-z-in-If t c =

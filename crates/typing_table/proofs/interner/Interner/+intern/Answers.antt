@@ -1,6 +1,6 @@
 use Rattle.std.proofs.Common.{ap, arith, sym, ◌∙◌}
-use Rattle.rules_trees.specs.Trees.{ty_of, maybe, list, cell}
-use Rattle.rules_trees.proofs.Equations.{ty-Unit, ty-Int, ty-Bool, ty-Text, ty-Thread, ty-Exn, ty-Pair, ty-Maybe, ty-Either, ty-List, ty-Cell}
+use Rattle.rules_trees.specs.Trees.{ty_of, maybe, list, cell, async}
+use Rattle.rules_trees.proofs.Equations.{ty-Unit, ty-Int, ty-Bool, ty-Text, ty-Thread, ty-Exn, ty-Pair, ty-Maybe, ty-Either, ty-List, ty-Cell, ty-Async}
 use Rattle.typing_table.specs.declared.base.Base.TheVariants as b
 use Rattle.typing_table.specs.declared.table.Node.TheVariants as n
 use Rattle.typing_table.proofs.Interned.{interned, kept}
@@ -73,3 +73,10 @@ returns-in_ok-part-in-Cell t c =
     interned c.put-in-Cell.result _ _ _ (n.Cell c.in_ok-part-in-Cell.part) (ty_of c.args.t.now)
     c.put-in-Cell.new.self.types.ordered (omega (arith, p.1))
     (ap cell (p.2 ∙ ap ty_of c.get-in-Cell.ensures) ∙ sym (ap ty_of c.in-Cell.is ∙ ty-Cell c.in-Cell.a)) p.0 c.put-in-Cell.ensures
+
+pub returns-in_ok-part-in-Async : goal.returns-in_ok-part-in-Async
+returns-in_ok-part-in-Async t c =
+    let p = c.in_ok-part-in-Async.ensures in
+    interned c.put-in-Async.result _ _ _ (n.Async c.in_ok-part-in-Async.part) (ty_of c.args.t.now)
+    c.put-in-Async.new.self.types.ordered (omega (arith, p.1))
+    (ap async (p.2 ∙ ap ty_of c.get-in-Async.ensures) ∙ sym (ap ty_of c.in-Async.is ∙ ty-Async c.in-Async.a)) p.0 c.put-in-Async.ensures
