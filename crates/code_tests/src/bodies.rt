@@ -3,7 +3,7 @@
 //! A body is shown as its core actions: `* <- {A}; B` binds the next slot, `{A}; B` binds none, `let E; A` binds the next
 //! slot in A, `#k` reads slot k, `hard` is `uninterruptibleMask`, and `call k` calls the action function of that number.
 
-use hs_base::tree::forms::{BinaryForm, EmptyForm, UnaryForm};
+use hs_base::tree::forms::{BinaryForm, EmptyForm, SideForm, UnaryForm};
 use hs_base::{Exn, Value, Values};
 use hs_core::expand;
 use hs_items::Items;
@@ -15,7 +15,7 @@ use std::alloc::Global;
 use std::test::Fail;
 
 /// A script, and the body of its `main`.
-const ROWS: [(&str, &str); 22] = [
+const ROWS: [(&str, &str); 27] = [
     ("main :: IO () = { return () };", "return ()"),
     (
         "main :: IO () = { return 1; x <- return 2; return () };",
@@ -101,6 +101,26 @@ const ROWS: [(&str, &str); 22] = [
         "main :: IO () = { x <- return 1; x <- return (x + 1); y <- finally { return x } { return () }; return () };",
         "* <- {return 1}; * <- {return #0 + 1}; * <- {mask {* <- {catch {restore #2 {return #1}} {{return ()}; throwIO #3}}; {return ()}; return #3}}; return ()",
     ),
+    (
+        "main :: IO () = { withAsync { putStr \"a\" } a { putStr \"b\" } };",
+        "* <- {newEmptyMVar}; mask {* <- {fork {* <- {catch {* <- {restore #1 {putStr \"a\"}}; return Right(#2)} {return Left(#2)}}; putMVar #0 #2}}; let Pair(#2, #0); * <- {catch {restore #1 {putStr \"b\"}} {{hard {{throwTo #2 ThreadKilled}; * <- {readMVar #0}; return ()}}; throwIO #4}}; {hard {{throwTo #2 ThreadKilled}; * <- {readMVar #0}; return ()}}; return #4}",
+    ),
+    (
+        "main :: IO () = { x <- withAsync { return 1 } a { wait a }; return () };",
+        "* <- {* <- {newEmptyMVar}; mask {* <- {fork {* <- {catch {* <- {restore #1 {return 1}}; return Right(#2)} {return Left(#2)}}; putMVar #0 #2}}; let Pair(#2, #0); * <- {catch {restore #1 {let #3; * <- {readMVar Snd(#4)}; either #5 {throwIO #6} {return #6}}} {{hard {{throwTo #2 ThreadKilled}; * <- {readMVar #0}; return ()}}; throwIO #4}}; {hard {{throwTo #2 ThreadKilled}; * <- {readMVar #0}; return ()}}; return #4}}; return ()",
+    ),
+    (
+        "main :: IO () = { withAsync { putStr \"a\" } a { cancel a } };",
+        "* <- {newEmptyMVar}; mask {* <- {fork {* <- {catch {* <- {restore #1 {putStr \"a\"}}; return Right(#2)} {return Left(#2)}}; putMVar #0 #2}}; let Pair(#2, #0); * <- {catch {restore #1 {let #3; {throwTo Fst(#4) ThreadKilled}; * <- {readMVar Snd(#4)}; return ()}} {{hard {{throwTo #2 ThreadKilled}; * <- {readMVar #0}; return ()}}; throwIO #4}}; {hard {{throwTo #2 ThreadKilled}; * <- {readMVar #0}; return ()}}; return #4}",
+    ),
+    (
+        "main :: IO () = { x <- race { return 1 } { return () }; return () };",
+        "* <- {* <- {newEmptyMVar}; * <- {newEmptyMVar}; mask {* <- {fork {* <- {catch {* <- {restore #2 {mask {* <- {catch {* <- {restore #3 {return 1}}; return Right(Left(#4))} {return Left(#4)}}; * <- {tryPutMVar #0 #4}; return ()}}}; return Right(#3)} {return Left(#3)}}; putMVar #1 #3}}; let Pair(#3, #1); * <- {catch {restore #2 {* <- {newEmptyMVar}; mask {* <- {fork {* <- {catch {* <- {restore #6 {mask {* <- {catch {* <- {restore #7 {return ()}}; return Right(Right(#8))} {return Left(#8)}}; * <- {tryPutMVar #0 #8}; return ()}}}; return Right(#7)} {return Left(#7)}}; putMVar #5 #7}}; let Pair(#7, #5); * <- {catch {restore #6 {* <- {takeMVar #0}; either #9 {throwIO #10} {return #10}}} {{hard {{throwTo #7 ThreadKilled}; * <- {readMVar #5}; return ()}}; throwIO #9}}; {hard {{throwTo #7 ThreadKilled}; * <- {readMVar #5}; return ()}}; return #9}}} {{hard {{throwTo #3 ThreadKilled}; * <- {readMVar #1}; return ()}}; throwIO #5}}; {hard {{throwTo #3 ThreadKilled}; * <- {readMVar #1}; return ()}}; return #5}}; return ()",
+    ),
+    (
+        "main :: IO () = { p <- concurrently { return 1 } { return () }; return () };",
+        "* <- {* <- {newEmptyMVar}; * <- {newEmptyMVar}; mask {* <- {fork {* <- {catch {* <- {restore #2 {mask {* <- {catch {* <- {restore #3 {return 1}}; return Right(#4)} {return Left(#4)}}; either #4 {* <- {tryPutMVar #0 Left(#5)}; throwIO #5} {* <- {tryPutMVar #0 Right(())}; return #5}}}}; return Right(#3)} {return Left(#3)}}; putMVar #1 #3}}; let Pair(#3, #1); * <- {catch {restore #2 {* <- {newEmptyMVar}; mask {* <- {fork {* <- {catch {* <- {restore #6 {mask {* <- {catch {* <- {restore #7 {return ()}}; return Right(#8)} {return Left(#8)}}; either #8 {* <- {tryPutMVar #0 Left(#9)}; throwIO #9} {* <- {tryPutMVar #0 Right(())}; return #9}}}}; return Right(#7)} {return Left(#7)}}; putMVar #5 #7}}; let Pair(#7, #5); * <- {catch {restore #6 {* <- {takeMVar #0}; either #9 {throwIO #10} {* <- {let #4; * <- {readMVar Snd(#11)}; either #12 {throwIO #13} {return #13}}; * <- {let #8; * <- {readMVar Snd(#12)}; either #13 {throwIO #14} {return #14}}; return Pair(#11, #12)}}} {{hard {{throwTo #7 ThreadKilled}; * <- {readMVar #5}; return ()}}; throwIO #9}}; {hard {{throwTo #7 ThreadKilled}; * <- {readMVar #5}; return ()}}; return #9}}} {{hard {{throwTo #3 ThreadKilled}; * <- {readMVar #1}; return ()}}; throwIO #5}}; {hard {{throwTo #3 ThreadKilled}; * <- {readMVar #1}; return ()}}; return #5}}; return ()",
+    ),
 ];
 
 /// What is still to be shown.
@@ -160,10 +180,36 @@ fn exception_word(exn: &Exn) -> &'static str {
     }
 }
 
+fn unary_word(form: UnaryForm) -> &'static str {
+    match form {
+        UnaryForm::Just => "Just(",
+        UnaryForm::Fst => "Fst(",
+        UnaryForm::Snd => "Snd(",
+        _ => "another form(",
+    }
+}
+
+fn side_word(form: SideForm) -> &'static str {
+    match form {
+        SideForm::Left => "Left(",
+        SideForm::Right => "Right(",
+    }
+}
+
+fn binary_word(form: BinaryForm) -> &'static str {
+    match form {
+        BinaryForm::Less => "Less(",
+        BinaryForm::Equal => "Equal(",
+        BinaryForm::Pair => "Pair(",
+        _ => "another form(",
+    }
+}
+
 /// Shows an expression, or puts its parts in front of what is left.
 fn show_expr(left: &mut Vec<Piece>, text: &mut String, node: &Node) -> Result<(), Fail> {
+    use Piece::{Expr, Number, Slot, Word};
     match node {
-        Node::Int(n) => left.push(Piece::Number(*n))?,
+        Node::Int(n) => left.push(Number(*n))?,
         Node::Text(letters) => {
             text.push_str("\"")?;
             text.push_str(letters.as_str())?;
@@ -172,33 +218,24 @@ fn show_expr(left: &mut Vec<Piece>, text: &mut String, node: &Node) -> Result<()
         Node::Exn(exn) => text.push_str(exception_word(exn))?,
         Node::Unit => text.push_str("()")?,
         Node::Empty(EmptyForm::Nothing) => text.push_str("Nothing")?,
-        Node::Slot(k) => left.push(Piece::Slot(*k))?,
-        Node::Unary(UnaryForm::Just, a) => push_all(
+        Node::Slot(k) => left.push(Slot(*k))?,
+        Node::Unary(form, a) => push_all(left, &[Word(unary_word(*form)), Expr(*a), Word(")")])?,
+        Node::Side(form, a) => push_all(left, &[Word(side_word(*form)), Expr(*a), Word(")")])?,
+        Node::Binary(form, a, b) => push_all(
             left,
-            &[Piece::Word("Just("), Piece::Expr(*a), Piece::Word(")")],
+            &[
+                Word(binary_word(*form)),
+                Expr(*a),
+                Word(", "),
+                Expr(*b),
+                Word(")"),
+            ],
         )?,
-        Node::Binary(form, a, b) => {
-            let word = match form {
-                BinaryForm::Less => "Less(",
-                BinaryForm::Equal => "Equal(",
-                _ => "another form(",
-            };
-            push_all(
-                left,
-                &[
-                    Piece::Word(word),
-                    Piece::Expr(*a),
-                    Piece::Word(", "),
-                    Piece::Expr(*b),
-                    Piece::Word(")"),
-                ],
-            )?;
-        }
         Node::Chain(a, links) => {
             for link in links.as_slice().iter().rev() {
-                push_all(left, &[Piece::Word(" + "), Piece::Expr(link.operand)])?;
+                push_all(left, &[Word(" + "), Expr(link.operand)])?;
             }
-            left.push(Piece::Expr(*a))?;
+            left.push(Expr(*a))?;
         }
         _ => text.push_str("another expression")?,
     }

@@ -6,9 +6,9 @@ use Rattle.rules_expansion.specs.declared.template.Step.{Step}
 use Rattle.rules_expansion.specs.declared.template.Step.TheVariants as p
 use Rattle.rules_expansion.specs.Names.{Name}
 use Rattle.rules_expansion.specs.Core.{ActionFunction}
-use Rattle.rules_expansion.specs.Templates.{Template, hole, give, throw, let_in, bind, then, choose, perform, perform_one, perform_two, fork_unmask, catch, mask, mask_hard, restore, Filling, named, operand, fill, flat}
+use Rattle.rules_expansion.specs.Templates.{Template, hole, give, throw, let_in, bind, then, choose, either, perform, perform_one, perform_two, fork, fork_unmask, catch, mask, mask_hard, restore, Filling, named, operand, fill, flat}
 use Rattle.rules_code.specs.Slots.{Sx, Scope, Root}
-use Rattle.rules_code.specs.CodeTrees.{Sa, a_let, a_bind, a_then, a_fork_unmask, a_catch, a_mask, a_mask_hard, is_unread, slotted_core, slotted_core_ex}
+use Rattle.rules_code.specs.CodeTrees.{Sa, a_let, a_bind, a_then, a_either, a_fork_unmask, a_catch, a_mask, a_mask_hard, is_unread, slotted_core, slotted_core_ex}
 use Rattle.hs_nodes.specs.declared.names.Bound.{Bound}
 use Rattle.hs_nodes.specs.Names.{name_of}
 use Rattle.hs_core.specs.Making.{Trees, above, bound, run}
@@ -57,9 +57,17 @@ module _ (rs : List Root) (fs : List ActionFunction) (s : Scope) (f : Filling) w
   makes (choose e a c) k ns xs us =
       let x = slotted_core_ex rs (above ns s) (operand f e) in
       makes a (flat c (p.If ∷ k)) ns (x ∷ xs) us ∙ makes c (p.If ∷ k) ns (x ∷ xs) (made_of a ns ∷ us)
+  makes (either e x a y c) k ns xs us =
+      let v = slotted_core_ex rs (above ns s) (operand f e) in
+      let left = bound f.given x ∷ ns in
+      let right = bound f.given y ∷ ns in
+      makes a (p.Off ∷ p.Under y ∷ flat c (p.Off ∷ p.CaseEither ∷ k)) left (v ∷ xs) us
+      ∙ (makes c (p.Off ∷ p.CaseEither ∷ k) right (v ∷ xs) (made_of a left ∷ us)
+      ∙ (entered x a ns k xs us (λ z. a_either v z (made_of c right)) ∙ entered y c ns k xs us (a_either v (inner a (named f.given x) ns))))
   makes (perform q) k ns xs us = refl
   makes (perform_one q e) k ns xs us = refl
   makes (perform_two q e h) k ns xs us = refl
+  makes (fork a) k ns xs us = makes a (p.Fork ∷ k) ns xs us
   makes (fork_unmask x a) k ns xs us = makes a (p.Off ∷ p.ForkUnmask ∷ k) (bound f.given x ∷ ns) xs us ∙ entered x a ns k xs us a_fork_unmask
   makes (catch a x c) k ns xs us =
       makes a (p.Under x ∷ flat c (p.Off ∷ p.Catch ∷ k)) ns xs us

@@ -18,7 +18,7 @@ use Rattle.rules_expansion.specs.Core.{CoreEx, OfScript, NoValue, Core, Return, 
 use Rattle.rules_expansion.specs.Expansion.{block_core, of_three}
 use Rattle.rules_expansion.specs.Templates.{Filling, named, operand}
 use Rattle.rules_code.specs.Slots.{Sx, s_empty, s_none, s_more, Scope, Root, slot_of}
-use Rattle.rules_code.specs.CodeTrees.{Sa, a_return, a_throw, a_let, a_bind, a_then, a_if, a_perform, a_fork_unmask, a_catch, a_mask, a_mask_hard, a_restore, a_bad, slot_or_end, slotted_core, slotted_core_ex}
+use Rattle.rules_code.specs.CodeTrees.{Sa, a_return, a_throw, a_let, a_bind, a_then, a_if, a_either, a_perform, a_fork, a_fork_unmask, a_catch, a_mask, a_mask_hard, a_restore, a_bad, slot_or_end, slotted_core, slotted_core_ex}
 use Rattle.hs_nodes.specs.declared.names.Bound.{Bound}
 use Rattle.hs_nodes.specs.declared.names.Bound.TheVariants as w
 use Rattle.hs_nodes.specs.Names.{name_of}
@@ -44,6 +44,7 @@ blocks_of (tree.scoped k q a) = λ i. block_core a
 blocks_of (tree.guard k q a c) = of_three (block_core a) (block_core c) (block_core c)
 blocks_of (tree.bracket q a x c e) = of_three (block_core a) (block_core c) (block_core e)
 blocks_of (tree.timeout q e a) = λ i. block_core a
+blocks_of (tree.with_async q a x c) = of_three (block_core a) (block_core c) (block_core c)
 blocks_of (tree.bare k q) = λ i. no_block
 blocks_of (tree.unary_act k q e) = λ i. no_block
 blocks_of (tree.binary_act k q e f) = λ i. no_block
@@ -142,9 +143,11 @@ module _ (rs : List Root) (fs : List ActionFunction) (s : Scope) (f : Filling) w
   after p.Bind t = of_acts a_bind t
   after p.Then t = of_acts a_then t
   after p.If t = of_operand_acts a_if t
+  after p.CaseEither t = of_operand_acts a_either t
   after (p.Perform q) t = of_none (a_perform q s_none) t
   after (p.PerformOne q) t = of_operand (λ x. a_perform q (s_more x s_none)) t
   after (p.PerformTwo q) t = of_operands (λ x y. a_perform q (s_more x (s_more y s_none))) t
+  after p.Fork t = of_act a_fork t
   after p.ForkUnmask t = of_act a_fork_unmask t
   after p.Catch t = of_acts a_catch t
   after p.Mask t = of_act a_mask t

@@ -29,7 +29,7 @@ impl ActEmitter {
     {
         match a {
             Action::Bare(word, _) => self.bare(alloc, defs, *word),
-            Action::Unary(word, _, e) => self.unary(alloc, defs, *word, e),
+            Action::Unary(word, _, e) => self.unary(alloc, defs, a, *word, e),
             Action::Binary(word, _, e, f) => self.binary(alloc, defs, *word, e, f),
             Action::ThrowIo(_, _, e) => self.throw(alloc, defs, e),
             Action::NewEmptyMVar(_, _) => self.primitive(alloc, defs, Primitive::NewEmptyMVar),
@@ -73,12 +73,19 @@ impl ActEmitter {
                     self.derived(alloc, defs, Derived::OnException, None, None, a)
                 }
                 GuardAction::Finally => self.derived(alloc, defs, Derived::Finally, None, None, a),
+                GuardAction::Race => self.derived(alloc, defs, Derived::Race, None, None, a),
+                GuardAction::Concurrently => {
+                    self.derived(alloc, defs, Derived::Concurrently, None, None, a)
+                }
             },
             Action::Bracket(_, _, x, _, _) => {
                 self.derived(alloc, defs, Derived::Bracket, None, Some(&x.text), a)
             }
             Action::Timeout(_, e, _) => {
                 self.derived(alloc, defs, Derived::Timeout, Some(e), None, a)
+            }
+            Action::WithAsync(_, _, x, _) => {
+                self.derived(alloc, defs, Derived::WithAsync, None, Some(&x.text), a)
             }
         }
     }

@@ -1,6 +1,6 @@
 //! The nodes of a code so far, and the single steps that add to them.
 use crate::defs::Defs;
-use hs_base::tree::forms::{BinaryForm, EmptyForm, UnaryForm};
+use hs_base::tree::forms::{BinaryForm, EmptyForm, SideForm, UnaryForm};
 use hs_base::{Exn, Expr, NoMemory, Txt};
 use hs_items::Items;
 use hs_nodes::Emitter;
@@ -18,13 +18,12 @@ pub struct ActEmitter {
 impl ActEmitter {
     ghost use Rattle.std.specs.Prelude.{◌≡◌, [], IfOk, pos};
     ghost use Rattle.hs_base.specs.declared.exn.Exn.TheVariants as x;
-    ghost use Rattle.hs_base.specs.declared.tree.forms.UnaryForm.TheVariants as u;
     ghost use Rattle.hs_base.specs.declared.tree.forms.EmptyForm.TheVariants as n;
-    ghost use Rattle.rules_trees.specs.Trees.{ex_of, number, exception};
+    ghost use Rattle.rules_trees.specs.Trees.{ex_of, number, nothing_more, exception};
     ghost use Rattle.rules_expansion.specs.Names.{Written, Added};
     ghost use Rattle.rules_expansion.specs.Core.{Killed};
     ghost use Rattle.rules_expansion.specs.declared.primitive.Primitive.TheVariants.{ThrowTo};
-    ghost use Rattle.rules_code.specs.Slots.{Sx, Sxs, slotted, slot_of, s_literal, s_empty, s_unary, s_binary, s_none, s_more};
+    ghost use Rattle.rules_code.specs.Slots.{Sx, Sxs, slotted, slot_of, s_literal, s_empty, s_unary, s_side, s_binary, s_none, s_more};
     ghost use Rattle.rules_code.specs.CodeTrees.{Sa, slot_or_end, a_perform, a_restore, slotted_core_ex};
     ghost use Rattle.hs_nodes.specs.Names.{scope_of};
     ghost use Rattle.hs_core.specs.Defining.{Knows, roots};
@@ -91,16 +90,37 @@ impl ActEmitter {
         Ok(id)
     }
 
-    /// `Just e`
-    pub fn just(&mut self, e: ExprId) -> Result<ExprId, NoMemory>
-        ensures { (t : Sx) → IfOk result (λ id. EmitsEx (StandsIn self.old e t) self.old self.new id (λ s. s_unary u.Just t)) }
+    /// `()`
+    pub fn nil(&mut self) -> Result<ExprId, NoMemory>
+        ensures { IfOk result (λ id. EmitsEx Nothing_given self.old self.new id (λ s. s_literal nothing_more)) }
     {
-        let id = self.emitter.add(Node::Unary(UnaryForm::Just, e))?;
+        let id = self.emitter.add(Node::Unit)?;
         Ok(id)
     }
 
-    /// A comparison.
-    pub fn compare(&mut self, form: BinaryForm, e: ExprId, f: ExprId) -> Result<ExprId, NoMemory>
+    /// A form with one part.
+    pub fn unary_node(&mut self, form: UnaryForm, e: ExprId) -> Result<ExprId, NoMemory>
+        ensures { (t : Sx) → IfOk result (λ id. EmitsEx (StandsIn self.old e t) self.old self.new id (λ s. s_unary form t)) }
+    {
+        let id = self.emitter.add(Node::Unary(form, e))?;
+        Ok(id)
+    }
+
+    /// `Left` or `Right`.
+    pub fn side_node(&mut self, form: SideForm, e: ExprId) -> Result<ExprId, NoMemory>
+        ensures { (t : Sx) → IfOk result (λ id. EmitsEx (StandsIn self.old e t) self.old self.new id (λ s. s_side form t)) }
+    {
+        let id = self.emitter.add(Node::Side(form, e))?;
+        Ok(id)
+    }
+
+    /// A form with two parts.
+    pub fn binary_node(
+        &mut self,
+        form: BinaryForm,
+        e: ExprId,
+        f: ExprId,
+    ) -> Result<ExprId, NoMemory>
         ensures { (t w : Sx) → IfOk result (λ id. EmitsEx (StandsIn self.old e t × StandsIn self.old f w) self.old self.new id (λ s. s_binary form t w)) }
     {
         let id = self.emitter.add(Node::Binary(form, e, f))?;

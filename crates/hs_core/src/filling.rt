@@ -6,11 +6,10 @@ ghost use Rattle.hs_core.specs.Making.{given_of};
 use crate::defs::Defs;
 use crate::emitter::ActEmitter;
 use crate::making::Making;
-use hs_base::tree::forms::BinaryForm;
 use hs_base::{Action, Expr, NoMemory, Txt};
 use hs_items::Items;
 use hs_nodes::names::{bind, bind_added, off};
-use rules_code::{Act, ActId, ExprId, Node};
+use rules_code::{Act, ActId};
 use rules_expansion::{Binder, Derived, Operand, Part, Step, steps};
 use std::alloc::Global;
 
@@ -26,110 +25,20 @@ fn given(alloc: Global, name: Option<&Txt>) -> Result<Txt, NoMemory>
 }
 
 impl ActEmitter {
-    ghost use Rattle.std.specs.Prelude.{◌≡◌, IfOk, OnOk, [], pos};
+    ghost use Rattle.std.specs.Prelude.{◌≡◌, IfOk, OnOk, []};
     ghost use Rattle.std.specs.Option.{option_copied};
     ghost use Rattle.hs_core.specs.declared.defs.Defs.{Defs};
-    ghost use Rattle.rules_trees.specs.Trees.{number};
     ghost use Rattle.rules_trees.specs.Programs.{act_of};
     ghost use Rattle.hs_core.specs.declared.making.Making.{Making};
-    ghost use Rattle.rules_expansion.specs.Core.{JustRead, SameExn};
-    ghost use Rattle.rules_expansion.specs.Templates.{Filling, named, operand};
+    ghost use Rattle.rules_expansion.specs.Templates.{Filling, operand};
     ghost use Rattle.rules_expansion.specs.declared.template.Part.{Part};
     ghost use Rattle.rules_expansion.specs.Expansion as expansion;
-    ghost use Rattle.rules_code.specs.Slots.{s_binary, s_literal, slot_of};
-    ghost use Rattle.rules_code.specs.CodeTrees.{slot_or_end, slot_read, slotted_core, slotted_core_ex};
-    ghost use Rattle.hs_nodes.specs.Names.{scope_of};
+    ghost use Rattle.rules_code.specs.CodeTrees.{slotted_core, slotted_core_ex};
     ghost use Rattle.hs_core.specs.Defining.{Knows, roots, functions};
-    ghost use Rattle.hs_core.specs.Emits.{Emits, EmitsEx, Nothing_given};
+    ghost use Rattle.hs_core.specs.Emits.{Emits, Nothing_given};
     ghost use Rattle.hs_core.specs.Opening.{core_tree};
     ghost use Rattle.hs_core.specs.Making.{subject_of, no_block, blocks_of, filling_of, above, pushing, under, leaving, bound, restoring, after};
     ghost use Rattle.hs_core.specs.Waiting.{Moves};
-
-    /// The slot of a name of a template.
-    fn slot_bound(&self, x: Binder, given: &Txt) -> usize
-        ensures { result ≡ slot_or_end (slot_of (scope_of self.now.emitter.scope) (named given.now x)) (scope_of self.now.emitter.scope) }
-    {
-        match x {
-            Binder::Own(h) => self.slot(h),
-            Binder::Given => self.written_slot(given),
-        }
-    }
-
-    /// Reads a name of a template.
-    fn read_bound(&mut self, x: Binder, given: &Txt) -> Result<ExprId, NoMemory>
-        ensures { IfOk result (λ id. EmitsEx Nothing_given self.old self.new id (λ s. slot_read s (named given.now x))) }
-    {
-        let slot = self.slot_bound(x, given);
-        let id = self.emitter.add(Node::Slot(slot))?;
-        Ok(id)
-    }
-
-    /// `Just x`
-    fn just_bound(&mut self, x: Binder, given: &Txt) -> Result<ExprId, NoMemory>
-        ensures { IfOk result (λ id. EmitsEx Nothing_given self.old self.new id (λ s. slotted_core_ex [] s (JustRead (named given.now x)))) }
-    {
-        let e = self.read_bound(x, given)?;
-        let id = self.just(e)?;
-        Ok(id)
-    }
-
-    /// A name, compared with 0.
-    fn against_zero(&mut self, op: BinaryForm, x: Binder, given: &Txt) -> Result<ExprId, NoMemory>
-        ensures { IfOk result (λ id. EmitsEx Nothing_given self.old self.new id (λ s. s_binary op (slot_read s (named given.now x)) (s_literal (number (pos 0))))) }
-    {
-        let e = self.read_bound(x, given)?;
-        let f = self.zero()?;
-        let id = self.compare(op, e, f)?;
-        Ok(id)
-    }
-
-    /// `x == y`, of exceptions.
-    fn same_bound(&mut self, x: Binder, y: Binder, given: &Txt) -> Result<ExprId, NoMemory>
-        ensures { IfOk result (λ id. EmitsEx Nothing_given self.old self.new id (λ s. slotted_core_ex [] s (SameExn (named given.now x) (named given.now y)))) }
-    {
-        let e = self.read_bound(x, given)?;
-        let f = self.read_bound(y, given)?;
-        let id = self.compare(BinaryForm::Equal, e, f)?;
-        Ok(id)
-    }
-
-    /// The expression of a form; `Nothing` where it has none.
-    fn subject(
-        &mut self,
-        alloc: Global,
-        defs: &Defs,
-        subject: Option<&Expr>,
-    ) -> Result<ExprId, NoMemory>
-        ensures { IfOk result (λ id. EmitsEx (Knows self.old.emitter.nodes defs.now) self.old self.new id (λ s. slotted_core_ex (roots defs.now) s (subject_of (option_copied subject.entry)))) }
-    {
-        match subject {
-            Some(e) => self.expr(alloc, defs, e),
-            None => self.no_value(),
-        }
-    }
-
-    /// An expression of a template.
-    fn operand(
-        &mut self,
-        alloc: Global,
-        defs: &Defs,
-        what: Operand,
-        subject: Option<&Expr>,
-        given: &Txt,
-    ) -> Result<ExprId, NoMemory>
-        ensures { (f : Filling) → f.subject ≡ subject_of (option_copied subject.entry) → f.given ≡ given.now → IfOk result (λ id. EmitsEx (Knows self.old.emitter.nodes defs.now) self.old self.new id (λ s. slotted_core_ex (roots defs.now) s (operand f what))) }
-    {
-        match what {
-            Operand::Subject => self.subject(alloc, defs, subject),
-            Operand::Read(x) => self.read_bound(x, given),
-            Operand::JustRead(x) => self.just_bound(x, given),
-            Operand::NoValue => self.no_value(),
-            Operand::BelowZero(x) => self.against_zero(BinaryForm::Less, x, given),
-            Operand::IsZero(x) => self.against_zero(BinaryForm::Equal, x, given),
-            Operand::SameExn(x, y) => self.same_bound(x, y, given),
-            Operand::Killed => self.killed(),
-        }
-    }
 
     /// An expression of a template, which waits then.
     fn push(
@@ -207,9 +116,11 @@ impl ActEmitter {
             Step::Bind => self.make_bind(making),
             Step::Then => self.make_then(making),
             Step::If => self.make_if(making),
+            Step::CaseEither => self.make_case_either(making),
             Step::Perform(primitive) => self.make_perform(alloc, making, primitive),
             Step::PerformOne(primitive) => self.make_perform_one(alloc, making, primitive),
             Step::PerformTwo(primitive) => self.make_perform_two(alloc, making, primitive),
+            Step::Fork => self.make_fork(making),
             Step::ForkUnmask => self.make_fork_unmask(making),
             Step::Catch => self.make_catch(making),
             Step::Mask => self.make_mask(making),
@@ -242,7 +153,7 @@ impl ActEmitter {
             Action::ModifyMVar(_, _, _, b) => self.block(alloc, defs, b),
             Action::Scoped(_, _, b) => self.block(alloc, defs, b),
             Action::Timeout(_, _, b) => self.block(alloc, defs, b),
-            Action::Guard(_, _, b, d) => match part {
+            Action::Guard(_, _, b, d) | Action::WithAsync(_, b, _, d) => match part {
                 Part::First => self.block(alloc, defs, b),
                 Part::Second => self.block(alloc, defs, d),
                 Part::Third => self.block(alloc, defs, d),

@@ -2,9 +2,10 @@
 use crate::defs::Defs;
 use crate::emitter::ActEmitter;
 use hs_base::tree::forms::{BareAction, BinaryAction, UnaryAction};
-use hs_base::{Expr, NoMemory, Txt};
+use hs_base::{Action, Expr, NoMemory, Txt};
 use hs_items::Items;
 use rules_code::{Act, ActId, ExprId, Primitive};
+use rules_expansion::Derived;
 use std::alloc::Global;
 
 impl ActEmitter {
@@ -30,11 +31,13 @@ impl ActEmitter {
         }
     }
 
-    /// A word and an expression.
+    /// A word and an expression, which are the parts of this action.
+    #[cycle(expand)]
     pub fn unary(
         &mut self,
         alloc: Global,
         defs: &Defs,
+        a: &Action,
         word: UnaryAction,
         e: &Expr,
     ) -> Result<ActId, NoMemory>
@@ -51,6 +54,8 @@ impl ActEmitter {
             UnaryAction::TryTakeMVar => self.primitive_one(alloc, defs, Primitive::TryTakeMVar, e),
             UnaryAction::KillThread => self.kill_thread(alloc, defs, e),
             UnaryAction::ThreadDelay => self.primitive_one(alloc, defs, Primitive::ThreadDelay, e),
+            UnaryAction::Wait => self.derived(alloc, defs, Derived::Wait, Some(e), None, a),
+            UnaryAction::Cancel => self.derived(alloc, defs, Derived::Cancel, Some(e), None, a),
         }
     }
 

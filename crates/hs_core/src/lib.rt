@@ -15,6 +15,7 @@ mod expanding;
 mod filling;
 mod leaves;
 mod making;
+mod operands;
 mod pending;
 
 pub use defs::Defs;

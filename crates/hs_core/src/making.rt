@@ -19,7 +19,7 @@ pub struct Making {
 impl ActEmitter {
     ghost use Rattle.std.specs.Prelude.{IfOk, OnOk, List};
     ghost use Rattle.rules_code.specs.Slots.{Sx, s_none, s_more};
-    ghost use Rattle.rules_code.specs.CodeTrees.{Sa, a_return, a_throw, a_let, a_bind, a_then, a_if, a_perform, a_fork_unmask, a_catch, a_mask, a_mask_hard, a_restore};
+    ghost use Rattle.rules_code.specs.CodeTrees.{Sa, a_return, a_throw, a_let, a_bind, a_then, a_if, a_either, a_perform, a_fork, a_fork_unmask, a_catch, a_mask, a_mask_hard, a_restore};
     ghost use Rattle.hs_core.specs.declared.defs.Defs.{Defs};
     ghost use Rattle.hs_core.specs.Making.{of_none, of_operand, of_operands, of_act, of_acts, of_operand_act, of_operand_acts};
     ghost use Rattle.hs_core.specs.Waiting.{OperandOff, ActOff, Put, Moves};
@@ -115,6 +115,17 @@ impl ActEmitter {
         Ok(())
     }
 
+    /// `case e of { Left x -> A; Right y -> B }`
+    pub fn make_case_either(&mut self, making: &mut Making) -> Result<(), NoMemory>
+        ensures { (d : Defs) → OnOk result (Moves d self.old self.new making.old making.new (λ s. of_operand_acts a_either)) }
+    {
+        let e = self.operand_off(&mut making.operands)?;
+        let j = self.act_off(&mut making.acts);
+        let i = self.act_off(&mut making.acts);
+        self.put(making, Act::CaseEither(e, i, j))?;
+        Ok(())
+    }
+
     /// A primitive without operands.
     pub fn make_perform(
         &mut self,
@@ -156,6 +167,15 @@ impl ActEmitter {
         let e = self.operand_off(&mut making.operands)?;
         let es = Items::from_slice(alloc, &[e, f])?;
         self.put(making, Act::Perform(primitive, es))?;
+        Ok(())
+    }
+
+    /// `forkIO A`
+    pub fn make_fork(&mut self, making: &mut Making) -> Result<(), NoMemory>
+        ensures { (d : Defs) → OnOk result (Moves d self.old self.new making.old making.new (λ s. of_act a_fork)) }
+    {
+        let i = self.act_off(&mut making.acts);
+        self.put(making, Act::Fork(i))?;
         Ok(())
     }
 

@@ -24,6 +24,12 @@ returns-in-Then c = λ f s g n. as_step c.make_then.result c.args.self.now c.mak
 pub returns-in-If : goal.returns-in-If
 returns-in-If c = λ f s g n. as_step c.make_if.result c.args.self.now c.make_if.new.self c.args.making.now c.make_if.new.making c.args.defs.now f c.args.step p.If c.in-If.is (c.make_if.ensures c.args.defs.now)
 
+pub returns-in-CaseEither : goal.returns-in-CaseEither
+returns-in-CaseEither c = λ f s g n. as_step c.make_case_either.result c.args.self.now c.make_case_either.new.self c.args.making.now c.make_case_either.new.making c.args.defs.now f c.args.step p.CaseEither c.in-CaseEither.is (c.make_case_either.ensures c.args.defs.now)
+
+pub returns-in-Fork : goal.returns-in-Fork
+returns-in-Fork c = λ f s g n. as_step c.make_fork.result c.args.self.now c.make_fork.new.self c.args.making.now c.make_fork.new.making c.args.defs.now f c.args.step p.Fork c.in-Fork.is (c.make_fork.ensures c.args.defs.now)
+
 pub returns-in-ForkUnmask : goal.returns-in-ForkUnmask
 returns-in-ForkUnmask c = λ f s g n. as_step c.make_fork_unmask.result c.args.self.now c.make_fork_unmask.new.self c.args.making.now c.make_fork_unmask.new.making c.args.defs.now f c.args.step p.ForkUnmask c.in-ForkUnmask.is (c.make_fork_unmask.ensures c.args.defs.now)
 

@@ -1,7 +1,0 @@
-use Rattle.hs_base.specs.declared.tree.forms.BinaryForm.TheVariants as b
-use Rattle.rules_code.specs.Slots.{s_binary}
-use Rattle.hs_core.proofs.Steps.{ex_after2}
-use Rattle.hs_core.proofs.emitter.ActEmitter.same_bound.Goals as goal
-
-pub returns : goal.returns
-returns c = ex_after2 (s_binary b.Equal) c.in_ok-e.ensures (λ k. k) c.in_ok-f.ensures (λ k. k) c.in_ok-id.ensures
