@@ -17,7 +17,7 @@ use Rattle.rules_expansion.specs.declared.primitive.Primitive.{Primitive as Aske
 use Rattle.rules_expansion.specs.declared.primitive.Primitive.TheVariants as p
 use Rattle.hs_eval.proofs.Cases.{by_form, by_list, value_of-Unit, value_of-Int, value_of-Bool, value_of-Text, value_of-Nothing, value_of-Cell, value_of-Thread, value_of-Exn, value_of-Restore, value_of-Inst}
 use Rattle.hs_soundness.specs.CoreSorts.{of_instance}
-use Rattle.hs_progress.specs.CoreTyping.{Asks, asks_put_str, asks_put_str_ln, asks_h_put_str_ln, asks_new, asks_new_empty, asks_take, asks_put, asks_read, asks_try_take, asks_try_put, asks_my_thread, asks_masking, asks_clock, asks_delay, asks_throw_to, asks_new_timeout, asks_acquired, asks_release}
+use Rattle.hs_progress.specs.CoreTyping.{Asks, asks_put_str, asks_put_str_ln, asks_h_put_str_ln, asks_new, asks_new_empty, asks_new_scope_cell, asks_take, asks_put, asks_put_end, asks_read, asks_read_end, asks_try_take, asks_try_put, asks_my_thread, asks_masking, asks_clock, asks_delay, asks_throw_to, asks_new_timeout, asks_acquired, asks_release}
 use Rattle.hs_progress.specs.TypedStates.{AllOfSorts, no_values, one_value}
 use Rattle.frame_stack.specs.Slicing.{Unfit}
 
@@ -75,6 +75,7 @@ take_unfit v n ks k asks_take (one_value h no_values) = n h
 
 pub read_unfit : (v : V) → (of_cell (λ m. Unit {0}) v → ⊥) → Unfit ReadMVar (v ∷ [])
 read_unfit v n ks k asks_read (one_value h no_values) = n h
+read_unfit v n ks k asks_read_end (one_value h no_values) = n h
 
 pub try_take_unfit : (v : V) → (of_cell (λ m. Unit {0}) v → ⊥) → Unfit TryTakeMVar (v ∷ [])
 try_take_unfit v n ks k asks_try_take (one_value h no_values) = n h
@@ -87,6 +88,7 @@ release_unfit v n ks k asks_release (one_value h no_values) = n h
 
 pub put_unfit : (v w : V) → (of_cell (λ m. Unit {0}) v → ⊥) → Unfit PutMVar (v ∷ w ∷ [])
 put_unfit v w n ks k asks_put (one_value h (one_value g no_values)) = n h
+put_unfit v w n ks k asks_put_end (one_value h (one_value g no_values)) = n h
 
 pub try_put_unfit : (v w : V) → (of_cell (λ m. Unit {0}) v → ⊥) → Unfit TryPutMVar (v ∷ w ∷ [])
 try_put_unfit v w n ks k asks_try_put (one_value h (one_value g no_values)) = n h
@@ -149,9 +151,12 @@ asks_count asks_put_str_ln = refl
 asks_count asks_h_put_str_ln = refl
 asks_count asks_new = refl
 asks_count asks_new_empty = refl
+asks_count asks_new_scope_cell = refl
 asks_count asks_take = refl
 asks_count asks_put = refl
+asks_count asks_put_end = refl
 asks_count asks_read = refl
+asks_count asks_read_end = refl
 asks_count asks_try_take = refl
 asks_count asks_try_put = refl
 asks_count asks_my_thread = refl

@@ -16,10 +16,11 @@ use Rattle.hs_base.specs.declared.tree.forms.GuardAction.TheVariants as g
 use Rattle.rules_trees.specs.Programs as tree
 use Rattle.rules_trees.specs.Programs.{Act, Bl, ActArms, Par, Bd, Fn}
 use Rattle.rules_expansion.specs.Names.{Name, Added}
-use Rattle.rules_expansion.specs.declared.hidden.Hidden.TheVariants.{InTime}
-use Rattle.rules_expansion.specs.Core.{CoreEx, JustRead, Core, Return, Bind, ActionFunction, action_named}
+use Rattle.rules_expansion.specs.declared.hidden.Hidden.TheVariants.{Restorer, Caught, InTime, ActionResult, SideEnding, WasFirst, FirstEnd}
+use Rattle.rules_expansion.specs.Core.{CoreEx, Read, JustRead, Nil, LeftRead, RightRead, RightNil, Core, Return, ThrowIo, Bind, CaseEither, Perform, Catch, MaskWith, Restore, ActionFunction, action_named}
+use Rattle.rules_expansion.specs.declared.primitive.Primitive.TheVariants.{TryPutMVar}
 use Rattle.rules_expansion.specs.declared.template.Derived.TheVariants as form
-use Rattle.rules_expansion.specs.Expansion.{derived, on_both, bare_core, unary_core, binary_core, scoped_core, masking_core, guard_core, core, block_core, arms_core, with_action, actions_of}
+use Rattle.rules_expansion.specs.Expansion.{derived, on_both, on_subject, scope_stop, scope, bare_core, unary_core, binary_core, scoped_core, masking_core, guard_core, core, block_core, arms_core, with_action, actions_of}
 use Rattle.hs_rules.specs.State.{Thread, State, resume_all, first}
 use Rattle.hs_rules.specs.Entries.{stranded, next, IsIdle, Leads}
 use Rattle.hs_rules.specs.Terms.{Throw}
@@ -62,6 +63,42 @@ fine_timeout e f =
     (fine_bracket tt (fine_fork_unmask (fine_restore (fine_bind tt (fine_primitive tt) (fine_primitive tt)))) (fine_mask_hard (fine_primitive tt)) (fine_in_time f))
     (fine_if fine_return fine_throw))))))
 
+-- the parts of async scopes
+fine_stop : Fine scope_stop
+fine_stop = fine_mask_hard (fine_bind tt (fine_primitive tt) (fine_bind tt (fine_primitive tt) fine_return))
+
+fine_ended : {a : Core} (e : CoreEx) → Fine a → Fine (Catch (Bind (Added ActionResult) (Restore (Added Restorer) a) (Return e)) (Added Caught) (Return (LeftRead (Added Caught))))
+fine_ended e f = fine_catch tt (fine_bind tt (fine_restore f) fine_return) fine_return
+
+fine_scope : {a c : Core} {x : Name} → Fine a → Fine c → Fine (scope a x c)
+fine_scope f h =
+    fine_bind tt (fine_primitive tt)
+    (fine_mask
+    (fine_bind tt (fine_fork (fine_bind tt (fine_ended (RightRead (Added ActionResult)) f) (fine_primitive tt)))
+    (fine_let
+    (fine_bind tt (fine_catch tt (fine_restore h) (fine_bind tt fine_stop fine_throw))
+    (fine_bind tt fine_stop fine_return)))))
+
+fine_wait : (e : CoreEx) → Fine (derived form.Wait (on_subject e))
+fine_wait e = fine_let (fine_bind tt (fine_primitive tt) (fine_either fine_throw fine_return))
+
+fine_racing_side : {a : Core} (e : CoreEx) → Fine a
+    → Fine (MaskWith (Added Restorer)
+    (Bind (Added SideEnding) (Catch (Bind (Added ActionResult) (Restore (Added Restorer) a) (Return e)) (Added Caught) (Return (LeftRead (Added Caught))))
+    (Bind (Added WasFirst) (Perform TryPutMVar (Read (Added FirstEnd) ∷ Read (Added SideEnding) ∷ [])) (Return Nil))))
+fine_racing_side e f = fine_mask (fine_bind tt (fine_ended e f) (fine_bind tt (fine_primitive tt) fine_return))
+
+fine_concurrent_side : {a : Core} → Fine a
+    → Fine (MaskWith (Added Restorer)
+    (Bind (Added SideEnding) (Catch (Bind (Added ActionResult) (Restore (Added Restorer) a) (Return (RightRead (Added ActionResult)))) (Added Caught) (Return (LeftRead (Added Caught))))
+    (CaseEither (Read (Added SideEnding))
+    (Added Caught) (Bind (Added WasFirst) (Perform TryPutMVar (Read (Added FirstEnd) ∷ LeftRead (Added Caught) ∷ [])) (ThrowIo (Read (Added Caught))))
+    (Added ActionResult) (Bind (Added WasFirst) (Perform TryPutMVar (Read (Added FirstEnd) ∷ RightNil ∷ [])) (Return (Read (Added ActionResult)))))))
+fine_concurrent_side f =
+    fine_mask
+    (fine_bind tt (fine_ended (RightRead (Added ActionResult)) f)
+    (fine_either (fine_bind tt (fine_primitive tt) fine_throw) (fine_bind tt (fine_primitive tt) fine_return)))
+
 fine_bare : (w : BareAction) → Fine (bare_core w)
 fine_bare z.MyThreadId = fine_primitive tt
 fine_bare z.ClockMicros = fine_primitive tt
@@ -78,6 +115,8 @@ fine_unary u.ReadMVar e = fine_primitive tt
 fine_unary u.TryTakeMVar e = fine_primitive tt
 fine_unary u.KillThread e = fine_primitive tt
 fine_unary u.ThreadDelay e = fine_primitive tt
+fine_unary u.Wait e = fine_wait e
+fine_unary u.Cancel e = fine_let (fine_bind tt (fine_primitive tt) (fine_bind tt (fine_primitive tt) fine_return))
 
 fine_binary : (w : BinaryAction) (e f : CoreEx) → Fine (binary_core w e f)
 fine_binary b.PutMVar e f = fine_primitive tt
@@ -97,6 +136,17 @@ fine_masking m.UninterruptibleMask r f = fine_mask_hard f
 fine_guard : (w : GuardAction) {a c : Core} → Fine a → Fine c → Fine (guard_core w a c)
 fine_guard g.OnException f h = fine_catch tt f (fine_bind tt h fine_throw)
 fine_guard g.Finally f h = fine_mask (fine_bind tt (fine_catch tt (fine_restore f) (fine_bind tt h fine_throw)) (fine_bind tt h fine_return))
+fine_guard g.Race f h =
+    fine_bind tt (fine_primitive tt)
+    (fine_scope (fine_racing_side _ f)
+    (fine_scope (fine_racing_side _ h)
+    (fine_bind tt (fine_primitive tt) (fine_either fine_throw fine_return))))
+fine_guard g.Concurrently f h =
+    fine_bind tt (fine_primitive tt)
+    (fine_scope (fine_concurrent_side f)
+    (fine_scope (fine_concurrent_side h)
+    (fine_bind tt (fine_primitive tt)
+    (fine_either fine_throw (fine_bind tt (fine_wait _) (fine_bind tt (fine_wait _) fine_return))))))
 
 -- ---- actions and blocks
 
@@ -119,6 +169,7 @@ mutual
   fine_core (tree.guard w p a c) = fine_guard w (fine_block a) (fine_block c)
   fine_core (tree.bracket p a x c d) = fine_bracket tt (fine_block a) (fine_block c) (fine_block d)
   fine_core (tree.timeout p e a) = fine_timeout _ (fine_block a)
+  fine_core (tree.with_async p a x c) = fine_scope (fine_block a) (fine_block c)
 
   pub fine_block : (a : Bl) → Fine (block_core a)
   fine_block (tree.last a) = fine_core a

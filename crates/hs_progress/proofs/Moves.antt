@@ -8,7 +8,7 @@ use Rattle.rules_trees.specs.Programs.{Fn, script_of}
 use Rattle.rules_expansion.specs.Names.{Name, Written, Added, Unread}
 use Rattle.rules_meaning.specs.Values.{V, Truth, Nothing, Just, Left, Right, Pair, Nil, Cons, Exception, Restore, Env, with_name, value_at, Outcome, Gives, Throws, Stuck, Outcomes, AllGive, OneThrows, OneStuck, and_then}
 use Rattle.rules_meaning.specs.Meaning.{functions_of, value_of_ex, values_of_exs}
-use Rattle.rules_sorts.specs.Sorts.{Sort, a_value, a_masking_name, an_instance, Bound}
+use Rattle.rules_sorts.specs.Sorts.{Sort, a_value, a_masking_name, an_instance, a_scope_cell, Bound}
 use Rattle.rules_typing.specs.Typing as typing
 use Rattle.rules_typing.specs.TypingScripts.{Accepted, sigs_from}
 use Rattle.rules_sorts.specs.TypedMeaning.{AllOf, WellAll}
@@ -37,6 +37,7 @@ module _ (cells : ℕ → T → Type 0) where
   binds_fits (Written x) (a_value t) v b h = h
   binds_fits (Written x) a_masking_name v b h = h
   binds_fits (Written x) an_instance v b h = absurd b
+  binds_fits (Written x) (a_scope_cell t) v b h = absurd b
   binds_fits (Added z) k v b h = h
   binds_fits Unread k v b h = absurd b
 

@@ -4,12 +4,12 @@ use Rattle.hs_base.specs.declared.exn.Exn.{Exn}
 use Rattle.hs_base.specs.declared.exn.Exn.TheVariants.{Timeout}
 use Rattle.hs_base.specs.declared.mask.Mask.{Mask}
 use Rattle.hs_base.specs.declared.mask.Mask.TheVariants.{Unmasked}
-use Rattle.rules_trees.specs.Trees.{T, unit, int, bool, text, thread, exn, maybe, cell}
+use Rattle.rules_trees.specs.Trees.{T, unit, int, bool, text, thread, exn, maybe, either, cell}
 use Rattle.rules_trees.specs.Programs.{Fn}
 use Rattle.rules_meaning.specs.Values as val
 use Rattle.rules_meaning.specs.Values.{V, UnitValue, Int, Truth, Text, Nothing, Just, Exception, Restore, Inst, Env, with_name}
 use Rattle.rules_expansion.specs.declared.primitive.Primitive.{Primitive}
-use Rattle.rules_sorts.specs.Sorts.{Sort, a_value, a_masking_name, an_instance}
+use Rattle.rules_sorts.specs.Sorts.{Sort, a_value, a_masking_name, an_instance, a_scope_cell}
 use Rattle.rules_sorts.specs.TypedMeaning.{of_int, of_text, of_exn, of_thread, of_cell, HasV}
 use Rattle.hs_rules.specs.Terms.{Operation, Calls, Part, Ret, Throw, Do, MaskIn, Term, term}
 use Rattle.rules_waiting.specs.Waiting.{Taking, Reading, Putting, Throwing, Sleeping}
@@ -18,8 +18,8 @@ use Rattle.hs_rules.specs.Primitives.{on_none, on_one, on_two, as_text, as_numbe
 use Rattle.hs_laws.proofs.Lists.{cond_cases, cond_true, cond_false, equal_or, some_item, item_append, item_below}
 use Rattle.hs_laws.proofs.States.{Holds, Ready, ready_stopped, answer_holds}
 use Rattle.hs_soundness.specs.CoreSorts.{OfSort, of_instance}
-use Rattle.hs_progress.specs.CoreTyping.{with_bound, Asks, asks_put_str, asks_put_str_ln, asks_h_put_str_ln, asks_new, asks_new_empty, asks_take, asks_put, asks_read, asks_try_take, asks_try_put, asks_my_thread, asks_masking, asks_clock, asks_delay, asks_throw_to, asks_new_timeout, asks_acquired, asks_release}
-use Rattle.hs_progress.specs.TypedStates.{AllOfSorts, no_values, one_value, OpTyped, calls_typed, forks_typed, forks_unmask_typed, PartTyped, ret_typed, throw_typed, do_typed, FramesTyped, no_frames, mask_typed, ThreadTyped, ContentTyped, CellTyped, Store, has, with_cell, with_thread, Sound, Follows}
+use Rattle.hs_progress.specs.CoreTyping.{with_bound, Asks, asks_put_str, asks_put_str_ln, asks_h_put_str_ln, asks_new, asks_new_empty, asks_new_scope_cell, asks_take, asks_put, asks_put_end, asks_read, asks_read_end, asks_try_take, asks_try_put, asks_my_thread, asks_masking, asks_clock, asks_delay, asks_throw_to, asks_new_timeout, asks_acquired, asks_release}
+use Rattle.hs_progress.specs.TypedStates.{AllOfSorts, no_values, one_value, OpTyped, calls_typed, forks_typed, forks_unmask_typed, PartTyped, ret_typed, throw_typed, do_typed, FramesTyped, no_frames, mask_typed, ThreadTyped, ContentTyped, CellTyped, Purpose, for_values, for_end, held_by, Store, has, with_cell, with_thread, Sound, Follows}
 use Rattle.hs_progress.proofs.Moves.{more_fits}
 use Rattle.hs_progress.proofs.Stores.{stored_more, content_more, cell_more, part_more, frames_more, thread_more}
 use Rattle.hs_progress.proofs.Sounds.{length_with_term, SoundAt, pack, resumed_threads, resume_sound, unit_answer, taken_sound, given_sound}
@@ -65,9 +65,9 @@ module _ (ds : List Fn) (st : Store) where
   thread_ok P (val.Thread u) k h f = f u h
   thread_ok P _ k h f = absurd h
 
-  -- the content of a cell of this type
-  content_at : (s : State) (m : ℕ) (t : T) → SoundAt ds st s → slice_get st.cells m ≡ Some t → CellTyped (has st) (slice_get s.cells m) (Some t)
-  content_at s m t h e = subst (CellTyped (has st) (slice_get s.cells m)) e (h.contents m)
+  -- the content of a cell for this purpose
+  content_at : (s : State) (m : ℕ) (p : Purpose) → SoundAt ds st s → slice_get st.cells m ≡ Some p → CellTyped (has st) (slice_get s.cells m) (Some p)
+  content_at s m p h e = subst (CellTyped (has st) (slice_get s.cells m)) e (h.contents m)
 
   -- ---- the thread's own answer
   module _ (s : State) (t : ℕ) (k : Sort) (same : k ≡ st.sorts t) (h : SoundAt ds st s) where
@@ -77,29 +77,29 @@ module _ (ds : List Fn) (st : Store) where
     answered : (v : V) → OfSort (has st) k v → Ok (Some (answer t v s))
     answered v q = pack ds st (λ u. Unit {0}) (answer t v s) (own (Ret v) (ret_typed q))
 
-    take_ok : (u : T) (m : ℕ) (c : Option (Option V)) → k ≡ a_value u → slice_get st.cells m ≡ Some u → CellTyped (has st) c (Some u) → ((v : V) → Holds (answer t v s)) → Ok (take t m c s)
+    take_ok : (u : Purpose) (m : ℕ) (c : Option (Option V)) → k ≡ a_value (held_by u) → slice_get st.cells m ≡ Some u → CellTyped (has st) c (Some u) → ((v : V) → Holds (answer t v s)) → Ok (take t m c s)
     take_ok u m None q e x a = absurd x
     take_ok u m (Some None) q e x a = pack ds st (λ u. Unit {0}) (block t (Taking m) s) h
     take_ok u m (Some (Some v)) q e x a =
         pack ds st (λ u. Unit {0}) (taken m (answer t v s)) (taken_sound ds st m (answer t v s) u (a v) (own (Ret v) (subst (PartTyped (has st) ds (Ret v)) (sym q) (ret_typed x))) e)
 
-    read_ok : (u : T) (m : ℕ) (c : Option (Option V)) → k ≡ a_value u → slice_get st.cells m ≡ Some u → CellTyped (has st) c (Some u) → Ok (read t m c s)
+    read_ok : (u : Purpose) (m : ℕ) (c : Option (Option V)) → k ≡ a_value (held_by u) → slice_get st.cells m ≡ Some u → CellTyped (has st) c (Some u) → Ok (read t m c s)
     read_ok u m None q e x = absurd x
     read_ok u m (Some None) q e x = pack ds st (λ u. Unit {0}) (block t (Reading m) s) h
     read_ok u m (Some (Some v)) q e x = pack ds st (λ u. Unit {0}) (answer t v s) (own (Ret v) (subst (PartTyped (has st) ds (Ret v)) (sym q) (ret_typed x)))
 
-    try_take_ok : (u : T) (m : ℕ) (c : Option (Option V)) → k ≡ a_value (maybe u) → slice_get st.cells m ≡ Some u → CellTyped (has st) c (Some u) → ((v : V) → Holds (answer t v s)) → Ok (try_take t m c s)
+    try_take_ok : (u : Purpose) (m : ℕ) (c : Option (Option V)) → k ≡ a_value (maybe (held_by u)) → slice_get st.cells m ≡ Some u → CellTyped (has st) c (Some u) → ((v : V) → Holds (answer t v s)) → Ok (try_take t m c s)
     try_take_ok u m None q e x a = absurd x
     try_take_ok u m (Some None) q e x a = pack ds st (λ u. Unit {0}) (answer t Nothing s) (own (Ret Nothing) (subst (PartTyped (has st) ds (Ret Nothing)) (sym q) (ret_typed tt)))
     try_take_ok u m (Some (Some v)) q e x a =
         pack ds st (λ u. Unit {0}) (taken m (answer t (Just v) s)) (taken_sound ds st m (answer t (Just v) s) u (a (Just v)) (own (Ret (Just v)) (subst (PartTyped (has st) ds (Ret (Just v))) (sym q) (ret_typed x))) e)
 
-    put_ok : (u : T) (m : ℕ) (v : V) (c : Option (Option V)) → k ≡ a_value unit → slice_get st.cells m ≡ Some u → HasV (has st) u v → CellTyped (has st) c (Some u) → ((w : V) → Holds (answer t w s)) → Ok (put t m v c s)
+    put_ok : (u : Purpose) (m : ℕ) (v : V) (c : Option (Option V)) → k ≡ a_value unit → slice_get st.cells m ≡ Some u → HasV (has st) (held_by u) v → CellTyped (has st) c (Some u) → ((w : V) → Holds (answer t w s)) → Ok (put t m v c s)
     put_ok u m v None q e y x a = absurd x
     put_ok u m v (Some (Some w)) q e y x a = pack ds st (λ u. Unit {0}) (block t (Putting m v) s) h
     put_ok u m v (Some None) q e y x a = pack ds st (λ u. Unit {0}) (given m v (answer t UnitValue s)) (given_sound ds st m v (answer t UnitValue s) u (a UnitValue) (own (Ret UnitValue) (unit_answer ds st k q)) e y)
 
-    try_put_ok : (u : T) (m : ℕ) (v : V) (c : Option (Option V)) → k ≡ a_value bool → slice_get st.cells m ≡ Some u → HasV (has st) u v → CellTyped (has st) c (Some u) → ((w : V) → Holds (answer t w s)) → Ok (try_put t m v c s)
+    try_put_ok : (u : Purpose) (m : ℕ) (v : V) (c : Option (Option V)) → k ≡ a_value bool → slice_get st.cells m ≡ Some u → HasV (has st) (held_by u) v → CellTyped (has st) c (Some u) → ((w : V) → Holds (answer t w s)) → Ok (try_put t m v c s)
     try_put_ok u m v None q e y x a = absurd x
     try_put_ok u m v (Some (Some w)) q e y x a = pack ds st (λ u. Unit {0}) (answer t (Truth false) s) (own (Ret (Truth false)) (subst (PartTyped (has st) ds (Ret (Truth false))) (sym q) (ret_typed tt)))
     try_put_ok u m v (Some None) q e y x a =
@@ -125,7 +125,7 @@ module _ (ds : List Fn) (st : Store) where
 
   -- ---- new cells
 
-  contents_append : (P : ℕ → T → Type 0) (cs : List (Option V)) (ks : List T) (c : Option V) (t : T) → ((k : ℕ) → CellTyped P (slice_get cs k) (slice_get ks k)) → ContentTyped P t c
+  contents_append : (P : ℕ → T → Type 0) (cs : List (Option V)) (ks : List Purpose) (c : Option V) (t : Purpose) → ((k : ℕ) → CellTyped P (slice_get cs k) (slice_get ks k)) → ContentTyped P t c
       → (k : ℕ) → CellTyped P (slice_get (cs ++ c ∷ []) k) (slice_get (ks ++ t ∷ []) k)
   contents_append P [] [] c t h new zero = new
   contents_append P [] [] c t h new (suc k) = tt
@@ -134,16 +134,25 @@ module _ (ds : List Fn) (st : Store) where
   contents_append P (d ∷ cs) (q ∷ ks) c t h new zero = h zero
   contents_append P (d ∷ cs) (q ∷ ks) c t h new (suc k) = contents_append P cs ks c t (λ j. h (suc j)) new k
 
-  last_cell : (P : ℕ → T → Type 0) (cs : List (Option V)) (ks : List T) (t : T) → ((k : ℕ) → CellTyped P (slice_get cs k) (slice_get ks k)) → slice_get (ks ++ t ∷ []) (length cs) ≡ Some t
+  last_cell : (P : ℕ → T → Type 0) (cs : List (Option V)) (ks : List Purpose) (t : Purpose) → ((k : ℕ) → CellTyped P (slice_get cs k) (slice_get ks k)) → slice_get (ks ++ t ∷ []) (length cs) ≡ Some t
   last_cell P [] [] t h = refl
   last_cell P [] (q ∷ ks) t h = absurd (h zero)
   last_cell P (d ∷ cs) [] t h = absurd (h zero)
   last_cell P (d ∷ cs) (q ∷ ks) t h = last_cell P cs ks t (λ j. h (suc j))
 
-  new_cell_ok : (s : State) (t : ℕ) (u : T) (c : Option V) → a_value (cell u) ≡ st.sorts t → SoundAt ds st s → ContentTyped (has st) u c → Ok (Some (answer t (val.Cell (length s.cells)) (record s { cells = s.cells ++ c ∷ [] })))
+  -- the sort of a cell itself
+  abbrev sort_for : Purpose → Sort
+  sort_for (for_values t) = a_value (cell t)
+  sort_for (for_end t) = a_scope_cell t
+
+  is_for : (new : Store) (m : ℕ) (p : Purpose) → slice_get new.cells m ≡ Some p → OfSort (has new) (sort_for p) (val.Cell m)
+  is_for new m (for_values t) e = e
+  is_for new m (for_end t) e = e
+
+  new_cell_ok : (s : State) (t : ℕ) (u : Purpose) (c : Option V) → sort_for u ≡ st.sorts t → SoundAt ds st s → ContentTyped (has st) u c → Ok (Some (answer t (val.Cell (length s.cells)) (record s { cells = s.cells ++ c ∷ [] })))
   new_cell_ok s t u c same h new =
       let more : Store = with_cell u st in
-      let keeps : (m : ℕ) (v : T) → slice_get st.cells m ≡ Some v → slice_get (st.cells ++ u ∷ []) m ≡ Some v = λ m v e. item_append st.cells (u ∷ []) m v e in
+      let keeps : (m : ℕ) (v : Purpose) → slice_get st.cells m ≡ Some v → slice_get (st.cells ++ u ∷ []) m ≡ Some v = λ m v e. item_append st.cells (u ∷ []) m v e in
       let le : st.count ≤ st.count = omega arith in
       let grow = stored_more st.cells (st.cells ++ u ∷ []) st.count st.count keeps le in
       let h1 : Sound ds more s.threads (s.cells ++ c ∷ []) = record {
@@ -151,7 +160,7 @@ module _ (ds : List Fn) (st : Store) where
         contents = contents_append (has more) s.cells st.cells c u (λ k. cell_more (has st) (has more) grow (slice_get s.cells k) (slice_get st.cells k) (h.contents k)) (content_more (has st) (has more) grow u c new);
         counted = h.counted;
       } in
-      let a : PartTyped (has more) ds (Ret (val.Cell (length s.cells))) (st.sorts t) = subst (PartTyped (has more) ds (Ret (val.Cell (length s.cells)))) same (ret_typed (last_cell (has st) s.cells st.cells u h.contents)) in
+      let a : PartTyped (has more) ds (Ret (val.Cell (length s.cells))) (st.sorts t) = subst (PartTyped (has more) ds (Ret (val.Cell (length s.cells)))) same (ret_typed (is_for more (length s.cells) u (last_cell (has st) s.cells st.cells u h.contents))) in
       record {
         store = more;
         sound = resume_sound ds more (record s { cells = s.cells ++ c ∷ [] }) t (Ret (val.Cell (length s.cells))) h1 a;
@@ -216,18 +225,23 @@ module _ (ds : List Fn) (st : Store) where
     primitive_ok asks_put_str v r same = one_ok _ v (λ x q. text_ok x _ q (λ y. answered (record s { output = s.output ++ y }) t (a_value unit) same h UnitValue tt))
     primitive_ok asks_put_str_ln v r same = one_ok _ v (λ x q. text_ok x _ q (λ y. answered (record s { output = s.output ++ y ++ line_feed }) t (a_value unit) same h UnitValue tt))
     primitive_ok asks_h_put_str_ln v r same = one_ok _ v (λ x q. text_ok x _ q (λ y. answered (record s { errors = s.errors ++ y ++ line_feed }) t (a_value unit) same h UnitValue tt))
-    primitive_ok (asks_new {t = u}) v r same = one_ok _ v (λ x q. new_cell_ok s t u (Some x) same h q)
-    primitive_ok (asks_new_empty {t = u}) v r same = none_ok _ v (new_cell_ok s t u None same h tt)
+    primitive_ok (asks_new {t = u}) v r same = one_ok _ v (λ x q. new_cell_ok s t (for_values u) (Some x) same h q)
+    primitive_ok (asks_new_empty {t = u}) v r same = none_ok _ v (new_cell_ok s t (for_values u) None same h tt)
+    primitive_ok (asks_new_scope_cell {t = u}) v r same = none_ok _ v (new_cell_ok s t (for_end u) None same h tt)
     primitive_ok (asks_take {t = u}) v r same =
-        one_ok _ v (λ x q. cell_ok (λ c. slice_get st.cells c ≡ Some u) x _ q (λ c e. take_ok s t (a_value u) same h u c (slice_get s.cells c) refl e (content_at s c u h e) (λ w. answer_holds s t w r.holds (ready_stopped r tt))))
+        one_ok _ v (λ x q. cell_ok (λ c. slice_get st.cells c ≡ Some (for_values u)) x _ q (λ c e. take_ok s t (a_value u) same h (for_values u) c (slice_get s.cells c) refl e (content_at s c (for_values u) h e) (λ w. answer_holds s t w r.holds (ready_stopped r tt))))
     primitive_ok (asks_put {t = u}) v r same =
-        two_ok _ v (λ x y q p. cell_ok (λ c. slice_get st.cells c ≡ Some u) x _ q (λ c e. put_ok s t (a_value unit) same h u c y (slice_get s.cells c) refl e p (content_at s c u h e) (λ w. answer_holds s t w r.holds (ready_stopped r tt))))
+        two_ok _ v (λ x y q p. cell_ok (λ c. slice_get st.cells c ≡ Some (for_values u)) x _ q (λ c e. put_ok s t (a_value unit) same h (for_values u) c y (slice_get s.cells c) refl e p (content_at s c (for_values u) h e) (λ w. answer_holds s t w r.holds (ready_stopped r tt))))
+    primitive_ok (asks_put_end {t = u}) v r same =
+        two_ok _ v (λ x y q p. cell_ok (λ c. slice_get st.cells c ≡ Some (for_end u)) x _ q (λ c e. put_ok s t (a_value unit) same h (for_end u) c y (slice_get s.cells c) refl e p (content_at s c (for_end u) h e) (λ w. answer_holds s t w r.holds (ready_stopped r tt))))
     primitive_ok (asks_read {t = u}) v r same =
-        one_ok _ v (λ x q. cell_ok (λ c. slice_get st.cells c ≡ Some u) x _ q (λ c e. read_ok s t (a_value u) same h u c (slice_get s.cells c) refl e (content_at s c u h e)))
+        one_ok _ v (λ x q. cell_ok (λ c. slice_get st.cells c ≡ Some (for_values u)) x _ q (λ c e. read_ok s t (a_value u) same h (for_values u) c (slice_get s.cells c) refl e (content_at s c (for_values u) h e)))
+    primitive_ok (asks_read_end {t = u}) v r same =
+        one_ok _ v (λ x q. cell_ok (λ c. slice_get st.cells c ≡ Some (for_end u)) x _ q (λ c e. read_ok s t (a_value (either exn u)) same h (for_end u) c (slice_get s.cells c) refl e (content_at s c (for_end u) h e)))
     primitive_ok (asks_try_take {t = u}) v r same =
-        one_ok _ v (λ x q. cell_ok (λ c. slice_get st.cells c ≡ Some u) x _ q (λ c e. try_take_ok s t (a_value (maybe u)) same h u c (slice_get s.cells c) refl e (content_at s c u h e) (λ w. answer_holds s t w r.holds (ready_stopped r tt))))
+        one_ok _ v (λ x q. cell_ok (λ c. slice_get st.cells c ≡ Some (for_values u)) x _ q (λ c e. try_take_ok s t (a_value (maybe u)) same h (for_values u) c (slice_get s.cells c) refl e (content_at s c (for_values u) h e) (λ w. answer_holds s t w r.holds (ready_stopped r tt))))
     primitive_ok (asks_try_put {t = u}) v r same =
-        two_ok _ v (λ x y q p. cell_ok (λ c. slice_get st.cells c ≡ Some u) x _ q (λ c e. try_put_ok s t (a_value bool) same h u c y (slice_get s.cells c) refl e p (content_at s c u h e) (λ w. answer_holds s t w r.holds (ready_stopped r tt))))
+        two_ok _ v (λ x y q p. cell_ok (λ c. slice_get st.cells c ≡ Some (for_values u)) x _ q (λ c e. try_put_ok s t (a_value bool) same h (for_values u) c y (slice_get s.cells c) refl e p (content_at s c (for_values u) h e) (λ w. answer_holds s t w r.holds (ready_stopped r tt))))
     primitive_ok asks_my_thread v r same =
         none_ok _ v (answered s t (a_value thread) same h (val.Thread t) (let c : st.count ≡ length s.threads = h.counted in let b : t < length s.threads = item_below s.threads t r.th r.is in let lt : t < st.count = omega (arith, c, b) in lt))
     primitive_ok asks_masking v r same = none_ok _ v (answered s t (a_value text) same h (Text (masking_text m)) tt)

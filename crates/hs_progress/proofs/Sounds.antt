@@ -1,7 +1,7 @@
 -- A thread that gets what it stands for, and a cell that gets a value of its type, keep a state typed.
 use Rattle.std.proofs.Common.{◌≡◌, ℕ, zero, suc, ◌==◌, List, [], ◌∷◌, length, slice_get, slice_set, true, false, cond, Option, Some, None, refl, sym, ap, ◌∙◌, subst, arith, ⊎_elim}
 use Rattle.hs_base.specs.declared.exn.Exn.{Exn}
-use Rattle.rules_trees.specs.Trees.{T, unit}
+use Rattle.rules_trees.specs.Trees.{unit}
 use Rattle.rules_trees.specs.Programs.{Fn}
 use Rattle.rules_meaning.specs.Values as val
 use Rattle.rules_meaning.specs.Values.{V, UnitValue, Exception, Int, Env}
@@ -16,8 +16,8 @@ use Rattle.hs_rules.specs.Primitives.{moves_in, taken, goes_in, goes_on, read_by
 use Rattle.hs_laws.specs.BracketPhases.{Blocks, OpPart, At}
 use Rattle.hs_laws.proofs.Lists.{equal_or, cond_true, cond_false, item_same, item_other, Found, first_found, first_of_kind, takes, puts, throws, throws_at, only_thread, reads_at, put_is_first, take_is_first, readers_are, those, Ones, ones_those_if}
 use Rattle.hs_laws.proofs.States.{Holds, Waits, reads_hold}
-use Rattle.hs_progress.specs.CoreTyping.{asks_take, asks_read, asks_put, asks_throw_to, asks_delay}
-use Rattle.hs_progress.specs.TypedStates.{one_value, no_values, OpTyped, calls_typed, PartTyped, ret_typed, throw_typed, op_typed, FramesTyped, ThreadTyped, ContentTyped, CellTyped, TermTyped, Store, has, with_sort, Sound, Follows}
+use Rattle.hs_progress.specs.CoreTyping.{asks_take, asks_put, asks_put_end, asks_read, asks_read_end, asks_throw_to, asks_delay}
+use Rattle.hs_progress.specs.TypedStates.{one_value, no_values, OpTyped, calls_typed, PartTyped, ret_typed, throw_typed, op_typed, FramesTyped, ThreadTyped, ContentTyped, CellTyped, TermTyped, Purpose, for_values, for_end, held_by, Store, has, with_sort, Sound, Follows}
 
 length_set : {A : Type 0} (xs : List A) (k : ℕ) (y : A) → length (slice_set xs k y) ≡ length xs
 length_set [] k y = refl
@@ -140,20 +140,22 @@ module _ (ds : List Fn) (st : Store) where
 
   -- by its reason: the sort of what it is to get, and of what it gives
   abbrev pub Expects : Reason V → Sort → Type 0
-  Expects (Taking m) k = (t : T) × (slice_get st.cells m ≡ Some t) × (k ≡ a_value t)
-  Expects (Reading m) k = (t : T) × (slice_get st.cells m ≡ Some t) × (k ≡ a_value t)
-  Expects (Putting m v) k = (k ≡ a_value unit) × (t : T) × (slice_get st.cells m ≡ Some t) × HasV (has st) t v
+  Expects (Taking m) k = (p : Purpose) × (slice_get st.cells m ≡ Some p) × (k ≡ a_value (held_by p))
+  Expects (Reading m) k = (p : Purpose) × (slice_get st.cells m ≡ Some p) × (k ≡ a_value (held_by p))
+  Expects (Putting m v) k = (k ≡ a_value unit) × (p : Purpose) × (slice_get st.cells m ≡ Some p) × HasV (has st) (held_by p) v
   Expects (Throwing u e) k = k ≡ a_value unit
   Expects (Sleeping due) k = k ≡ a_value unit
 
   take_expects : (m : ℕ) {k : Sort} → OpTyped (has st) ds (Calls TakeMVar (val.Cell m ∷ [])) k → Expects (Taking m) k
-  take_expects m (calls_typed (asks_take {t}) (one_value h no_values)) = (t, h, refl)
+  take_expects m (calls_typed (asks_take {t}) (one_value h no_values)) = (for_values t, h, refl)
 
   read_expects : (m : ℕ) {k : Sort} → OpTyped (has st) ds (Calls ReadMVar (val.Cell m ∷ [])) k → Expects (Reading m) k
-  read_expects m (calls_typed (asks_read {t}) (one_value h no_values)) = (t, h, refl)
+  read_expects m (calls_typed (asks_read {t}) (one_value h no_values)) = (for_values t, h, refl)
+  read_expects m (calls_typed (asks_read_end {t}) (one_value h no_values)) = (for_end t, h, refl)
 
   put_expects : (m : ℕ) (v : V) {k : Sort} → OpTyped (has st) ds (Calls PutMVar (val.Cell m ∷ v ∷ [])) k → Expects (Putting m v) k
-  put_expects m v (calls_typed (asks_put {t}) (one_value h (one_value g no_values))) = (refl, t, h, g)
+  put_expects m v (calls_typed (asks_put {t}) (one_value h (one_value g no_values))) = (refl, for_values t, h, g)
+  put_expects m v (calls_typed (asks_put_end {t}) (one_value h (one_value g no_values))) = (refl, for_end t, h, g)
 
   throw_expects : {vs : List V} {k : Sort} → OpTyped (has st) ds (Calls ThrowTo vs) k → k ≡ a_value unit
   throw_expects (calls_typed asks_throw_to h) = refl
@@ -185,64 +187,64 @@ module _ (ds : List Fn) (st : Store) where
   pub unit_answer : (k : Sort) → k ≡ a_value unit → PartTyped (has st) ds (Ret UnitValue) k
   unit_answer k e = subst (PartTyped (has st) ds (Ret UnitValue)) (sym e) (ret_typed tt)
 
-  same_type : (o : Option T) (s t : T) (v : V) → o ≡ Some s → o ≡ Some t → HasV (has st) s v → HasV (has st) t v
-  same_type o s t v e f h = let q : ◌≡◌ {A = Option T} (Some s) (Some t) = sym e ∙ f in let r : s ≡ t = cc q in subst (λ z. HasV (has st) z v) r h
+  same_type : (o : Option Purpose) (p q : Purpose) (v : V) → o ≡ Some p → o ≡ Some q → HasV (has st) (held_by p) v → HasV (has st) (held_by q) v
+  same_type o p q v e f h = let s : ◌≡◌ {A = Option Purpose} (Some p) (Some q) = sym e ∙ f in let r : p ≡ q = cc s in subst (λ z. HasV (has st) (held_by z) v) r h
 
   -- ---- cells
 
-  set_contents : (cs : List (Option V)) (ks : List T) (m : ℕ) (c : Option V) (t : T) → ((k : ℕ) → CellTyped (has st) (slice_get cs k) (slice_get ks k)) → slice_get ks m ≡ Some t → ContentTyped (has st) t c
+  set_contents : (cs : List (Option V)) (ks : List Purpose) (m : ℕ) (c : Option V) (p : Purpose) → ((k : ℕ) → CellTyped (has st) (slice_get cs k) (slice_get ks k)) → slice_get ks m ≡ Some p → ContentTyped (has st) p c
       → (k : ℕ) → CellTyped (has st) (slice_get (slice_set cs m c) k) (slice_get ks k)
-  set_contents [] ks m c t h e new k = h k
-  set_contents (d ∷ cs) [] m c t h e new k = absurd (h zero)
-  set_contents (d ∷ cs) (q ∷ ks) zero c t h e new zero = let r : t ≡ q = cc e in subst (λ z. ContentTyped (has st) z c) r new
-  set_contents (d ∷ cs) (q ∷ ks) zero c t h e new (suc k) = h (suc k)
-  set_contents (d ∷ cs) (q ∷ ks) (suc m) c t h e new zero = h zero
-  set_contents (d ∷ cs) (q ∷ ks) (suc m) c t h e new (suc k) = set_contents cs ks m c t (λ j. h (suc j)) e new k
+  set_contents [] ks m c p h e new k = h k
+  set_contents (d ∷ cs) [] m c p h e new k = absurd (h zero)
+  set_contents (d ∷ cs) (q ∷ ks) zero c p h e new zero = let r : p ≡ q = cc e in subst (λ z. ContentTyped (has st) z c) r new
+  set_contents (d ∷ cs) (q ∷ ks) zero c p h e new (suc k) = h (suc k)
+  set_contents (d ∷ cs) (q ∷ ks) (suc m) c p h e new zero = h zero
+  set_contents (d ∷ cs) (q ∷ ks) (suc m) c p h e new (suc k) = set_contents cs ks m c p (λ j. h (suc j)) e new k
 
-  cell_sound : (s : State) (m : ℕ) (c : Option V) (t : T) → SoundAt s → slice_get st.cells m ≡ Some t → ContentTyped (has st) t c → SoundAt (record s { cells = slice_set s.cells m c })
-  cell_sound s m c t h e new = record { threads = h.threads; contents = set_contents s.cells st.cells m c t h.contents e new; counted = h.counted }
+  cell_sound : (s : State) (m : ℕ) (c : Option V) (p : Purpose) → SoundAt s → slice_get st.cells m ≡ Some p → ContentTyped (has st) p c → SoundAt (record s { cells = slice_set s.cells m c })
+  cell_sound s m c p h e new = record { threads = h.threads; contents = set_contents s.cells st.cells m c p h.contents e new; counted = h.counted }
 
   -- the type of what a thread that waits to put brings
-  brought : (m : ℕ) (v : V) (t : T) (k : Sort) (o : Option Thread) → slice_get st.cells m ≡ Some t → At (Blocks (Putting m v)) o → ThreadTyped (has st) ds k o → HasV (has st) t v
-  brought m v t k None e b h = absurd b
-  brought m v t k (Some th) e b h = let x = part_expects (Putting m v) th.term.part k b h.0 in same_type (slice_get st.cells m) x.1 t v x.2 e x.3
+  brought : (m : ℕ) (v : V) (p : Purpose) (k : Sort) (o : Option Thread) → slice_get st.cells m ≡ Some p → At (Blocks (Putting m v)) o → ThreadTyped (has st) ds k o → HasV (has st) (held_by p) v
+  brought m v p k None e b h = absurd b
+  brought m v p k (Some th) e b h = let x = part_expects (Putting m v) th.term.part k b h.0 in same_type (slice_get st.cells m) x.1 p v x.2 e x.3
 
-  moves_in_sound : (m : ℕ) (s : State) (t : T) (o : Option (ℕ × V)) → SoundAt s → slice_get st.cells m ≡ Some t → Found (Waits s.threads) (puts m) o → SoundAt (moves_in m o s)
-  moves_in_sound m s t None h e f = cell_sound s m None t h e tt
-  moves_in_sound m s t (Some w) h e f =
+  moves_in_sound : (m : ℕ) (s : State) (p : Purpose) (o : Option (ℕ × V)) → SoundAt s → slice_get st.cells m ≡ Some p → Found (Waits s.threads) (puts m) o → SoundAt (moves_in m o s)
+  moves_in_sound m s p None h e f = cell_sound s m None p h e tt
+  moves_in_sound m s p (Some w) h e f =
       let at : At (Blocks (Putting m w.1)) (slice_get s.threads w.0) = subst (λ r. At (Blocks r) (slice_get s.threads w.0)) (puts_is m f.0 w.1 f.2) f.1.0 in
-      resume_sound (record s { cells = slice_set s.cells m (Some w.1) }) w.0 (Ret UnitValue) (cell_sound s m (Some w.1) t h e (brought m w.1 t (st.sorts w.0) (slice_get s.threads w.0) e at (h.threads w.0)))
+      resume_sound (record s { cells = slice_set s.cells m (Some w.1) }) w.0 (Ret UnitValue) (cell_sound s m (Some w.1) p h e (brought m w.1 p (st.sorts w.0) (slice_get s.threads w.0) e at (h.threads w.0)))
       (fit_at w.0 (Putting m w.1) (Ret UnitValue) (slice_get s.threads w.0) at (h.threads w.0) (λ k b. unit_answer k b.0))
 
-  pub taken_sound : (m : ℕ) (s : State) (t : T) → Holds s → SoundAt s → slice_get st.cells m ≡ Some t → SoundAt (taken m s)
-  taken_sound m s t g h e =
-      moves_in_sound m s t (first_put (line_of m s.blocked)) h e (subst (Found (Waits s.threads) (puts m)) (sym (put_is_first m s.blocked)) (first_found (Waits s.threads) (puts m) s.blocked g.waits))
+  pub taken_sound : (m : ℕ) (s : State) (p : Purpose) → Holds s → SoundAt s → slice_get st.cells m ≡ Some p → SoundAt (taken m s)
+  taken_sound m s p g h e =
+      moves_in_sound m s p (first_put (line_of m s.blocked)) h e (subst (Found (Waits s.threads) (puts m)) (sym (put_is_first m s.blocked)) (first_found (Waits s.threads) (puts m) s.blocked g.waits))
 
-  goes_in_sound : (m : ℕ) (v : V) (s : State) (t : T) (o : Option (ℕ × Unit {0})) → SoundAt s → slice_get st.cells m ≡ Some t → HasV (has st) t v → Found (Waits s.threads) (takes m) o → SoundAt (goes_in m v (only_thread o) s)
-  goes_in_sound m v s t None h e k f = cell_sound s m (Some v) t h e k
-  goes_in_sound m v s t (Some w) h e k f =
+  goes_in_sound : (m : ℕ) (v : V) (s : State) (p : Purpose) (o : Option (ℕ × Unit {0})) → SoundAt s → slice_get st.cells m ≡ Some p → HasV (has st) (held_by p) v → Found (Waits s.threads) (takes m) o → SoundAt (goes_in m v (only_thread o) s)
+  goes_in_sound m v s p None h e k f = cell_sound s m (Some v) p h e k
+  goes_in_sound m v s p (Some w) h e k f =
       let at : At (Blocks (Taking m)) (slice_get s.threads w.0) = subst (λ r. At (Blocks r) (slice_get s.threads w.0)) (takes_is m f.0 w.1 f.2) f.1.0 in
       resume_sound s w.0 (Ret v) h
-      (fit_at w.0 (Taking m) (Ret v) (slice_get s.threads w.0) at (h.threads w.0) (λ j b. subst (PartTyped (has st) ds (Ret v)) (sym b.2) (ret_typed (same_type (slice_get st.cells m) t b.0 v e b.1 k))))
+      (fit_at w.0 (Taking m) (Ret v) (slice_get s.threads w.0) at (h.threads w.0) (λ j b. subst (PartTyped (has st) ds (Ret v)) (sym b.2) (ret_typed (same_type (slice_get st.cells m) p b.0 v e b.1 k))))
 
-  goes_on_sound : (m : ℕ) (v : V) (s : State) (t : T) → Holds s → SoundAt s → slice_get st.cells m ≡ Some t → HasV (has st) t v → SoundAt (goes_on m v s)
-  goes_on_sound m v s t g h e k =
-      subst (λ o. SoundAt (goes_in m v o s)) (sym (take_is_first m s.blocked)) (goes_in_sound m v s t (first_of_kind (takes m) s.blocked) h e k (first_found (Waits s.threads) (takes m) s.blocked g.waits))
+  goes_on_sound : (m : ℕ) (v : V) (s : State) (p : Purpose) → Holds s → SoundAt s → slice_get st.cells m ≡ Some p → HasV (has st) (held_by p) v → SoundAt (goes_on m v s)
+  goes_on_sound m v s p g h e k =
+      subst (λ o. SoundAt (goes_in m v o s)) (sym (take_is_first m s.blocked)) (goes_in_sound m v s p (first_of_kind (takes m) s.blocked) h e k (first_found (Waits s.threads) (takes m) s.blocked g.waits))
 
   -- all that wait to read the cell may get a value of its type
-  read_fits : (m : ℕ) (v : V) (t : T) (u : ℕ) (o : Option Thread) → slice_get st.cells m ≡ Some t → HasV (has st) t v → At (Blocks (Reading m)) o → ThreadTyped (has st) ds (st.sorts u) o → FitsFor (Ret v) u
-  read_fits m v t u o e k at typed =
-      fit_at u (Reading m) (Ret v) o at typed (λ j b. subst (PartTyped (has st) ds (Ret v)) (sym b.2) (ret_typed (same_type (slice_get st.cells m) t b.0 v e b.1 k)))
+  read_fits : (m : ℕ) (v : V) (p : Purpose) (u : ℕ) (o : Option Thread) → slice_get st.cells m ≡ Some p → HasV (has st) (held_by p) v → At (Blocks (Reading m)) o → ThreadTyped (has st) ds (st.sorts u) o → FitsFor (Ret v) u
+  read_fits m v p u o e k at typed =
+      fit_at u (Reading m) (Ret v) o at typed (λ j b. subst (PartTyped (has st) ds (Ret v)) (sym b.2) (ret_typed (same_type (slice_get st.cells m) p b.0 v e b.1 k)))
 
-  reads_sound : (m : ℕ) (v : V) (s : State) (t : T) → Holds s → SoundAt s → slice_get st.cells m ≡ Some t → HasV (has st) t v → SoundAt (read_by_all m v s)
-  reads_sound m v s t g h e k =
+  reads_sound : (m : ℕ) (v : V) (s : State) (p : Purpose) → Holds s → SoundAt s → slice_get st.cells m ≡ Some p → HasV (has st) (held_by p) v → SoundAt (read_by_all m v s)
+  reads_sound m v s p g h e k =
       subst (λ us. SoundAt (resume_all us (Ret v) s)) (sym (readers_are m s.blocked))
       (resume_all_sound (those (λ u. reads_at m) s.blocked) (Ret v) s h
       (ones_those_if (Waits s.threads) (FitsFor (Ret v)) (λ u. reads_at m) s.blocked
-      (λ u r q w. read_fits m v t u (slice_get s.threads u) e k (subst (λ x. At (Blocks x) (slice_get s.threads u)) (reads_is m r q) w.0) (h.threads u)) g.waits))
+      (λ u r q w. read_fits m v p u (slice_get s.threads u) e k (subst (λ x. At (Blocks x) (slice_get s.threads u)) (reads_is m r q) w.0) (h.threads u)) g.waits))
 
-  pub given_sound : (m : ℕ) (v : V) (s : State) (t : T) → Holds s → SoundAt s → slice_get st.cells m ≡ Some t → HasV (has st) t v → SoundAt (given m v s)
-  given_sound m v s t g h e k = goes_on_sound m v (read_by_all m v s) t (reads_hold m v s g) (reads_sound m v s t g h e k) e k
+  pub given_sound : (m : ℕ) (v : V) (s : State) (p : Purpose) → Holds s → SoundAt s → slice_get st.cells m ≡ Some p → HasV (has st) (held_by p) v → SoundAt (given m v s)
+  given_sound m v s p g h e k = goes_on_sound m v (read_by_all m v s) p (reads_hold m v s g) (reads_sound m v s p g h e k) e k
 
   -- ---- those that throw
 

@@ -1,20 +1,21 @@
 -- What is typed by a store is typed by a greater one.
 use Rattle.std.proofs.Common.{◌≡◌, ℕ, ◌==◌, ◌<◌, ◌≤◌, List, [], ◌∷◌, cond, Option, Some, None, slice_get, arith, ⊎_elim}
-use Rattle.rules_trees.specs.Trees.{T, cell, thread}
+use Rattle.rules_trees.specs.Trees.{T, thread, cell, async}
 use Rattle.rules_trees.specs.Programs.{Fn}
 use Rattle.rules_expansion.specs.Names.{Name}
 use Rattle.rules_meaning.specs.Values.{V, Env}
 use Rattle.rules_expansion.specs.Core.{Core}
-use Rattle.rules_sorts.specs.Sorts.{Sort, a_value, a_masking_name, an_instance}
+use Rattle.rules_sorts.specs.Sorts.{Sort, a_value, a_masking_name, an_instance, a_scope_cell}
 use Rattle.hs_rules.specs.Terms.{Operation, Part, Frame, Term}
 use Rattle.hs_rules.specs.State.{Thread}
 use Rattle.hs_laws.proofs.Lists.{cond_false, equal_or, item_append}
 use Rattle.hs_soundness.specs.CoreSorts.{OfSort}
-use Rattle.hs_soundness.proofs.Growing.{has_more, scope_more}
-use Rattle.hs_progress.specs.TypedStates.{Store, has, with_cell, with_thread, Grows, stored, AllOfSorts, no_values, one_value, Runs, Awaits, OpTyped, calls_typed, forks_typed, forks_unmask_typed, PartTyped, ret_typed, throw_typed, do_typed, op_typed, FramesTyped, no_frames, bind_typed, then_typed, catch_typed, mask_typed, TermTyped, ThreadTyped, ContentTyped, CellTyped}
+use Rattle.hs_soundness.proofs.Growing.{has_more, end_more, scope_more}
+use Rattle.hs_progress.specs.TypedStates.{Purpose, for_values, for_end, held_by, Store, has, with_cell, with_thread, Grows, stored, AllOfSorts, no_values, one_value, Runs, Awaits, OpTyped, calls_typed, forks_typed, forks_unmask_typed, PartTyped, ret_typed, throw_typed, do_typed, op_typed, FramesTyped, no_frames, bind_typed, then_typed, catch_typed, mask_typed, TermTyped, ThreadTyped, ContentTyped, CellTyped}
 
-pub stored_more : (cells cells' : List T) (n n' : ℕ) → ((m : ℕ) (t : T) → slice_get cells m ≡ Some t → slice_get cells' m ≡ Some t) → n ≤ n' → (m : ℕ) (t : T) → stored cells n m t → stored cells' n' m t
-stored_more cells cells' n n' kept le m (cell t) h = kept m t h
+pub stored_more : (cells cells' : List Purpose) (n n' : ℕ) → ((m : ℕ) (p : Purpose) → slice_get cells m ≡ Some p → slice_get cells' m ≡ Some p) → n ≤ n' → (m : ℕ) (t : T) → stored cells n m t → stored cells' n' m t
+stored_more cells cells' n n' kept le m (cell t) h = kept m (for_values t) h
+stored_more cells cells' n n' kept le m (async t) h = kept m (for_end t) h
 stored_more cells cells' n n' kept le m thread h = omega (arith, le, h)
 stored_more cells cells' n n' kept le m _ h = absurd h
 
@@ -23,20 +24,21 @@ module _ (cells more : ℕ → T → Type 0) (grow : (m : ℕ) (t : T) → cells
   sort_more (a_value t) v h = has_more cells more grow t v h
   sort_more a_masking_name v h = h
   sort_more an_instance v h = h
+  sort_more (a_scope_cell t) v h = end_more cells more grow t v h
 
   pub values_more : {ks : List Sort} {vs : List V} → AllOfSorts cells ks vs → AllOfSorts more ks vs
   values_more no_values = no_values
   values_more (one_value {k} {v} h hs) = one_value (sort_more k v h) (values_more hs)
 
-  pub content_more : (t : T) (c : Option V) → ContentTyped cells t c → ContentTyped more t c
-  content_more t None h = tt
-  content_more t (Some v) h = has_more cells more grow t v h
+  pub content_more : (p : Purpose) (c : Option V) → ContentTyped cells p c → ContentTyped more p c
+  content_more p None h = tt
+  content_more p (Some v) h = has_more cells more grow (held_by p) v h
 
-  pub cell_more : (c : Option (Option V)) (o : Option T) → CellTyped cells c o → CellTyped more c o
+  pub cell_more : (c : Option (Option V)) (o : Option Purpose) → CellTyped cells c o → CellTyped more c o
   cell_more None None h = tt
-  cell_more None (Some t) h = h
+  cell_more None (Some p) h = h
   cell_more (Some c) None h = h
-  cell_more (Some c) (Some t) h = content_more t c h
+  cell_more (Some c) (Some p) h = content_more p c h
 
   module _ (ds : List Fn) where
     pub runs_more : {a : Core} {env : Env} {k : Sort} → Runs cells ds a env k → Runs more ds a env k
@@ -75,8 +77,8 @@ module _ (cells more : ℕ → T → Type 0) (grow : (m : ℕ) (t : T) → cells
 pub numbers_grow : (old new : Store) → Grows old new → (m : ℕ) (t : T) → has old m t → has new m t
 numbers_grow old new g = stored_more old.cells new.cells old.count new.count g.cells g.count
 
-pub cell_grows : (t : T) (st : Store) → Grows st (with_cell t st)
-cell_grows t st = record { cells = λ m v e. item_append st.cells (t ∷ []) m v e; count = omega arith }
+pub cell_grows : (p : Purpose) (st : Store) → Grows st (with_cell p st)
+cell_grows p st = record { cells = λ m v e. item_append st.cells (p ∷ []) m v e; count = omega arith }
 
 pub thread_grows : (k : Sort) (st : Store) → Grows st (with_thread k st)
 thread_grows k st = record { cells = λ m v e. e; count = omega arith }

@@ -4,8 +4,10 @@
 -- the names that expansions add.
 use Rattle.std.specs.Prelude.{◌≡◌, ℕ, true, List, [], ◌∷◌, Some}
 use Rattle.rules_trees.specs.Trees.{T, unit, int, bool, text, thread, exn, pair, maybe, either, list, cell, Exs}
+use Rattle.rules_expansion.specs.declared.hidden.Hidden.{Hidden}
+use Rattle.rules_expansion.specs.declared.hidden.Hidden.TheVariants as h
 use Rattle.rules_expansion.specs.Names.{Name, Written, Added, Unread}
-use Rattle.rules_sorts.specs.Sorts.{Sort, a_value, a_masking_name, an_instance, Bound}
+use Rattle.rules_sorts.specs.Sorts.{Sort, a_value, a_masking_name, an_instance, a_scope_cell, Bound}
 use Rattle.rules_typing.specs.Typing as typing
 use Rattle.rules_sorts.specs.TypedMeaning.{WellAll}
 use Rattle.rules_expansion.specs.Core.{CoreEx, Core, Return, ThrowIo, Let, Bind, If, CaseMaybe, CaseEither, CaseList, CasePair, Call, Perform, Fork, ForkUnmask, Catch, MaskWith, MaskHard, Restore}
@@ -15,13 +17,32 @@ use Rattle.hs_soundness.specs.CoreSorts.{written_in, IsThere, CoreHas}
 
 -- ---- names
 
--- A name takes a slot for a value of this sort: something may read it, and no name of a script is an instance.
+-- the cell of a scope is bound to one name
+abbrev pub IsScopeCell : Sort → Type 0
+IsScopeCell (a_value t) = ⊥
+IsScopeCell a_masking_name = ⊥
+IsScopeCell an_instance = ⊥
+IsScopeCell (a_scope_cell t) = Unit {0}
+
+abbrev pub IsOther : Sort → Type 0
+IsOther (a_value t) = Unit {0}
+IsOther a_masking_name = Unit {0}
+IsOther an_instance = Unit {0}
+IsOther (a_scope_cell t) = ⊥
+
+abbrev pub BindsAdded : Hidden → Sort → Type 0
+BindsAdded h.ScopeCell k = IsScopeCell k
+BindsAdded h k = IsOther k
+
+-- A name takes a slot for a value of this sort: something may read it, no name of a script is an instance or the cell of a
+-- scope, and that cell has its own name.
 abbrev pub Binds : Name → Sort → Type 0
 Binds (Written x) (a_value t) = Unit {0}
 Binds (Written x) a_masking_name = Unit {0}
 Binds (Written x) an_instance = ⊥
+Binds (Written x) (a_scope_cell t) = ⊥
 Binds Unread k = ⊥
-Binds (Added h) k = Unit {0}
+Binds (Added h) k = BindsAdded h k
 
 -- a scope with one name more
 abbrev pub with_bound : Name → Sort → List Bound → List Bound
@@ -45,9 +66,12 @@ pub data Asks : Primitive → List Sort → Sort → Type 0 where
   asks_h_put_str_ln : Asks HPutStrLn (a_value text ∷ []) (a_value unit)
   asks_new : {t : T} → Asks NewMVar (a_value t ∷ []) (a_value (cell t))
   asks_new_empty : {t : T} → Asks NewEmptyMVar [] (a_value (cell t))
+  asks_new_scope_cell : {t : T} → Asks NewEmptyMVar [] (a_scope_cell t)
   asks_take : {t : T} → Asks TakeMVar (a_value (cell t) ∷ []) (a_value t)
   asks_put : {t : T} → Asks PutMVar (a_value (cell t) ∷ a_value t ∷ []) (a_value unit)
+  asks_put_end : {t : T} → Asks PutMVar (a_scope_cell t ∷ a_value (either exn t) ∷ []) (a_value unit)
   asks_read : {t : T} → Asks ReadMVar (a_value (cell t) ∷ []) (a_value t)
+  asks_read_end : {t : T} → Asks ReadMVar (a_scope_cell t ∷ []) (a_value (either exn t))
   asks_try_take : {t : T} → Asks TryTakeMVar (a_value (cell t) ∷ []) (a_value (maybe t))
   asks_try_put : {t : T} → Asks TryPutMVar (a_value (cell t) ∷ a_value t ∷ []) (a_value bool)
   asks_my_thread : Asks MyThreadId [] (a_value thread)

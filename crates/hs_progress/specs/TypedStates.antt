@@ -1,16 +1,16 @@
--- When states are typed (own): by a store, which says of which type each cell is, how many threads there are, and what goes
+-- When states are typed (own): by a store, which says what each cell is for, how many threads there are, and what goes
 -- to the frames of each.
 --
 -- Each thread's term fits together: its part gives a value of the sort that its frames take. Each cell is empty or holds a
--- value of its type. What a blocked thread waits for is said by the operation that it stands at.
+-- value of its type, or how an action that gives that type ended. What a blocked thread waits for is said by the operation that it stands at.
 use Rattle.std.specs.Prelude.{◌≡◌, ◌≢◌, ℕ, suc, ◌==◌, ◌<◌, ◌≤◌, true, cond, List, [], ◌∷◌, ◌++◌, length, Option, Some, None, slice_get}
 use Rattle.hs_base.specs.declared.mask.Mask.{Mask}
 use Rattle.hs_base.specs.declared.exn.Exn.{Exn}
 use Rattle.hs_rules.specs.declared.entry.Entry.{Entry}
 use Rattle.hs_rules.specs.declared.entry.Entry.TheVariants as entry
-use Rattle.rules_trees.specs.Trees.{T, exn, thread, cell}
+use Rattle.rules_trees.specs.Trees.{T, exn, thread, either, cell, async}
 use Rattle.rules_trees.specs.Programs.{Fn}
-use Rattle.rules_expansion.specs.Names.{Name, Added, Unread}
+use Rattle.rules_expansion.specs.Names.{Name, Unread}
 use Rattle.rules_meaning.specs.Values.{V, Env}
 use Rattle.rules_sorts.specs.Sorts.{Sort, a_value, a_masking_name, Bound}
 use Rattle.rules_typing.specs.Typing as typing
@@ -43,9 +43,20 @@ HeadsKept ds = (f : List ℕ) (sig : typing.Sig) → typing.find (sigs_from 0 ds
 
 -- ---- stores
 
--- which number is of which type: a cell's, where cells of these types were made, and a thread's, where there are n
-abbrev pub stored : List T → ℕ → ℕ → T → Type 0
-stored cells n m (cell t) = slice_get cells m ≡ Some t
+-- what a cell is for: values of a type, or the end of the thread of an async scope, whose action gives that type
+pub data Purpose : Type 0 where
+  for_values : T → Purpose
+  for_end : T → Purpose
+
+-- the type of what such a cell holds
+abbrev pub held_by : Purpose → T
+held_by (for_values t) = t
+held_by (for_end t) = either exn t
+
+-- which number is of which type: a cell's, where cells for these purposes were made, and a thread's, where there are n
+abbrev pub stored : List Purpose → ℕ → ℕ → T → Type 0
+stored cells n m (cell t) = slice_get cells m ≡ Some (for_values t)
+stored cells n m (async t) = slice_get cells m ≡ Some (for_end t)
 stored cells n m thread = m < n
 stored cells n m _ = ⊥
 
@@ -104,22 +115,22 @@ module _ (cells : ℕ → T → Type 0) where
     ThreadTyped k None = Unit {0}
     ThreadTyped k (Some th) = PartTyped th.term.part k × FramesTyped k th.term.frames
 
-  abbrev pub ContentTyped : T → Option V → Type 0
-  ContentTyped t None = Unit {0}
-  ContentTyped t (Some v) = HasV cells t v
+  abbrev pub ContentTyped : Purpose → Option V → Type 0
+  ContentTyped p None = Unit {0}
+  ContentTyped p (Some v) = HasV cells (held_by p) v
 
-  abbrev pub CellTyped : Option (Option V) → Option T → Type 0
+  abbrev pub CellTyped : Option (Option V) → Option Purpose → Type 0
   CellTyped None None = Unit {0}
-  CellTyped None (Some t) = ⊥
+  CellTyped None (Some p) = ⊥
   CellTyped (Some c) None = ⊥
-  CellTyped (Some c) (Some t) = ContentTyped t c
+  CellTyped (Some c) (Some p) = ContentTyped p c
 
 -- ---- states
 
 -- what is known of a state
 pub record Store : Type 0 where
-  -- the type of each cell
-  pub cells : List T
+  -- what each cell is for
+  pub cells : List Purpose
   -- how many threads there are
   pub count : ℕ
   -- the sort of what each thread's part gives to its frames
@@ -128,9 +139,9 @@ pub record Store : Type 0 where
 abbrev pub has : Store → ℕ → T → Type 0
 has st = stored st.cells st.count
 
--- one more cell, of this type
-abbrev pub with_cell : T → Store → Store
-with_cell t st = record { cells = st.cells ++ t ∷ []; count = st.count; sorts = st.sorts }
+-- one more cell, for this
+abbrev pub with_cell : Purpose → Store → Store
+with_cell p st = record { cells = st.cells ++ p ∷ []; count = st.count; sorts = st.sorts }
 
 -- thread t takes a value of sort k
 abbrev pub with_sort : ℕ → Sort → Store → Store
@@ -140,9 +151,9 @@ with_sort t k st = record { cells = st.cells; count = st.count; sorts = λ u. co
 abbrev pub with_thread : Sort → Store → Store
 with_thread k st = record { cells = st.cells; count = suc st.count; sorts = λ u. cond (u == st.count) k (st.sorts u) }
 
--- a later store: cells keep their types, and threads stay
+-- a later store: cells stay for what they are, and threads stay
 pub record Grows (old new : Store) : Type 0 where
-  pub cells : (m : ℕ) (t : T) → slice_get old.cells m ≡ Some t → slice_get new.cells m ≡ Some t
+  pub cells : (m : ℕ) (p : Purpose) → slice_get old.cells m ≡ Some p → slice_get new.cells m ≡ Some p
   pub count : old.count ≤ new.count
 
 -- threads and cells fit a store
@@ -155,12 +166,12 @@ pub record TypedState (ds : List Fn) (s : State) : Type 0 where
   pub store : Store
   pub sound : Sound ds store s.threads s.cells
 
--- A state that follows one with an earlier store: cells keep their types, threads stay, and what goes to the frames of those
+-- A state that follows one with an earlier store: cells stay for what they are, threads stay, and what goes to the frames of those
 -- that stay as they are keeps its sort.
 pub record Follows (ds : List Fn) (old : Store) (stays : ℕ → Type 0) (s : State) : Type 0 where
   pub store : Store
   pub sound : Sound ds store s.threads s.cells
-  pub cells : (m : ℕ) (t : T) → slice_get old.cells m ≡ Some t → slice_get store.cells m ≡ Some t
+  pub cells : (m : ℕ) (p : Purpose) → slice_get old.cells m ≡ Some p → slice_get store.cells m ≡ Some p
   pub count : old.count ≤ store.count
   pub sorts : (u : ℕ) → u < old.count → stays u → store.sorts u ≡ old.sorts u
 

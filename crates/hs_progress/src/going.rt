@@ -26,7 +26,7 @@ pub fn runs_go_on()
 {}
 
 /// The state of a run is typed by a store. By whichever it is, each entry leaves a state that is typed by a later one: no
-/// cell changes its type, no thread is lost, and only local rules change what goes to a thread's frames.
+/// cell changes what it is for, no thread is lost, and only local rules change what goes to a thread's frames.
 pub fn runs_stay_typed()
     ensures typed { (s : Script) → Accepted s → (es : List Entry) (u : State) → IsRun (script_of s) es u → TypedState (script_of s) u }
     ensures follows { (s : Script) → Accepted s → (es : List Entry) (u v : State) (e : Entry) → IsRun (script_of s) es u → next (code_of (script_of s)) u e ≡ Some v → (d : TypedState (script_of s) u) → Follows (script_of s) d.store (Stays e) v }

@@ -2,7 +2,7 @@
 //! as its contract, so that a caller may use them and a reader find them.
 //!
 //! To a contract a core action, a part, frames and a term have sorts (`specs/CoreTyping.antt`, `specs/TypedStates.antt`), and
-//! a state is typed by a store: the type of each cell, the number of threads, and the sort that each thread's part gives to
+//! a state is typed by a store: what each cell is for, the number of threads, and the sort that each thread's part gives to
 //! its frames. `expansion` says that what a script's actions expand to has their types, `local_rules` and `growth` that
 //! terms stay typed by every store and by each later one, `going` what every state of a run is and where its threads go on,
 //! `expressions` that all that a run evaluates has a value, and `waiting` when nothing can go on but time.

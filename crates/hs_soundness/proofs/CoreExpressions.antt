@@ -1,19 +1,20 @@
 -- An expression of a core action gives a value of its sort or an exception, in an environment that fits its scope.
-use Rattle.std.proofs.Common.{◌≡◌, ℕ, pos, List, [], ◌∷◌, Bool, true, false, cond, Option, Some, None, refl, sym, subst, bytes_eq}
+use Rattle.std.proofs.Common.{◌≡◌, ⊎_elim, ℕ, pos, List, [], ◌∷◌, Bool, true, false, cond, Option, Some, None, refl, sym, subst, bytes_eq}
 use Rattle.std.proofs.lemmas.Slice.Eq.{bytes_eq-Decides}
 use Rattle.hs_base.specs.declared.tree.script.Script.{Script}
 use Rattle.hs_base.specs.declared.tree.forms.BinaryForm.TheVariants as b
-use Rattle.rules_trees.specs.Trees.{T, int, bool, exn, maybe}
+use Rattle.hs_base.specs.declared.tree.forms.UnaryForm.TheVariants as u
+use Rattle.rules_trees.specs.Trees.{T, unit, int, bool, thread, exn, pair, maybe, either, async}
 use Rattle.rules_trees.specs.Programs.{script_of}
 use Rattle.rules_expansion.specs.Names.{Name, Written, Added, same_name, Unread}
-use Rattle.rules_meaning.specs.Values.{V, Int, Just, Exception, Restore, Env, value_at, Outcome, Gives, Throws, Stuck}
-use Rattle.rules_meaning.specs.Meaning.{Functions, binary_of, functions_of, value_of_ex}
-use Rattle.rules_expansion.specs.Core.{CoreEx, OfScript, Read, JustRead, NoValue, BelowZero, IsZero, SameExn, Killed}
+use Rattle.rules_meaning.specs.Values.{V, Int, Pair, Just, Left, Right, Exception, Restore, Env, value_at, Outcome, Gives, Throws, Stuck}
+use Rattle.rules_meaning.specs.Meaning.{Functions, unary_of, binary_of, functions_of, value_of_ex}
+use Rattle.rules_expansion.specs.Core.{CoreEx, OfScript, Read, JustRead, NoValue, BelowZero, IsZero, SameExn, Killed, Nil, LeftRead, RightRead, RightLeft, RightRight, RightNil, PairRead, FirstOf, SecondOf}
 use Rattle.rules_meaning.specs.CoreMeaning.{read, value_of_core}
-use Rattle.rules_sorts.specs.Sorts.{Sort, a_value, a_masking_name, an_instance, Bound, sort_at}
+use Rattle.rules_sorts.specs.Sorts.{Sort, a_value, a_masking_name, an_instance, a_scope_cell, Bound, sort_at}
 use Rattle.rules_typing.specs.Typing as typing
 use Rattle.rules_typing.specs.TypingScripts.{Accepted, sigs_from}
-use Rattle.rules_sorts.specs.TypedMeaning.{of_int, of_exn, HasSort, Fits, FunctionsGood, Good}
+use Rattle.rules_sorts.specs.TypedMeaning.{of_int, of_thread, of_exn, of_pair, of_cell, HasSort, Fits, FunctionsGood, Good}
 use Rattle.hs_soundness.proofs.TypesKept.{ex_good}
 use Rattle.hs_soundness.proofs.FunctionsTyped.{functions_good}
 use Rattle.hs_soundness.specs.CoreSorts.{seen_as, with_written, written_in, IsThere, CoreHas, of_masking, OfSort, FitsAt, FitsScope, GoodSort}
@@ -61,6 +62,7 @@ module _ (cells : ℕ → T → Type 0) where
       by (Restore m) q = tt
       by _ q = absurd q
   seen_fits x (Some an_instance) (Some v) h = absurd h
+  seen_fits x (Some (a_scope_cell t)) (Some v) h = absurd h
 
   fits_written : (g : List Bound) (env : Env) → FitsScope cells g env → Fits cells (written_in g) env
   fits_written g env f x = subst (λ o. HasSort cells o (value_at (Written x) env)) (sym (look_is g x)) (seen_fits x (sort_at (Written x) g) (value_at (Written x) env) (f (Written x)))
@@ -76,6 +78,7 @@ module _ (cells : ℕ → T → Type 0) where
   one_at (Written x) (a_value t) (Some v) h = h
   one_at (Written x) a_masking_name (Some v) h = h
   one_at (Written x) an_instance (Some v) h = absurd h
+  one_at (Written x) (a_scope_cell t) (Some v) h = absurd h
   one_at (Added z) k (Some v) h = h
   one_at Unread k (Some v) h = h
 
@@ -93,6 +96,15 @@ module _ (cells : ℕ → T → Type 0) where
   exn_good : (v : V) (f : V → Outcome) → of_exn v → ((x : _) → GoodSort cells (a_value bool) (f (Exception x))) → GoodSort cells (a_value bool) (f v)
   exn_good (Exception x) f h w = w x
   exn_good _ f h w = absurd h
+
+  -- the parts of a pair
+  first_good : (P Q : V → Type 0) (k : Sort) (v : V) → of_pair P Q v → ((a : V) → P a → OfSort cells k a) → GoodSort cells k (unary_of u.Fst v)
+  first_good P Q k (Pair a c) h w = w a h.0
+  first_good P Q k _ h w = absurd h
+
+  second_good : (P Q : V → Type 0) (k : Sort) (v : V) → of_pair P Q v → ((a : V) → Q a → OfSort cells k a) → GoodSort cells k (unary_of u.Snd v)
+  second_good P Q k (Pair a c) h w = w c h.1
+  second_good P Q k _ h w = absurd h
 
   -- ---- expressions
 
@@ -121,6 +133,33 @@ module _ (cells : ℕ → T → Type 0) where
       (λ x. read_good (a_value exn) (a_value bool) (value_at z env) (λ w. binary_of b.Equal (Exception x) w) (there g env z (a_value exn) f h.1)
       (λ w p. exn_good w (λ u. binary_of b.Equal (Exception x) u) p (λ y. tt)))))
   core_good c fs fg g env f Killed k h = at_sort k (a_value exn) (value_of_core fs env Killed) h tt
+  core_good c fs fg g env f Nil k h = at_sort k (a_value unit) (value_of_core fs env Nil) h tt
+  core_good c fs fg g env f (LeftRead y) k h =
+      at_sort k (a_value (either h.0 h.1)) _ h.3 (read_good (a_value h.0) (a_value (either h.0 h.1)) (value_at y env) (λ v. Gives (Left v)) (there g env y (a_value h.0) f h.2) (λ v q. q))
+  core_good c fs fg g env f (RightRead y) k h =
+      at_sort k (a_value (either h.0 h.1)) _ h.3 (read_good (a_value h.1) (a_value (either h.0 h.1)) (value_at y env) (λ v. Gives (Right v)) (there g env y (a_value h.1) f h.2) (λ v q. q))
+  core_good c fs fg g env f (RightLeft y) k h =
+      at_sort k (a_value (either h.0 (either h.1 h.2))) _ h.4
+      (read_good (a_value h.1) (a_value (either h.0 (either h.1 h.2))) (value_at y env) (λ v. Gives (Right (Left v))) (there g env y (a_value h.1) f h.3) (λ v q. q))
+  core_good c fs fg g env f (RightRight y) k h =
+      at_sort k (a_value (either h.0 (either h.1 h.2))) _ h.4
+      (read_good (a_value h.2) (a_value (either h.0 (either h.1 h.2))) (value_at y env) (λ v. Gives (Right (Right v))) (there g env y (a_value h.2) f h.3) (λ v q. q))
+  core_good c fs fg g env f RightNil k h = at_sort k (a_value (either h.0 unit)) (value_of_core fs env RightNil) h.1 tt
+  core_good c fs fg g env f (PairRead y z) k h =
+      ⊎_elim
+      (λ q. at_sort k (a_value (async q.0)) _ q.3 (two_read y z (a_value thread) (a_scope_cell q.0) (a_value (async q.0)) (λ v w i j. (i, j)) q.1 q.2))
+      (λ q. at_sort k (a_value (pair q.0 q.1)) _ q.4 (two_read y z (a_value q.0) (a_value q.1) (a_value (pair q.0 q.1)) (λ v w i j. (i, j)) q.2 q.3)) h
+    where
+      two_read : (y z : Name) (i j l : Sort) → ((v w : V) → OfSort cells i v → OfSort cells j w → OfSort cells l (Pair v w)) → IsThere g y i → IsThere g z j → GoodSort cells l (value_of_core fs env (PairRead y z))
+      two_read y z i j l pairs p q =
+          read_good i l (value_at y env) (λ v. read (value_at z env) (λ w. binary_of b.Pair v w)) (there g env y i f p)
+          (λ v a. read_good j l (value_at z env) (λ w. binary_of b.Pair v w) (there g env z j f q) (λ w c. pairs v w a c))
+  core_good c fs fg g env f (FirstOf y) k h =
+      at_sort k (a_value thread) _ h.2 (read_good (a_value (async h.0)) (a_value thread) (value_at y env) (unary_of u.Fst) (there g env y (a_value (async h.0)) f h.1)
+      (λ v q. first_good (of_thread (λ m. cells m thread)) (of_cell (λ m. cells m (async h.0))) (a_value thread) v q (λ a p. p)))
+  core_good c fs fg g env f (SecondOf y) k h =
+      at_sort k (a_scope_cell h.0) _ h.2 (read_good (a_value (async h.0)) (a_scope_cell h.0) (value_at y env) (unary_of u.Snd) (there g env y (a_value (async h.0)) f h.1)
+      (λ v q. second_good (of_thread (λ m. cells m thread)) (of_cell (λ m. cells m (async h.0))) (a_scope_cell h.0) v q (λ a p. p)))
 
   pub accepted_good : (s : Script) (here : ℕ) (g : List Bound) (env : Env) (e : CoreEx) (k : Sort) → Accepted s → CoreHas (record { sigs = sigs_from 0 (script_of s); here = here }) g e k → FitsScope cells g env → GoodSort cells k (value_of_core (functions_of (script_of s)) env e)
   accepted_good s here g env e k a h f =

@@ -3,9 +3,9 @@ use Rattle.std.proofs.Common.{◌≡◌, ◌&&◌, ltb, List, [], ◌∷◌, ◌
 use Rattle.hs_base.specs.declared.pos.Pos.{Pos}
 use Rattle.hs_base.specs.declared.tree.expr.Name.{Name}
 use Rattle.rules_trees.specs.Trees.{T, exn, Wr, Ex, lit, name, unary, binary, chain, conses, choose, items, empty, side, given, case, Exs, none, more, Links, end, link, Arms, maybe_arms, either_arms, list_arms, pair_arms}
-use Rattle.rules_trees.specs.Programs.{Act, bare, unary_act, binary_act, throw_io, new_empty, call, choose_act, case_act, modify, scoped, masking, restore, catch, guard, bracket, timeout, Bl, last, then, bind, let_in, ActArms, maybe_acts, either_acts, list_acts, pair_acts, Bd, pure_body, io_body}
+use Rattle.rules_trees.specs.Programs.{Act, bare, unary_act, binary_act, throw_io, new_empty, call, choose_act, case_act, modify, scoped, masking, restore, catch, guard, bracket, timeout, with_async, Bl, last, then, bind, let_in, ActArms, maybe_acts, either_acts, list_acts, pair_acts, Bd, pure_body, io_body}
 use Rattle.rules_typing.specs.Typing.{Fault, scope, wide, nodes, a_cell, Need, of, Row, type_of_lit, row_unary, row_binary, row_empty, row_side, row_choose, row_items, row_arms, form_of_arms, first_of, second_of, inner_of, Ctx, Bound, bound, masked, Meant, wrong, takes, meant, meant_act, no_mask, is_each, count}
-use Rattle.rules_typing.specs.TypingActions.{type_of_bare, row_unary_act, row_binary_act, row_throw, row_new_empty, row_scoped, row_masking, row_modify, row_guard, row_bracket, row_timeout, form_of_acts}
+use Rattle.rules_typing.specs.TypingActions.{type_of_bare, row_unary_act, row_binary_act, row_throw, row_new_empty, row_scoped, row_masking, row_modify, row_guard, row_bracket, row_timeout, row_async, form_of_acts}
 use Rattle.typing_judge.specs.Judging.{met, Found, good, bad, after, with1, with2, with3, with_all, needing, made, own, written, full, unless_full, unless, unless_wrong, scope_faults, Founds, joined, called, part, parts2, parts3, parts_all, join, not_full, judge, judges, judge_links, judge_arms}
 use Rattle.typing_judge.specs.JudgingActions.{judge_act, judge_bl, judge_act_arms}
 use Rattle.typing_judge.specs.JudgingScripts.{judge_body}
@@ -165,9 +165,10 @@ mutual
   sure_act c s (masking o p x a) = sure_part _ _ (sure_room s x _ (sure_bl c (masked x ∷ s) a)) (λ u. sure_own p (row_masking o u))
   sure_act c s (restore p x a) = sure_restore (no_mask c s x) (judge_bl c s a) (sure_bl c s a)
   sure_act c s (catch p a x g) = sure_parts2 (judge_bl c s a) _ _ (sure_bl c s a) (sure_room s x _ (sure_bl c (bound x exn ∷ s) g)) (λ u v. sure_own p (row_arms u v))
-  sure_act c s (guard o p a g) = sure_parts2 (judge_bl c s a) (judge_bl c s g) _ (sure_bl c s a) (sure_bl c s g) (λ u v. sure_own p (row_guard u v))
+  sure_act c s (guard o p a g) = sure_parts2 (judge_bl c s a) (judge_bl c s g) _ (sure_bl c s a) (sure_bl c s g) (λ u v. sure_own p (row_guard o u v))
   sure_act c s (bracket p a x g h) = sure_part (judge_bl c s a) _ (sure_bl c s a) (λ u. sure_room s x _ (sure_parts2 _ _ _ (sure_bl c (bound x u ∷ s) g) (sure_bl c (bound x u ∷ s) h) (λ v z. sure_own p (row_bracket v z))))
   sure_act c s (timeout p e a) = sure_parts2 (judge c s e) (judge_bl c s a) _ (sure_ex c s e) (sure_bl c s a) (λ u v. sure_own p (row_timeout u v))
+  sure_act c s (with_async p a x g) = sure_part (judge_bl c s a) _ (sure_bl c s a) (λ u. sure_part (own p (row_async u)) _ (sure_own p (row_async u)) (λ v. sure_room s x _ (sure_bl c (bound x v ∷ s) g)))
 
   pub sure_bl : (c : Ctx) (s : List Bound) (a : Bl) → Sure (judge_bl c s a)
   sure_bl c s (last a) = sure_act c s a

@@ -1,11 +1,11 @@
 -- Environments that fit: with one name more, and where more numbers are of a type.
 use Rattle.std.proofs.Common.{◌≡◌, ℕ, zero, suc, List, [], ◌∷◌, ◌++◌, length, Bool, true, false, cond, Option, Some, None, refl, sym, subst, arith, length-append}
 use Rattle.std.specs.Prelude.{slice_get}
-use Rattle.rules_trees.specs.Trees.{T, unit, int, bool, text, thread, exn, pair, maybe, either, list, cell}
+use Rattle.rules_trees.specs.Trees.{T, unit, int, bool, text, thread, exn, pair, maybe, either, list, cell, async}
 use Rattle.rules_meaning.specs.Values as val
 use Rattle.rules_expansion.specs.Names.{Name, Written, Added, same_name, Unread}
 use Rattle.rules_meaning.specs.Values.{V, Pair, Nothing, Just, Left, Right, Nil, Cons, Env, with_name, value_at}
-use Rattle.rules_sorts.specs.Sorts.{Sort, a_value, a_masking_name, an_instance, Bound, sort_at}
+use Rattle.rules_sorts.specs.Sorts.{Sort, a_value, a_masking_name, an_instance, a_scope_cell, Bound, sort_at}
 use Rattle.rules_sorts.specs.TypedMeaning.{of_pair, of_maybe, of_either, of_list, of_thread, of_cell, HasV, any_cell}
 use Rattle.rules_code.specs.Slots.{Scope, slot_of}
 use Rattle.rules_code.specs.CodeTrees.{is_unread}
@@ -42,6 +42,10 @@ thread_kept P R f (val.Thread m) h = f m h
 thread_kept P R f _ h = absurd h
 
 module _ (cells more : ℕ → T → Type 0) (grow : (m : ℕ) (t : T) → cells m t → more m t) where
+  -- the cell of a scope
+  pub end_more : (a : T) (v : V) → of_cell (λ m. cells m (async a)) v → of_cell (λ m. more m (async a)) v
+  end_more a v h = cell_kept (λ m. cells m (async a)) (λ m. more m (async a)) (λ m q. grow m (async a) q) v h
+
   pub has_more : (t : T) (v : V) → HasV cells t v → HasV more t v
   has_more unit v h = h
   has_more int v h = h
@@ -54,6 +58,9 @@ module _ (cells more : ℕ → T → Type 0) (grow : (m : ℕ) (t : T) → cells
   has_more (either a c) v h = either_kept (HasV cells a) (HasV cells c) (HasV more a) (HasV more c) (has_more a) (has_more c) v h
   has_more (list a) v h = list_kept (HasV cells a) (HasV more a) (has_more a) v h
   has_more (cell a) v h = cell_kept (λ m. cells m (cell a)) (λ m. more m (cell a)) (λ m q. grow m (cell a) q) v h
+  has_more (async a) v h =
+      pair_kept (of_thread (λ m. cells m thread)) (of_cell (λ m. cells m (async a))) (of_thread (λ m. more m thread)) (of_cell (λ m. more m (async a)))
+      (thread_kept (λ m. cells m thread) (λ m. more m thread) (λ m q. grow m thread q)) (end_more a) v h
 
   at_more : (y : Name) (o : Option Sort) (r : Option V) → FitsAt cells y o r → FitsAt more y o r
   at_more y None None h = tt
@@ -62,12 +69,15 @@ module _ (cells more : ℕ → T → Type 0) (grow : (m : ℕ) (t : T) → cells
   at_more (Written x) (Some (a_value t)) (Some v) h = has_more t v h
   at_more (Written x) (Some a_masking_name) (Some v) h = h
   at_more (Written x) (Some an_instance) (Some v) h = h
+  at_more (Written x) (Some (a_scope_cell t)) (Some v) h = h
   at_more (Added z) (Some (a_value t)) (Some v) h = has_more t v h
   at_more (Added z) (Some a_masking_name) (Some v) h = h
   at_more (Added z) (Some an_instance) (Some v) h = h
+  at_more (Added z) (Some (a_scope_cell t)) (Some v) h = end_more t v h
   at_more Unread (Some (a_value t)) (Some v) h = has_more t v h
   at_more Unread (Some a_masking_name) (Some v) h = h
   at_more Unread (Some an_instance) (Some v) h = h
+  at_more Unread (Some (a_scope_cell t)) (Some v) h = end_more t v h
 
   pub scope_more : (g : List Bound) (env : Env) → FitsScope cells g env → FitsScope more g env
   scope_more g env f y = at_more y (sort_at y g) (value_at y env) (f y)
@@ -117,6 +127,7 @@ module _ (cells : ℕ → T → Type 0) where
   fits_same (Written x) (Written y) (a_value t) v e h = h
   fits_same (Written x) (Written y) a_masking_name v e h = h
   fits_same (Written x) (Written y) an_instance v e h = h
+  fits_same (Written x) (Written y) (a_scope_cell t) v e h = h
   fits_same (Written x) (Added z) k v e h = absurd (cc e)
   fits_same (Added z) (Written y) k v e h = absurd (cc e)
   fits_same (Added z) (Added w) k v e h = h

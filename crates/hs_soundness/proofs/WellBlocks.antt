@@ -70,6 +70,7 @@ act_well (Action-F.Catch p a x c) = (a.1, c.1)
 act_well (Action-F.Guard o p a c) = (a.1, c.1)
 act_well (Action-F.Bracket p a x c e) = (a.1, c.1, e.1)
 act_well (Action-F.Timeout p e a) = (ex_well e, a.1)
+act_well (Action-F.WithAsync p a x c) = (a.1, c.1)
 
 act_arms_well : (y : BlockArms-F WithAct WithActArms WithStmt WithBlock) → WellActArms (act_arms_step (map-BlockArms Action BlockArms Stmt Block Act ActArms (Bl → Bl) Bl act_of act_arms_of stmt_of bl_of (plain_act_arms y)))
 act_arms_well (BlockArms-F.OfMaybe a x c) = (a.1, c.1)

@@ -3,16 +3,16 @@
 -- The scope of a core action has the names of the script and those that expansions add, each with its sort. The typing
 -- rules see those of the script alone. Which value is of which type goes by `TypedMeaning`, where `cells` says which number
 -- is of which type.
-use Rattle.std.specs.Prelude.{◌≡◌, ℕ, false, List, [], ◌∷◌, map, Option, Some, None}
-use Rattle.rules_trees.specs.Trees.{T, int, bool, exn, maybe}
+use Rattle.std.specs.Prelude.{◌≡◌, ◌⊎◌, ℕ, false, List, [], ◌∷◌, map, Option, Some, None}
+use Rattle.rules_trees.specs.Trees.{T, unit, int, bool, thread, exn, pair, maybe, either, async}
 use Rattle.rules_expansion.specs.Names.{Name, Written, Added, Unread}
 use Rattle.rules_meaning.specs.Values.{V, Restore, Inst, Env, value_at, Outcome, Gives, Throws, Stuck}
-use Rattle.rules_sorts.specs.Sorts.{Sort, a_value, a_masking_name, an_instance, Bound, sort_at}
+use Rattle.rules_sorts.specs.Sorts.{Sort, a_value, a_masking_name, an_instance, a_scope_cell, Bound, sort_at}
 use Rattle.rules_typing.specs.Typing as typing
-use Rattle.rules_sorts.specs.TypedMeaning.{HasV, Well}
+use Rattle.rules_sorts.specs.TypedMeaning.{of_cell, HasV, Well}
 use Rattle.rules_code.specs.Slots.{Scope}
 use Rattle.rules_code.specs.CodeTrees.{is_unread}
-use Rattle.rules_expansion.specs.Core.{CoreEx, OfScript, Read, JustRead, NoValue, BelowZero, IsZero, SameExn, Killed}
+use Rattle.rules_expansion.specs.Core.{CoreEx, OfScript, Read, JustRead, NoValue, BelowZero, IsZero, SameExn, Killed, Nil, LeftRead, RightRead, RightLeft, RightRight, RightNil, PairRead, FirstOf, SecondOf}
 use Rattle.rules_code.specs.Matching.{Matches}
 
 -- ---- scopes
@@ -21,11 +21,12 @@ use Rattle.rules_code.specs.Matching.{Matches}
 abbrev pub names_of : List Bound → Scope
 names_of g = map (λ b. b.name) g
 
--- as the typing rules see a name of the script; an instance has no written name
+-- as the typing rules see a name of the script; an instance and the cell of a scope have no written name
 abbrev pub seen_as : Sort → typing.Sort
 seen_as (a_value t) = typing.value t
 seen_as a_masking_name = typing.masking_name
 seen_as an_instance = typing.masking_name
+seen_as (a_scope_cell t) = typing.masking_name
 
 abbrev pub with_written : Name → Sort → List typing.Bound → List typing.Bound
 with_written (Written x) k s = record { spelling = x; sort = seen_as k } ∷ s
@@ -53,6 +54,18 @@ CoreHas c g (BelowZero y) k = IsThere g y (a_value int) × (k ≡ a_value bool)
 CoreHas c g (IsZero y) k = IsThere g y (a_value int) × (k ≡ a_value bool)
 CoreHas c g (SameExn y z) k = IsThere g y (a_value exn) × IsThere g z (a_value exn) × (k ≡ a_value bool)
 CoreHas c g Killed k = k ≡ a_value exn
+CoreHas c g Nil k = k ≡ a_value unit
+CoreHas c g (LeftRead y) k = (s t : T) × IsThere g y (a_value s) × (k ≡ a_value (either s t))
+CoreHas c g (RightRead y) k = (s t : T) × IsThere g y (a_value t) × (k ≡ a_value (either s t))
+CoreHas c g (RightLeft y) k = (r s t : T) × IsThere g y (a_value s) × (k ≡ a_value (either r (either s t)))
+CoreHas c g (RightRight y) k = (r s t : T) × IsThere g y (a_value t) × (k ≡ a_value (either r (either s t)))
+CoreHas c g RightNil k = (s : T) × (k ≡ a_value (either s unit))
+-- an async of a thread and the cell of its scope, or a pair
+CoreHas c g (PairRead y z) k =
+    ((t : T) × IsThere g y (a_value thread) × IsThere g z (a_scope_cell t) × (k ≡ a_value (async t)))
+    ⊎ ((s t : T) × IsThere g y (a_value s) × IsThere g z (a_value t) × (k ≡ a_value (pair s t)))
+CoreHas c g (FirstOf y) k = (t : T) × IsThere g y (a_value (async t)) × (k ≡ a_value thread)
+CoreHas c g (SecondOf y) k = (t : T) × IsThere g y (a_value (async t)) × (k ≡ a_scope_cell t)
 
 -- ---- environments
 
@@ -65,18 +78,21 @@ of_instance (Inst m) = Unit {0}
 of_instance _ = ⊥
 
 module _ (cells : ℕ → T → Type 0) where
-  -- a value of the sort: of the type, the state of a masking name, or the number of one use of `bracket`
+  -- a value of the sort: of the type, the state of a masking name, the number of one use of `bracket`, or the cell of a scope
   abbrev pub OfSort : Sort → V → Type 0
   OfSort (a_value t) = HasV cells t
   OfSort a_masking_name = of_masking
   OfSort an_instance = of_instance
+  OfSort (a_scope_cell t) = of_cell (λ m. cells m (async t))
 
-  -- a name has a value of its sort in the environment, and what isn't in the scope has none; no name of a script is an instance
+  -- a name has a value of its sort in the environment, and what isn't in the scope has none; no name of a script is an instance or the
+  -- cell of a scope
   abbrev pub FitsAt : Name → Option Sort → Option V → Type 0
   FitsAt y None None = Unit {0}
   FitsAt y None (Some v) = ⊥
   FitsAt y (Some k) None = ⊥
   FitsAt (Written x) (Some an_instance) (Some v) = ⊥
+  FitsAt (Written x) (Some (a_scope_cell t)) (Some v) = ⊥
   FitsAt (Written x) (Some (a_value t)) (Some v) = OfSort (a_value t) v
   FitsAt (Written x) (Some a_masking_name) (Some v) = OfSort a_masking_name v
   FitsAt (Added h) (Some k) (Some v) = OfSort k v

@@ -1,5 +1,5 @@
 -- Actions and blocks that a script can have (own): so are all their expressions.
-use Rattle.rules_trees.specs.Programs.{Act, bare, unary_act, binary_act, throw_io, new_empty, call, choose_act, case_act, modify, scoped, masking, restore, catch, guard, bracket, timeout, Bl, last, then, bind, let_in, ActArms, maybe_acts, either_acts, list_acts, pair_acts}
+use Rattle.rules_trees.specs.Programs.{Act, bare, unary_act, binary_act, throw_io, new_empty, call, choose_act, case_act, modify, scoped, masking, restore, catch, guard, bracket, timeout, with_async, Bl, last, then, bind, let_in, ActArms, maybe_acts, either_acts, list_acts, pair_acts}
 use Rattle.rules_sorts.specs.TypedMeaning.{Well, WellAll}
 
 abbrev mutual
@@ -20,6 +20,7 @@ abbrev mutual
   WellAct (guard o p a c) = WellBl a × WellBl c
   WellAct (bracket p a x c d) = WellBl a × WellBl c × WellBl d
   WellAct (timeout p e a) = Well e × WellBl a
+  WellAct (with_async p a x c) = WellBl a × WellBl c
 
   pub WellBl : Bl → Type 0
   WellBl (last a) = WellAct a

@@ -12,7 +12,7 @@ use Rattle.rules_sorts.specs.Sorts.{Sort}
 use Rattle.rules_sorts.specs.TypedMeaning.{of_int, of_text, of_thread, of_exn, of_cell}
 use Rattle.hs_rules.specs.Terms as named
 use Rattle.hs_soundness.specs.CoreSorts.{of_instance}
-use Rattle.hs_progress.specs.CoreTyping.{Asks, asks_put_str, asks_put_str_ln, asks_h_put_str_ln, asks_new, asks_new_empty, asks_take, asks_put, asks_read, asks_try_take, asks_try_put, asks_my_thread, asks_masking, asks_clock, asks_delay, asks_throw_to, asks_new_timeout, asks_acquired, asks_release}
+use Rattle.hs_progress.specs.CoreTyping.{Asks, asks_put_str, asks_put_str_ln, asks_h_put_str_ln, asks_new, asks_new_empty, asks_new_scope_cell, asks_take, asks_put, asks_put_end, asks_read, asks_read_end, asks_try_take, asks_try_put, asks_my_thread, asks_masking, asks_clock, asks_delay, asks_throw_to, asks_new_timeout, asks_acquired, asks_release}
 use Rattle.hs_progress.specs.TypedStates.{AllOfSorts, no_values, one_value}
 use Rattle.slot_laws.specs.SlotRules.{SlotOp, calls, forks, forks_unmask, performs}
 use Rattle.slot_laws.specs.Standing.{PartStands, op_stands, calls_stands}
@@ -77,9 +77,12 @@ module _ (t : ℕ) (x : SlotState) where
     call_there p vs asks_h_put_str_ln (one_value {v} h no_values) there = by_text (λ w. IsThere (performed t m p (w ∷ []) x)) (λ b. (_, refl)) v h
     call_there p vs asks_new (one_value {v} h no_values) there = (_, refl)
     call_there p vs asks_new_empty no_values there = (_, refl)
+    call_there p vs asks_new_scope_cell no_values there = (_, refl)
     call_there p vs (asks_take {t = a}) (one_value {v} h no_values) there = by_cell (λ n. cells n _) (λ w. IsThere (performed t m p (w ∷ []) x)) (λ n. (_, refl)) v h
     call_there p vs asks_put (one_value {v} h (one_value {v = w} g no_values)) there = by_cell (λ n. cells n _) (λ z. IsThere (performed t m p (z ∷ w ∷ []) x)) (λ n. (_, refl)) v h
+    call_there p vs asks_put_end (one_value {v} h (one_value {v = w} g no_values)) there = by_cell (λ n. cells n _) (λ z. IsThere (performed t m p (z ∷ w ∷ []) x)) (λ n. (_, refl)) v h
     call_there p vs asks_read (one_value {v} h no_values) there = by_cell (λ n. cells n _) (λ w. IsThere (performed t m p (w ∷ []) x)) (λ n. (_, refl)) v h
+    call_there p vs asks_read_end (one_value {v} h no_values) there = by_cell (λ n. cells n _) (λ w. IsThere (performed t m p (w ∷ []) x)) (λ n. (_, refl)) v h
     call_there p vs asks_try_take (one_value {v} h no_values) there = by_cell (λ n. cells n _) (λ w. IsThere (performed t m p (w ∷ []) x)) (λ n. (_, refl)) v h
     call_there p vs asks_try_put (one_value {v} h (one_value {v = w} g no_values)) there = by_cell (λ n. cells n _) (λ z. IsThere (performed t m p (z ∷ w ∷ []) x)) (λ n. (_, refl)) v h
     call_there p vs asks_my_thread no_values there = (_, refl)

@@ -9,7 +9,7 @@ use Rattle.rules_meaning.specs.Values as val
 use Rattle.rules_expansion.specs.Names.{Name, Written, Added, Unread}
 use Rattle.rules_meaning.specs.Values.{V, Env, with_name, value_at, Outcome, Gives, Throws, Stuck, Outcomes, AllGive, OneThrows, OneStuck, and_then}
 use Rattle.rules_meaning.specs.Meaning.{functions_of, value_of_ex, values_of_exs}
-use Rattle.rules_sorts.specs.Sorts.{Sort, a_value, a_masking_name, an_instance, Bound}
+use Rattle.rules_sorts.specs.Sorts.{Sort, a_value, a_masking_name, an_instance, a_scope_cell, Bound}
 use Rattle.rules_typing.specs.Typing as typing
 use Rattle.rules_typing.specs.TypingScripts.{Accepted}
 use Rattle.rules_sorts.specs.TypedMeaning.{AllOf, AllGood, WellAll}
@@ -43,6 +43,7 @@ module _ (cells : ℕ → T → Type 0) where
   binds_fits (Written x) (a_value t) v b h = h
   binds_fits (Written x) a_masking_name v b h = h
   binds_fits (Written x) an_instance v b h = absurd b
+  binds_fits (Written x) (a_scope_cell t) v b h = absurd b
   binds_fits (Added z) k v b h = h
   binds_fits Unread k v b h = absurd b
 
