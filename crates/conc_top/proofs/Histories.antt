@@ -93,15 +93,15 @@ tells_trace bytes r given es lent now (inr failed) = inr (failed.0, failed.1, fa
 module _ (fuel : ℕ) (s : Script) (bytes : List ℕ) (given : Ending) (es es_now : List Entry) (lent now : Shown) where
   runs_quiet : (p : Plan) (r : RunEnd) → p.body.of.value ≡ s → p.fuel ≡ fuel → p.limits ≡ limits → IsAccepted bytes s → IsRunOf p (Some r) es (quiet lent.last lent.early) (quiet now.last now.early)
       → TellsTrace bytes r given es lent now → RunsScript fuel bytes r es lent now (λ ds. TellsTrace bytes r given es lent now)
-  runs_quiet p r script_is fuel_is limits_is accepted run told = record {
+  runs_quiet p r script_is fuel_is limits_is accepted run told = let here = subst (IsAccepted bytes) (sym script_is) accepted in record {
     script = p.body.of.value;
-    accepted = subst (IsAccepted bytes) (sym script_is) accepted;
+    accepted = here;
     state = run.state;
     run = run.run;
     clock = run.clock;
     within = omega (arith, run.within, fuel_is);
     limited = subst (λ l. StaysWithin l (script p) es) limits_is run.limited;
-    laws = keeps_laws (script p) es run.state run.run;
+    laws = keeps_laws bytes p.body.of.value here es run.state run.run;
     ticks = run.ticks;
     ended = ∥∥₁_map
         (subst (λ l. ∥ EndedBy (Some r) (script p) es fuel l 0 0 0 0 ∥₁) limits_is (subst (λ n. ∥ EndedBy (Some r) (script p) es n p.limits 0 0 0 0 ∥₁) fuel_is run.ended))

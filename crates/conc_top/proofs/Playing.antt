@@ -18,6 +18,7 @@ use Rattle.rules_trees.specs.Programs.{Fn, script_of}
 use Rattle.rules_code.specs.Codes.{body_of}
 use Rattle.hs_laws.specs.HistoryEndings.{StaysWithin}
 use Rattle.hs_laws.proofs.Expanded.{brackets_of, brackets_law, cells_law, masks_law}
+use Rattle.scope_laws.proofs.Law.{scopes_law}
 use Rattle.run_course.specs.declared.ends.RunEnd.{RunEnd}
 use Rattle.run_course.specs.declared.ends.RunEnd.TheVariants as end
 use Rattle.run_course.specs.Told.{AppendsPart, IsCutOff, is_write, ToldOf}
@@ -141,8 +142,16 @@ tells (end.Limit kind e) given ds es lent now err_old faults le told line = whol
 
 -- ---- the run
 
-pub keeps_laws : (ds : List Fn) (es : List Entry) (s : State) → IsRun ds es s → KeepsLaws ds es s
-keeps_laws ds es s run = record { released = brackets_of ds es s run; brackets = brackets_law ds es s run; cells = cells_law ds es s run; masks = masks_law ds es s run }
+pub keeps_laws : (bytes : List ℕ) (script : Script) → IsAccepted bytes script → (es : List Entry) (s : State) → IsRun (script_of script) es s → KeepsLaws (script_of script) es s
+keeps_laws bytes script accepted es s run =
+    let ds = script_of script in
+    record {
+      released = brackets_of ds es s run;
+      brackets = brackets_law ds es s run;
+      cells = cells_law ds es s run;
+      masks = masks_law ds es s run;
+      scopes = scopes_law script accepted.1 es s run;
+    }
 
 -- what is shown once the line of the ending was put on the error sink
 pub record Later (old now : Shown) : Type 0 where
@@ -173,15 +182,15 @@ module _ (p : Plan) (fuel : ℕ) (s : Script) (r : RunEnd) (given : Ending) (es 
   fault = has_fault r (script p) es p.fuel p.limits lent.out_faults lent.err_faults now.out_faults now.err_faults ended
 
   runs : (bytes : List ℕ) → IsAccepted bytes s → IsRunOf p (Some r) es lent old → RunsScript fuel bytes r es lent now (λ ds. TellsBy (is_write (Some r)) r given ds es lent now)
-  runs bytes accepted run = record {
+  runs bytes accepted run = let here = subst (IsAccepted bytes) (sym closing.script) accepted in record {
     script = p.body.of.value;
-    accepted = subst (IsAccepted bytes) (sym closing.script) accepted;
+    accepted = here;
     state = run.state;
     run = run.run;
     clock = omega (arith, run.clock, closing.later.last);
     within = omega (arith, run.within, closing.fuel);
     limited = subst (λ l. StaysWithin l (script p) es) closing.limits run.limited;
-    laws = keeps_laws (script p) es run.state run.run;
+    laws = keeps_laws bytes p.body.of.value here es run.state run.run;
     ticks = rw closing.later.early run.ticks;
     ended = subst (λ l. ∥ EndedBy (Some r) (script p) es fuel l lent.out_faults lent.err_faults now.out_faults now.err_faults ∥₁) closing.limits
         (subst (λ n. ∥ EndedBy (Some r) (script p) es n p.limits lent.out_faults lent.err_faults now.out_faults now.err_faults ∥₁) closing.fuel ended);

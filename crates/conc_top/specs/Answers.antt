@@ -16,6 +16,7 @@ use Rattle.hs_laws.specs.BracketPhases.{BracketsKept}
 use Rattle.hs_laws.specs.CellLaw.{CellsKept}
 use Rattle.hs_laws.specs.MaskLaw.{MasksKept}
 use Rattle.hs_laws.specs.HistoryEndings.{StaysWithin}
+use Rattle.scope_laws.specs.ScopesKept.{ScopesKept}
 use Rattle.clocked_record.specs.Clocks.{TicksKept}
 use Rattle.run_course.specs.declared.ends.RunEnd.{RunEnd}
 use Rattle.run_course.specs.Told.{AppendsPart, IsCutOff, is_write}
@@ -42,12 +43,13 @@ use Rattle.conc_top.specs.Causes.{HasFault, HasIn, HasTelling, HasTooMany, IsDue
 use Rattle.conc_top.specs.Lines.{accepted_line, HasPlace, line_of, run_line, verified_line}
 
 -- the laws of every history hold of this one, which leaves this state; among them that each bracket of a finished thread was
--- released exactly once
+-- released exactly once, and that no async scope was left before its child had ended its action
 pub record KeepsLaws (ds : List Fn) (es : List Entry) (s : State) : Type 0 where
   pub released : Brackets s
   pub brackets : BracketsKept ds es
   pub cells : CellsKept ds es
   pub masks : MasksKept ds es
+  pub scopes : ScopesKept ds es
 
 -- What a run told: all that it printed, and then the line of its ending; where the put of that line failed, a part of the line,
 -- and the answer is Write. A run that ended by a failed put told what all but its last entry print, and a part of what that one

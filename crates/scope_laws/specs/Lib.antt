@@ -1,0 +1,3 @@
+pub mod ScopeLaw
+pub mod ScopePhases
+pub mod ScopesKept
