@@ -1,9 +1,12 @@
 //! Tests of what the front answers and the top call does not tell: the exact tokens of a text, where the parts of a tree
-//! stand, and what a refusal carries. What the top call tells is shown by the rows (`docs/ROWS.md`).
+//! stand, what a refusal carries, and which actions are forms of async scopes. What the top call tells is shown by the rows
+//! (`docs/ROWS.md`).
 #![tactic(auto)]
 
 #[cfg(test)]
 mod carried;
+#[cfg(test)]
+mod scoped;
 #[cfg(test)]
 mod spelled;
 #[cfg(test)]
