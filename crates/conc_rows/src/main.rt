@@ -6,32 +6,14 @@
 //! proof.
 #![tactic(auto)]
 
-mod came;
-mod cases;
-mod draft;
-mod flaw;
-mod keys;
-mod listing;
-mod outcomes;
-mod plans;
-mod reader;
-mod row;
-mod shown;
-mod text;
-mod wanted;
-mod witnesses;
-mod written;
-
-use crate::cases::problem_of;
-use crate::flaw::{Fault, Flaw};
-use crate::reader::read_rows;
-use crate::row::Row;
+use row_files::{Flaw, Misread, Row, read_rows};
+use row_trials::problem_of;
 use std::alloc::Global;
-use std::fs;
 use std::process::ExitCode;
 use std::rt::Files;
 use std::sync::Wait;
 use std::thread::Threads;
+use std::{fmt, fs};
 
 /// The files of rows, by topic.
 const FILES: [&str; 11] = [
@@ -49,6 +31,34 @@ const FILES: [&str; 11] = [
 ];
 
 const FAILED: u8 = 1;
+
+/// Why the rows were not all tried.
+#[derive(Clone, Copy)]
+enum Fault {
+    NoOutput,
+    NoFile(&'static str),
+    /// A file gives no rows.
+    Misread(Misread),
+    /// A row can't be tried.
+    Row(Flaw),
+}
+
+impl fmt::Display for Fault {
+    fn fmt<W: fmt::Write>(&self, f: &mut fmt::Formatter<W>) -> fmt::Result {
+        match self {
+            Fault::NoOutput => write!(f, "the output can't be written"),
+            Fault::NoFile(name) => write!(f, "{name} can't be read"),
+            Fault::Misread(why) => write!(f, "{why}"),
+            Fault::Row(flaw) => write!(f, "{flaw}"),
+        }
+    }
+}
+
+impl From<Misread> for Fault {
+    fn from(why: Misread) -> Fault {
+        Fault::Misread(why)
+    }
+}
 
 /// How many rows there are, how many gave something else, and how many can't run yet.
 #[derive(Clone, Copy)]
@@ -123,7 +133,6 @@ fn passes<R: Print + Alloc + Threads + Wait + Sync>(
                 Err(_) => Err(Fault::NoOutput),
             }
         }
-        Err(Flaw::NoMemory) => Err(Fault::NoMemory),
-        Err(Flaw::Says(says)) => Err(Fault::Row(says)),
+        Err(flaw) => Err(Fault::Row(flaw)),
     }
 }

@@ -1,12 +1,14 @@
 //! One call of the top call, and what it left.
 
-use crate::flaw::Flaw;
-use crate::row::{ClockPlan, Plan};
+ghost use Rattle.std.specs.Prelude.{◌≡◌, IfOk, Ok};
+
 use conc_top::{Done, Ending, RunEnd, run};
+use hs_base::NoMemory;
 use hs_io::{
     Clock, MemSink, MemSource, OpenGate, PlainSource, Source, StandingClock, VirtualClock,
 };
 use hs_rules::{Entry, History};
+use row_files::{Answer, ClockPlan, Flaw, Plan};
 use std::alloc::Global;
 use std::sync::Wait;
 use std::thread::Threads;
@@ -14,12 +16,8 @@ use std::thread::Threads;
 /// What a call left.
 #[derive(Drop)]
 pub struct Came {
-    pub out: Vec<u8>,
-    pub err: Vec<u8>,
-    pub status: u8,
+    pub answer: Answer,
     pub history: History,
-    /// Whether the script was accepted.
-    pub accepted: bool,
     /// The entry that would exceed a limit.
     pub limit_at: Option<Entry>,
 }
@@ -33,13 +31,32 @@ pub fn call<R: Threads + Wait + Sync>(
     input: &[u8],
 ) -> Result<Came, Flaw> {
     match &plan.source {
-        None => call_with(alloc, rt, plan, words, &mut PlainSource::of(alloc, input)?),
+        None => {
+            let mut source = held(PlainSource::of(alloc, input))?;
+            call_with(alloc, rt, plan, words, &mut source)
+        }
         Some(pieces) => {
             let piece = pieces.piece.max(1);
-            let mut source = MemSource::of(alloc, input, piece, &pieces.fails)?;
+            let mut source = held(MemSource::of(alloc, input, piece, &pieces.fails))?;
             call_with(alloc, rt, plan, words, &mut source)
         }
     }
+}
+
+/// What such a call tells, and its status.
+pub fn answer_to<R: Threads + Wait + Sync>(
+    alloc: Global,
+    rt: &R,
+    plan: &Plan,
+    words: &[String],
+    input: &[u8],
+) -> Result<Answer, Flaw> {
+    let Came {
+        answer,
+        history: _,
+        limit_at: _,
+    } = call(alloc, rt, plan, words, input)?;
+    Ok(answer)
 }
 
 fn call_with<S: Source, R: Threads + Wait + Sync>(
@@ -63,8 +80,8 @@ fn call_at<S: Source, K: Clock + Drop + Send, R: Threads + Wait + Sync>(
     source: &mut S,
     clock: K,
 ) -> Result<Came, Flaw> {
-    let out = MemSink::of(alloc, plan.out.room, &plan.out.fails)?;
-    let err = MemSink::of(alloc, plan.err.room, &plan.err.fails)?;
+    let out = held(MemSink::of(alloc, plan.out.room, &plan.out.fails))?;
+    let err = held(MemSink::of(alloc, plan.err.room, &plan.err.fails))?;
     let Done {
         status,
         ending,
@@ -74,13 +91,25 @@ fn call_at<S: Source, K: Clock + Drop + Send, R: Threads + Wait + Sync>(
         clock: _,
     } = run(alloc, rt, words, source, out, err, clock, &OpenGate);
     Ok(Came {
-        out: out.told().to_vec(alloc)?,
-        err: err.told().to_vec(alloc)?,
-        status,
+        answer: Answer {
+            out: out.told().to_vec(alloc)?,
+            err: err.told().to_vec(alloc)?,
+            status,
+            accepted: is_accepted(&ending),
+        },
         history,
-        accepted: is_accepted(&ending),
         limit_at: limit_at(&ending),
     })
+}
+
+// What was made, where there was memory for it.
+fn held<T: Drop>(made: Result<T, NoMemory>) -> Result<T, Flaw>
+    ensures { IfOk result (λ value. made ≡ Ok value) }
+{
+    match made {
+        Ok(value) => Ok(value),
+        Err(NoMemory) => Err(Flaw::NoMemory),
+    }
 }
 
 // Whether the ending says that the rules accept the script.

@@ -85,11 +85,6 @@ fn read_mark(draft: &mut Draft, line: &str) -> Result<(), Flaw> {
 fn read_key(draft: &mut Draft, key: &str, value: &str) -> Result<(), Flaw> {
     let alloc = draft.alloc;
     match key {
-        "out" => add_line(&mut draft.told.out, value)?,
-        "err" => add_line(&mut draft.told.err, value)?,
-        "entries" => draft.told.entries = Some(entries_of(alloc, value)?),
-        "steps" => draft.told.steps = Some(number_of(value)?),
-        "limit at" => draft.told.limit_at = Some(entry_of(alloc, value)?),
         "status" => draft.status = Some(number_of(value)?),
         "only status" => draft.only_status = Some(number_of(value)?),
         "report" => draft.add_report(value)?,
@@ -97,6 +92,20 @@ fn read_key(draft: &mut Draft, key: &str, value: &str) -> Result<(), Flaw> {
         "outcome" => draft.outcomes.push(outcome_of(alloc, value)?)?,
         "others" => draft.others = Some(others_of(value)?),
         "schedules" => draft.schedules = Some(schedules_of(value)?),
+        _ => read_told(draft, key, value)?,
+    }
+    Ok(())
+}
+
+// A line of what a call is to tell and to keep, or of how it is made.
+fn read_told(draft: &mut Draft, key: &str, value: &str) -> Result<(), Flaw> {
+    let alloc = draft.alloc;
+    match key {
+        "out" => add_line(&mut draft.told.out, value)?,
+        "err" => add_line(&mut draft.told.err, value)?,
+        "entries" => draft.told.entries = Some(entries_of(alloc, value)?),
+        "steps" => draft.told.steps = Some(number_of(value)?),
+        "limit at" => draft.told.limit_at = Some(entry_of(alloc, value)?),
         _ => read_plan(alloc, &mut draft.plan, key, value)?,
     }
     Ok(())

@@ -1,9 +1,9 @@
 //! What the values of a row's keys say.
 
+use crate::entry::EntryLine;
 use crate::flaw::Flaw;
 use crate::row::{Place, Refusal, SinkPlan, SourcePlan};
 use crate::text::{Letter, hex_digit, letters_of};
-use hs_rules::Entry;
 use std::alloc::Global;
 use std::str::FromStr;
 
@@ -28,14 +28,19 @@ fn parts_of(alloc: Global, text: &str) -> Result<Vec<&str>, Flaw> {
 
 /// Words with blanks between them; one that has a blank stands in quotes.
 pub fn words_of(alloc: Global, value: &str) -> Result<Vec<String>, Flaw> {
-    let mut words = Vec::new(alloc);
     if value.starts_with("\"") {
-        words.push(quoted_word(alloc, value)?)?;
-        return Ok(words);
+        return only(alloc, quoted_word(alloc, value)?);
     }
+    let mut words = Vec::new(alloc);
     for word in value.split_whitespace() {
         words.push(String::from_str(alloc, word)?)?;
     }
+    Ok(words)
+}
+
+fn only(alloc: Global, word: String) -> Result<Vec<String>, Flaw> {
+    let mut words = Vec::new(alloc);
+    words.push(word)?;
     Ok(words)
 }
 
@@ -51,13 +56,22 @@ fn quoted_word(alloc: Global, value: &str) -> Result<String, Flaw> {
     Ok(word)
 }
 
+// The number of `WORD N` or `WORD N fails ..`, and what follows `fails`.
+fn size_and_fails<'a, 'b>(parts: &'a [&'b str], word: &str) -> Option<(&'b str, &'a [&'b str])> {
+    match parts {
+        [first, size] if *first == word => Some((*size, NONE)),
+        [first, size, fails, rest @ ..] if *first == word && *fails == "fails" => {
+            Some((*size, rest))
+        }
+        _ => None,
+    }
+}
+
 /// `piece 8 fails 2 5`
 pub fn source_of(alloc: Global, value: &str) -> Result<SourcePlan, Flaw> {
     let parts = parts_of(alloc, value)?;
-    let (piece, calls) = match parts.as_slice() {
-        ["piece", piece] => (*piece, NONE),
-        ["piece", piece, "fails", calls @ ..] => (*piece, calls),
-        _ => return Err(Flaw::Says("a source is `piece N` or `piece N fails CALL ..`")),
+    let Some((piece, calls)) = size_and_fails(&parts, "piece") else {
+        return Err(Flaw::Says("a source is `piece N` or `piece N fails CALL ..`"));
     };
     Ok(SourcePlan {
         piece: piece_of(piece)?,
@@ -83,10 +97,8 @@ fn failing_calls(alloc: Global, calls: &[&str]) -> Result<Vec<u32>, Flaw> {
 /// `room 100 fails 2:1 3:0`
 pub fn sink_of(alloc: Global, value: &str) -> Result<SinkPlan, Flaw> {
     let parts = parts_of(alloc, value)?;
-    let (room, puts) = match parts.as_slice() {
-        ["room", room] => (*room, NONE),
-        ["room", room, "fails", puts @ ..] => (*room, puts),
-        _ => return Err(Flaw::Says("a sink is `room N` or `room N fails CALL:BYTES ..`")),
+    let Some((room, puts)) = size_and_fails(&parts, "room") else {
+        return Err(Flaw::Says("a sink is `room N` or `room N fails CALL:BYTES ..`"));
     };
     Ok(SinkPlan {
         room: number_of(room)?,
@@ -110,7 +122,7 @@ fn failing_put(put: &str) -> Result<(u32, u32), Flaw> {
 }
 
 /// Entries with commas between them, or `none`.
-pub fn entries_of(alloc: Global, value: &str) -> Result<Vec<Entry>, Flaw> {
+pub fn entries_of(alloc: Global, value: &str) -> Result<Vec<EntryLine>, Flaw> {
     let mut entries = Vec::new(alloc);
     if value == "none" {
         return Ok(entries);
@@ -121,16 +133,16 @@ pub fn entries_of(alloc: Global, value: &str) -> Result<Vec<Entry>, Flaw> {
     Ok(entries)
 }
 
-pub fn entry_of(alloc: Global, text: &str) -> Result<Entry, Flaw> {
+pub fn entry_of(alloc: Global, text: &str) -> Result<EntryLine, Flaw> {
     let parts = parts_of(alloc, text)?;
     entry_in(parts.as_slice())
 }
 
-fn entry_in(parts: &[&str]) -> Result<Entry, Flaw> {
+fn entry_in(parts: &[&str]) -> Result<EntryLine, Flaw> {
     match parts {
-        ["S"] => Ok(Entry::Stranded),
+        ["S"] => Ok(EntryLine::Stranded),
         [kind, number] => entry_of_number(kind, number),
-        ["L", t, k] => Ok(Entry::Local {
+        ["L", t, k] => Ok(EntryLine::Local {
             t: number_of(t)?,
             k: number_of(k)?,
         }),
@@ -139,21 +151,21 @@ fn entry_in(parts: &[&str]) -> Result<Entry, Flaw> {
 }
 
 // An entry that names a thread or a time alone.
-fn entry_of_number(kind: &str, number: &str) -> Result<Entry, Flaw> {
+fn entry_of_number(kind: &str, number: &str) -> Result<EntryLine, Flaw> {
     match kind {
-        "O" => Ok(Entry::Op {
+        "O" => Ok(EntryLine::Op {
             t: number_of(number)?,
         }),
-        "R" => Ok(Entry::Receive {
+        "R" => Ok(EntryLine::Receive {
             t: number_of(number)?,
         }),
-        "W" => Ok(Entry::Wake {
+        "W" => Ok(EntryLine::Wake {
             t: number_of(number)?,
         }),
-        "F" => Ok(Entry::Finish {
+        "F" => Ok(EntryLine::Finish {
             t: number_of(number)?,
         }),
-        "T" => Ok(Entry::Tick {
+        "T" => Ok(EntryLine::Tick {
             at: number_of(number)?,
         }),
         _ => Err(NO_ENTRY),

@@ -1,11 +1,10 @@
 //! The cases of a row.
 
 use crate::came::call;
-use crate::flaw::Flaw;
-use crate::row::{Cases, Row, Wanted};
-use crate::wanted::{Case, difference};
+use crate::kept::first_difference;
 use crate::witnesses::{Search, problem_witnessed};
 use crate::written::problem_written;
+use row_files::{Case, Cases, Flaw, Row, Wanted};
 use std::alloc::Global;
 use std::sync::Wait;
 use std::thread::Threads;
@@ -110,10 +109,10 @@ fn problem_at<R: Threads + Wait + Sync>(
     case: &Case<'_>,
 ) -> Result<Option<String>, Flaw> {
     let came = call(alloc, rt, &row.plan, words, input)?;
-    if let Some(problem) = difference(alloc, &row.wanted, case, &came)? {
+    if let Some(problem) = first_difference(alloc, &row.wanted, case, &came)? {
         return Ok(Some(problem));
     }
-    let came = &came;
+    let came = &came.answer;
     match (&row.wanted, &row.report) {
         (Wanted::Listed(listing), _) => {
             problem_witnessed(alloc, rt, listing, Search { words, input, came })

@@ -2,7 +2,7 @@
 
 use crate::flaw::Flaw;
 use crate::row::{Listing, Others, Outcome};
-use crate::shown::{says, shown};
+use crate::showing::{says, shown};
 use std::alloc::{AllocError, Global};
 
 /// A line, in which a number may be left open.

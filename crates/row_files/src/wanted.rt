@@ -1,13 +1,21 @@
-//! What a row wants beside what came.
+//! What a row wants beside what a call told.
 
-use crate::came::Came;
 use crate::flaw::Flaw;
 use crate::listing::listing_difference;
 use crate::row::{Listing, Place, Refusal, Told, Wanted};
-use crate::shown::{says, shown};
+use crate::showing::shown;
 use crate::text::Text;
-use hs_rules::{Entry, History};
 use std::alloc::{AllocError, Global};
+
+/// What a call told, and its status.
+#[derive(Drop)]
+pub struct Answer {
+    pub out: Vec<u8>,
+    pub err: Vec<u8>,
+    pub status: u8,
+    /// Whether the script was accepted.
+    pub accepted: bool,
+}
 
 /// One case of a row.
 #[derive(Clone, Copy)]
@@ -31,16 +39,20 @@ impl Case<'_> {
 /// The words that are not understood, a refused script, a read fault, a refused document, a search and what it lacks: nothing ran.
 const IDLE: [u8; 7] = [2, 3, 7, 10, 11, 12, 13];
 
-/// The first difference between what is wanted and what came.
+impl Wanted {
+    /// Whether the history has to be empty where a call has this status.
+    pub fn is_idle(&self, status: u8) -> bool {
+        IDLE.contains(&status) || matches!(self, Wanted::Listed(_))
+    }
+}
+
+/// The first difference between what is wanted and what was told.
 pub fn difference(
     alloc: Global,
     wanted: &Wanted,
     case: &Case<'_>,
-    came: &Came,
+    came: &Answer,
 ) -> Result<Option<String>, Flaw> {
-    if IDLE.contains(&came.status) && came.history.len() != 0 {
-        return says(alloc, "nothing ran, but there is a history");
-    }
     match wanted {
         Wanted::Told(status, told) => told_difference(alloc, *status, told, case, came),
         Wanted::Refused(refusals) => refusal_difference(alloc, refusals, case, came),
@@ -54,7 +66,7 @@ pub fn difference(
     }
 }
 
-fn status_difference(alloc: Global, status: u8, came: &Came) -> Result<Option<String>, Flaw> {
+fn status_difference(alloc: Global, status: u8, came: &Answer) -> Result<Option<String>, Flaw> {
     let got = came.status;
     if got == status {
         return Ok(None);
@@ -67,7 +79,7 @@ fn told_difference(
     status: u8,
     told: &Told,
     case: &Case<'_>,
-    came: &Came,
+    came: &Answer,
 ) -> Result<Option<String>, Flaw> {
     if let Some(text) = text_difference(alloc, "out", &told.out, case, &came.out)? {
         return Ok(Some(text));
@@ -75,10 +87,7 @@ fn told_difference(
     if let Some(text) = text_difference(alloc, "err", &told.err, case, &came.err)? {
         return Ok(Some(text));
     }
-    if let Some(text) = status_difference(alloc, status, came)? {
-        return Ok(Some(text));
-    }
-    kept_difference(alloc, told, came)
+    status_difference(alloc, status, came)
 }
 
 fn text_difference(
@@ -100,11 +109,8 @@ fn listed_difference(
     alloc: Global,
     listing: &Listing,
     case: &Case<'_>,
-    came: &Came,
+    came: &Answer,
 ) -> Result<Option<String>, Flaw> {
-    if came.history.len() != 0 {
-        return says(alloc, "nothing ran, but there is a history");
-    }
     if let Some(text) = text_difference(alloc, "err", &Text::new(alloc), case, &came.err)? {
         return Ok(Some(text));
     }
@@ -114,71 +120,11 @@ fn listed_difference(
     listing_difference(alloc, listing, case.byte(), &came.out)
 }
 
-// The history, its steps and the entry that an ending carries, where the row names them.
-fn kept_difference(alloc: Global, told: &Told, came: &Came) -> Result<Option<String>, Flaw> {
-    if let Some(entries) = &told.entries {
-        if !is_history(&came.history, entries) {
-            let history = shown_history(alloc, &came.history)?;
-            return Ok(Some(format!(in alloc; "other entries were wanted, came {history}")?));
-        }
-    }
-    if let Some(steps) = told.steps {
-        let got = came.history.steps();
-        if got != steps {
-            return Ok(Some(format!(in alloc; "wanted {steps} steps, came {got}")?));
-        }
-    }
-    if told.limit_at != came.limit_at && told.limit_at.is_some() {
-        return says(alloc, "the ending carries another entry");
-    }
-    Ok(None)
-}
-
-fn is_history(history: &History, entries: &[Entry]) -> bool {
-    if history.len() != entries.len() {
-        return false;
-    }
-    for (at, entry) in entries.iter().enumerate() {
-        if history.at(at) != Some(*entry) {
-            return false;
-        }
-    }
-    true
-}
-
-// The first entries.
-fn shown_history(alloc: Global, history: &History) -> Result<String, AllocError> {
-    let mut text = String::new(alloc);
-    for at in 0..history.len().min(20) {
-        let entry = match history.at(at) {
-            None => String::new(alloc),
-            Some(entry) => shown_entry(alloc, entry)?,
-        };
-        if at > 0 {
-            text.push_str(", ")?;
-        }
-        text.push_str(entry.as_str())?;
-    }
-    Ok(text)
-}
-
-fn shown_entry(alloc: Global, entry: Entry) -> Result<String, AllocError> {
-    match entry {
-        Entry::Local { t, k } => format!(in alloc; "L {t} {k}"),
-        Entry::Op { t } => format!(in alloc; "O {t}"),
-        Entry::Receive { t } => format!(in alloc; "R {t}"),
-        Entry::Wake { t } => format!(in alloc; "W {t}"),
-        Entry::Finish { t } => format!(in alloc; "F {t}"),
-        Entry::Tick { at } => format!(in alloc; "T {at}"),
-        Entry::Stranded => String::from_str(alloc, "S"),
-    }
-}
-
 fn refusal_difference(
     alloc: Global,
     refusals: &[Refusal],
     case: &Case<'_>,
-    came: &Came,
+    came: &Answer,
 ) -> Result<Option<String>, Flaw> {
     if came.status == 3 && came.out.is_empty() {
         for refusal in refusals {

@@ -1,13 +1,13 @@
 //! The reader of files of rows (docs/ROWS.md has the form).
 
 use crate::draft::Draft;
-use crate::flaw::{Fault, Flaw};
+use crate::flaw::{Flaw, Misread};
 use crate::keys::read_line;
 use crate::row::Row;
 use std::alloc::Global;
 
 /// The rows of a file, or the first line that is no line of a row.
-pub fn read_rows(alloc: Global, file: &str) -> Result<Vec<Row>, Fault> {
+pub fn read_rows(alloc: Global, file: &str) -> Result<Vec<Row>, Misread> {
     let mut rows = Vec::new(alloc);
     let mut draft = None;
     let mut number = 0usize;
@@ -20,11 +20,11 @@ pub fn read_rows(alloc: Global, file: &str) -> Result<Vec<Row>, Fault> {
 }
 
 // What a line's flaw is in the file.
-fn at_line<T: Drop>(number: usize, read: Result<T, Flaw>) -> Result<T, Fault> {
+fn at_line<T: Drop>(number: usize, read: Result<T, Flaw>) -> Result<T, Misread> {
     match read {
         Ok(value) => Ok(value),
-        Err(Flaw::NoMemory) => Err(Fault::NoMemory),
-        Err(Flaw::Says(says)) => Err(Fault::Line(number, says)),
+        Err(Flaw::NoMemory) => Err(Misread::NoMemory),
+        Err(Flaw::Says(says)) => Err(Misread::Line(number, says)),
     }
 }
 

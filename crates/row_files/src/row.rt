@@ -1,8 +1,8 @@
 //! A row: one call of the top call, or one for each of its cases, and what it gives.
 
+use crate::entry::EntryLine;
 use crate::flaw::Flaw;
 use crate::text::Text;
-use hs_rules::Entry;
 use std::alloc::{AllocError, Global};
 
 /// Which calls a row makes.
@@ -60,9 +60,9 @@ pub struct Refusal {
 pub struct Told {
     pub out: Text,
     pub err: Text,
-    pub entries: Option<Vec<Entry>>,
+    pub entries: Option<Vec<EntryLine>>,
     pub steps: Option<u64>,
-    pub limit_at: Option<Entry>,
+    pub limit_at: Option<EntryLine>,
 }
 
 /// How a run ends of itself.

@@ -1,11 +1,8 @@
 //! The runs that come to the outcomes of a row: written and verified.
 
-use crate::came::{Came, call};
-use crate::flaw::Flaw;
-use crate::listing::{Line, head_of};
-use crate::row::{Listing, Outcome};
-use crate::shown::{says, shown};
+use crate::came::answer_to;
 use crate::written::{ample_plan, with_name};
+use row_files::{Answer, Flaw, Line, Listing, Outcome, head_of, says, shown};
 use std::alloc::{AllocError, Global};
 use std::sync::Wait;
 use std::thread::Threads;
@@ -15,7 +12,7 @@ use std::thread::Threads;
 pub struct Search<'a> {
     pub words: &'a [String],
     pub input: &'a [u8],
-    pub came: &'a Came,
+    pub came: &'a Answer,
 }
 
 /// What is not as it should be where the run of each outcome is written and verified, if anything: the command for it has the
@@ -44,7 +41,7 @@ fn problem_of_run<R: Threads + Wait + Sync>(
 ) -> Result<Option<String>, Flaw> {
     let plan = ample_plan(alloc)?;
     let words = with_witness(alloc, search.words, number)?;
-    let written = call(alloc, rt, &plan, &words, search.input)?;
+    let written = answer_to(alloc, rt, &plan, &words, search.input)?;
     if written.status != search.came.status || !written.err.is_empty() {
         return says(
             alloc,
@@ -52,7 +49,7 @@ fn problem_of_run<R: Threads + Wait + Sync>(
         );
     }
     let words = with_name(alloc, &[], "verify")?;
-    let verified = call(alloc, rt, &plan, &words, &written.out)?;
+    let verified = answer_to(alloc, rt, &plan, &words, &written.out)?;
     let wanted = verified_line(alloc, number, outcome, &search.came.out)?;
     if verified.status == 0 && is_line(&wanted, &verified.out) {
         return Ok(None);

@@ -1,9 +1,7 @@
 //! The history of what a row runs: written, verified, and reported.
 
-use crate::came::{Came, call};
-use crate::flaw::Flaw;
-use crate::row::Plan;
-use crate::text::Text;
+use crate::came::answer_to;
+use row_files::{Answer, Flaw, Plan, Text};
 use std::alloc::{AllocError, Global};
 use std::sync::Wait;
 use std::thread::Threads;
@@ -19,22 +17,22 @@ pub fn problem_written<R: Threads + Wait + Sync>(
     lines: &Text,
     words: &[String],
     input: &[u8],
-    ran: &Came,
+    ran: &Answer,
 ) -> Result<Option<String>, Flaw> {
     let plan = ample_plan(alloc)?;
-    let written = call(alloc, rt, &plan, &with_name(alloc, words, "trace")?, input)?;
+    let written = answer_to(alloc, rt, &plan, &with_name(alloc, words, "trace")?, input)?;
     if written.status != ran.status {
         let status = written.status;
         return Ok(Some(format!(in alloc; "`trace` has status {status}")?));
     }
-    let verified = call(
+    let verified = answer_to(
         alloc,
         rt,
         &plan,
         &with_name(alloc, &[], "verify")?,
         &written.out,
     )?;
-    let reported = call(
+    let reported = answer_to(
         alloc,
         rt,
         &plan,
