@@ -1,111 +1,63 @@
 -- Each constant for a reserved word or a symbol is the number of that word or symbol: its place in the table that the lexer
 -- reads (own).
-use Rattle.std.specs.Prelude.{◌≡◌, ℕ, List, Some, slice_get, codes}
+use Rattle.std.specs.Prelude.{◌≡◌, ℕ, List, [], ◌∷◌, map, Option, Some, slice_get, codes}
 use Rattle.rules_tokens.specs.Tokens.{reserved_words, symbols}
 use Rattle.rules_tokens.specs.declared.word.TheConstants as word
 use Rattle.rules_tokens.specs.declared.symbol.TheConstants as symbol
 
-abbrev pub IsWordFor : ℕ → List ℕ → Type 0
-IsWordFor n text = slice_get reserved_words n ≡ Some text
+-- the words, by their constants
+abbrev pub spelled_words : List (ℕ × List ℕ)
+spelled_words =
+    (word.TRUE, codes "True") ∷ (word.FALSE, codes "False") ∷ (word.NOTHING, codes "Nothing") ∷ (word.JUST, codes "Just")
+    ∷ (word.LEFT, codes "Left") ∷ (word.RIGHT, codes "Right") ∷ (word.ERROR_CALL, codes "ErrorCall")
+    ∷ (word.THREAD_KILLED, codes "ThreadKilled") ∷ (word.USER_INTERRUPT, codes "UserInterrupt")
+    ∷ (word.DIVIDE_BY_ZERO, codes "DivideByZero") ∷ (word.OVERFLOW, codes "Overflow") ∷ (word.INT, codes "Int")
+    ∷ (word.BOOL, codes "Bool") ∷ (word.TEXT, codes "Text") ∷ (word.THREAD_ID, codes "ThreadId")
+    ∷ (word.SOME_EXCEPTION, codes "SomeException") ∷ (word.MAYBE, codes "Maybe") ∷ (word.EITHER, codes "Either")
+    ∷ (word.MVAR, codes "MVar") ∷ (word.IO, codes "IO") ∷ (word.IF, codes "if") ∷ (word.THEN, codes "then")
+    ∷ (word.ELSE, codes "else") ∷ (word.CASE, codes "case") ∷ (word.OF, codes "of") ∷ (word.LET, codes "let")
+    ∷ (word.IN, codes "in") ∷ (word.DIV, codes "div") ∷ (word.MOD, codes "mod") ∷ (word.NOT, codes "not")
+    ∷ (word.FST, codes "fst") ∷ (word.SND, codes "snd") ∷ (word.SHOW, codes "show") ∷ (word.RETURN, codes "return")
+    ∷ (word.THROW_IO, codes "throwIO") ∷ (word.PUT_STR, codes "putStr") ∷ (word.PUT_STR_LN, codes "putStrLn")
+    ∷ (word.H_PUT_STR_LN, codes "hPutStrLn") ∷ (word.STDERR, codes "stderr") ∷ (word.NEW_MVAR, codes "newMVar")
+    ∷ (word.NEW_EMPTY_MVAR, codes "newEmptyMVar") ∷ (word.TAKE_MVAR, codes "takeMVar") ∷ (word.PUT_MVAR, codes "putMVar")
+    ∷ (word.READ_MVAR, codes "readMVar") ∷ (word.TRY_TAKE_MVAR, codes "tryTakeMVar")
+    ∷ (word.TRY_PUT_MVAR, codes "tryPutMVar") ∷ (word.MODIFY_MVAR, codes "modifyMVar_") ∷ (word.FORK_IO, codes "forkIO")
+    ∷ (word.FORK_IO_WITH_UNMASK, codes "forkIOWithUnmask") ∷ (word.MY_THREAD_ID, codes "myThreadId")
+    ∷ (word.THROW_TO, codes "throwTo") ∷ (word.KILL_THREAD, codes "killThread") ∷ (word.THREAD_DELAY, codes "threadDelay")
+    ∷ (word.CLOCK_MICROS, codes "clockMicros") ∷ (word.GET_MASKING_STATE, codes "getMaskingState")
+    ∷ (word.CATCH, codes "catch") ∷ (word.MASK, codes "mask") ∷ (word.MASK_BLOCK, codes "mask_")
+    ∷ (word.UNINTERRUPTIBLE_MASK, codes "uninterruptibleMask")
+    ∷ (word.UNINTERRUPTIBLE_MASK_BLOCK, codes "uninterruptibleMask_") ∷ (word.RESTORE, codes "restore")
+    ∷ (word.ON_EXCEPTION, codes "onException") ∷ (word.BRACKET, codes "bracket") ∷ (word.FINALLY, codes "finally")
+    ∷ (word.TIMEOUT, codes "timeout") ∷ (word.ASYNC, codes "Async") ∷ (word.WITH_ASYNC, codes "withAsync")
+    ∷ (word.WAIT, codes "wait") ∷ (word.CANCEL, codes "cancel") ∷ (word.RACE, codes "race")
+    ∷ (word.CONCURRENTLY, codes "concurrently") ∷ []
 
-abbrev pub IsSymbolFor : ℕ → List ℕ → Type 0
-IsSymbolFor n text = slice_get symbols n ≡ Some text
+-- the symbols, by their constants
+abbrev pub spelled_symbols : List (ℕ × List ℕ)
+spelled_symbols =
+    (symbol.DOUBLE_COLON, codes "::") ∷ (symbol.ARROW, codes "->") ∷ (symbol.LEFT_ARROW, codes "<-")
+    ∷ (symbol.EQUAL_EQUAL, codes "==") ∷ (symbol.SLASH_EQUAL, codes "/=") ∷ (symbol.LESS_EQUAL, codes "<=")
+    ∷ (symbol.GREATER_EQUAL, codes ">=") ∷ (symbol.AND, codes "&&") ∷ (symbol.OR, codes "||")
+    ∷ (symbol.PLUS_PLUS, codes "++") ∷ (symbol.EQUAL, codes "=") ∷ (symbol.LESS, codes "<") ∷ (symbol.GREATER, codes ">")
+    ∷ (symbol.PLUS, codes "+") ∷ (symbol.MINUS, codes "-") ∷ (symbol.STAR, codes "*") ∷ (symbol.COLON, codes ":")
+    ∷ (symbol.SEMICOLON, codes ";") ∷ (symbol.COMMA, codes ",") ∷ (symbol.AT, codes "@") ∷ (symbol.OPEN_PAREN, codes "(")
+    ∷ (symbol.CLOSE_PAREN, codes ")") ∷ (symbol.OPEN_BRACKET, codes "[") ∷ (symbol.CLOSE_BRACKET, codes "]")
+    ∷ (symbol.OPEN_BRACE, codes "{") ∷ (symbol.CLOSE_BRACE, codes "}") ∷ []
+
+-- what a table has at the numbers of these rows
+abbrev pub read_at : List (List ℕ) → List (ℕ × List ℕ) → List (Option (List ℕ))
+read_at table rows = map (λ r. slice_get table r.0) rows
+
+abbrev pub texts : List (ℕ × List ℕ) → List (List ℕ)
+texts rows = map (λ r. r.1) rows
+
+-- A table has at each constant its text, and no other text.
+pub record IsSpelledBy (table : List (List ℕ)) (rows : List (ℕ × List ℕ)) : Type 0 where
+  pub each : read_at table rows ≡ map (λ t. Some t) (texts rows)
+  pub no_other : texts rows ≡ table
 
 pub record AreSpelled : Type 0 where
-  pub word_true : IsWordFor word.TRUE (codes "True")
-  pub word_false : IsWordFor word.FALSE (codes "False")
-  pub word_nothing : IsWordFor word.NOTHING (codes "Nothing")
-  pub word_just : IsWordFor word.JUST (codes "Just")
-  pub word_left : IsWordFor word.LEFT (codes "Left")
-  pub word_right : IsWordFor word.RIGHT (codes "Right")
-  pub word_error_call : IsWordFor word.ERROR_CALL (codes "ErrorCall")
-  pub word_thread_killed : IsWordFor word.THREAD_KILLED (codes "ThreadKilled")
-  pub word_user_interrupt : IsWordFor word.USER_INTERRUPT (codes "UserInterrupt")
-  pub word_divide_by_zero : IsWordFor word.DIVIDE_BY_ZERO (codes "DivideByZero")
-  pub word_overflow : IsWordFor word.OVERFLOW (codes "Overflow")
-  pub word_int : IsWordFor word.INT (codes "Int")
-  pub word_bool : IsWordFor word.BOOL (codes "Bool")
-  pub word_text : IsWordFor word.TEXT (codes "Text")
-  pub word_thread_id : IsWordFor word.THREAD_ID (codes "ThreadId")
-  pub word_some_exception : IsWordFor word.SOME_EXCEPTION (codes "SomeException")
-  pub word_maybe : IsWordFor word.MAYBE (codes "Maybe")
-  pub word_either : IsWordFor word.EITHER (codes "Either")
-  pub word_mvar : IsWordFor word.MVAR (codes "MVar")
-  pub word_io : IsWordFor word.IO (codes "IO")
-  pub word_if : IsWordFor word.IF (codes "if")
-  pub word_then : IsWordFor word.THEN (codes "then")
-  pub word_else : IsWordFor word.ELSE (codes "else")
-  pub word_case : IsWordFor word.CASE (codes "case")
-  pub word_of : IsWordFor word.OF (codes "of")
-  pub word_let : IsWordFor word.LET (codes "let")
-  pub word_in : IsWordFor word.IN (codes "in")
-  pub word_div : IsWordFor word.DIV (codes "div")
-  pub word_mod : IsWordFor word.MOD (codes "mod")
-  pub word_not : IsWordFor word.NOT (codes "not")
-  pub word_fst : IsWordFor word.FST (codes "fst")
-  pub word_snd : IsWordFor word.SND (codes "snd")
-  pub word_show : IsWordFor word.SHOW (codes "show")
-  pub word_return : IsWordFor word.RETURN (codes "return")
-  pub word_throw_io : IsWordFor word.THROW_IO (codes "throwIO")
-  pub word_put_str : IsWordFor word.PUT_STR (codes "putStr")
-  pub word_put_str_ln : IsWordFor word.PUT_STR_LN (codes "putStrLn")
-  pub word_h_put_str_ln : IsWordFor word.H_PUT_STR_LN (codes "hPutStrLn")
-  pub word_stderr : IsWordFor word.STDERR (codes "stderr")
-  pub word_new_mvar : IsWordFor word.NEW_MVAR (codes "newMVar")
-  pub word_new_empty_mvar : IsWordFor word.NEW_EMPTY_MVAR (codes "newEmptyMVar")
-  pub word_take_mvar : IsWordFor word.TAKE_MVAR (codes "takeMVar")
-  pub word_put_mvar : IsWordFor word.PUT_MVAR (codes "putMVar")
-  pub word_read_mvar : IsWordFor word.READ_MVAR (codes "readMVar")
-  pub word_try_take_mvar : IsWordFor word.TRY_TAKE_MVAR (codes "tryTakeMVar")
-  pub word_try_put_mvar : IsWordFor word.TRY_PUT_MVAR (codes "tryPutMVar")
-  pub word_modify_mvar : IsWordFor word.MODIFY_MVAR (codes "modifyMVar_")
-  pub word_fork_io : IsWordFor word.FORK_IO (codes "forkIO")
-  pub word_fork_io_with_unmask : IsWordFor word.FORK_IO_WITH_UNMASK (codes "forkIOWithUnmask")
-  pub word_my_thread_id : IsWordFor word.MY_THREAD_ID (codes "myThreadId")
-  pub word_throw_to : IsWordFor word.THROW_TO (codes "throwTo")
-  pub word_kill_thread : IsWordFor word.KILL_THREAD (codes "killThread")
-  pub word_thread_delay : IsWordFor word.THREAD_DELAY (codes "threadDelay")
-  pub word_clock_micros : IsWordFor word.CLOCK_MICROS (codes "clockMicros")
-  pub word_get_masking_state : IsWordFor word.GET_MASKING_STATE (codes "getMaskingState")
-  pub word_catch : IsWordFor word.CATCH (codes "catch")
-  pub word_mask : IsWordFor word.MASK (codes "mask")
-  pub word_mask_block : IsWordFor word.MASK_BLOCK (codes "mask_")
-  pub word_uninterruptible_mask : IsWordFor word.UNINTERRUPTIBLE_MASK (codes "uninterruptibleMask")
-  pub word_uninterruptible_mask_block : IsWordFor word.UNINTERRUPTIBLE_MASK_BLOCK (codes "uninterruptibleMask_")
-  pub word_restore : IsWordFor word.RESTORE (codes "restore")
-  pub word_on_exception : IsWordFor word.ON_EXCEPTION (codes "onException")
-  pub word_bracket : IsWordFor word.BRACKET (codes "bracket")
-  pub word_finally : IsWordFor word.FINALLY (codes "finally")
-  pub word_timeout : IsWordFor word.TIMEOUT (codes "timeout")
-  pub word_async : IsWordFor word.ASYNC (codes "Async")
-  pub word_with_async : IsWordFor word.WITH_ASYNC (codes "withAsync")
-  pub word_wait : IsWordFor word.WAIT (codes "wait")
-  pub word_cancel : IsWordFor word.CANCEL (codes "cancel")
-  pub word_race : IsWordFor word.RACE (codes "race")
-  pub word_concurrently : IsWordFor word.CONCURRENTLY (codes "concurrently")
-  pub symbol_double_colon : IsSymbolFor symbol.DOUBLE_COLON (codes "::")
-  pub symbol_arrow : IsSymbolFor symbol.ARROW (codes "->")
-  pub symbol_left_arrow : IsSymbolFor symbol.LEFT_ARROW (codes "<-")
-  pub symbol_equal_equal : IsSymbolFor symbol.EQUAL_EQUAL (codes "==")
-  pub symbol_slash_equal : IsSymbolFor symbol.SLASH_EQUAL (codes "/=")
-  pub symbol_less_equal : IsSymbolFor symbol.LESS_EQUAL (codes "<=")
-  pub symbol_greater_equal : IsSymbolFor symbol.GREATER_EQUAL (codes ">=")
-  pub symbol_and : IsSymbolFor symbol.AND (codes "&&")
-  pub symbol_or : IsSymbolFor symbol.OR (codes "||")
-  pub symbol_plus_plus : IsSymbolFor symbol.PLUS_PLUS (codes "++")
-  pub symbol_equal : IsSymbolFor symbol.EQUAL (codes "=")
-  pub symbol_less : IsSymbolFor symbol.LESS (codes "<")
-  pub symbol_greater : IsSymbolFor symbol.GREATER (codes ">")
-  pub symbol_plus : IsSymbolFor symbol.PLUS (codes "+")
-  pub symbol_minus : IsSymbolFor symbol.MINUS (codes "-")
-  pub symbol_star : IsSymbolFor symbol.STAR (codes "*")
-  pub symbol_colon : IsSymbolFor symbol.COLON (codes ":")
-  pub symbol_semicolon : IsSymbolFor symbol.SEMICOLON (codes ";")
-  pub symbol_comma : IsSymbolFor symbol.COMMA (codes ",")
-  pub symbol_at : IsSymbolFor symbol.AT (codes "@")
-  pub symbol_open_paren : IsSymbolFor symbol.OPEN_PAREN (codes "(")
-  pub symbol_close_paren : IsSymbolFor symbol.CLOSE_PAREN (codes ")")
-  pub symbol_open_bracket : IsSymbolFor symbol.OPEN_BRACKET (codes "[")
-  pub symbol_close_bracket : IsSymbolFor symbol.CLOSE_BRACKET (codes "]")
-  pub symbol_open_brace : IsSymbolFor symbol.OPEN_BRACE (codes "{")
-  pub symbol_close_brace : IsSymbolFor symbol.CLOSE_BRACE (codes "}")
+  pub all_words : IsSpelledBy reserved_words spelled_words
+  pub all_symbols : IsSpelledBy symbols spelled_symbols

@@ -1,5 +1,5 @@
 -- Forms whose first parts stand already, and the rest of a form after its first parts.
-use Rattle.std.proofs.Common.{◌≡◌, sym, subst}
+use Rattle.std.proofs.Common.{◌≡◌, sym, ap, subst}
 use Rattle.std.proofs.lemmas.Result.{IfOk-weaker}
 use Rattle.std.specs.Prelude.{List, Result, IfOk}
 use Rattle.rules_code.specs.declared.node.ExprId.{ExprId}
@@ -8,12 +8,14 @@ use Rattle.rules_code.specs.declared.act.ActId.{ActId}
 use Rattle.rules_code.specs.Slots.{Sx, Scope, tree_in}
 use Rattle.rules_code.specs.CodeTrees.{Sa, act_in, act_decode}
 use Rattle.rules_trees.specs.Programs.{Act as Action}
+use Rattle.rules_expansion.specs.Core.{Core}
+use Rattle.rules_expansion.specs.Expansion.{core}
 use Rattle.hs_nodes.specs.Names.{scope_of}
 use Rattle.hs_core.specs.declared.defs.Defs.{Defs}
 use Rattle.hs_core.specs.declared.emitter.ActEmitter.{ActEmitter}
 use Rattle.hs_core.specs.Defining.{Knows}
 use Rattle.hs_core.specs.Emits.{DoneIn, StandsIn, Emits, EmitsEx, Pushed}
-use Rattle.hs_core.specs.Opening.{action_tree}
+use Rattle.hs_core.specs.Opening.{core_tree, action_tree}
 use Rattle.hs_core.proofs.ActArena.{knows_on}
 use Rattle.hs_core.proofs.Steps.{goes, goes_ex, goes_on, kept, kept_ex, at, emits, follow, done_ex2}
 
@@ -26,8 +28,11 @@ held_branch d t r mk mt dec f p = emits (goes f) p (λ k. done_ex2 mk mt dec p (
 
 -- ---- the rest of a form
 
+pub all_as_core : {E : Type 0} (r : Result ActId E) (a n : ActEmitter) (d : Defs) (x y : Core) → y ≡ x → IfOk r (λ id. Emits (Knows a.emitter.nodes d) a n id (λ s. core_tree d s x)) → IfOk r (λ id. Emits (Knows a.emitter.nodes d) a n id (λ s. core_tree d s y))
+all_as_core r a n d x y e h = subst (λ z. IfOk r (λ id. Emits (Knows a.emitter.nodes d) a n id (λ s. core_tree d s z))) (sym e) h
+
 pub all_as_action : {E : Type 0} (r : Result ActId E) (a n : ActEmitter) (d : Defs) (p q : Action) → q ≡ p → IfOk r (λ id. Emits (Knows a.emitter.nodes d) a n id (λ s. action_tree d s p)) → IfOk r (λ id. Emits (Knows a.emitter.nodes d) a n id (λ s. action_tree d s q))
-all_as_action r a n d p q e h = subst (λ z. IfOk r (λ id. Emits (Knows a.emitter.nodes d) a n id (λ s. action_tree d s z))) (sym e) h
+all_as_action r a n d p q e h = all_as_core r a n d (core p) (core q) (ap core e) h
 
 pub act_then : {E : Type 0} {b : ActEmitter} {i : ActId} (r : Result ActId E) (a n : ActEmitter) (t : Scope → Sa) (d : Defs) (mt : Scope → Sa → Sa) → Emits (Knows a.emitter.nodes d) a b i t
     → ((x : Sa) → IfOk r (λ id. Emits (Knows b.emitter.nodes d × DoneIn b i x) b n id (λ s. mt s x))) → IfOk r (λ id. Emits (Knows a.emitter.nodes d) a n id (λ s. mt s (t s)))

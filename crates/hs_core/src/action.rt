@@ -2,12 +2,14 @@
 use crate::defs::Defs;
 use crate::emitter::ActEmitter;
 use crate::pending::{Pending, back_to};
-use hs_base::tree::forms::{BlockAction, GuardAction, MaskingAction};
+use hs_base::tree::forms::MaskingAction;
 use hs_base::{Action, Block, BlockArms, Expr, NoMemory, Stmt, Txt};
 use hs_items::Items;
 use hs_nodes::names::{bind, off};
 use rules_code::{Act, ActId, ExprId, Primitive};
-use rules_expansion::Derived;
+use rules_expansion::{
+    BlockRow, Derived, UnaryRow, bare_row, binary_row, block_row, guard_row, unary_row,
+};
 use std::alloc::Global;
 
 #[tactic(auto, using(rules_trees::proofs::EquationsOfActions::act_rules))]
@@ -28,9 +30,16 @@ impl ActEmitter {
         ensures { IfOk result (λ id. Emits (Knows self.old.emitter.nodes defs.now) self.old self.new id (λ s. action_tree defs.now s (act_of a.now))) }
     {
         match a {
-            Action::Bare(word, _) => self.bare(alloc, defs, *word),
-            Action::Unary(word, _, e) => self.unary(alloc, defs, a, *word, e),
-            Action::Binary(word, _, e, f) => self.binary(alloc, defs, *word, e, f),
+            Action::Bare(word, _) => self.primitive(alloc, defs, bare_row(*word)),
+            Action::Unary(word, _, e) => match unary_row(*word) {
+                UnaryRow::Return => self.give(alloc, defs, e),
+                UnaryRow::Perform(primitive) => self.primitive_one(alloc, defs, primitive, e),
+                UnaryRow::Kill => self.kill_thread(alloc, defs, e),
+                UnaryRow::Derived(form) => self.derived(alloc, defs, form, Some(e), None, a),
+            },
+            Action::Binary(word, _, e, f) => {
+                self.primitive_two(alloc, defs, binary_row(*word), e, f)
+            }
             Action::ThrowIo(_, _, e) => self.throw(alloc, defs, e),
             Action::NewEmptyMVar(_, _) => self.primitive(alloc, defs, Primitive::NewEmptyMVar),
             Action::Call(f, es) => self.call(alloc, defs, &f.text, es),
@@ -48,19 +57,9 @@ impl ActEmitter {
             Action::ModifyMVar(_, e, x, _) => {
                 self.derived(alloc, defs, Derived::ModifyMVar, Some(e), Some(&x.text), a)
             }
-            Action::Scoped(word, _, b) => match *word {
-                BlockAction::ForkIo => self.fork_form(alloc, defs, b),
-                BlockAction::MaskOnly => self.derived(
-                    alloc,
-                    defs,
-                    Derived::MaskOnly,
-                    None,
-                    None,
-                    a,
-                ),
-                BlockAction::UninterruptibleMaskOnly => {
-                    self.derived(alloc, defs, Derived::UninterruptibleMaskOnly, None, None, a)
-                }
+            Action::Scoped(word, _, b) => match block_row(*word) {
+                BlockRow::Fork => self.fork_form(alloc, defs, b),
+                BlockRow::Derived(form) => self.derived(alloc, defs, form, None, None, a),
             },
             Action::Masking(word, _, x, b) => self.masking(alloc, defs, *word, &x.text, b),
             Action::Restore(_, x, b) => self.restore_form(alloc, defs, &x.text, b),
@@ -68,16 +67,9 @@ impl ActEmitter {
                 let i = self.block(alloc, defs, b)?;
                 self.catch_form(alloc, defs, i, &x.text, d)
             }
-            Action::Guard(word, _, _, _) => match *word {
-                GuardAction::OnException => {
-                    self.derived(alloc, defs, Derived::OnException, None, None, a)
-                }
-                GuardAction::Finally => self.derived(alloc, defs, Derived::Finally, None, None, a),
-                GuardAction::Race => self.derived(alloc, defs, Derived::Race, None, None, a),
-                GuardAction::Concurrently => {
-                    self.derived(alloc, defs, Derived::Concurrently, None, None, a)
-                }
-            },
+            Action::Guard(word, _, _, _) => {
+                self.derived(alloc, defs, guard_row(*word), None, None, a)
+            }
             Action::Bracket(_, _, x, _, _) => {
                 self.derived(alloc, defs, Derived::Bracket, None, Some(&x.text), a)
             }

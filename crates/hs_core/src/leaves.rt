@@ -1,87 +1,20 @@
 //! Actions of a script without blocks.
 use crate::defs::Defs;
 use crate::emitter::ActEmitter;
-use hs_base::tree::forms::{BareAction, BinaryAction, UnaryAction};
-use hs_base::{Action, Expr, NoMemory, Txt};
+use hs_base::{Expr, NoMemory, Txt};
 use hs_items::Items;
 use rules_code::{Act, ActId, ExprId, Primitive};
-use rules_expansion::Derived;
 use std::alloc::Global;
 
 impl ActEmitter {
     ghost use Rattle.std.specs.Prelude.{IfOk, []};
     ghost use Rattle.rules_trees.specs.Trees.{ex_of, exs_of};
-    ghost use Rattle.rules_expansion.specs.Core.{OfScript, Killed};
+    ghost use Rattle.rules_expansion.specs.Core.{Killed};
     ghost use Rattle.rules_expansion.specs.declared.primitive.Primitive.TheVariants.{ThrowTo};
-    ghost use Rattle.rules_expansion.specs.Expansion.{bare_core, unary_core, binary_core};
     ghost use Rattle.rules_code.specs.Slots.{slotted, slotted_all, s_none, s_more};
     ghost use Rattle.rules_code.specs.CodeTrees.{a_return, a_throw, a_call, a_perform, place_among, slotted_core_ex};
     ghost use Rattle.hs_core.specs.Defining.{Knows, roots, functions};
     ghost use Rattle.hs_core.specs.Emits.{Emits, EmitsAll};
-    ghost use Rattle.hs_core.specs.Opening.{core_tree};
-
-    /// A word alone.
-    pub fn bare(&mut self, alloc: Global, defs: &Defs, word: BareAction) -> Result<ActId, NoMemory>
-        ensures { IfOk result (λ id. Emits (Knows self.old.emitter.nodes defs.now) self.old self.new id (λ s. core_tree defs.now s (bare_core word))) }
-    {
-        match word {
-            BareAction::MyThreadId => self.primitive(alloc, defs, Primitive::MyThreadId),
-            BareAction::ClockMicros => self.primitive(alloc, defs, Primitive::ClockMicros),
-            BareAction::GetMaskingState => self.primitive(alloc, defs, Primitive::GetMaskingState),
-        }
-    }
-
-    /// A word and an expression, which are the parts of this action.
-    #[cycle(expand)]
-    pub fn unary(
-        &mut self,
-        alloc: Global,
-        defs: &Defs,
-        a: &Action,
-        word: UnaryAction,
-        e: &Expr,
-    ) -> Result<ActId, NoMemory>
-        ensures { IfOk result (λ id. Emits (Knows self.old.emitter.nodes defs.now) self.old self.new id (λ s. core_tree defs.now s (unary_core word (OfScript (ex_of e.now))))) }
-    {
-        match word {
-            UnaryAction::Return => self.give(alloc, defs, e),
-            UnaryAction::PutStr => self.primitive_one(alloc, defs, Primitive::PutStr, e),
-            UnaryAction::PutStrLn => self.primitive_one(alloc, defs, Primitive::PutStrLn, e),
-            UnaryAction::HPutStrLn => self.primitive_one(alloc, defs, Primitive::HPutStrLn, e),
-            UnaryAction::NewMVar => self.primitive_one(alloc, defs, Primitive::NewMVar, e),
-            UnaryAction::TakeMVar => self.primitive_one(alloc, defs, Primitive::TakeMVar, e),
-            UnaryAction::ReadMVar => self.primitive_one(alloc, defs, Primitive::ReadMVar, e),
-            UnaryAction::TryTakeMVar => self.primitive_one(alloc, defs, Primitive::TryTakeMVar, e),
-            UnaryAction::KillThread => self.kill_thread(alloc, defs, e),
-            UnaryAction::ThreadDelay => self.primitive_one(alloc, defs, Primitive::ThreadDelay, e),
-            UnaryAction::Wait => self.derived(alloc, defs, Derived::Wait, Some(e), None, a),
-            UnaryAction::Cancel => self.derived(alloc, defs, Derived::Cancel, Some(e), None, a),
-        }
-    }
-
-    /// A word and two expressions.
-    pub fn binary(
-        &mut self,
-        alloc: Global,
-        defs: &Defs,
-        word: BinaryAction,
-        e: &Expr,
-        f: &Expr,
-    ) -> Result<ActId, NoMemory>
-        ensures { IfOk result (λ id. Emits (Knows self.old.emitter.nodes defs.now) self.old self.new id (λ s. core_tree defs.now s (binary_core word (OfScript (ex_of e.now)) (OfScript (ex_of f.now))))) }
-    {
-        match word {
-            BinaryAction::PutMVar => self.primitive_two(alloc, defs, Primitive::PutMVar, e, f),
-            BinaryAction::TryPutMVar => self.primitive_two(
-                alloc,
-                defs,
-                Primitive::TryPutMVar,
-                e,
-                f,
-            ),
-            BinaryAction::ThrowTo => self.primitive_two(alloc, defs, Primitive::ThrowTo, e, f),
-        }
-    }
 
     /// A primitive of nothing.
     pub fn primitive(

@@ -77,6 +77,10 @@ abbrev mutual
   arm_nodes rs s i h (list_arms e y z f) = own2 i (nodes_of rs s i e) (nodes_of rs (Written z.text ∷ Written y.text ∷ s) (i + length (nodes_of rs s i e)) f) (n.CaseList h)
   arm_nodes rs s i h (pair_arms y z e) = own1 i (nodes_of rs (Written z.text ∷ Written y.text ∷ s) i e) (n.CasePair h)
 
+-- the nodes of two expressions, and then the node of a form that has them
+abbrev pub two_nodes : List Place → Scope → ℕ → Ex → Ex → (ExprId → ExprId → Node) → List Node
+two_nodes rs s i e g k = own2 i (nodes_of rs s i e) (nodes_of rs s (i + length (nodes_of rs s i e)) g) k
+
 pub record Emitted (old new : Emitter) (id : ExprId) (ns : List Node) : Type 0 where
   pub nodes : new.nodes ≡ old.nodes ++ ns
   pub scope : new.scope ≡ old.scope

@@ -3,7 +3,7 @@ ghost use Rattle.std.specs.Prelude.{◌≡◌, ◌++◌, ◌∷◌, [], ◌+◌,
 ghost use Rattle.rules_code.specs.Slots.{slot_of, count};
 ghost use Rattle.rules_expansion.specs.Names.{Written};
 ghost use Rattle.rules_trees.specs.Trees.{ex_of, exs_of, arms_of, links_of, list_links_of, sum_links_of, constant_of, compare_form, sum_form, cons_form};
-ghost use Rattle.hs_nodes.specs.Emitting.{nodes_of, all_nodes, ids_of, link_nodes, node_links, arm_nodes, read_nodes, own1, literal_node, place_of, Emitted};
+ghost use Rattle.hs_nodes.specs.Emitting.{nodes_of, all_nodes, ids_of, link_nodes, node_links, arm_nodes, read_nodes, own1, two_nodes, literal_node, place_of, Emitted};
 ghost use Rattle.hs_nodes.specs.Names.{scope_of};
 
 use crate::emitter::Emitter;
@@ -98,10 +98,7 @@ impl Emitter {
                 let i = self.part(alloc, places, a)?;
                 self.chain(alloc, places, i, BinaryForm::And, links)
             }
-            Expr::Compare(a, op, _, b) => {
-                let i = self.part(alloc, places, a)?;
-                self.second(alloc, places, compare_form(*op), i, b)
-            }
+            Expr::Compare(a, op, _, b) => self.both(alloc, places, compare_form(*op), a, b),
             Expr::Cons(a, links) => {
                 let i = self.part(alloc, places, a)?;
                 self.conses(alloc, places, i, links)
@@ -118,22 +115,13 @@ impl Emitter {
             Expr::Unary(form, _, a) => self.single(alloc, places, *form, a),
             Expr::Empty(form, _, _) => self.add(Node::Empty(*form)),
             Expr::Side(form, _, _, _, a) => self.aside(alloc, places, *form, a),
-            Expr::Div(_, a, b) => {
-                let i = self.part(alloc, places, a)?;
-                self.second(alloc, places, BinaryForm::Div, i, b)
-            }
-            Expr::Mod(_, a, b) => {
-                let i = self.part(alloc, places, a)?;
-                self.second(alloc, places, BinaryForm::Mod, i, b)
-            }
+            Expr::Div(_, a, b) => self.both(alloc, places, BinaryForm::Div, a, b),
+            Expr::Mod(_, a, b) => self.both(alloc, places, BinaryForm::Mod, a, b),
             Expr::Int(_, m) => self.add(Node::Int(*m)),
             Expr::Text(_, text) => self.add(Node::Text(text.copy(alloc)?)),
             Expr::Constant(_, c) => self.add(constant(*c)),
             Expr::Unit(_) => self.add(Node::Unit),
-            Expr::Pair(_, a, b) => {
-                let i = self.part(alloc, places, a)?;
-                self.second(alloc, places, BinaryForm::Pair, i, b)
-            }
+            Expr::Pair(_, a, b) => self.both(alloc, places, BinaryForm::Pair, a, b),
             Expr::List(_, es) => self.items(alloc, places, es),
         }
     }
@@ -174,6 +162,22 @@ impl Emitter {
     {
         let i = self.expr(alloc, places, a.get())?;
         self.add(Node::Side(form, i))
+    }
+
+    /// A form with two parts.
+    #[cycle(emit)]
+    fn both(
+        &mut self,
+        alloc: Global,
+        places: &Places,
+        form: BinaryForm,
+        a: &Boxed<Expr>,
+        b: &Boxed<Expr>,
+    ) -> Result<ExprId, NoMemory>
+        ensures { IfOk result (λ id. Emitted self.old self.new id (two_nodes places.now.all (scope_of self.old.scope) (length self.old.nodes) (ex_of a.now) (ex_of b.now) (Node.Binary form))) }
+    {
+        let i = self.part(alloc, places, a)?;
+        self.second(alloc, places, form, i, b)
     }
 
     /// A form with two parts, after its first.

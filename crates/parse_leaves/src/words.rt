@@ -1,8 +1,9 @@
 ghost use Rattle.std.specs.Prelude.{◌≡◌, ◌<◌, length, OnOk};
 ghost use Rattle.rules_grammar.specs.Grammar as g;
+ghost use Rattle.rules_grammar.specs.GrammarForms.{one_of};
 ghost use Rattle.hs_grammar.specs.Parser as parser;
 ghost use Rattle.parse_leaves.specs.Reads.{Reads};
-ghost use Rattle.parse_leaves.specs.Tables.{table, Decides};
+ghost use Rattle.parse_leaves.specs.Tables.{Decides};
 
 use crate::cursor::Cursor;
 use crate::halt::Halt;
@@ -110,7 +111,7 @@ impl<'a> Cursor<'a> {
 
     /// Whether the next token is one of these words.
     fn at_one_of<W: Copy>(&self, rows: &[(u8, W)], last: (u8, W)) -> bool
-        ensures { result ≡ parser.begins (parser.firsts (table rows.now last)) self.now }
+        ensures { result ≡ parser.begins (parser.firsts (one_of rows.now last)) self.now }
     {
         let row = self.row_at(rows, last);
         self.at_word(row.0)
@@ -123,7 +124,7 @@ impl<'a> Cursor<'a> {
         last: (u8, W),
         depth: u32,
     ) -> Result<(W, Pos), Halt>
-        ensures reads { Reads (parser.read (parser.enter depth) (table rows.now last) self.old) result self.new }
+        ensures reads { Reads (parser.read (parser.enter depth) (one_of rows.now last) self.old) result self.new }
         ensures shorter { OnOk result (length self.new < length self.old) }
     {
         let row = self.row_at(rows, last);

@@ -16,9 +16,14 @@ use Rattle.hs_base.specs.declared.tree.forms.GuardAction.TheVariants as g
 use Rattle.rules_trees.specs.Programs as tree
 use Rattle.rules_trees.specs.Programs.{Act, Bl, ActArms, Par, Bd, Fn}
 use Rattle.rules_expansion.specs.declared.hidden.Hidden.TheVariants.{Restorer, Caught, Instance, BracketResult, BracketFault, ScopeCell, Child, ChildEnding, ScopeResult, Awaited, ActionResult}
+use Rattle.rules_expansion.specs.declared.primitive.Primitive.{Primitive}
 use Rattle.rules_expansion.specs.declared.primitive.Primitive.TheVariants.{PutStr, PutStrLn, HPutStrLn, NewMVar, NewEmptyMVar, TakeMVar, PutMVar, ReadMVar, TryTakeMVar, TryPutMVar, MyThreadId, GetMaskingState, ClockMicros, ThreadDelay, ThrowTo, Acquired, Release}
 use Rattle.rules_expansion.specs.declared.template.Derived.{Derived}
 use Rattle.rules_expansion.specs.declared.template.Derived.TheVariants as d
+use Rattle.rules_expansion.specs.declared.template.UnaryRow.{UnaryRow}
+use Rattle.rules_expansion.specs.declared.template.UnaryRow.TheVariants as unary
+use Rattle.rules_expansion.specs.declared.template.BlockRow.{BlockRow}
+use Rattle.rules_expansion.specs.declared.template.BlockRow.TheVariants as scoped
 use Rattle.rules_expansion.specs.declared.template.Part.{Part}
 use Rattle.rules_expansion.specs.declared.template.Part.TheVariants as part
 use Rattle.rules_expansion.specs.Names.{Name, Written, Added, Unread}
@@ -35,30 +40,30 @@ of_three a c e part.Third = e
 
 -- What a form puts into its template. A form with fewer than three blocks has its last one in their places, and a form
 -- without a name or an expression of its own an empty one: they stand nowhere in its template.
-abbrev pub filling : CoreEx → List ℕ → Core → Core → Core → Filling
-filling e x a c h = record { subject = e; given = x; block = of_three a c h }
+abbrev pub filling : CoreEx → List ℕ → (Part → Core) → Filling
+filling e x b = record { subject = e; given = x; block = b }
 
 abbrev pub on_block : Core → Filling
-on_block a = filling NoValue [] a a a
+on_block a = filling NoValue [] (λ i. a)
 
 abbrev pub on_two : Core → Core → Filling
-on_two a c = filling NoValue [] a c c
+on_two a c = filling NoValue [] (of_three a c c)
 
 abbrev pub on_three : Core → List ℕ → Core → Core → Filling
-on_three a x c e = filling NoValue x a c e
+on_three a x c e = filling NoValue x (of_three a c e)
 
 abbrev pub on_bound : CoreEx → List ℕ → Core → Filling
-on_bound e x a = filling e x a a a
+on_bound e x a = filling e x (λ i. a)
 
 abbrev pub on_both : CoreEx → Core → Filling
-on_both e a = filling e [] a a a
+on_both e a = filling e [] (λ i. a)
 
 -- a form without a block: none stands in its template
 abbrev pub on_subject : CoreEx → Filling
-on_subject e = filling e [] (Return NoValue) (Return NoValue) (Return NoValue)
+on_subject e = filling e [] (λ i. Return NoValue)
 
 abbrev pub on_named : Core → List ℕ → Core → Filling
-on_named a x c = filling NoValue x a c c
+on_named a x c = filling NoValue x (of_three a c c)
 
 abbrev pub derived : Derived → Filling → Core
 derived o f = fill f (template o)
@@ -174,36 +179,66 @@ scope_masked a x b = Bind (Added Child) (Fork (child_block a)) (scope_named x b)
 abbrev pub scope : Core → Name → Core → Core
 scope a x b = Bind (Added ScopeCell) (Perform NewEmptyMVar []) (MaskWith (Added Restorer) (scope_masked a x b))
 
--- ---- forms of one shape
+-- ---- forms of one shape: what each word comes to
+
+abbrev pub bare_row : BareAction → Primitive
+bare_row z.MyThreadId = MyThreadId
+bare_row z.ClockMicros = ClockMicros
+bare_row z.GetMaskingState = GetMaskingState
+
+abbrev pub unary_row : UnaryAction → UnaryRow
+unary_row u.Return = unary.Return
+unary_row u.PutStr = unary.Perform PutStr
+unary_row u.PutStrLn = unary.Perform PutStrLn
+unary_row u.HPutStrLn = unary.Perform HPutStrLn
+unary_row u.NewMVar = unary.Perform NewMVar
+unary_row u.TakeMVar = unary.Perform TakeMVar
+unary_row u.ReadMVar = unary.Perform ReadMVar
+unary_row u.TryTakeMVar = unary.Perform TryTakeMVar
+unary_row u.KillThread = unary.Kill
+unary_row u.ThreadDelay = unary.Perform ThreadDelay
+unary_row u.Wait = unary.Derived d.Wait
+unary_row u.Cancel = unary.Derived d.Cancel
+
+abbrev pub binary_row : BinaryAction → Primitive
+binary_row b.PutMVar = PutMVar
+binary_row b.TryPutMVar = TryPutMVar
+binary_row b.ThrowTo = ThrowTo
+
+abbrev pub block_row : BlockAction → BlockRow
+block_row k.ForkIo = scoped.Fork
+block_row k.MaskOnly = scoped.Derived d.MaskOnly
+block_row k.UninterruptibleMaskOnly = scoped.Derived d.UninterruptibleMaskOnly
+
+abbrev pub guard_row : GuardAction → Derived
+guard_row g.OnException = d.OnException
+guard_row g.Finally = d.Finally
+guard_row g.Race = d.Race
+guard_row g.Concurrently = d.Concurrently
+
+-- ---- a row with its parts
+
+abbrev pub unary_row_core : UnaryRow → CoreEx → Core
+unary_row_core unary.Return a = Return a
+unary_row_core (unary.Perform p) a = Perform p (a ∷ [])
+unary_row_core unary.Kill a = Perform ThrowTo (a ∷ Killed ∷ [])
+unary_row_core (unary.Derived o) a = derived o (on_subject a)
+
+abbrev pub block_row_core : BlockRow → Core → Core
+block_row_core scoped.Fork a = Fork a
+block_row_core (scoped.Derived o) a = derived o (on_block a)
 
 abbrev pub bare_core : BareAction → Core
-bare_core z.MyThreadId = Perform MyThreadId []
-bare_core z.ClockMicros = Perform ClockMicros []
-bare_core z.GetMaskingState = Perform GetMaskingState []
+bare_core w = Perform (bare_row w) []
 
 abbrev pub unary_core : UnaryAction → CoreEx → Core
-unary_core u.Return a = Return a
-unary_core u.PutStr a = Perform PutStr (a ∷ [])
-unary_core u.PutStrLn a = Perform PutStrLn (a ∷ [])
-unary_core u.HPutStrLn a = Perform HPutStrLn (a ∷ [])
-unary_core u.NewMVar a = Perform NewMVar (a ∷ [])
-unary_core u.TakeMVar a = Perform TakeMVar (a ∷ [])
-unary_core u.ReadMVar a = Perform ReadMVar (a ∷ [])
-unary_core u.TryTakeMVar a = Perform TryTakeMVar (a ∷ [])
-unary_core u.KillThread a = Perform ThrowTo (a ∷ Killed ∷ [])
-unary_core u.ThreadDelay a = Perform ThreadDelay (a ∷ [])
-unary_core u.Wait a = derived d.Wait (on_subject a)
-unary_core u.Cancel a = derived d.Cancel (on_subject a)
+unary_core w a = unary_row_core (unary_row w) a
 
 abbrev pub binary_core : BinaryAction → CoreEx → CoreEx → Core
-binary_core b.PutMVar a c = Perform PutMVar (a ∷ c ∷ [])
-binary_core b.TryPutMVar a c = Perform TryPutMVar (a ∷ c ∷ [])
-binary_core b.ThrowTo a c = Perform ThrowTo (a ∷ c ∷ [])
+binary_core w a c = Perform (binary_row w) (a ∷ c ∷ [])
 
 abbrev pub scoped_core : BlockAction → Core → Core
-scoped_core k.ForkIo a = Fork a
-scoped_core k.MaskOnly a = derived d.MaskOnly (on_block a)
-scoped_core k.UninterruptibleMaskOnly a = derived d.UninterruptibleMaskOnly (on_block a)
+scoped_core w a = block_row_core (block_row w) a
 
 abbrev pub masking_core : MaskingAction → Name → Core → Core
 masking_core m.ForkIoWithUnmask r a = ForkUnmask r a
@@ -211,10 +246,7 @@ masking_core m.Mask r a = MaskWith r a
 masking_core m.UninterruptibleMask r a = MaskHard r a
 
 abbrev pub guard_core : GuardAction → Core → Core → Core
-guard_core g.OnException a c = derived d.OnException (on_two a c)
-guard_core g.Finally a c = derived d.Finally (on_two a c)
-guard_core g.Race a c = derived d.Race (on_two a c)
-guard_core g.Concurrently a c = derived d.Concurrently (on_two a c)
+guard_core w a c = derived (guard_row w) (on_two a c)
 
 -- ---- actions and blocks
 

@@ -1,11 +1,14 @@
-//! The steps of each form that stands for others: its template, written out. Those of async scopes are in `scopes`.
+//! What each word of an action comes to, and the steps of each form that stands for others: its template, written out. Those of
+//! async scopes are in `scopes`.
 ghost use Rattle.std.specs.Prelude.{◌≡◌};
 ghost use Rattle.rules_expansion.specs.Templates.{steps};
+ghost use Rattle.rules_expansion.specs.Expansion.{bare_row, unary_row, binary_row, block_row, guard_row};
 
 use crate::hidden::Hidden;
 use crate::primitive::Primitive;
 use crate::scopes::{CANCEL, CONCURRENTLY, RACE, WAIT, WITH_ASYNC};
-use crate::template::{Binder, Derived, Operand, Part, Step};
+use crate::template::{Binder, BlockRow, Derived, Operand, Part, Step, UnaryRow};
+use hs_base::tree::forms::{BareAction, BinaryAction, BlockAction, GuardAction, UnaryAction};
 
 /// `mask_ A`
 const MASK_ONLY: [Step; 4] = [
@@ -239,5 +242,70 @@ pub fn steps(form: Derived) -> &'static [Step]
         Derived::Cancel => &CANCEL,
         Derived::Race => &RACE,
         Derived::Concurrently => &CONCURRENTLY,
+    }
+}
+
+/// The primitive of an action without a part.
+pub fn bare_row(word: BareAction) -> Primitive
+    ensures { result ≡ bare_row word }
+{
+    match word {
+        BareAction::MyThreadId => Primitive::MyThreadId,
+        BareAction::ClockMicros => Primitive::ClockMicros,
+        BareAction::GetMaskingState => Primitive::GetMaskingState,
+    }
+}
+
+/// What an action with one expression comes to.
+pub fn unary_row(word: UnaryAction) -> UnaryRow
+    ensures { result ≡ unary_row word }
+{
+    match word {
+        UnaryAction::Return => UnaryRow::Return,
+        UnaryAction::PutStr => UnaryRow::Perform(Primitive::PutStr),
+        UnaryAction::PutStrLn => UnaryRow::Perform(Primitive::PutStrLn),
+        UnaryAction::HPutStrLn => UnaryRow::Perform(Primitive::HPutStrLn),
+        UnaryAction::NewMVar => UnaryRow::Perform(Primitive::NewMVar),
+        UnaryAction::TakeMVar => UnaryRow::Perform(Primitive::TakeMVar),
+        UnaryAction::ReadMVar => UnaryRow::Perform(Primitive::ReadMVar),
+        UnaryAction::TryTakeMVar => UnaryRow::Perform(Primitive::TryTakeMVar),
+        UnaryAction::KillThread => UnaryRow::Kill,
+        UnaryAction::ThreadDelay => UnaryRow::Perform(Primitive::ThreadDelay),
+        UnaryAction::Wait => UnaryRow::Derived(Derived::Wait),
+        UnaryAction::Cancel => UnaryRow::Derived(Derived::Cancel),
+    }
+}
+
+/// The primitive of an action with two expressions.
+pub fn binary_row(word: BinaryAction) -> Primitive
+    ensures { result ≡ binary_row word }
+{
+    match word {
+        BinaryAction::PutMVar => Primitive::PutMVar,
+        BinaryAction::TryPutMVar => Primitive::TryPutMVar,
+        BinaryAction::ThrowTo => Primitive::ThrowTo,
+    }
+}
+
+/// What an action with one block comes to.
+pub fn block_row(word: BlockAction) -> BlockRow
+    ensures { result ≡ block_row word }
+{
+    match word {
+        BlockAction::ForkIo => BlockRow::Fork,
+        BlockAction::MaskOnly => BlockRow::Derived(Derived::MaskOnly),
+        BlockAction::UninterruptibleMaskOnly => BlockRow::Derived(Derived::UninterruptibleMaskOnly),
+    }
+}
+
+/// The form of an action with two blocks.
+pub fn guard_row(word: GuardAction) -> Derived
+    ensures { result ≡ guard_row word }
+{
+    match word {
+        GuardAction::OnException => Derived::OnException,
+        GuardAction::Finally => Derived::Finally,
+        GuardAction::Race => Derived::Race,
+        GuardAction::Concurrently => Derived::Concurrently,
     }
 }

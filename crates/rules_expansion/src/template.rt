@@ -20,6 +20,28 @@ pub enum Derived {
     Concurrently,
 }
 
+/// What an action with one expression comes to.
+#[derive(Clone, Copy)]
+pub enum UnaryRow {
+    /// `return e`
+    Return,
+    /// a primitive of that expression
+    Perform(Primitive),
+    /// `throwTo e ThreadKilled`
+    Kill,
+    /// the template of a form
+    Derived(Derived),
+}
+
+/// What an action with one block comes to.
+#[derive(Clone, Copy)]
+pub enum BlockRow {
+    /// `forkIO A`
+    Fork,
+    /// the template of a form
+    Derived(Derived),
+}
+
 /// A block of a form, in the order in which they are written.
 #[derive(Clone, Copy)]
 pub enum Part {

@@ -3,7 +3,7 @@
 --   `alt p q`              p | q
 --   `many p`               { p }
 --   `optional x p`         [ p ], with x for nothing
---   `one_of rows last`     one of these tokens; its value is what stands with it, and its position
+--   `one_of rows last`     one of these reserved words, by number; its value is what stands with it, and its position
 --   `ended f g k l p`      { p k } p [ k ] l, where what is last gives a right value
 --   `within f k part`      an opener of the kind k, and what stands in it up to its end
 -- Productions that begin alike are joined, so that one token decides.
@@ -59,6 +59,7 @@ use Rattle.hs_base.specs.declared.tree.ty.Written.{Written}
 use Rattle.rules_tokens.specs.declared.token.Tok.{Tok}
 use Rattle.rules_tokens.specs.declared.token.Tok.TheVariants as tok
 use Rattle.rules_tokens.specs.declared.token.Token.{Token}
+use Rattle.rules_tokens.specs.declared.word.TheConstants as w
 use Rattle.rules_grammar.specs.GrammarForms.{one_of, Rule, give, one, alt, go_on, many as repeat, ended, within, ◌⊛◌, ◌◁◌, at, map, optional, Item, tokens_of, Spelling, Spelled}
 use Rattle.rules_grammar.specs.GrammarKinds as k
 use Rattle.rules_grammar.specs.GrammarParts.{Kind, name as name_kind, int as int_kind, text as text_kind, Part, type_in_parens, type_in_brackets, param_in_parens, block_in_braces, block_if, block_case, block_arms, let_stmt, no_items, two_names, expr_if, expr_case, expr_arms, expr_let, expr_in_parens, items_in_brackets, items_or_none}
@@ -121,8 +122,8 @@ type_end =
 unfoldable pub constant_word : Rule (Constant × Pos)
 constant_word =
     one_of
-    ((k.True, constant.True) ∷ (k.False, constant.False) ∷ (k.ThreadKilled, constant.ThreadKilled)
-    ∷ (k.UserInterrupt, constant.UserInterrupt) ∷ (k.DivideByZero, constant.DivideByZero) ∷ []) (k.Overflow, constant.Overflow)
+    ((w.TRUE, constant.True) ∷ (w.FALSE, constant.False) ∷ (w.THREAD_KILLED, constant.ThreadKilled)
+    ∷ (w.USER_INTERRUPT, constant.UserInterrupt) ∷ (w.DIVIDE_BY_ZERO, constant.DivideByZero) ∷ []) (w.OVERFLOW, constant.Overflow)
 
 -- an atom that doesn't begin with a [
 unfoldable pub plain_atom : Rule Expr
@@ -146,14 +147,14 @@ two_args = give (λ x y. (x, y)) ⊛ arg ⊛ arg
 unfoldable pub unary_word : Rule (UnaryForm × Pos)
 unary_word =
     one_of
-    ((k.Just, unary_form.Just) ∷ (k.ErrorCall, unary_form.ErrorCall) ∷ (k.not, unary_form.Not)
-    ∷ (k.fst, unary_form.Fst) ∷ (k.snd, unary_form.Snd) ∷ []) (k.show, unary_form.Show)
+    ((w.JUST, unary_form.Just) ∷ (w.ERROR_CALL, unary_form.ErrorCall) ∷ (w.NOT, unary_form.Not)
+    ∷ (w.FST, unary_form.Fst) ∷ (w.SND, unary_form.Snd) ∷ []) (w.SHOW, unary_form.Show)
 
 unfoldable pub unary_expr : Rule Expr
 unary_expr = give (λ w x. e.Unary w.0 w.1 x) ⊛ unary_word ⊛ arg
 
 unfoldable pub side_word : Rule (SideForm × Pos)
-side_word = one_of ((k.Left, side.Left) ∷ []) (k.Right, side.Right)
+side_word = one_of ((w.LEFT, side.Left) ∷ []) (w.RIGHT, side.Right)
 
 unfoldable pub side_types : Rule (SideForm × Pos × Written × Written)
 side_types = give (λ w s t. (w.0, w.1, s, t)) ⊛ side_word ◁ k.at_sign ⊛ atype ◁ k.at_sign ⊛ atype
@@ -355,7 +356,7 @@ guarded_block = give (λ b c. (b, c.0, c.1)) ⊛ block ⊛ named_block
 -- ----          | "withAsync" block NAME block
 -- ---- bare     = "myThreadId" | "clockMicros" | "getMaskingState"
 unfoldable pub bare_action_word : Rule (BareAction × Pos)
-bare_action_word = one_of ((k.myThreadId, bare.MyThreadId) ∷ (k.clockMicros, bare.ClockMicros) ∷ []) (k.getMaskingState, bare.GetMaskingState)
+bare_action_word = one_of ((w.MY_THREAD_ID, bare.MyThreadId) ∷ (w.CLOCK_MICROS, bare.ClockMicros) ∷ []) (w.GET_MASKING_STATE, bare.GetMaskingState)
 
 unfoldable pub bare_action : Rule Action
 bare_action = map (λ w. a.Bare w.0 w.1) bare_action_word
@@ -365,16 +366,16 @@ bare_action = map (λ w. a.Bare w.0 w.1) bare_action_word
 unfoldable pub unary_action_word : Rule (UnaryAction × Pos)
 unary_action_word =
     one_of
-    ((k.return, unary.Return) ∷ (k.putStr, unary.PutStr) ∷ (k.putStrLn, unary.PutStrLn) ∷ (k.newMVar, unary.NewMVar) ∷ (k.takeMVar, unary.TakeMVar)
-    ∷ (k.readMVar, unary.ReadMVar) ∷ (k.tryTakeMVar, unary.TryTakeMVar) ∷ (k.killThread, unary.KillThread)
-    ∷ (k.threadDelay, unary.ThreadDelay) ∷ (k.wait, unary.Wait) ∷ []) (k.cancel, unary.Cancel)
+    ((w.RETURN, unary.Return) ∷ (w.PUT_STR, unary.PutStr) ∷ (w.PUT_STR_LN, unary.PutStrLn) ∷ (w.NEW_MVAR, unary.NewMVar) ∷ (w.TAKE_MVAR, unary.TakeMVar)
+    ∷ (w.READ_MVAR, unary.ReadMVar) ∷ (w.TRY_TAKE_MVAR, unary.TryTakeMVar) ∷ (w.KILL_THREAD, unary.KillThread)
+    ∷ (w.THREAD_DELAY, unary.ThreadDelay) ∷ (w.WAIT, unary.Wait) ∷ []) (w.CANCEL, unary.Cancel)
 
 unfoldable pub unary_action : Rule Action
 unary_action = give (λ w x. a.Unary w.0 w.1 x) ⊛ unary_action_word ⊛ arg
 
 -- ---- binary   = "putMVar" | "tryPutMVar" | "throwTo"
 unfoldable pub binary_action_word : Rule (BinaryAction × Pos)
-binary_action_word = one_of ((k.putMVar, binary.PutMVar) ∷ (k.tryPutMVar, binary.TryPutMVar) ∷ []) (k.throwTo, binary.ThrowTo)
+binary_action_word = one_of ((w.PUT_MVAR, binary.PutMVar) ∷ (w.TRY_PUT_MVAR, binary.TryPutMVar) ∷ []) (w.THROW_TO, binary.ThrowTo)
 
 unfoldable pub binary_action : Rule Action
 binary_action = give (λ w x. a.Binary w.0 w.1 x.0 x.1) ⊛ binary_action_word ⊛ two_args
@@ -391,7 +392,7 @@ new_empty_form = give a.NewEmptyMVar ⊛ at k.newEmptyMVar ◁ k.at_sign ⊛ aty
 -- ---- scoped   = "forkIO" | "mask_" | "uninterruptibleMask_"
 unfoldable pub scoped_action_word : Rule (BlockAction × Pos)
 scoped_action_word =
-    one_of ((k.forkIO, scoped.ForkIo) ∷ (k.mask_, scoped.MaskOnly) ∷ []) (k.uninterruptibleMask_, scoped.UninterruptibleMaskOnly)
+    one_of ((w.FORK_IO, scoped.ForkIo) ∷ (w.MASK_BLOCK, scoped.MaskOnly) ∷ []) (w.UNINTERRUPTIBLE_MASK_BLOCK, scoped.UninterruptibleMaskOnly)
 
 unfoldable pub scoped_action : Rule Action
 scoped_action = give (λ w b. a.Scoped w.0 w.1 b) ⊛ scoped_action_word ⊛ block
@@ -399,7 +400,7 @@ scoped_action = give (λ w b. a.Scoped w.0 w.1 b) ⊛ scoped_action_word ⊛ blo
 -- ---- masking  = "forkIOWithUnmask" | "mask" | "uninterruptibleMask"
 unfoldable pub masking_action_word : Rule (MaskingAction × Pos)
 masking_action_word =
-    one_of ((k.forkIOWithUnmask, masking.ForkIoWithUnmask) ∷ (k.mask, masking.Mask) ∷ []) (k.uninterruptibleMask, masking.UninterruptibleMask)
+    one_of ((w.FORK_IO_WITH_UNMASK, masking.ForkIoWithUnmask) ∷ (w.MASK, masking.Mask) ∷ []) (w.UNINTERRUPTIBLE_MASK, masking.UninterruptibleMask)
 
 unfoldable pub masking_action : Rule Action
 masking_action = give (λ w b. a.Masking w.0 w.1 b.0 b.1) ⊛ masking_action_word ⊛ named_block
@@ -407,7 +408,7 @@ masking_action = give (λ w b. a.Masking w.0 w.1 b.0 b.1) ⊛ masking_action_wor
 -- ---- guard    = "onException" | "finally" | "race" | "concurrently"
 unfoldable pub guard_action_word : Rule (GuardAction × Pos)
 guard_action_word =
-    one_of ((k.onException, guard.OnException) ∷ (k.finally', guard.Finally) ∷ (k.race, guard.Race) ∷ []) (k.concurrently, guard.Concurrently)
+    one_of ((w.ON_EXCEPTION, guard.OnException) ∷ (w.FINALLY, guard.Finally) ∷ (w.RACE, guard.Race) ∷ []) (w.CONCURRENTLY, guard.Concurrently)
 
 unfoldable pub guard_action : Rule Action
 guard_action = give (λ w b. a.Guard w.0 w.1 b.0 b.1) ⊛ guard_action_word ⊛ two_blocks

@@ -3,7 +3,7 @@ use Rattle.std.specs.Prelude.{◌≡◌, ◌⊎◌, ℕ, List, [], ◌∷◌, Op
 use mathlib.Core.Logic.{inl, inr}
 use Rattle.hs_base.specs.declared.pos.Pos.{Pos}
 use Rattle.rules_tokens.specs.declared.token.Token.{Token}
-use Rattle.rules_grammar.specs.GrammarParts.{Kind, kind_of, Part}
+use Rattle.rules_grammar.specs.GrammarParts.{Kind, word, kind_of, Part}
 
 infixl 20 ◌⊛◌
 infixl 20 ◌◁◌
@@ -47,11 +47,11 @@ map f p = seq (λ b u. f b) p (give (tt {0}))
 abbrev pub optional : {A : Type 0} → A → Rule A → Rule A
 optional a p = alt p (give a)
 
--- one of these tokens, with what it stands for; the last of them is given by itself
-abbrev pub stands_for : {W : Type 0} → Kind × W → Rule (W × Pos)
-stands_for r = map (λ p. (r.1, p)) (at r.0)
+-- one of these reserved words, by number, with what it stands for; the last of them is given by itself
+abbrev pub stands_for : {W : Type 0} → ℕ × W → Rule (W × Pos)
+stands_for r = map (λ p. (r.1, p)) (at (word r.0))
 
-abbrev pub one_of : {W : Type 0} → List (Kind × W) → Kind × W → Rule (W × Pos)
+abbrev pub one_of : {W : Type 0} → List (ℕ × W) → ℕ × W → Rule (W × Pos)
 one_of [] last = stands_for last
 one_of (r ∷ rs) last = alt (stands_for r) (one_of rs last)
 

@@ -1,4 +1,4 @@
--- The kinds of the reserved words and the symbols (own).
+-- The kinds of the symbols, and of the reserved words that stand in no table of the grammar or that others name too (own).
 use Rattle.rules_tokens.specs.declared.symbol.TheConstants as symbols
 use Rattle.rules_tokens.specs.declared.word.TheConstants as words
 use Rattle.rules_grammar.specs.GrammarParts.{Kind, word, symbol}
@@ -20,9 +20,6 @@ Left = word words.LEFT
 
 abbrev pub Right : Kind
 Right = word words.RIGHT
-
-abbrev pub ErrorCall : Kind
-ErrorCall = word words.ERROR_CALL
 
 abbrev pub ThreadKilled : Kind
 ThreadKilled = word words.THREAD_KILLED
@@ -90,29 +87,8 @@ div = word words.DIV
 abbrev pub mod' : Kind
 mod' = word words.MOD
 
-abbrev pub not : Kind
-not = word words.NOT
-
-abbrev pub fst : Kind
-fst = word words.FST
-
-abbrev pub snd : Kind
-snd = word words.SND
-
-abbrev pub show : Kind
-show = word words.SHOW
-
-abbrev pub return : Kind
-return = word words.RETURN
-
 abbrev pub throwIO : Kind
 throwIO = word words.THROW_IO
-
-abbrev pub putStr : Kind
-putStr = word words.PUT_STR
-
-abbrev pub putStrLn : Kind
-putStrLn = word words.PUT_STR_LN
 
 abbrev pub hPutStrLn : Kind
 hPutStrLn = word words.H_PUT_STR_LN
@@ -120,80 +96,20 @@ hPutStrLn = word words.H_PUT_STR_LN
 abbrev pub stderr : Kind
 stderr = word words.STDERR
 
-abbrev pub newMVar : Kind
-newMVar = word words.NEW_MVAR
-
 abbrev pub newEmptyMVar : Kind
 newEmptyMVar = word words.NEW_EMPTY_MVAR
-
-abbrev pub takeMVar : Kind
-takeMVar = word words.TAKE_MVAR
-
-abbrev pub putMVar : Kind
-putMVar = word words.PUT_MVAR
-
-abbrev pub readMVar : Kind
-readMVar = word words.READ_MVAR
-
-abbrev pub tryTakeMVar : Kind
-tryTakeMVar = word words.TRY_TAKE_MVAR
-
-abbrev pub tryPutMVar : Kind
-tryPutMVar = word words.TRY_PUT_MVAR
 
 abbrev pub modifyMVar_ : Kind
 modifyMVar_ = word words.MODIFY_MVAR
 
-abbrev pub forkIO : Kind
-forkIO = word words.FORK_IO
-
-abbrev pub forkIOWithUnmask : Kind
-forkIOWithUnmask = word words.FORK_IO_WITH_UNMASK
-
-abbrev pub myThreadId : Kind
-myThreadId = word words.MY_THREAD_ID
-
-abbrev pub throwTo : Kind
-throwTo = word words.THROW_TO
-
-abbrev pub killThread : Kind
-killThread = word words.KILL_THREAD
-
-abbrev pub threadDelay : Kind
-threadDelay = word words.THREAD_DELAY
-
-abbrev pub clockMicros : Kind
-clockMicros = word words.CLOCK_MICROS
-
-abbrev pub getMaskingState : Kind
-getMaskingState = word words.GET_MASKING_STATE
-
 abbrev pub catch' : Kind
 catch' = word words.CATCH
-
-abbrev pub mask : Kind
-mask = word words.MASK
-
-abbrev pub mask_ : Kind
-mask_ = word words.MASK_BLOCK
-
-abbrev pub uninterruptibleMask : Kind
-uninterruptibleMask = word words.UNINTERRUPTIBLE_MASK
-
-abbrev pub uninterruptibleMask_ : Kind
-uninterruptibleMask_ = word words.UNINTERRUPTIBLE_MASK_BLOCK
 
 abbrev pub restore : Kind
 restore = word words.RESTORE
 
-abbrev pub onException : Kind
-onException = word words.ON_EXCEPTION
-
 abbrev pub bracket : Kind
 bracket = word words.BRACKET
-
-abbrev pub finally' : Kind
-finally' = word words.FINALLY
 
 abbrev pub timeout : Kind
 timeout = word words.TIMEOUT
@@ -203,18 +119,6 @@ Async = word words.ASYNC
 
 abbrev pub withAsync : Kind
 withAsync = word words.WITH_ASYNC
-
-abbrev pub wait : Kind
-wait = word words.WAIT
-
-abbrev pub cancel : Kind
-cancel = word words.CANCEL
-
-abbrev pub race : Kind
-race = word words.RACE
-
-abbrev pub concurrently : Kind
-concurrently = word words.CONCURRENTLY
 
 -- ::
 abbrev pub double_colon : Kind

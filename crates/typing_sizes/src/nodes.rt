@@ -12,7 +12,7 @@ use hs_base::tree::{
     Action, Block, BlockArms, Body, Expr, ExprArms, Link, ListLink, Stmt, SumLink,
 };
 use hs_items::Items;
-use rules_expansion::Derived;
+use rules_expansion::{BlockRow, Derived, UnaryRow, block_row, guard_row, unary_row};
 
 /// The nodes of an expression.
 #[cycle(nodes)]
@@ -166,12 +166,11 @@ fn act_nodes(a: &Action) -> u32
 fn unary_nodes(w: UnaryAction, n: u32) -> u32
     ensures { (e : CoreEx) → n ≡ min (core_ex_size e) 1000001 → result ≡ min (core_size (unary_core w e)) 1000001 }
 {
-    match w {
+    match unary_row(w) {
+        UnaryRow::Return | UnaryRow::Perform(_) => add(1, n),
         // `throwTo` with the exception `ThreadKilled`
-        UnaryAction::KillThread => add(1, add(n, 1)),
-        UnaryAction::Wait => derived_nodes(Derived::Wait, n, NO_BLOCK, NO_BLOCK, NO_BLOCK),
-        UnaryAction::Cancel => derived_nodes(Derived::Cancel, n, NO_BLOCK, NO_BLOCK, NO_BLOCK),
-        _ => add(1, n),
+        UnaryRow::Kill => add(1, add(n, 1)),
+        UnaryRow::Derived(form) => derived_nodes(form, n, NO_BLOCK, NO_BLOCK, NO_BLOCK),
     }
 }
 
@@ -179,12 +178,9 @@ fn unary_nodes(w: UnaryAction, n: u32) -> u32
 fn scoped_nodes(w: BlockAction, n: u32) -> u32
     ensures { (a : Core) → n ≡ min (core_size a) 1000001 → result ≡ min (core_size (scoped_core w a)) 1000001 }
 {
-    match w {
-        BlockAction::ForkIo => add(1, n),
-        BlockAction::MaskOnly => derived_nodes(Derived::MaskOnly, NO_EXPRESSION, n, n, n),
-        BlockAction::UninterruptibleMaskOnly => {
-            derived_nodes(Derived::UninterruptibleMaskOnly, NO_EXPRESSION, n, n, n)
-        }
+    match block_row(w) {
+        BlockRow::Fork => add(1, n),
+        BlockRow::Derived(form) => derived_nodes(form, NO_EXPRESSION, n, n, n),
     }
 }
 
@@ -192,12 +188,7 @@ fn scoped_nodes(w: BlockAction, n: u32) -> u32
 fn guard_nodes(w: GuardAction, m: u32, n: u32) -> u32
     ensures { (a c : Core) → m ≡ min (core_size a) 1000001 → n ≡ min (core_size c) 1000001 → result ≡ min (core_size (guard_core w a c)) 1000001 }
 {
-    match w {
-        GuardAction::OnException => derived_nodes(Derived::OnException, NO_EXPRESSION, m, n, n),
-        GuardAction::Finally => derived_nodes(Derived::Finally, NO_EXPRESSION, m, n, n),
-        GuardAction::Race => derived_nodes(Derived::Race, NO_EXPRESSION, m, n, n),
-        GuardAction::Concurrently => derived_nodes(Derived::Concurrently, NO_EXPRESSION, m, n, n),
-    }
+    derived_nodes(guard_row(w), NO_EXPRESSION, m, n, n)
 }
 
 /// A node over a block.

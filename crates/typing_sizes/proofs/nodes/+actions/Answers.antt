@@ -1,7 +1,7 @@
 use Rattle.std.proofs.Common.{◌∙◌, refl, ap}
 use Rattle.rules_trees.specs.Trees.{ex_of}
 use Rattle.rules_trees.specs.Programs.{act_of, bl_of}
-use Rattle.rules_trees.proofs.EquationsOfActions.{act-ModifyMVar, act-Bracket, act-Timeout, act-WithAsync}
+use Rattle.rules_trees.proofs.EquationsOfActions.{act-ModifyMVar, act-Guard, act-Bracket, act-Timeout, act-WithAsync}
 use Rattle.rules_expansion.specs.Core.{OfScript}
 use Rattle.rules_expansion.specs.Expansion.{on_bound, on_three, on_both, on_named, block_core}
 use Rattle.typing_sizes.proofs.nodes.+actions.Goals as goal
@@ -11,6 +11,11 @@ act_nodes-returns-in-ModifyMVar t c =
     rw (ap act_of c.in-ModifyMVar.is ∙ act-ModifyMVar _ _ _ _)
     (c.derived_nodes.ensures (on_bound (OfScript (ex_of c.in-ModifyMVar.e)) c.in-ModifyMVar.field-2.text (block_core (bl_of c.in-ModifyMVar.b)))
     (record { subject = c.ex_nodes-in-ModifyMVar.ensures; first = c.bl_nodes-n.ensures; second = c.bl_nodes-n.ensures; third = c.bl_nodes-n.ensures }))
+
+pub act_nodes-returns-in-Guard : goal.act_nodes-returns-in-Guard
+act_nodes-returns-in-Guard t c =
+    rw (ap act_of c.in-Guard.is ∙ act-Guard _ _ _ _)
+    (c.guard_nodes.ensures (block_core (bl_of c.in-Guard.b)) (block_core (bl_of c.in-Guard.d)) c.bl_nodes-in-Guard.ensures c.bl_nodes-in-Guard-2.ensures)
 
 pub act_nodes-returns-in-Bracket : goal.act_nodes-returns-in-Bracket
 act_nodes-returns-in-Bracket t c =

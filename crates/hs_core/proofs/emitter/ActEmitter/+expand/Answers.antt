@@ -1,16 +1,17 @@
-use Rattle.std.proofs.Common.{refl, ap, sym, ◌∙◌, ◌∷◌, length, get_or, arith}
+use Rattle.std.proofs.Common.{Some, None, refl, ap, sym, ◌∙◌, ◌∷◌, length, get_or, arith}
 use Rattle.rules_code.specs.declared.act.Act.TheVariants as k
 use Rattle.rules_trees.specs.Trees.{ex_of}
 use Rattle.rules_expansion.specs.Names.{Written}
-use Rattle.rules_expansion.specs.Expansion.{block_core, masking_core}
+use Rattle.rules_expansion.specs.Core.{OfScript}
+use Rattle.rules_expansion.specs.Expansion.{on_two, derived, unary_row_core, core, block_core, masking_core}
 use Rattle.rules_trees.specs.Programs.{choose_act, case_act, catch, bind, let_in, then, maybe_acts, either_acts, list_acts, pair_acts, act_of, bl_of, stmt_of, act_arms_of}
-use Rattle.rules_trees.proofs.EquationsOfActions.{act-If, act-Case, act-Catch, stmt-Bind, stmt-Let, stmt-Do, acts-OfMaybe, acts-OfEither, acts-OfList, acts-OfPair}
+use Rattle.rules_trees.proofs.EquationsOfActions.{act-Unary, act-Guard, act-If, act-Case, act-Catch, stmt-Bind, stmt-Let, stmt-Do, acts-OfMaybe, acts-OfEither, acts-OfList, acts-OfPair}
 use Rattle.rules_code.specs.Slots.{slot_of, slotted}
 use Rattle.rules_code.specs.CodeTrees.{a_if, a_maybe, a_either, a_list, a_pair, a_fork, a_fork_unmask, a_catch, a_mask, a_mask_hard, a_restore, slot_or_end}
 use Rattle.hs_nodes.specs.declared.names.Bound.TheVariants as w
 use Rattle.hs_core.specs.Defining.{roots}
 use Rattle.hs_core.specs.Opening.{core_tree, block_tree, arms_tree}
-use Rattle.hs_core.proofs.Afterwards.{held_branch, all_as_action, act_then, ex_act_then}
+use Rattle.hs_core.proofs.Afterwards.{held_branch, all_as_core, all_as_action, act_then, ex_act_then}
 use Rattle.hs_core.proofs.Steps.{one, first, under, after1}
 use Rattle.hs_core.proofs.Openings.{opens_first, opens_step, opens_bind, opens_let, opens_then, block_is, after_known, as_core, as_action, as_case, arms_two, arms_one, as_arms}
 use Rattle.std.specs.Option.{option_copied}
@@ -99,6 +100,20 @@ pub action-returns-in_ok-id-in-Case : goal.action-returns-in_ok-id-in-Case
 action-returns-in_ok-id-in-Case t c =
     as_action c.args.defs.now (case_act c.in-Case.field-0 (ex_of c.in-Case.e) (act_arms_of c.get-two.result.now)) (act_of c.args.a.now) (ap act_of c.in-Case.is ∙ (act-Case c.in-Case.field-0 c.in-Case.e c.in-Case.arms ∙ ap (λ y. case_act c.in-Case.field-0 (ex_of c.in-Case.e) (act_arms_of y)) (sym c.get-two.ensures)))
     (as_case c.args.defs.now c.in-Case.field-0 (ex_of c.in-Case.e) (act_arms_of c.get-two.result.now) (after_known c.args.defs.now (λ s u. arms_tree c.args.defs.now s u (act_arms_of c.get-two.result.now)) c.in_ok-t-in-Case.ensures c.in_ok-id-in-Case.ensures))
+
+pub action-returns-in-Derived : goal.action-returns-in-Derived
+action-returns-in-Derived t c =
+    let q = ap act_of c.in-Unary.is ∙ act-Unary c.in-Unary.word c.in-Unary.field-1 c.in-Unary.e in
+    all_as_core c.derived.result c.args.self.now c.derived.new.self c.args.defs.now (derived c.in-Derived.form (filling_of (Some c.in-Unary.e) None (act_of c.args.a.now))) (core (act_of c.args.a.now))
+    (ap core q ∙ (ap (λ z. unary_row_core z (OfScript (ex_of c.in-Unary.e))) (sym c.unary_row.ensures ∙ c.in-Derived.is) ∙ ap (λ z. derived c.in-Derived.form (filling_of (Some c.in-Unary.e) None z)) (sym q)))
+    c.derived.ensures
+
+pub action-returns-in-Guard : goal.action-returns-in-Guard
+action-returns-in-Guard t c =
+    let q = ap act_of c.in-Guard.is ∙ act-Guard c.in-Guard.word c.in-Guard.field-1 c.in-Guard.field-2 c.in-Guard.field-3 in
+    all_as_core c.derived-in-Guard.result c.args.self.now _ c.args.defs.now (derived c.guard_row.result (filling_of None None (act_of c.args.a.now))) (core (act_of c.args.a.now))
+    (ap core q ∙ (ap (λ z. derived z (on_two (block_core (bl_of c.in-Guard.field-2)) (block_core (bl_of c.in-Guard.field-3)))) (sym c.guard_row.ensures) ∙ ap (λ z. derived c.guard_row.result (filling_of None None z)) (sym q)))
+    c.derived-in-Guard.ensures
 
 pub action-returns-in_ok-i-in-Catch : goal.action-returns-in_ok-i-in-Catch
 action-returns-in_ok-i-in-Catch t c =

@@ -8,7 +8,7 @@ use Rattle.rules_expansion.specs.Names.{Written}
 use Rattle.rules_code.specs.declared.node.Node.TheVariants as n
 use Rattle.hs_nodes.specs.declared.names.Bound.TheVariants as w
 use Rattle.hs_nodes.specs.Names.{scope_of}
-use Rattle.hs_nodes.specs.Emitting.{own1, own2, nodes_of, all_nodes, ids_of, link_nodes, node_links, arm_nodes, Emitted}
+use Rattle.hs_nodes.specs.Emitting.{own1, own2, nodes_of, all_nodes, ids_of, link_nodes, node_links, arm_nodes, two_nodes, Emitted}
 use Rattle.hs_nodes.proofs.Steps.{IsAdded, alone, all_ended, owned, following_by, behind, two, three, under, as_form, as_arms, all_step, link_step, links-drop, sum_links-drop, list_links-drop}
 use Rattle.hs_nodes.proofs.emitter.Emitter.+emit.Goals as goal
 
@@ -42,21 +42,20 @@ expr-returns-in-Unit t c =
     as_form c.add-in-Unit.result c.args.self.now _ c.args.places.now.all (ex_of c.args.e.now) (lit c.in-Unit.field-0 nothing_more) (ap ex_of c.in-Unit.is ∙ ex-Unit c.in-Unit.field-0)
     (alone c.add-in-Unit.result c.args.self.now c.add-in-Unit.new.self (n.Unit) c.add-in-Unit.ensures)
 
-pub expr-returns-in_ok-i-in-Div : goal.expr-returns-in_ok-i-in-Div
-expr-returns-in_ok-i-in-Div t c =
-    as_form c.second-in-Div.result c.args.self.now _ c.args.places.now.all (ex_of c.args.e.now) (binary b.Div c.in-Div.field-0 (ex_of c.in-Div.a) (ex_of c.in-Div.b)) (ap ex_of c.in-Div.is ∙ ex-Div c.in-Div.field-0 c.in-Div.a c.in-Div.b)
-    (two c.second-in-Div.result c.args.self.now c.part-in-Div.new.self _ c.in_ok-i-in-Div.i (nodes_of c.args.places.now.all (scope_of c.args.self.now.scope) (length c.args.self.now.nodes) (ex_of c.in-Div.a)) (λ s m. nodes_of c.args.places.now.all s m (ex_of c.in-Div.b)) (n.Binary b.Div) c.in_ok-i-in-Div.ensures c.second-in-Div.ensures)
+pub expr-returns-in-Div : goal.expr-returns-in-Div
+expr-returns-in-Div t c =
+    as_form c.both-in-Div.result c.args.self.now _ c.args.places.now.all (ex_of c.args.e.now) (binary b.Div c.in-Div.field-0 (ex_of c.in-Div.a) (ex_of c.in-Div.b)) (ap ex_of c.in-Div.is ∙ ex-Div c.in-Div.field-0 c.in-Div.a c.in-Div.b)
+    (c.both-in-Div.ensures)
 
-pub expr-returns-in_ok-i-in-Pair : goal.expr-returns-in_ok-i-in-Pair
-expr-returns-in_ok-i-in-Pair t c =
-    as_form c.second-in-Pair.result c.args.self.now _ c.args.places.now.all (ex_of c.args.e.now) (binary b.Pair c.in-Pair.field-0 (ex_of c.in-Pair.a) (ex_of c.in-Pair.b)) (ap ex_of c.in-Pair.is ∙ ex-Pair c.in-Pair.field-0 c.in-Pair.a c.in-Pair.b)
-    (two c.second-in-Pair.result c.args.self.now c.part-in-Pair.new.self _ c.in_ok-i-in-Pair.i (nodes_of c.args.places.now.all (scope_of c.args.self.now.scope) (length c.args.self.now.nodes) (ex_of c.in-Pair.a)) (λ s m. nodes_of c.args.places.now.all s m (ex_of c.in-Pair.b)) (n.Binary b.Pair) c.in_ok-i-in-Pair.ensures c.second-in-Pair.ensures)
+pub expr-returns-in-Pair : goal.expr-returns-in-Pair
+expr-returns-in-Pair t c =
+    as_form c.both-in-Pair.result c.args.self.now _ c.args.places.now.all (ex_of c.args.e.now) (binary b.Pair c.in-Pair.field-0 (ex_of c.in-Pair.a) (ex_of c.in-Pair.b)) (ap ex_of c.in-Pair.is ∙ ex-Pair c.in-Pair.field-0 c.in-Pair.a c.in-Pair.b)
+    (c.both-in-Pair.ensures)
 
-pub expr-returns-in_ok-i-in-Compare : goal.expr-returns-in_ok-i-in-Compare
-expr-returns-in_ok-i-in-Compare t c =
-    as_form c.second.result c.args.self.now _ c.args.places.now.all (ex_of c.args.e.now) (binary (compare_form c.in-Compare.op) c.in-Compare.field-2 (ex_of c.in-Compare.a) (ex_of c.in-Compare.b)) (ap ex_of c.in-Compare.is ∙ ex-Compare c.in-Compare.a c.in-Compare.op c.in-Compare.field-2 c.in-Compare.b)
-    (subst (λ f. IfOk c.second.result (λ id. Emitted c.args.self.now c.second.new.self id (own2 (length c.args.self.now.nodes) (nodes_of c.args.places.now.all (scope_of c.args.self.now.scope) (length c.args.self.now.nodes) (ex_of c.in-Compare.a)) (nodes_of c.args.places.now.all (scope_of c.args.self.now.scope) (length c.args.self.now.nodes + length (nodes_of c.args.places.now.all (scope_of c.args.self.now.scope) (length c.args.self.now.nodes) (ex_of c.in-Compare.a))) (ex_of c.in-Compare.b)) (n.Binary f)))) c.compare_form.ensures
-    (two c.second.result c.args.self.now c.part-in-Compare.new.self _ c.in_ok-i-in-Compare.i (nodes_of c.args.places.now.all (scope_of c.args.self.now.scope) (length c.args.self.now.nodes) (ex_of c.in-Compare.a)) (λ s m. nodes_of c.args.places.now.all s m (ex_of c.in-Compare.b)) (n.Binary c.compare_form.result) c.in_ok-i-in-Compare.ensures c.second.ensures))
+pub expr-returns-in-Compare : goal.expr-returns-in-Compare
+expr-returns-in-Compare t c =
+    as_form c.both.result c.args.self.now _ c.args.places.now.all (ex_of c.args.e.now) (binary (compare_form c.in-Compare.op) c.in-Compare.field-2 (ex_of c.in-Compare.a) (ex_of c.in-Compare.b)) (ap ex_of c.in-Compare.is ∙ ex-Compare c.in-Compare.a c.in-Compare.op c.in-Compare.field-2 c.in-Compare.b)
+    (subst (λ f. IfOk c.both.result (λ id. Emitted c.args.self.now c.both.new.self id (two_nodes c.args.places.now.all (scope_of c.args.self.now.scope) (length c.args.self.now.nodes) (ex_of c.in-Compare.a) (ex_of c.in-Compare.b) (n.Binary f)))) c.compare_form.ensures c.both.ensures)
 
 pub expr-returns-in_ok-i-in-Let : goal.expr-returns-in_ok-i-in-Let
 expr-returns-in_ok-i-in-Let t c =
@@ -68,10 +67,10 @@ expr-returns-in_ok-i-in-If t c =
     as_form c.third.result c.args.self.now _ c.args.places.now.all (ex_of c.args.e.now) (choose c.in-If.field-0 (ex_of c.in-If.c) (ex_of c.in-If.a) (ex_of c.in-If.b)) (ap ex_of c.in-If.is ∙ ex-If c.in-If.field-0 c.in-If.c c.in-If.a c.in-If.b)
     (three c.third.result c.args.self.now c.part.new.self c.part-in-If.new.self _ c.in_ok-h-in-If.h c.in_ok-i-in-If.i (nodes_of c.args.places.now.all (scope_of c.args.self.now.scope) (length c.args.self.now.nodes) (ex_of c.in-If.c)) (λ s m. nodes_of c.args.places.now.all s m (ex_of c.in-If.a)) (λ s m. nodes_of c.args.places.now.all s m (ex_of c.in-If.b)) n.If c.in_ok-h-in-If.ensures c.in_ok-i-in-If.ensures c.third.ensures)
 
-pub expr-returns-in_ok-i-in-Mod : goal.expr-returns-in_ok-i-in-Mod
-expr-returns-in_ok-i-in-Mod t c =
-    as_form c.second-in-Mod.result c.args.self.now _ c.args.places.now.all (ex_of c.args.e.now) (binary b.Mod c.in-Mod.field-0 (ex_of c.in-Mod.a) (ex_of c.in-Mod.b)) (ap ex_of c.in-Mod.is ∙ ex-Mod c.in-Mod.field-0 c.in-Mod.a c.in-Mod.b)
-    (two c.second-in-Mod.result c.args.self.now c.part-in-Mod.new.self _ c.in_ok-i-in-Mod.i (nodes_of c.args.places.now.all (scope_of c.args.self.now.scope) (length c.args.self.now.nodes) (ex_of c.in-Mod.a)) (λ s m. nodes_of c.args.places.now.all s m (ex_of c.in-Mod.b)) (n.Binary b.Mod) c.in_ok-i-in-Mod.ensures c.second-in-Mod.ensures)
+pub expr-returns-in-Mod : goal.expr-returns-in-Mod
+expr-returns-in-Mod t c =
+    as_form c.both-in-Mod.result c.args.self.now _ c.args.places.now.all (ex_of c.args.e.now) (binary b.Mod c.in-Mod.field-0 (ex_of c.in-Mod.a) (ex_of c.in-Mod.b)) (ap ex_of c.in-Mod.is ∙ ex-Mod c.in-Mod.field-0 c.in-Mod.a c.in-Mod.b)
+    (c.both-in-Mod.ensures)
 
 pub expr-returns-in_ok-h-in-Case : goal.expr-returns-in_ok-h-in-Case
 expr-returns-in_ok-h-in-Case t c =
