@@ -20,7 +20,7 @@ use Rattle.run_record.specs.declared.record.Record.{Record}
 use Rattle.run_record.specs.Records.{script, Same, Appended}
 use Rattle.run_record.proofs.GoingOn.{one_state, relisted_live}
 use Rattle.clocked_record.specs.Clocks.{TicksKept}
-use Rattle.clocked_record.proofs.ClockStays.{entry_stays}
+use Rattle.hs_laws.proofs.Ticking.{entry_stays}
 use Rattle.clocked_record.proofs.Keeping.{ticks_begin, ticks_later, ticks_worked}
 
 -- ---- the same script

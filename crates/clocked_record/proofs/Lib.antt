@@ -1,4 +1,3 @@
-pub mod ClockStays
 pub mod Keeping
 pub mod LastEntry
 pub mod Going

@@ -37,7 +37,7 @@ unmasked Unmasked e = refl
 unmasked Masked e = absurd (cc e)
 unmasked Uninterruptible e = absurd (cc e)
 
-interruptible : (m : Mask) → m ≢ Uninterruptible → is_interruptible m ≡ true
+pub interruptible : (m : Mask) → m ≢ Uninterruptible → is_interruptible m ≡ true
 interruptible Unmasked n = refl
 interruptible Masked n = refl
 interruptible Uninterruptible n = absurd (n refl)
@@ -55,7 +55,7 @@ now_due a b h = grind arith
 
 -- ---- who is to be stranded
 
-waits_so : (s : State) (t : ℕ) (o : Option Thread) (r : Option (Reason V)) → slice_get s.threads t ≡ o → reason_of t s.blocked ≡ r → is_stranded o r ≡ true → WaitsAtCell s t
+pub waits_so : (s : State) (t : ℕ) (o : Option Thread) (r : Option (Reason V)) → slice_get s.threads t ≡ o → reason_of t s.blocked ≡ r → is_stranded o r ≡ true → WaitsAtCell s t
 waits_so s t None None a b e = absurd (cc e)
 waits_so s t None (Some r) a b e = let k = both_true (at_cell r) false e in absurd (cc k.1)
 waits_so s t (Some th) None a b e = absurd (cc e)
@@ -63,7 +63,7 @@ waits_so s t (Some th) (Some r) a b e =
     let k = both_true (at_cell r) (is_interruptible (mask_at th.term.frames)) e in
     record { thread = th; is = a; reason = r; waits = b; there = k.0; open_now = not_hard (mask_at th.term.frames) k.1 }
 
-stranded_so : (s : State) (t : ℕ) → WaitsAtCell s t → is_stranded (slice_get s.threads t) (reason_of t s.blocked) ≡ true
+pub stranded_so : (s : State) (t : ℕ) → WaitsAtCell s t → is_stranded (slice_get s.threads t) (reason_of t s.blocked) ≡ true
 stranded_so s t w =
     ap (λ o. is_stranded o (reason_of t s.blocked)) w.is ∙ (ap (is_stranded (Some w.thread)) w.waits
     ∙ (ap (λ b. b && is_interruptible (mask_at w.thread.term.frames)) w.there ∙ interruptible (mask_at w.thread.term.frames) w.open_now))
@@ -75,7 +75,7 @@ stranded_not s t n = by (is_stranded (slice_get s.threads t) (reason_of t s.bloc
     by true e = absurd (n (waits_so s t (slice_get s.threads t) (reason_of t s.blocked) refl refl e))
     by false e = refl
 
-all_are : {s : State} {n : ℕ} {ts : List ℕ} → AllThatWait s n ts → stranded_below n s ≡ ts
+pub all_are : {s : State} {n : ℕ} {ts : List ℕ} → AllThatWait s n ts → stranded_below n s ≡ ts
 all_are of_none = refl
 all_are {s} (waits_too {n = k} {ts = us} a w) =
     ap (λ b. stranded_below k s ++ cond b (k ∷ []) []) (stranded_so s k w) ∙ ap (λ vs. vs ++ k ∷ []) (all_are a)
@@ -109,7 +109,7 @@ finds P (Some th) k u f h = tested P th.finished None (k th) u (λ b g. absurd (
 ended : (t : ℕ) (th : Thread) (line : List ℕ) (s : State) → closed t th line s ≡ finished t th (told line s)
 ended t th line s = refl
 
-quietly : (t : ℕ) (th : Thread) (s : State) → closed t th [] s ≡ finished t th s
+pub quietly : (t : ℕ) (th : Thread) (s : State) → closed t th [] s ≡ finished t th s
 quietly t th s =
     ap (λ x. resume_all (throwers (flying_to t (flight_of s.blocked))) (Ret UnitValue) (record s { threads = slice_set s.threads t (record { term = th.term; finished = true }); errors = x })) (append-nil s.errors)
 
@@ -131,7 +131,7 @@ module _ (code : Code) where
       receive_entry t th s ≡ Some (resume t (Throw f.exn) (answer f.thrower UnitValue s))
   receptive t th f fs s r e = cond_true (is_receptive t th.term s) _ None r ∙ ap (λ gs. received t gs s) e
 
-  open_so : (t : ℕ) (th : Thread) (s : State) (b c : Bool) → is_throw th.term.part ≡ false → is_blocked t s.blocked ≡ b → is_open b (mask_at th.term.frames) ≡ true → is_receptive t th.term s ≡ true
+  pub open_so : (t : ℕ) (th : Thread) (s : State) (b c : Bool) → is_throw th.term.part ≡ false → is_blocked t s.blocked ≡ b → is_open b (mask_at th.term.frames) ≡ true → is_receptive t th.term s ≡ true
   open_so t th s b c n w o = ap (λ x. not x && is_open (is_blocked t s.blocked) (mask_at th.term.frames)) n ∙ (ap (λ x. is_open x (mask_at th.term.frames)) w ∙ o)
 
   ends : (t : ℕ) (th : Thread) (p : Part) (s u : State) → th.term.frames ≡ [] → th.term.part ≡ p → finish_entry t th [] p s ≡ Some u → finish_entry t th th.term.frames th.term.part s ≡ Some u

@@ -1,29 +1,31 @@
 -- Each entry makes its calls on a cell: a state's cell, or one that isn't there yet, does what the cell alone does by them.
-use Rattle.std.proofs.Common.{◌≡◌, ◌≢◌, ◌<◌, ℕ, zero, suc, ◌==◌, ℤ, pos, negsuc, List, [], ◌∷◌, ◌++◌, length, slice_get, slice_set, true, false, cond, nat_le, Option, Some, None, refl, sym, ap, ◌∙◌, subst, arith, ◌⊎◌, inl, inr, ⊎_elim}
+use Rattle.std.proofs.Common.{◌≡◌, ◌≢◌, ◌<◌, ℕ, zero, suc, ◌==◌, List, [], ◌∷◌, ◌++◌, length, slice_get, slice_set, true, false, cond, Option, Some, None, refl, sym, ap, ◌∙◌, subst, arith, ◌⊎◌, inl, inr, ⊎_elim}
 use Rattle.hs_base.specs.declared.mask.Mask.{Mask}
 use Rattle.hs_base.specs.declared.mask.Mask.TheVariants.{Unmasked}
-use Rattle.hs_base.specs.declared.exn.Exn.{Exn}
-use Rattle.hs_base.specs.declared.exn.Exn.TheVariants.{BlockedIndefinitely}
+use Rattle.hs_base.specs.declared.exn.Exn.TheVariants.{Timeout, BlockedIndefinitely}
+use Rattle.hs_base.specs.ExceptionTexts.{text_of}
+use Rattle.std.specs.Prelude.{codes}
+use Rattle.std.specs.Fmt.{decimal}
 use Rattle.hs_rules.specs.declared.entry.Entry.{Entry}
-use Rattle.hs_rules.specs.declared.entry.Entry.TheVariants as entry
-use Rattle.hs_rules.specs.declared.entry.Entry.TheVariants.{Local}
 use Rattle.rules_meaning.specs.Values as val
 use Rattle.rules_meaning.specs.Values.{V, UnitValue, Int, Text, Exception, Inst, with_name}
-use Rattle.rules_expansion.specs.declared.primitive.Primitive.{Primitive}
-use Rattle.rules_expansion.specs.declared.primitive.Primitive.TheVariants.{PutStr, PutStrLn, HPutStrLn, NewMVar, NewEmptyMVar, TakeMVar, PutMVar, ReadMVar, TryTakeMVar, TryPutMVar, MyThreadId, GetMaskingState, ClockMicros, ThreadDelay, ThrowTo, NewTimeout, Acquired, Release}
+use Rattle.rules_expansion.specs.declared.primitive.Primitive.TheVariants.{TakeMVar, PutMVar, ReadMVar, TryTakeMVar, TryPutMVar}
 use Rattle.rules_meaning.specs.CoreMeaning.{Code}
-use Rattle.hs_rules.specs.Terms.{Operation, Calls, Forks, ForksUnmask, Part, Ret, Throw, Do, Performs, Frame, MaskIn, Term, term, mask_at}
-use Rattle.hs_rules.specs.LocalRules.{locals}
-use Rattle.rules_waiting.specs.Waiting.{want_at, with_place, Reason, Taking, Reading, Putting, Throwing, Sleeping, Waiting, Flying, Sleeper, leaves, is_blocked, reason_of, line_of, flight_of, flying_to, first_thrown, sleepers_of}
+use Rattle.hs_rules.specs.Terms.{Operation, Calls, Part, Ret, Throw, Do, MaskIn, Term, term}
+use Rattle.rules_waiting.specs.Waiting.{want_at, with_place, Reason, Taking, Reading, Putting, Throwing, Sleeping, Waiting, Flying, leaves, is_blocked, reason_of, line_of, flight_of, flying_to, first_thrown}
 use Rattle.hs_rules.specs.State.{AcquiredBy, ReleasedBy, Thread, State, move, resume, answer, resume_all, block, spawn}
-use Rattle.hs_rules.specs.Primitives.{on_none, on_one, on_two, as_text, as_number, as_cell, as_thread, as_exn, as_instance, take, read, put, try_take, try_put, throw_at, due_in, delay, line_feed, performed, operated}
-use Rattle.hs_rules.specs.Entries.{moved, local_entry, at_operation, op_entry, is_receptive, received, receive_entry, woken, uncaught_line, closed, finish_entry, stranded, strand, strand_entry, on_thread, next}
-use Rattle.hs_rules.specs.Entries as entries
+use Rattle.hs_rules.specs.Primitives.{take, read, put, try_take, try_put, due_in, clock_value, masking_text, line_feed}
+use Rattle.hs_rules.specs.Entries.{uncaught_line, stranded, next}
+use Rattle.hs_cases.specs.Cases as row
+use Rattle.hs_cases.specs.Cases.{printed, told, finished}
+use Rattle.hs_cases.proofs.Performing.{performed_is}
+use Rattle.hs_cases.proofs.Entering.{case_of, all_are}
 use Rattle.rules_waiting.specs.OneCell.{Want, Cell, Call, Make, Take, Read, Put, Try_take, Try_put, Leave, leaves_line, made, call}
 use Rattle.hs_laws.specs.Standing.{Once}
-use Rattle.hs_laws.specs.CellLaw.{Shows, answered, call_if, with_none, with_one, with_two, primitive_calls, operation_calls, part_calls, thread_calls, leave_if, leave_call, leave_calls, calls_of, after_calls, IsAnswered, AnswersCalls, IsMake, NoMake}
-use Rattle.hs_laws.proofs.Lists.{item_append, item_below, cond_cases, cond_true, cond_false, equal_or, Each, each_changed, Found, first_found, Absent_in, Distinct, those, throws, throws_at, throw_is_first, throwers_are, once_left, once_reason}
-use Rattle.hs_laws.proofs.States.{Holds, Waits, Apart, stranded_distinct}
+use Rattle.hs_laws.specs.CellLaw.{Shows, answered, operation_calls, part_calls, thread_calls, leave_if, leave_call, leave_calls, calls_of, after_calls, IsAnswered, AnswersCalls, IsMake, NoMake}
+use Rattle.hs_laws.proofs.Lists.{item_append, item_below, cond_true, cond_false, equal_or, Each, Found, first_found, Absent_in, Distinct, throws, throws_means, throws_at, throw_is_first, throwers_are, once_left, once_reason}
+use Rattle.hs_laws.proofs.Changes.{Apart}
+use Rattle.hs_laws.proofs.States.{Holds, Waits, stranded_distinct}
 use Rattle.hs_laws.proofs.CellSteps.{Follows, FollowsSome, take_follows, read_follows, put_follows, try_take_follows, try_put_follows, Away, Still, StillSome, take_still, read_still, try_take_still, put_still, try_put_still, resume_still, block_still, those_still, away_leaves, line_leaves, not_blocked_reason, reason_left}
 
 -- cell m as a state has it, or that it isn't there and nobody waits for it
@@ -193,19 +195,6 @@ module _ (m : ℕ) (s : State) (c : Option (Cell V)) (h : Present m s c) (g : Ho
   here : Still m s s
   here = (refl, refl, g.once)
 
-  one_done : (vs : List V) (f : ℕ → Option State) (q : Call V) → ((k : ℕ) → DoneSome m s c (cond (k == m) (q ∷ []) []) (f k)) → DoneSome m s c (with_one vs (λ v. call_if m v q)) (on_one vs (λ v. as_cell v f))
-  one_done [] f q p = tt
-  one_done (v ∷ w ∷ vs) f q p = tt
-  one_done (val.Cell k ∷ []) f q p = p k
-  one_done (_ ∷ []) f q p = tt
-
-  two_done : (vs : List V) (f : ℕ → V → Option State) (q : V → Call V) → ((k : ℕ) (w : V) → DoneSome m s c (cond (k == m) (q w ∷ []) []) (f k w)) → DoneSome m s c (with_two vs (λ v w. call_if m v (q w))) (on_two vs (λ v w. as_cell v (λ k. f k w)))
-  two_done [] f q p = tt
-  two_done (v ∷ []) f q p = tt
-  two_done (v ∷ w ∷ x ∷ vs) f q p = tt
-  two_done (val.Cell k ∷ w ∷ []) f q p = p k w
-  two_done (_ ∷ w ∷ []) f q p = tt
-
   -- on this cell or on another
   on_cell : (k : ℕ) (f : ℕ → Option (Option V) → Option State) (q : Call V) → Tells m s q → f m None ≡ None → ((d : Cell V) → Shows m s d → FollowsSome m s (f m (Some d.content)) (call q d)) →
       (m ≢ k → StillSome m s (f k (slice_get s.cells k))) → DoneSome m s c (cond (k == m) (q ∷ []) []) (f k (slice_get s.cells k))
@@ -225,149 +214,90 @@ module _ (m : ℕ) (s : State) (c : Option (Cell V)) (h : Present m s c) (g : Ho
     waits_away : (r : Reason V) → want_at m r ≡ None → Done m s c [] (block t r s)
     waits_away r e = unchanged (block t r s) (block_still m s s t r e b here)
 
-    none_done : (vs : List V) (qs : List (Call V)) (o : Option State) → DoneSome m s c qs o → DoneSome m s c (with_none vs qs) (on_none vs o)
-    none_done [] qs o p = p
-    none_done (v ∷ vs) qs o p = tt
+    by_take : {a : Mask} (k : ℕ) {u : State} → row.Performs t a (Calls TakeMVar (val.Cell k ∷ [])) s u → Done m s c (cond (k == m) (Take t ∷ []) []) u
+    by_take k q =
+        subst (DoneSome m s c (cond (k == m) (Take t ∷ []) [])) (performed_is q)
+        (on_cell k (λ j o. take t j o s) (Take t) ((λ x. x), λ d u f. f.threads) refl (λ d w. take_follows m t s d.content d.line (b, w.content, w.line, g.once)) (λ n. take_still m k t s n g.once b (slice_get s.cells k)))
 
-    no_value : (vs : List V) (o : Option State) → DoneSome m s c [] o → DoneSome m s c [] (on_none vs o)
-    no_value [] o p = p
-    no_value (v ∷ vs) o p = tt
+    by_read : {a : Mask} (k : ℕ) {u : State} → row.Performs t a (Calls ReadMVar (val.Cell k ∷ [])) s u → Done m s c (cond (k == m) (Read t ∷ []) []) u
+    by_read k q =
+        subst (DoneSome m s c (cond (k == m) (Read t ∷ []) [])) (performed_is q)
+        (on_cell k (λ j o. read t j o s) (Read t) ((λ x. x), λ d u f. f.threads) refl (λ d w. read_follows m t s d.content d.line (b, w.content, w.line, g.once)) (λ n. read_still m k t s n g.once b (slice_get s.cells k)))
 
-    just_one : (vs : List V) (k : V → Option State) → ((v : V) → DoneSome m s c [] (k v)) → DoneSome m s c [] (on_one vs k)
-    just_one [] k p = tt
-    just_one (v ∷ []) k p = p v
-    just_one (v ∷ w ∷ vs) k p = tt
+    by_try_take : {a : Mask} (k : ℕ) {u : State} → row.Performs t a (Calls TryTakeMVar (val.Cell k ∷ [])) s u → Done m s c (cond (k == m) (Try_take t ∷ []) []) u
+    by_try_take k q =
+        subst (DoneSome m s c (cond (k == m) (Try_take t ∷ []) [])) (performed_is q)
+        (on_cell k (λ j o. try_take t j o s) (Try_take t) ((λ x. x), λ d u f. f.threads) refl (λ d w. try_take_follows m t s d.content d.line (b, w.content, w.line, g.once)) (λ n. try_take_still m k t s n g.once b (slice_get s.cells k)))
 
-    new_one : (vs : List V) (q : V → List (Call V)) (k : V → Option State) → ((v : V) → DoneSome m s c (q v) (k v)) → DoneSome m s c (with_one vs q) (on_one vs k)
-    new_one [] q k p = tt
-    new_one (v ∷ []) q k p = p v
-    new_one (v ∷ w ∷ vs) q k p = tt
+    by_put : {a : Mask} (k : ℕ) (v : V) {u : State} → row.Performs t a (Calls PutMVar (val.Cell k ∷ v ∷ [])) s u → Done m s c (cond (k == m) (Put t v ∷ []) []) u
+    by_put k v q =
+        subst (DoneSome m s c (cond (k == m) (Put t v ∷ []) [])) (performed_is q)
+        (on_cell k (λ j o. put t j v o s) (Put t v) ((λ x. x), λ d u f. f.threads) refl (λ d w. put_follows m t s v d.content d.line (b, w.content, w.line, g.once)) (λ n. put_still m k t s n g.once b v (slice_get s.cells k)))
 
-    just_two : (vs : List V) (k : V → V → Option State) → ((v w : V) → DoneSome m s c [] (k v w)) → DoneSome m s c [] (on_two vs k)
-    just_two [] k p = tt
-    just_two (v ∷ vs) k p = just_one vs (k v) (p v)
-
-    text_done : (v : V) (k : List ℕ → Option State) → ((x : List ℕ) → DoneSome m s c [] (k x)) → DoneSome m s c [] (as_text v k)
-    text_done (Text x) k p = p x
-    text_done _ k p = tt
-
-    number_done : (v : V) (k : ℤ → Option State) → ((x : ℤ) → DoneSome m s c [] (k x)) → DoneSome m s c [] (as_number v k)
-    number_done (Int x) k p = p x
-    number_done _ k p = tt
-
-    thread_done : (v : V) (k : ℕ → Option State) → ((x : ℕ) → DoneSome m s c [] (k x)) → DoneSome m s c [] (as_thread v k)
-    thread_done (val.Thread x) k p = p x
-    thread_done _ k p = tt
-
-    exn_done : (v : V) (k : Exn → Option State) → ((x : Exn) → DoneSome m s c [] (k x)) → DoneSome m s c [] (as_exn v k)
-    exn_done (Exception x) k p = p x
-    exn_done _ k p = tt
-
-    instance_done : (v : V) (k : ℕ → Option State) → ((x : ℕ) → DoneSome m s c [] (k x)) → DoneSome m s c [] (as_instance v k)
-    instance_done (Inst x) k p = p x
-    instance_done _ k p = tt
-
-    throw_done : (u : ℕ) (e : Exn) (o : Option Thread) → DoneSome m s c [] (throw_at t u e o s)
-    throw_done u e None = tt
-    throw_done u e (Some th) =
-        cond_cases (DoneSome m s c []) (u == t) _ _ (λ q. goes s (Throw e) refl refl)
-        (λ q. cond_cases (DoneSome m s c []) th.finished _ _ (λ f. goes s (Ret UnitValue) refl refl) (λ f. waits_away (Throwing u e) refl))
-
-    delay_done : (n : ℤ) → DoneSome m s c [] (delay t n s)
-    delay_done (pos n) = cond_cases (DoneSome m s c []) (n == 0) _ _ (λ q. goes s (Ret UnitValue) refl refl) (λ q. waits_away (Sleeping (due_in n s)) refl)
-    delay_done (negsuc n) = goes s (Ret UnitValue) refl refl
-
-    take_done : (k : ℕ) → DoneSome m s c (cond (k == m) (Take t ∷ []) []) (take t k (slice_get s.cells k) s)
-    take_done k = on_cell k (λ j o. take t j o s) (Take t) ((λ x. x), λ d u f. f.threads) refl (λ d w. take_follows m t s d.content d.line (b, w.content, w.line, g.once)) (λ n. take_still m k t s n g.once b (slice_get s.cells k))
-
-    read_done : (k : ℕ) → DoneSome m s c (cond (k == m) (Read t ∷ []) []) (read t k (slice_get s.cells k) s)
-    read_done k = on_cell k (λ j o. read t j o s) (Read t) ((λ x. x), λ d u f. f.threads) refl (λ d w. read_follows m t s d.content d.line (b, w.content, w.line, g.once)) (λ n. read_still m k t s n g.once b (slice_get s.cells k))
-
-    try_take_done : (k : ℕ) → DoneSome m s c (cond (k == m) (Try_take t ∷ []) []) (try_take t k (slice_get s.cells k) s)
-    try_take_done k = on_cell k (λ j o. try_take t j o s) (Try_take t) ((λ x. x), λ d u f. f.threads) refl (λ d w. try_take_follows m t s d.content d.line (b, w.content, w.line, g.once)) (λ n. try_take_still m k t s n g.once b (slice_get s.cells k))
-
-    put_done : (k : ℕ) (v : V) → DoneSome m s c (cond (k == m) (Put t v ∷ []) []) (put t k v (slice_get s.cells k) s)
-    put_done k v = on_cell k (λ j o. put t j v o s) (Put t v) ((λ x. x), λ d u f. f.threads) refl (λ d w. put_follows m t s v d.content d.line (b, w.content, w.line, g.once)) (λ n. put_still m k t s n g.once b v (slice_get s.cells k))
-
-    try_put_done : (k : ℕ) (v : V) → DoneSome m s c (cond (k == m) (Try_put t v ∷ []) []) (try_put t k v (slice_get s.cells k) s)
-    try_put_done k v = on_cell k (λ j o. try_put t j v o s) (Try_put t v) ((λ x. x), λ d u f. f.threads) refl (λ d w. try_put_follows m t s v d.content d.line (b, w.content, w.line, g.once)) (λ n. try_put_still m k t s n g.once b v (slice_get s.cells k))
-
-    primitive_done : (a : Mask) (w : Primitive) (vs : List V) → DoneSome m s c (primitive_calls m (length s.cells) t w vs) (performed t a w vs s)
-    primitive_done a PutStr vs = just_one vs _ (λ v. text_done v _ (λ x. goes (record s { output = s.output ++ x }) (Ret UnitValue) refl refl))
-    primitive_done a PutStrLn vs = just_one vs _ (λ v. text_done v _ (λ x. goes (record s { output = s.output ++ x ++ line_feed }) (Ret UnitValue) refl refl))
-    primitive_done a HPutStrLn vs = just_one vs _ (λ v. text_done v _ (λ x. goes (record s { errors = s.errors ++ x ++ line_feed }) (Ret UnitValue) refl refl))
-    primitive_done a NewMVar vs = new_one vs _ _ (λ v. make_done m t s c h b g.once (Some v))
-    primitive_done a NewEmptyMVar vs = none_done vs _ _ (make_done m t s c h b g.once None)
-    primitive_done a TakeMVar vs = one_done vs (λ k. take t k (slice_get s.cells k) s) (Take t) take_done
-    primitive_done a ReadMVar vs = one_done vs (λ k. read t k (slice_get s.cells k) s) (Read t) read_done
-    primitive_done a TryTakeMVar vs = one_done vs (λ k. try_take t k (slice_get s.cells k) s) (Try_take t) try_take_done
-    primitive_done a PutMVar vs = two_done vs (λ k w. put t k w (slice_get s.cells k) s) (Put t) put_done
-    primitive_done a TryPutMVar vs = two_done vs (λ k w. try_put t k w (slice_get s.cells k) s) (Try_put t) try_put_done
-    primitive_done a MyThreadId vs = no_value vs _ (goes s _ refl refl)
-    primitive_done a GetMaskingState vs = no_value vs _ (goes s _ refl refl)
-    primitive_done a ClockMicros vs = no_value vs _ (goes s _ refl refl)
-    primitive_done a ThreadDelay vs = just_one vs _ (λ v. number_done v _ (λ n. delay_done n))
-    primitive_done a ThrowTo vs = just_two vs _ (λ v w. thread_done v _ (λ u. exn_done w _ (λ e. throw_done u e (slice_get s.threads u))))
-    primitive_done a NewTimeout vs = no_value vs _ (goes (record s { next_timeout = suc s.next_timeout }) _ refl refl)
-    primitive_done a Acquired vs = no_value vs _ (goes (record s { marks = AcquiredBy s.next_instance t ∷ s.marks; next_instance = suc s.next_instance }) _ refl refl)
-    primitive_done a Release vs = just_one vs _ (λ v. instance_done v _ (λ i. goes (record s { marks = ReleasedBy i t ∷ s.marks }) _ refl refl))
+    by_try_put : {a : Mask} (k : ℕ) (v : V) {u : State} → row.Performs t a (Calls TryPutMVar (val.Cell k ∷ v ∷ [])) s u → Done m s c (cond (k == m) (Try_put t v ∷ []) []) u
+    by_try_put k v q =
+        subst (DoneSome m s c (cond (k == m) (Try_put t v ∷ []) [])) (performed_is q)
+        (on_cell k (λ j o. try_put t j v o s) (Try_put t v) ((λ x. x), λ d u f. f.threads) refl (λ d w. try_put_follows m t s v d.content d.line (b, w.content, w.line, g.once)) (λ n. try_put_still m k t s n g.once b v (slice_get s.cells k)))
 
     forked_done : (x : Term) → Done m s c [] (spawn x (answer t (val.Thread (length s.threads)) s))
     forked_done x = unchanged (spawn x (answer t (val.Thread (length s.threads)) s)) (resume_still m s s t (Ret (val.Thread (length s.threads))) here (subst (Away m) (sym (not_blocked_reason t s.blocked b)) tt))
 
-    operation_done : (a : Mask) (op : Operation) → DoneSome m s c (operation_calls m (length s.cells) t op) (operated t a op s)
-    operation_done a (Calls w vs) = primitive_done a w vs
-    operation_done a (Forks x env) = forked_done (term (Do x env) (MaskIn a ∷ []))
-    operation_done a (ForksUnmask r x env) = forked_done (term (Do x (with_name r (val.Restore Unmasked) env)) (MaskIn a ∷ []))
+    performs_done : {a : Mask} {op : Operation} {u : State} → row.Performs t a op s u → Done m s c (operation_calls m (length s.cells) t op) u
+    performs_done (row.prints {x}) = goes (printed x s) (Ret UnitValue) refl refl
+    performs_done (row.prints_a_line {x}) = goes (printed line_feed (printed x s)) (Ret UnitValue) refl refl
+    performs_done (row.tells_a_line {x}) = goes (told line_feed (told x s)) (Ret UnitValue) refl refl
+    performs_done (row.makes_a_full_cell {a = v}) = make_done m t s c h b g.once (Some v)
+    performs_done row.makes_an_empty_cell = make_done m t s c h b g.once None
+    performs_done {a} (row.take_waits {c = k} q) = by_take {a = a} k (row.take_waits q)
+    performs_done {a} (row.takes_and_empties {c = k} q w) = by_take {a = a} k (row.takes_and_empties q w)
+    performs_done {a} (row.takes_and_serves {c = k} q w) = by_take {a = a} k (row.takes_and_serves q w)
+    performs_done {a} (row.read_waits {c = k} q) = by_read {a = a} k (row.read_waits q)
+    performs_done {a} (row.reads {c = k} q) = by_read {a = a} k (row.reads q)
+    performs_done {a} (row.put_waits {c = k} {a = v} q) = by_put {a = a} k v (row.put_waits q)
+    performs_done {a} (row.puts_and_fills {c = k} {a = v} q w) = by_put {a = a} k v (row.puts_and_fills q w)
+    performs_done {a} (row.puts_and_serves {c = k} {a = v} q w) = by_put {a = a} k v (row.puts_and_serves q w)
+    performs_done {a} (row.try_take_finds_nothing {c = k} q) = by_try_take {a = a} k (row.try_take_finds_nothing q)
+    performs_done {a} (row.try_takes_and_empties {c = k} q w) = by_try_take {a = a} k (row.try_takes_and_empties q w)
+    performs_done {a} (row.try_takes_and_serves {c = k} q w) = by_try_take {a = a} k (row.try_takes_and_serves q w)
+    performs_done {a} (row.try_put_finds_a_value {c = k} {a = v} q) = by_try_put {a = a} k v (row.try_put_finds_a_value q)
+    performs_done {a} (row.try_puts_and_fills {c = k} {a = v} q w) = by_try_put {a = a} k v (row.try_puts_and_fills q w)
+    performs_done {a} (row.try_puts_and_serves {c = k} {a = v} q w) = by_try_put {a = a} k v (row.try_puts_and_serves q w)
+    performs_done row.names_itself = goes s (Ret (val.Thread t)) refl refl
+    performs_done {a} row.names_its_masking = goes s (Ret (Text (masking_text a))) refl refl
+    performs_done row.reads_the_clock = goes s (Ret (clock_value s)) refl refl
+    performs_done (row.sleeps {n} q) = waits_away (Sleeping (due_in n s)) refl
+    performs_done row.sleep_of_nothing = goes s (Ret UnitValue) refl refl
+    performs_done row.sleep_of_less = goes s (Ret UnitValue) refl refl
+    performs_done (row.throws_at_itself {e} q) = goes s (Throw e) refl refl
+    performs_done (row.throws_at_finished n q f) = goes s (Ret UnitValue) refl refl
+    performs_done (row.throw_waits {u = w} {e} n q f) = waits_away (Throwing w e) refl
+    performs_done row.makes_a_timeout = goes (record s { next_timeout = suc s.next_timeout }) (Ret (Exception (Timeout s.next_timeout))) refl refl
+    performs_done row.acquires = goes (record s { marks = AcquiredBy s.next_instance t ∷ s.marks; next_instance = suc s.next_instance }) (Ret (Inst s.next_instance)) refl refl
+    performs_done (row.releases {i}) = goes (record s { marks = ReleasedBy i t ∷ s.marks }) (Ret UnitValue) refl refl
+    performs_done {a} (row.forks {a = x} {env}) = forked_done (term (Do x env) (MaskIn a ∷ []))
+    performs_done {a} (row.forks_unmasked {r} {a = x} {env}) = forked_done (term (Do x (with_name r (val.Restore Unmasked) env)) (MaskIn a ∷ []))
 
-    part_done : (a : Mask) (p : Part) → DoneSome m s c (part_calls m (length s.cells) t p) (at_operation p (λ op. operated t a op s))
-    part_done a (Ret v) = tt
-    part_done a (Throw e) = tt
-    part_done a (Do x env) = tt
-    part_done a (Performs op) = operation_done a op
+  -- each waits for its reason, and nobody throws at itself
+  abbrev Apartly : ℕ → Reason V → Type 0
+  Apartly u r = (reason_of u s.blocked ≡ Some r) × Apart u r
 
-  op_done : (t : ℕ) (th : Thread) → DoneSome m s c (part_calls m (length s.cells) t th.term.part) (op_entry t th s)
-  op_done t th = cond_cases (DoneSome m s c (part_calls m (length s.cells) t th.term.part)) (is_blocked t s.blocked) None _ (λ b. tt) (λ b. part_done t b (mask_at th.term.frames) th.term.part)
+  each_apartly : (ws : List (Waiting V)) → Each (λ u r. reason_of u s.blocked ≡ Some r) ws → Each (Waits s.threads) ws → Each Apartly ws
+  each_apartly [] a b = tt
+  each_apartly (w ∷ ws) a b = ((a.0, b.0.1), each_apartly ws a.1 b.1)
 
-  moved_done : (t : ℕ) (o : Option Term) → DoneSome m s c [] (moved t s o)
-  moved_done t None = tt
-  moved_done t (Some u) = unchanged (move t u s) here
-
-  local_done : (code : Code) (t k : ℕ) (th : Thread) → DoneSome m s c [] (local_entry code t k th s)
-  local_done code t zero th = tt
-  local_done code t (suc k) th = cond_cases (DoneSome m s c []) (is_blocked t s.blocked) None _ (λ b. tt) (λ b. moved_done t (locals code (suc k) th.term))
-
-  throws_away : (t : ℕ) (r : Reason V) (e : Exn) → throws t r ≡ Some e → want_at m r ≡ None
-  throws_away t (Taking k) e q = absurd (cc q)
-  throws_away t (Reading k) e q = absurd (cc q)
-  throws_away t (Putting k v) e q = absurd (cc q)
-  throws_away t (Throwing u x) e q = refl
-  throws_away t (Sleeping d) e q = absurd (cc q)
-
-  throws_here : (t : ℕ) (r : Reason V) (e : Exn) → throws t r ≡ Some e → (x : Exn) × (r ≡ Throwing t x)
-  throws_here t (Taking k) e q = absurd (cc q)
-  throws_here t (Reading k) e q = absurd (cc q)
-  throws_here t (Putting k v) e q = absurd (cc q)
-  throws_here t (Throwing u x) e q = ⊎_elim (λ f. (x, ap (λ j. Throwing j x) f.1)) (λ f. let z : ◌≡◌ {A = Option Exn} None (Some e) = sym (cond_false (u == t) (Some x) None f.0) ∙ q in absurd (cc z)) (equal_or u t)
-  throws_here t (Sleeping d) e q = absurd (cc q)
-
-  hit_done : (t : ℕ) (fs : List Flying) → Found (λ u r. (reason_of u s.blocked ≡ Some r) × ((x : Exn) → r ≡ Throwing t x → u ≢ t)) (throws t) (first_thrown fs) → DoneSome m s c (leave_call m t (reason_of t s.blocked)) (received t fs s)
-  hit_done t [] f = tt
-  hit_done t (w ∷ ws) f =
-      let x = throws_here t f.0 w.exn f.2 in
-      let apart : w.thrower ≢ t = f.1.1 x.0 x.1 in
+  hit_done : (t : ℕ) (w : Flying) (fs : List Flying) → flying_to t (flight_of s.blocked) ≡ w ∷ fs → Done m s c (leave_call m t (reason_of t s.blocked)) (resume t (Throw w.exn) (answer w.thrower UnitValue s))
+  hit_done t w fs q =
+      let f : Found Apartly (throws t) (Some (w.thrower, w.exn)) = subst (Found Apartly (throws t)) (sym (throw_is_first t s.blocked) ∙ ap first_thrown q) (first_found Apartly (throws t) s.blocked (each_apartly s.blocked (once_reason s.blocked g.once) g.waits)) in
+      let means : f.0 ≡ Throwing t w.exn = throws_means t f.0 w.exn f.2 in
+      let apart : w.thrower ≢ t = subst (Apart w.thrower) means f.1.1 in
       let same : reason_of t s.blocked ≡ reason_of t (leaves w.thrower s.blocked) = sym (reason_left w.thrower t s.blocked (λ e. apart (sym e))) in
-      let a : Still m s (answer w.thrower UnitValue s) = resume_still m s s w.thrower (Ret UnitValue) here (subst (Away m) (sym f.1.0) (throws_away t f.0 w.exn f.2)) in
+      let a : Still m s (answer w.thrower UnitValue s) = resume_still m s s w.thrower (Ret UnitValue) here (subst (Away m) (sym f.1.0) (ap (want_at m) means)) in
       left_done m s (resume t (Throw w.exn) (answer w.thrower UnitValue s)) c (leave_call m t (reason_of t s.blocked)) (leave_only m t (reason_of t s.blocked))
       (left_by m t (Throw w.exn) (answer w.thrower UnitValue s) c (reason_of t s.blocked) same a.2 (still_present c h a))
     where
       still_present : (c : Option (Cell V)) → Present m s c → Still m s (answer w.thrower UnitValue s) → Present m (answer w.thrower UnitValue s) c
       still_present None h a = (a.0 ∙ h.0, a.1 ∙ h.1)
       still_present (Some c) h a = record { content = a.0 ∙ h.content; line = a.1 ∙ h.line }
-
-  wake_done : (t : ℕ) (o : Option (Reason V)) → o ≡ reason_of t s.blocked → DoneSome m s c [] (woken t o s)
-  wake_done t (Some (Sleeping due)) e = cond_cases (DoneSome m s c []) (nat_le due s.clock) _ None (λ b. unchanged (answer t UnitValue s) (resume_still m s s t (Ret UnitValue) here (subst (Away m) e refl))) (λ b. tt)
-  wake_done t _ e = tt
 
   throw_away : (t u : ℕ) (r : Reason V) → throws_at t r ≡ true → want_at m r ≡ None
   throw_away t u (Taking k) q = absurd (cc q)
@@ -376,51 +306,32 @@ module _ (m : ℕ) (s : State) (c : Option (Cell V)) (h : Present m s c) (g : Ho
   throw_away t u (Throwing w x) q = refl
   throw_away t u (Sleeping d) q = absurd (cc q)
 
-  close_done : (t : ℕ) (th : Thread) (line : List ℕ) → Done m s c [] (closed t th line s)
-  close_done t th line =
-      let z : State = record s { threads = slice_set s.threads t (record { term = th.term; finished = true }); errors = s.errors ++ line } in
-      let a : Still m s (resume_all (those (λ u. throws_at t) z.blocked) (Ret UnitValue) z) = those_still m s z (λ u. throws_at t) (Ret UnitValue) here (throw_away t) in
-      unchanged (closed t th line s) (subst (λ us. Still m s (resume_all us (Ret UnitValue) z)) (sym (throwers_are t s.blocked)) a)
+  close_done : (t : ℕ) (th : Thread) (u : State) → Still m s u → Done m s c [] (finished t th u)
+  close_done t th u a =
+      let z : State = record u { threads = slice_set u.threads t (record { term = th.term; finished = true }) } in
+      unchanged (finished t th u) (subst (λ us. Still m s (resume_all us (Ret UnitValue) z)) (sym (throwers_are t u.blocked)) (those_still m s z (λ w. throws_at t) (Ret UnitValue) a (throw_away t)))
 
-  finish_done : (t : ℕ) (th : Thread) (fs : List Frame) (p : Part) → DoneSome m s c [] (finish_entry t th fs p s)
-  finish_done t th [] (Ret v) = close_done t th []
-  finish_done t th [] (Throw e) = close_done t th (uncaught_line t e)
-  finish_done t th [] (Do a env) = tt
-  finish_done t th [] (Performs op) = tt
-  finish_done t th (f ∷ fs) p = tt
-
-  strand_done : (ts : List ℕ) → Distinct ts → DoneSome m s c (leave_calls m ts s.blocked) (strand ts s)
-  strand_done [] d = tt
-  strand_done (t ∷ ts) d =
-      left_done m s (resume_all (t ∷ ts) (Throw BlockedIndefinitely) s) c (leave_calls m (t ∷ ts) s.blocked) (leaves_only m (t ∷ ts) s.blocked)
-      (all_left_by m (t ∷ ts) (Throw BlockedIndefinitely) s c g.once d h)
-
-  strand_entry_done : (ss : List Sleeper) → DoneSome m s c (leave_calls m (stranded s) s.blocked) (strand_entry ss s)
-  strand_entry_done [] = strand_done (stranded s) (stranded_distinct (length s.threads) s)
-  strand_entry_done (r ∷ rs) = tt
-
-  on_thread_done : (o : Option Thread) (k : Thread → Option State) (qs : List (Call V)) → ((th : Thread) → o ≡ Some th → DoneSome m s c qs (k th)) → DoneSome m s c qs (on_thread o k)
-  on_thread_done None k qs p = tt
-  on_thread_done (Some th) k qs p = cond_cases (DoneSome m s c qs) th.finished None (k th) (λ f. tt) (λ f. p th refl)
-
-  joined : (ws : List (Waiting V)) → Each (λ u r. reason_of u s.blocked ≡ Some r) ws → Each (Waits s.threads) ws → Each (λ u r. (reason_of u s.blocked ≡ Some r) × ((t : ℕ) (x : Exn) → r ≡ Throwing t x → u ≢ t)) ws
-  joined [] a b = tt
-  joined (w ∷ ws) a b = ((a.0, λ t x e. let q : Apart w.thread (Throwing t x) = subst (Apart w.thread) e b.0.1 in q), joined ws a.1 b.1)
-
-  both_waits : Each (λ u r. (reason_of u s.blocked ≡ Some r) × ((t : ℕ) (x : Exn) → r ≡ Throwing t x → u ≢ t)) s.blocked
-  both_waits = joined s.blocked (once_reason s.blocked g.once) g.waits
-
-  entered_done : (code : Code) (e : Entry) → DoneSome m s c (calls_of m s e) (entries.entered code s e)
-  entered_done code (Local t k) = on_thread_done (slice_get s.threads t) _ [] (λ th is. local_done code t k th)
-  entered_done code (entry.Op t) =
-      on_thread_done (slice_get s.threads t) _ (thread_calls m (length s.cells) t (slice_get s.threads t))
-      (λ th is. subst (λ o. DoneSome m s c (thread_calls m (length s.cells) t o) (op_entry t th s)) (sym is) (op_done t th))
-  entered_done code (entry.Receive t) = on_thread_done (slice_get s.threads t) _ (leave_call m t (reason_of t s.blocked)) (λ th is. cond_cases (DoneSome m s c (leave_call m t (reason_of t s.blocked))) (is_receptive t th.term s) _ None
-      (λ b. hit_done t (flying_to t (flight_of s.blocked)) (subst (Found (λ u r. (reason_of u s.blocked ≡ Some r) × ((x : Exn) → r ≡ Throwing t x → u ≢ t)) (throws t)) (sym (throw_is_first t s.blocked)) (first_found (λ u r. (reason_of u s.blocked ≡ Some r) × ((x : Exn) → r ≡ Throwing t x → u ≢ t)) (throws t) s.blocked (each_changed _ _ s.blocked (λ u r w. (w.0, w.1 t)) both_waits)))) (λ b. tt))
-  entered_done code (entry.Wake t) = wake_done t (reason_of t s.blocked) refl
-  entered_done code (entry.Finish t) = on_thread_done (slice_get s.threads t) _ [] (λ th is. finish_done t th th.term.frames th.term.part)
-  entered_done code (entry.Tick at) = cond_cases (DoneSome m s c []) (nat_le s.clock at) _ None (λ b. unchanged (record s { clock = at }) here) (λ b. tt)
-  entered_done code entry.Stranded = strand_entry_done (sleepers_of s.blocked)
+  enters_done : {code : Code} {e : Entry} {u : State} → row.Enters code s e u → Done m s c (calls_of m s e) u
+  enters_done (row.local {t} {x} mr i b l) = unchanged (move t x s) here
+  enters_done {u} (row.operation {t} {th} mr i b q k) =
+      subst (λ o. Done m s c (thread_calls m (length s.cells) t o) u) (sym i.0) (subst (λ p. Done m s c (part_calls m (length s.cells) t p) u) (sym q) (performs_done t b k))
+  enters_done (row.receives_while_it_runs {t} {f} {fs} mr i n b k q) = hit_done t f fs q
+  enters_done (row.receives_while_it_waits {t} {f} {fs} mr i n b k q) = hit_done t f fs q
+  enters_done (row.wakes {t} mr q d) = unchanged (answer t UnitValue s) (resume_still m s s t (Ret UnitValue) here (subst (Away m) (sym q) refl))
+  enters_done (row.finishes_by_a_value {t} {th} mr i f q) = close_done t th s here
+  enters_done (row.main_finishes_by_an_exception {th} {e = x} i f q) = close_done 0 th (told (uncaught_line 0 x) s) here
+  enters_done (row.finishes_silently {t} {th} mr i f q z) = close_done (suc t) th s here
+  enters_done (row.finishes_with_a_line {t} {th} {e = x} mr i f q z) =
+      close_done (suc t) th (told (codes "uncaught exception in thread " ++ decimal (suc t) ++ codes ": " ++ text_of x ++ line_feed) s) here
+  enters_done (row.ticks {at} mr q) = unchanged (record s { clock = at }) here
+  enters_done (row.strands mr q a) =
+      subst (λ ts. Done m s c (leave_calls m (stranded s) s.blocked) (resume_all ts (Throw BlockedIndefinitely) s)) (all_are a)
+      (left_done m s (resume_all (stranded s) (Throw BlockedIndefinitely) s) c (leave_calls m (stranded s) s.blocked) (leaves_only m (stranded s) s.blocked)
+      (all_left_by m (stranded s) (Throw BlockedIndefinitely) s c g.once (stranded_distinct (length s.threads) s) h))
 
   pub next_done : (code : Code) (e : Entry) → DoneSome m s c (calls_of m s e) (next code s e)
-  next_done code e = on_thread_done (slice_get s.threads 0) (λ th. entries.entered code s e) (calls_of m s e) (λ th is. entered_done code e)
+  next_done code e = by (next code s e) refl
+    where
+      by : (o : Option State) → next code s e ≡ o → DoneSome m s c (calls_of m s e) o
+      by None q = tt
+      by (Some u) q = enters_done (case_of code s e u q)

@@ -1,5 +1,5 @@
 -- A history has at most one ending, and after main's end nothing is legal.
-use Rattle.std.proofs.Common.{◌≡◌, ℕ, zero, suc, ◌+◌, ◌≤◌, nat_le, arith, List, [], ◌∷◌, ◌++◌, Bool, true, false, cond, slice_get, Option, Some, None, refl, sym, ap, ◌∙◌, subst, ◌⊎◌, inl, inr, ⊎_elim, append-nil}
+use Rattle.std.proofs.Common.{◌≡◌, ℕ, ◌+◌, ◌≤◌, arith, List, [], ◌∷◌, ◌++◌, Bool, true, false, cond, slice_get, Option, Some, None, refl, sym, ap, ◌∙◌, subst, ◌⊎◌, inl, inr, ⊎_elim, append-nil}
 use Rattle.std.proofs.lemmas.Option.{same_Some}
 use Rattle.hs_base.specs.declared.limits.Limits.{Limits}
 use Rattle.hs_rules.specs.declared.entry.Entry.{Entry}
@@ -14,7 +14,8 @@ use Rattle.hs_rules.specs.Runs.{after}
 use Rattle.hs_rules.specs.Histories.{steps_of, cost_of}
 use Rattle.hs_rules.specs.Endings.{IsTick, Exceeds, RunEnding, Done, Uncaught, Deadlock, Fuel, is_ret, result_of, ended_by, IsDone, IsUncaught, Ends, IsWithin, FirstExceeded}
 use Rattle.hs_laws.specs.HistoryEndings.{HasEnding, HasLimit, StaysWithin}
-use Rattle.hs_laws.proofs.WaitsBegan.{thread_is}
+use Rattle.hs_cases.specs.Cases as row
+use Rattle.hs_cases.proofs.Entering.{case_of}
 use Rattle.hs_rules.specs.declared.entry.Entry.TheVariants as entry
 use Rattle.hs_laws.proofs.RunParts.{is_after, same_after}
 
@@ -130,21 +131,12 @@ first_exceeds Frames limits s h = h.2
 first_exceeds Output limits s h = h.3
 
 -- each legal entry costs something
-local_costs : (code : Code) (t k : ℕ) (th : Thread) (s u : State) → local_entry code t k th s ≡ Some u → 1 ≤ k
-local_costs code t zero th s u e = absurd (cc e)
-local_costs code t (suc k) th s u e = omega arith
+costs : {code : Code} {e : Entry} {s u : State} → row.Enters code s e u → 1 ≤ cost_of e
+costs (row.local m i b l) = omega arith
+costs _ = omega arith
 
 entry_costs : (code : Code) (s u : State) (e : Entry) → next code s e ≡ Some u → 1 ≤ cost_of e
-entry_costs code s u (entry.Local t k) n =
-    let a = thread_is (slice_get s.threads 0) (λ th. entries.entered code s (entry.Local t k)) u n in
-    let b = thread_is (slice_get s.threads t) (λ th. local_entry code t k th s) u a.2 in
-    local_costs code t k b.0 s u b.2
-entry_costs code s u (entry.Op t) n = omega arith
-entry_costs code s u (entry.Receive t) n = omega arith
-entry_costs code s u (entry.Wake t) n = omega arith
-entry_costs code s u (entry.Finish t) n = omega arith
-entry_costs code s u (entry.Tick at) n = omega arith
-entry_costs code s u entry.Stranded n = omega arith
+entry_costs code s u e n = costs (case_of code s e u n)
 
 tick_or : (e : Entry) → ((at : ℕ) × (e ≡ entry.Tick at)) ⊎ ¬ IsTick e
 tick_or (entry.Local t k) = inr (λ z. z)
@@ -156,13 +148,10 @@ tick_or (entry.Tick at) = inl (at, refl)
 tick_or entry.Stranded = inr (λ z. z)
 
 still_exceeds : (code : Code) (kind : LimitKind) (limits : Limits) (s u : State) (at : ℕ) → next code s (entry.Tick at) ≡ Some u → Exceeds kind limits u → Exceeds kind limits s
-still_exceeds code kind limits s u at n h =
-    let a = thread_is (slice_get s.threads 0) (λ th. entries.entered code s (entry.Tick at)) u n in
-    by (nat_le s.clock at) a.2
+still_exceeds code kind limits s u at n = by (case_of code s (entry.Tick at) u n)
   where
-    by : (b : Bool) → cond b (Some (record s { clock = at })) None ≡ Some u → Exceeds kind limits s
-    by true e = tick_uses kind limits s at (subst (Exceeds kind limits) (sym (same_Some (record s { clock = at }) u e)) h)
-    by false e = absurd (cc e)
+    by : {s u : State} → row.Enters code s (entry.Tick at) u → Exceeds kind limits u → Exceeds kind limits s
+    by (row.ticks {s = r} m q) h = tick_uses kind limits r at h
 
 no_ending : (a : RunEnding) (code : Code) (kind : LimitKind) (limits : Limits) (e : Entry) (s u : State) (steps fuel : ℕ) → Leads code s e u → steps + cost_of e ≤ fuel → ¬ Exceeds kind limits s → Exceeds kind limits u → Ends a code s steps fuel → ⊥
 no_ending Done code kind limits e s u n f l le w h g = let z : ◌≡◌ {A = Option State} None (Some u) = sym (done_is_over code s e (inl g)) ∙ l.0 in cc z

@@ -5,6 +5,7 @@ mod Held
 mod Owes
 mod Steps
 pub mod Ends
+pub mod Changes
 pub mod States
 pub mod RunParts
 pub mod Stranding

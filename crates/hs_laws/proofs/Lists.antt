@@ -71,6 +71,17 @@ throws t (Putting n a) = None
 throws t (Throwing u e) = cond (u == t) (Some e) None
 throws t (Sleeping due) = None
 
+pub throws_means : (t : ℕ) (r : Reason V) (e : Exn) → throws t r ≡ Some e → r ≡ Throwing t e
+throws_means t (Taking k) e q = absurd (cc q)
+throws_means t (Reading k) e q = absurd (cc q)
+throws_means t (Putting k v) e q = absurd (cc q)
+throws_means t (Sleeping d) e q = absurd (cc q)
+throws_means t (Throwing u x) e q =
+    ⊎_elim
+    (λ f. let z : ◌≡◌ {A = Option Exn} (Some x) (Some e) = sym (cond_true (u == t) (Some x) None f.0) ∙ q in let y : x ≡ e = cc z in ap (λ j. Throwing j x) f.1 ∙ ap (Throwing t) y)
+    (λ f. let z : ◌≡◌ {A = Option Exn} None (Some e) = sym (cond_false (u == t) (Some x) None f.0) ∙ q in absurd (cc z))
+    (equal_or u t)
+
 abbrev pub throws_at : ℕ → Reason V → Bool
 throws_at t (Taking n) = false
 throws_at t (Reading n) = false

@@ -1,26 +1,21 @@
 -- Every entry keeps what threads owe.
-use Rattle.std.proofs.Common.{◌≡◌, ◌≤◌, ◌≢◌, ℕ, zero, suc, ◌<◌, ◌==◌, ℤ, pos, negsuc, List, [], ◌∷◌, ◌++◌, length, slice_get, slice_set, Bool, true, false, cond, not, ◌&&◌, nat_le, Option, Some, None, refl, sym, ap, ◌∙◌, subst, arith, ◌⊎◌, inl, inr, ⊎_elim}
+use Rattle.std.proofs.Common.{◌≡◌, ◌≤◌, ◌≢◌, ℕ, zero, suc, ◌<◌, List, [], ◌∷◌, ◌++◌, length, slice_get, slice_set, Bool, true, false, cond, Option, Some, None, refl, sym, ap, ◌∙◌, subst, arith, ⊎_elim}
 use Rattle.hs_base.specs.declared.mask.Mask.{Mask}
-use Rattle.hs_base.specs.declared.mask.Mask.TheVariants.{Unmasked, Masked, Uninterruptible}
+use Rattle.hs_base.specs.declared.mask.Mask.TheVariants.{Unmasked}
 use Rattle.hs_base.specs.declared.exn.Exn.{Exn}
 use Rattle.hs_base.specs.declared.exn.Exn.TheVariants.{Timeout, BlockedIndefinitely}
 use Rattle.hs_rules.specs.declared.entry.Entry.{Entry}
-use Rattle.hs_rules.specs.declared.entry.Entry.TheVariants as entry
-use Rattle.hs_rules.specs.declared.entry.Entry.TheVariants.{Local}
 use Rattle.rules_meaning.specs.Values as val
 use Rattle.rules_meaning.specs.Values.{V, UnitValue, Int, Truth, Text, Nothing, Just, Left, Right, Pair, Nil, Cons, Exception, Restore, Inst, Env, with_name, value_at, Outcome, Gives, Throws, Stuck, Outcomes, AllGive, OneThrows, OneStuck}
 use Rattle.rules_expansion.specs.Core.{Core}
-use Rattle.rules_expansion.specs.declared.primitive.Primitive.{Primitive}
-use Rattle.rules_expansion.specs.declared.primitive.Primitive.TheVariants.{PutStr, PutStrLn, HPutStrLn, NewMVar, NewEmptyMVar, TakeMVar, PutMVar, ReadMVar, TryTakeMVar, TryPutMVar, MyThreadId, GetMaskingState, ClockMicros, ThreadDelay, ThrowTo, NewTimeout, Acquired, Release}
+use Rattle.rules_expansion.specs.declared.primitive.Primitive.TheVariants.{NewMVar, NewEmptyMVar, Acquired, Release}
 use Rattle.rules_meaning.specs.CoreMeaning.{Code}
-use Rattle.hs_rules.specs.Terms.{Operation, Calls, Forks, ForksUnmask, Part, Ret, Throw, Do, Performs, Frame, MaskIn, Term, term, mask_at}
-use Rattle.hs_rules.specs.LocalRules.{locals}
-use Rattle.rules_waiting.specs.OneCell.{first_put}
-use Rattle.rules_waiting.specs.Waiting.{Reason, Taking, Reading, Putting, Throwing, Sleeping, Waiting, Flying, Sleeper, leaves, is_blocked, reason_of, line_of, flight_of, flying_to, sleepers_of}
+use Rattle.hs_rules.specs.Terms.{Operation, Calls, Forks, ForksUnmask, Part, Ret, Throw, Do, Performs, Frame, MaskIn, Term, term}
+use Rattle.rules_waiting.specs.Waiting.{Reason, Taking, Reading, Putting, Throwing, Sleeping, Waiting, Flying, leaves, is_blocked, reason_of}
 use Rattle.hs_rules.specs.State.{Mark, AcquiredBy, ReleasedBy, Thread, State, with_term, move, frames_of, resume, answer, resume_all, block, spawn, first}
-use Rattle.hs_rules.specs.Primitives.{on_none, on_one, on_two, as_text, as_number, as_cell, as_thread, as_exn, as_instance, moves_in, taken, goes_in, goes_on, read_by_all, given, take, read, put, try_take, try_put, throw_at, due_in, delay, clock_value, masking_text, line_feed, performed, operated}
-use Rattle.hs_rules.specs.Entries.{moved, local_entry, at_operation, op_entry, is_throw, is_unmasked, is_interruptible, is_open, is_receptive, received, receive_entry, woken, uncaught_line, throwers, closed, finish_entry, mask_of, is_stranded, stranded_below, stranded, strand, strand_entry, on_thread, next}
-use Rattle.hs_rules.specs.Entries as entries
+use Rattle.hs_rules.specs.Primitives.{read_by_all, line_feed}
+use Rattle.hs_rules.specs.Entries.{is_stranded, stranded_below, stranded, next}
+use Rattle.hs_cases.specs.Cases.{with_cell, printed, told}
 use Rattle.hs_rules.specs.Runs.{Run}
 use Rattle.rules_waiting.specs.Waiting.{first_thrown}
 use Rattle.hs_laws.specs.BracketLaw.{mine, IsMasked, Brackets, count, Numbered}
@@ -28,11 +23,13 @@ use Rattle.hs_laws.specs.BracketPhases.{Blocks, OpPart, At, Owing, Fine, FineCod
 use Rattle.hs_laws.specs.BracketPhases.{FineOp, Below, no_frames, below_mask, Held, held_ret, held_throw, held_do}
 use Rattle.hs_laws.specs.Standing.{Once, IsResult, IsBare, Standing}
 use Rattle.std.proofs.Common.{append-nil}
-use Rattle.hs_laws.proofs.Lists.{cond_cases, equal_or, item_same, item_other, item_more, Each, each_more, each_left, each_apart, each_changed, Found, first_found, OnReason, reason_found, blocked_found, once_left, once_more, Distinct, Ones, ones_apart, ones_both, ones_changed, distinct_last, distinct_those, ones_those, Absent_in, absent_above, first_of_kind, those, takes, puts, throws, throws_at, reads_at, readers_are, only_thread, put_is_first, take_is_first, throw_is_first, throwers_are}
+use Rattle.hs_laws.proofs.Lists.{equal_or, item_same, item_other, item_more, Each, each_more, each_left, each_apart, each_changed, Found, first_found, OnReason, reason_found, blocked_found, once_left, once_more, Distinct, Ones, ones_apart, ones_both, ones_changed, distinct_last, distinct_those, ones_those, Absent_in, absent_above, those, throws, throws_means, reads_at, readers_are, throw_is_first}
 use Rattle.hs_laws.proofs.Marks.{Proper, numbered_more, mine_acquired, mine_acquired_other, mine_released, mine_released_other, once_acquired, once_released, own_release, all_released, AllBelow, mine_below, open_once}
 use Rattle.hs_laws.proofs.Owes.{held_owes, held_here, held_catches}
 use Rattle.hs_laws.proofs.Ends.{below_of_op, instance_kept, release_kept, open_kept, ret_owes_nothing, throw_owes_nothing, fork_fine, fork_unmask_fine}
 use Rattle.hs_laws.proofs.Steps.{Goes, locals_kept}
+use Rattle.hs_laws.proofs.Changes as change
+use Rattle.hs_laws.proofs.Changes.{each_among, Stands, stands_blocks, Apart, Makes, Calm, Open, EndsBy, Changes, changes}
 
 -- ---- the invariant
 abbrev pub HeldThread : Option Thread → List ℕ → Type 0
@@ -41,13 +38,6 @@ HeldThread (Some th) o = Held th.term.part th.term.frames o × (th.finished ≡ 
 
 abbrev pub Stopped : Option Thread → Type 0
 Stopped o = At FineOp o
-
-abbrev pub Apart : ℕ → Reason V → Type 0
-Apart t (Taking m) = Unit {0}
-Apart t (Reading m) = Unit {0}
-Apart t (Putting m v) = Unit {0}
-Apart t (Throwing u e) = t ≢ u
-Apart t (Sleeping due) = Unit {0}
 
 abbrev pub Waits : List Thread → ℕ → Reason V → Type 0
 Waits ts t r = At (Blocks r) (slice_get ts t) × Apart t r
@@ -231,27 +221,8 @@ spawn_holds s x h new = record {
 }
 
 -- ---- cells
-moves_in_holds : (m : ℕ) (s : State) (o : Option (ℕ × V)) → Holds s → Found (Waits s.threads) (puts m) o → Holds (moves_in m o s)
-moves_in_holds m s None h f = h
-moves_in_holds m s (Some w) h f = answer_holds (record s { cells = slice_set s.cells m (Some w.1) }) w.0 UnitValue h (wait_stopped s.threads w.0 f.0 f.1)
-
-pub taken_holds : (m : ℕ) (s : State) → Holds s → Holds (taken m s)
-taken_holds m s h =
-    moves_in_holds m s (first_put (line_of m s.blocked)) h (subst (Found (Waits s.threads) (puts m)) (sym (put_is_first m s.blocked)) (first_found (Waits s.threads) (puts m) s.blocked h.waits))
-
-goes_in_holds : (m : ℕ) (v : V) (s : State) (o : Option (ℕ × Unit {0})) → Holds s → Found (Waits s.threads) (takes m) o → Holds (goes_in m v (only_thread o) s)
-goes_in_holds m v s None h f = h
-goes_in_holds m v s (Some w) h f = answer_holds s w.0 v h (wait_stopped s.threads w.0 f.0 f.1)
-
-goes_on_holds : (m : ℕ) (v : V) (s : State) → Holds s → Holds (goes_on m v s)
-goes_on_holds m v s h =
-    subst (λ o. Holds (goes_in m v o s)) (sym (take_is_first m s.blocked)) (goes_in_holds m v s (first_of_kind (takes m) s.blocked) h (first_found (Waits s.threads) (takes m) s.blocked h.waits))
-
 pub reads_hold : (m : ℕ) (v : V) (s : State) → Holds s → Holds (read_by_all m v s)
 reads_hold m v s h = subst (λ us. Holds (resume_all us (Ret v) s)) (sym (readers_are m s.blocked)) (those_hold (λ u. reads_at m) (Ret v) s tt h)
-
-given_holds : (m : ℕ) (v : V) (s : State) → Holds s → Holds (given m v s)
-given_holds m v s h = goes_on_holds m v (read_by_all m v s) (reads_hold m v s h)
 
 -- ---- a primitive
 -- a thread stands at an operation and isn't blocked
@@ -266,90 +237,23 @@ pub record Ready (s : State) (t : ℕ) (op : Operation) : Type 0 where
 pub ready_stopped : {s : State} {t : ℕ} {op : Operation} → Ready s t op → FineOp op → Stopped (slice_get s.threads t)
 ready_stopped r f = subst Stopped (sym r.is) (subst (OpPart FineOp) (sym r.part) f)
 
-ready_blocks : {s : State} {t : ℕ} {op : Operation} → Ready s t op → (w : Reason V) → Blocks w op → At (Blocks w) (slice_get s.threads t)
-ready_blocks r w f = subst (At (Blocks w)) (sym r.is) (subst (OpPart (Blocks w)) (sym r.part) f)
-
 pub ready_held : {s : State} {t : ℕ} {op : Operation} → (r : Ready s t op) → Held (Performs op) r.th.term.frames (mine t s.marks)
 ready_held {s} {t} r = let h : HeldThread (Some r.th) (mine t s.marks) = subst (λ o. HeldThread o (mine t s.marks)) r.is (r.holds.threads t) in subst (λ p. Held p r.th.term.frames (mine t s.marks)) r.part h.0
 
-one_kept : (vs : List V) (k : V → Option State) → ((v : V) → vs ≡ v ∷ [] → Keeps (k v)) → Keeps (on_one vs k)
-one_kept [] k h = tt
-one_kept (v ∷ []) k h = h v refl
-one_kept (v ∷ w ∷ ws) k h = tt
+ready : {s : State} {t : ℕ} {op : Operation} → Stands s t op → Holds s → Ready s t op
+ready a h = record { th = a.th; is = a.is; part = a.part; unfinished = a.unfinished; running = a.running; holds = h }
 
-two_kept : (vs : List V) (k : V → V → Option State) → ((v w : V) → vs ≡ v ∷ w ∷ [] → Keeps (k v w)) → Keeps (on_two vs k)
-two_kept [] k h = tt
-two_kept (v ∷ vs) k h = one_kept vs (k v) (λ w e. h v w (ap (λ q. v ∷ q) e))
+calm_fine : (op : Operation) → Calm op → FineOp op
+calm_fine (Calls Acquired vs) c = absurd c
+calm_fine (Calls Release vs) c = absurd c
+calm_fine (Calls w vs) c = tt
+calm_fine (Forks a env) c = absurd c
+calm_fine (ForksUnmask r a env) c = absurd c
 
-none_kept : (vs : List V) (o : Option State) → Keeps o → Keeps (on_none vs o)
-none_kept [] o h = h
-none_kept (v ∷ vs) o h = tt
-
-text_kept : (v : V) (k : List ℕ → Option State) → ((x : List ℕ) → Keeps (k x)) → Keeps (as_text v k)
-text_kept (Text x) k h = h x
-text_kept _ k h = tt
-
-number_kept : (v : V) (k : ℤ → Option State) → ((x : ℤ) → v ≡ Int x → Keeps (k x)) → Keeps (as_number v k)
-number_kept (Int x) k h = h x refl
-number_kept _ k h = tt
-
-cell_kept : (v : V) (k : ℕ → Option State) → ((x : ℕ) → v ≡ val.Cell x → Keeps (k x)) → Keeps (as_cell v k)
-cell_kept (val.Cell x) k h = h x refl
-cell_kept _ k h = tt
-
-thread_kept : (v : V) (k : ℕ → Option State) → ((x : ℕ) → v ≡ val.Thread x → Keeps (k x)) → Keeps (as_thread v k)
-thread_kept (val.Thread x) k h = h x refl
-thread_kept _ k h = tt
-
-exn_kept : (v : V) (k : Exn → Option State) → ((x : Exn) → v ≡ Exception x → Keeps (k x)) → Keeps (as_exn v k)
-exn_kept (Exception x) k h = h x refl
-exn_kept _ k h = tt
-
-instance_is : (v : V) (k : ℕ → Option State) → ((x : ℕ) → v ≡ Inst x → Keeps (k x)) → Keeps (as_instance v k)
-instance_is (Inst x) k h = h x refl
-instance_is _ k h = tt
-
-module _ (s : State) (t : ℕ) (h : Holds s) (w : Stopped (slice_get s.threads t)) (b : is_blocked t s.blocked ≡ false) where
-  take_kept : (m : ℕ) (o : Option (Option V)) → At (Blocks (Taking m)) (slice_get s.threads t) → Keeps (take t m o s)
-  take_kept m None by = tt
-  take_kept m (Some None) by = block_holds s t (Taking m) h by tt b
-  take_kept m (Some (Some v)) by = taken_holds m (answer t v s) (answer_holds s t v h w)
-
-  read_kept : (m : ℕ) (o : Option (Option V)) → At (Blocks (Reading m)) (slice_get s.threads t) → Keeps (read t m o s)
-  read_kept m None by = tt
-  read_kept m (Some None) by = block_holds s t (Reading m) h by tt b
-  read_kept m (Some (Some v)) by = answer_holds s t v h w
-
-  try_take_kept : (m : ℕ) (o : Option (Option V)) → Keeps (try_take t m o s)
-  try_take_kept m None = tt
-  try_take_kept m (Some None) = answer_holds s t Nothing h w
-  try_take_kept m (Some (Some v)) = taken_holds m (answer t (Just v) s) (answer_holds s t (Just v) h w)
-
-  put_kept : (m : ℕ) (v : V) (o : Option (Option V)) → At (Blocks (Putting m v)) (slice_get s.threads t) → Keeps (put t m v o s)
-  put_kept m v None by = tt
-  put_kept m v (Some (Some x)) by = block_holds s t (Putting m v) h by tt b
-  put_kept m v (Some None) by = given_holds m v (answer t UnitValue s) (answer_holds s t UnitValue h w)
-
-  try_put_kept : (m : ℕ) (v : V) (o : Option (Option V)) → Keeps (try_put t m v o s)
-  try_put_kept m v None = tt
-  try_put_kept m v (Some (Some x)) = answer_holds s t (Truth false) h w
-  try_put_kept m v (Some None) = given_holds m v (answer t (Truth true) s) (answer_holds s t (Truth true) h w)
-
-  throw_at_kept : (u : ℕ) (e : Exn) (o : Option Thread) → At (Blocks (Throwing u e)) (slice_get s.threads t) → Keeps (throw_at t u e o s)
-  throw_at_kept u e None by = tt
-  throw_at_kept u e (Some th) by =
-      cond_cases Keeps (u == t) (Some (resume t (Throw e) s)) (cond th.finished (Some (answer t UnitValue s)) (Some (block t (Throwing u e) s)))
-      (λ q. throw_holds s t e h w)
-      (λ q. cond_cases Keeps th.finished (Some (answer t UnitValue s)) (Some (block t (Throwing u e) s))
-      (λ f. answer_holds s t UnitValue h w)
-      (λ f. block_holds s t (Throwing u e) h by (λ same. ⊎_elim (λ g. let x : true ≡ false = sym g.0 ∙ q in cc x) (λ g. g.1 (sym same)) (equal_or u t)) b))
-
-delay_kept : (s : State) (t : ℕ) → Holds s → Stopped (slice_get s.threads t) → is_blocked t s.blocked ≡ false → (n : ℤ) → ((due : ℕ) → At (Blocks (Sleeping due)) (slice_get s.threads t)) → Keeps (delay t n s)
-delay_kept s t h w b (pos n) by =
-    cond_cases Keeps (n == 0) (Some (answer t UnitValue s)) (Some (block t (Sleeping (due_in n s)) s))
-    (λ z. answer_holds s t UnitValue h w)
-    (λ z. block_holds s t (Sleeping (due_in n s)) h (by (due_in n s)) tt b)
-delay_kept s t h w b (negsuc n) by = answer_holds s t UnitValue h w
+makes_fine : (op : Operation) → Makes op → FineOp op
+makes_fine (Calls NewMVar vs) m = tt
+makes_fine (Calls NewEmptyMVar vs) m = tt
+makes_fine op m = absurd m
 
 acquired_holds : (s : State) (t : ℕ) (vs : List V) → Ready s t (Calls Acquired vs) →
     Holds (answer t (Inst s.next_instance) (record s { marks = AcquiredBy s.next_instance t ∷ s.marks; next_instance = suc s.next_instance }))
@@ -380,27 +284,6 @@ released_holds s t i vs r =
       r.unfinished,
     ))
 
-primitive_kept : (s : State) (t : ℕ) (m : Mask) (w : Primitive) (vs : List V) → Ready s t (Calls w vs) → Keeps (performed t m w vs s)
-primitive_kept s t m PutStr vs r = one_kept vs _ (λ v e. text_kept v _ (λ x. answer_holds (record s { output = s.output ++ x }) t UnitValue r.holds (ready_stopped r tt)))
-primitive_kept s t m PutStrLn vs r = one_kept vs _ (λ v e. text_kept v _ (λ x. answer_holds (record s { output = s.output ++ x ++ line_feed }) t UnitValue r.holds (ready_stopped r tt)))
-primitive_kept s t m HPutStrLn vs r = one_kept vs _ (λ v e. text_kept v _ (λ x. answer_holds (record s { errors = s.errors ++ x ++ line_feed }) t UnitValue r.holds (ready_stopped r tt)))
-primitive_kept s t m NewMVar vs r = one_kept vs _ (λ v e. answer_holds (record s { cells = s.cells ++ Some v ∷ [] }) t (val.Cell (length s.cells)) r.holds (ready_stopped r tt))
-primitive_kept s t m NewEmptyMVar vs r = none_kept vs _ (answer_holds (record s { cells = s.cells ++ None ∷ [] }) t (val.Cell (length s.cells)) r.holds (ready_stopped r tt))
-primitive_kept s t m TakeMVar vs r = one_kept vs _ (λ v e. cell_kept v _ (λ c f. take_kept s t r.holds (ready_stopped r tt) r.running c (slice_get s.cells c) (ready_blocks r (Taking c) (ap (Calls TakeMVar) (e ∙ ap (λ q. q ∷ []) f)))))
-primitive_kept s t m PutMVar vs r = two_kept vs _ (λ v w e. cell_kept v _ (λ c f. put_kept s t r.holds (ready_stopped r tt) r.running c w (slice_get s.cells c) (ready_blocks r (Putting c w) (ap (Calls PutMVar) (e ∙ ap (λ q. q ∷ w ∷ []) f)))))
-primitive_kept s t m ReadMVar vs r = one_kept vs _ (λ v e. cell_kept v _ (λ c f. read_kept s t r.holds (ready_stopped r tt) r.running c (slice_get s.cells c) (ready_blocks r (Reading c) (ap (Calls ReadMVar) (e ∙ ap (λ q. q ∷ []) f)))))
-primitive_kept s t m TryTakeMVar vs r = one_kept vs _ (λ v e. cell_kept v _ (λ c f. try_take_kept s t r.holds (ready_stopped r tt) r.running c (slice_get s.cells c)))
-primitive_kept s t m TryPutMVar vs r = two_kept vs _ (λ v w e. cell_kept v _ (λ c f. try_put_kept s t r.holds (ready_stopped r tt) r.running c w (slice_get s.cells c)))
-primitive_kept s t m MyThreadId vs r = none_kept vs _ (answer_holds s t (val.Thread t) r.holds (ready_stopped r tt))
-primitive_kept s t m GetMaskingState vs r = none_kept vs _ (answer_holds s t (Text (masking_text m)) r.holds (ready_stopped r tt))
-primitive_kept s t m ClockMicros vs r = none_kept vs _ (answer_holds s t (clock_value s) r.holds (ready_stopped r tt))
-primitive_kept s t m ThreadDelay vs r =
-    one_kept vs _ (λ v e. number_kept v _ (λ n f. delay_kept s t r.holds (ready_stopped r tt) r.running n (λ due. ready_blocks r (Sleeping due) (n, ap (Calls ThreadDelay) (e ∙ ap (λ q. q ∷ []) f)))))
-primitive_kept s t m ThrowTo vs r = two_kept vs _ (λ v w e. thread_kept v _ (λ u f. exn_kept w _ (λ x g. throw_at_kept s t r.holds (ready_stopped r tt) r.running u x (slice_get s.threads u) (ready_blocks r (Throwing u x) (ap (Calls ThrowTo) (e ∙ (ap (λ q. q ∷ w ∷ []) f ∙ ap (λ q. val.Thread u ∷ q ∷ []) g)))))))
-primitive_kept s t m NewTimeout vs r = none_kept vs _ (answer_holds (record s { next_timeout = suc s.next_timeout }) t (Exception (Timeout s.next_timeout)) r.holds (ready_stopped r tt))
-primitive_kept s t m Acquired vs r = none_kept vs _ (acquired_holds s t vs r)
-primitive_kept s t m Release vs r = one_kept vs _ (λ v e. instance_is v _ (λ i f. released_holds s t i [] (subst (λ vs. Ready s t (Calls Release vs)) (e ∙ ap (λ v. v ∷ []) f) r)))
-
 child_held : {a : Core} {env : Env} {m : Mask} → Fine a → Held (Do a env) (MaskIn m ∷ []) []
 child_held f = held_do f (below_mask no_frames)
 
@@ -408,22 +291,6 @@ forked : {s : State} {t : ℕ} {op : Operation} (m : Mask) {a : Core} (env : Env
 forked {s} {t} m {a} env r f g = spawn_holds (answer t (val.Thread (length s.threads)) s) (term (Do a env) (MaskIn m ∷ [])) (answer_holds s t (val.Thread (length s.threads)) r.holds (ready_stopped r f)) (child_held g)
 
 -- ---- entries
-on_op_kept : (p : Part) (k : Operation → Option State) → ((op : Operation) → p ≡ Performs op → Keeps (k op)) → Keeps (at_operation p k)
-on_op_kept (Ret v) k h = tt
-on_op_kept (Throw e) k h = tt
-on_op_kept (Do a env) k h = tt
-on_op_kept (Performs op) k h = h op refl
-
-operate_kept : (s : State) (t : ℕ) (m : Mask) (op : Operation) → Ready s t op → Keeps (operated t m op s)
-operate_kept s t m (Calls w vs) r = primitive_kept s t m w vs r
-operate_kept s t m (Forks a env) r = let f = fork_fine (ready_held r) in forked m env r f f
-operate_kept s t m (ForksUnmask x a env) r = let f = fork_unmask_fine (ready_held r) in forked m (with_name x (val.Restore Unmasked) env) r f f
-
-op_kept : (s : State) (t : ℕ) (th : Thread) → Holds s → slice_get s.threads t ≡ Some th → th.finished ≡ false → Keeps (op_entry t th s)
-op_kept s t th h e f =
-    cond_cases Keeps (is_blocked t s.blocked) None (at_operation th.term.part (λ op. operated t (mask_at th.term.frames) op s)) (λ b. tt)
-    (λ b. on_op_kept th.term.part _ (λ op p. operate_kept s t (mask_at th.term.frames) op (record { th = th; is = e; part = p; unfinished = f; running = b; holds = h })))
-
 move_holds : (s : State) (t : ℕ) (th : Thread) (x : Term) → Holds s → slice_get s.threads t ≡ Some th → th.finished ≡ false → is_blocked t s.blocked ≡ false → Held x.part x.frames (mine t s.marks) → Holds (move t x s)
 move_holds s t th x h e f b new = record {
   threads = threads_moved s.threads s.marks s.marks t (slice_get s.threads t) x h.threads (λ u n. refl)
@@ -435,62 +302,27 @@ move_holds s t th x h e f b new = record {
   numbered = h.numbered;
 }
 
-moved_kept : (t : ℕ) (s : State) (o : Option Term) {m : List ℕ} → Goes o m → ((x : Term) → Held x.part x.frames m → Holds (move t x s)) → Keeps (moved t s o)
-moved_kept t s None g h = tt
-moved_kept t s (Some x) g h = h x g
-
 pub thread_held : (s : State) (t : ℕ) (th : Thread) → Holds s → slice_get s.threads t ≡ Some th → Held th.term.part th.term.frames (mine t s.marks)
 thread_held s t th h e = let k : HeldThread (Some th) (mine t s.marks) = subst (λ o. HeldThread o (mine t s.marks)) e (h.threads t) in k.0
 
-local_kept : (code : Code) → FineCode code.actions → (s : State) (t k : ℕ) (th : Thread) → Holds s → slice_get s.threads t ≡ Some th → th.finished ≡ false → Keeps (local_entry code t k th s)
-local_kept code fc s t zero th h e f = tt
-local_kept code fc s t (suc k) th h e f =
-    cond_cases Keeps (is_blocked t s.blocked) None (moved t s (locals code (suc k) th.term)) (λ b. tt)
-    (λ b. moved_kept t s (locals code (suc k) th.term) (locals_kept code fc (suc k) th.term (thread_held s t th h e)) (λ x new. move_holds s t th x h e f b new))
-
--- where a thread is receptive it may receive
-unmasked_is : (m : Mask) → is_unmasked m ≡ true → IsMasked m → ⊥
-unmasked_is Unmasked e h = h
-unmasked_is Masked e h = cc e
-unmasked_is Uninterruptible e h = cc e
-
-open_is : (p b h u : Bool) → not p && cond b h u ≡ true → (b ≡ true) ⊎ (u ≡ true)
-open_is true b h u e = absurd (cc e)
-open_is false true h u e = inl refl
-open_is false false h u e = inr e
-
-hit_ok : (s : State) (t : ℕ) (th : Thread) (e : Exn) → Holds s → slice_get s.threads t ≡ Some th → th.finished ≡ false → is_receptive t th.term s ≡ true → OkPart (Throw e) (Some th) (mine t s.marks)
+-- where a thread may receive it may throw
+hit_ok : (s : State) (t : ℕ) (th : Thread) (e : Exn) → Holds s → slice_get s.threads t ≡ Some th → th.finished ≡ false → Open s t th → OkPart (Throw e) (Some th) (mine t s.marks)
 hit_ok s t th e h is f o =
     ⊎_elim
-    (λ b. let k = blocked_found (Waits s.threads) t s.blocked b h.waits in subst (λ o. OkPart (Throw e) o (mine t s.marks)) is (ok_throw e (slice_get s.threads t) (mine t s.marks) (free_in s t h (wait_stopped s.threads t k.0 k.1))))
-    (λ u. (open_kept e (unmasked_is (mask_at th.term.frames) u) (thread_held s t th h is), f))
-    (open_is (is_throw th.term.part) (is_blocked t s.blocked) (is_interruptible (mask_at th.term.frames)) (is_unmasked (mask_at th.term.frames)) o)
+    (λ b. let k = blocked_found (Waits s.threads) t s.blocked b.0 h.waits in subst (λ o. OkPart (Throw e) o (mine t s.marks)) is (ok_throw e (slice_get s.threads t) (mine t s.marks) (free_in s t h (wait_stopped s.threads t k.0 k.1))))
+    (λ u. (open_kept e (λ m. subst IsMasked u.1 m) (thread_held s t th h is), f))
+    o
 
 -- who throws at t isn't t
 pub throws_apart : (t w : ℕ) (r : Reason V) (e : Exn) → Apart w r → throws t r ≡ Some e → w ≢ t
-throws_apart t w (Taking m) e a f = absurd (cc f)
-throws_apart t w (Reading m) e a f = absurd (cc f)
-throws_apart t w (Putting m v) e a f = absurd (cc f)
-throws_apart t w (Throwing u x) e a f = cond_cases (λ o. o ≡ Some e → w ≢ t) (u == t) (Some x) None (λ q g same. ⊎_elim (λ k. a (same ∙ sym k.1)) (λ k. let b : true ≡ false = sym q ∙ k.0 in cc b) (equal_or u t)) (λ q g. absurd (cc g)) f
-throws_apart t w (Sleeping d) e a f = absurd (cc f)
+throws_apart t w r e a f = subst (Apart w) (throws_means t r e f) a
 
-pub hit_kept : (s : State) (t : ℕ) (th : Thread) (fs : List Flying) → Holds s → slice_get s.threads t ≡ Some th → th.finished ≡ false → is_receptive t th.term s ≡ true → Found (Waits s.threads) (throws t) (first_thrown fs)
-    → Keeps (received t fs s)
-hit_kept s t th [] h is un at_once f = tt
-hit_kept s t th (w ∷ ws) h is un at_once f =
+hit_holds : (s : State) (t : ℕ) (th : Thread) (w : Flying) → Holds s → slice_get s.threads t ≡ Some th → th.finished ≡ false → Open s t th → Found (Waits s.threads) (throws t) (Some (w.thrower, w.exn))
+    → Holds (resume t (Throw w.exn) (answer w.thrower UnitValue s))
+hit_holds s t th w h is un at_once f =
     let apart : t ≢ w.thrower = λ same. throws_apart t w.thrower f.0 w.exn f.1.1 f.2 (sym same) in
     let still : slice_get (answer w.thrower UnitValue s).threads t ≡ Some th = other_thread s.threads w.thrower t (slice_get s.threads w.thrower) (term (Ret UnitValue) (frames_of (slice_get s.threads w.thrower))) apart ∙ is in
     resume_holds (answer w.thrower UnitValue s) t (Throw w.exn) (answer_holds s w.thrower UnitValue h (wait_stopped s.threads w.thrower f.0 f.1)) (subst (λ o. OkPart (Throw w.exn) o (mine t s.marks)) (sym still) (hit_ok s t th w.exn h is un at_once))
-
-receive_kept : (s : State) (t : ℕ) (th : Thread) → Holds s → slice_get s.threads t ≡ Some th → th.finished ≡ false → Keeps (receive_entry t th s)
-receive_kept s t th h is un =
-    cond_cases Keeps (is_receptive t th.term s) (received t (flying_to t (flight_of s.blocked)) s) None
-    (λ o. hit_kept s t th (flying_to t (flight_of s.blocked)) h is un o (subst (Found (Waits s.threads) (throws t)) (sym (throw_is_first t s.blocked)) (first_found (Waits s.threads) (throws t) s.blocked h.waits)))
-    (λ o. tt)
-
-woken_kept : (s : State) (t : ℕ) (o : Option (Reason V)) → Holds s → OnReason (Waits s.threads t) o → Keeps (woken t o s)
-woken_kept s t (Some (Sleeping due)) h w = cond_cases Keeps (nat_le due s.clock) (Some (answer t UnitValue s)) None (λ b. answer_holds s t UnitValue h (wait_stopped s.threads t (Sleeping due) w)) (λ b. tt)
-woken_kept s t _ h w = tt
 
 abbrev pub ended : State → ℕ → Thread → List ℕ → State
 ended s t th line = record s { threads = slice_set s.threads t (record { term = th.term; finished = true }); errors = s.errors ++ line }
@@ -516,17 +348,11 @@ ended_holds s t th line h is bare none =
       numbered = h.numbered;
     }
 
-close_holds : (s : State) (t : ℕ) (th : Thread) (line : List ℕ) → Holds s → slice_get s.threads t ≡ Some th → IsBare th → mine t s.marks ≡ [] → Holds (closed t th line s)
-close_holds s t th line h is bare none =
-    subst (λ us. Holds (resume_all us (Ret UnitValue) (ended s t th line))) (sym (throwers_are t s.blocked))
-    (those_hold (λ u. throws_at t) (Ret UnitValue) (ended s t th line) tt (ended_holds s t th line h is bare none))
-
-finish_kept : (s : State) (t : ℕ) (th : Thread) (fs : List Frame) (p : Part) → Holds s → slice_get s.threads t ≡ Some th → th.term.frames ≡ fs → th.term.part ≡ p → Held p fs (mine t s.marks) → Keeps (finish_entry t th fs p s)
-finish_kept s t th [] (Ret v) h is a b k = close_holds s t th [] h is (subst IsResult (sym b) tt, a) (ret_owes_nothing k)
-finish_kept s t th [] (Throw e) h is a b k = close_holds s t th (uncaught_line t e) h is (subst IsResult (sym b) tt, a) (throw_owes_nothing k)
-finish_kept s t th [] (Do a env) h is b c k = tt
-finish_kept s t th [] (Performs op) h is b c k = tt
-finish_kept s t th (f ∷ fs) p h is a b k = tt
+owes_nothing : (t : ℕ) (line : List ℕ) (p : Part) {m : List ℕ} → EndsBy t p line → Held p [] m → IsResult p × (m ≡ [])
+owes_nothing t line (Ret v) b k = (tt, ret_owes_nothing k)
+owes_nothing t line (Throw e) b k = (tt, throw_owes_nothing k)
+owes_nothing t line (Do a env) b k = absurd b
+owes_nothing t line (Performs op) b k = absurd b
 
 -- ---- Stranded
 
@@ -571,30 +397,40 @@ stranded_stop s h =
     (λ t e. reason_stops s t (reason_of t s.blocked) (reason_found (Waits s.threads) t s.blocked h.waits) e)
     (strands_each (length s.threads) s)
 
-strand_kept : (ts : List ℕ) (s : State) → Holds s → Distinct ts → Ones (λ t. Stopped (slice_get s.threads t)) ts → Keeps (strand ts s)
-strand_kept [] s h d w = tt
-strand_kept (t ∷ ts) s h d w = resume_all_holds (t ∷ ts) (Throw BlockedIndefinitely) s tt h d w
-
-strand_entry_kept : (ss : List Sleeper) (s : State) → Holds s → Keeps (strand_entry ss s)
-strand_entry_kept [] s h = strand_kept (stranded s) s h (stranded_distinct (length s.threads) s) (stranded_stop s h)
-strand_entry_kept (r ∷ rs) s h = tt
-
-on_thread_kept : (o : Option Thread) (k : Thread → Option State) → ((th : Thread) → o ≡ Some th → th.finished ≡ false → Keeps (k th)) → Keeps (on_thread o k)
-on_thread_kept None k h = tt
-on_thread_kept (Some th) k h = cond_cases Keeps th.finished None (k th) (λ f. tt) (λ f. h th refl f)
-
-entered_kept : (code : Code) → FineCode code.actions → (s : State) (e : Entry) → Holds s → Keeps (entries.entered code s e)
-entered_kept code fc s (Local t k) h = on_thread_kept (slice_get s.threads t) _ (λ th is f. local_kept code fc s t k th h is f)
-entered_kept code fc s (entry.Op t) h = on_thread_kept (slice_get s.threads t) _ (λ th is f. op_kept s t th h is f)
-entered_kept code fc s (entry.Receive t) h = on_thread_kept (slice_get s.threads t) _ (λ th is f. receive_kept s t th h is f)
-entered_kept code fc s (entry.Wake t) h = woken_kept s t (reason_of t s.blocked) h (reason_found (Waits s.threads) t s.blocked h.waits)
-entered_kept code fc s (entry.Finish t) h = on_thread_kept (slice_get s.threads t) _ (λ th is f. finish_kept s t th th.term.frames th.term.part h is refl refl (thread_held s t th h is))
-entered_kept code fc s (entry.Tick at) h = cond_cases Keeps (nat_le s.clock at) (Some (record s { clock = at })) None (λ b. h) (λ b. tt)
-entered_kept code fc s entry.Stranded h = strand_entry_kept (sleepers_of s.blocked) s h
-
 -- ---- every legal entry keeps the invariant
+module _ (code : Code) (fc : FineCode code.actions) (s : State) (h : Holds s) where
+  changed_holds : {e : Entry} {u : State} → Changes code s e u → Holds u
+  changed_holds (change.moves {t} {k} {th} {x} a b l) = move_holds s t th x h a.0 a.1 b (subst (λ o. Goes o (mine t s.marks)) l (locals_kept code fc (suc k) th.term (thread_held s t th h a.0)))
+  changed_holds (change.blocks {t} r a c b n) = block_holds s t r h (stands_blocks r a b) n a.running
+  changed_holds (change.ends {t} {op} p a c i) = end_holds s t p i h (ready_stopped (ready a h) (calm_fine op c))
+  changed_holds (change.prints {t} {x} a) = answer_holds (printed x s) t UnitValue h (ready_stopped (ready a h) tt)
+  changed_holds (change.prints_a_line {t} {x} a) = answer_holds (printed line_feed (printed x s)) t UnitValue h (ready_stopped (ready a h) tt)
+  changed_holds (change.tells_a_line {t} {x} a) = answer_holds (told line_feed (told x s)) t UnitValue h (ready_stopped (ready a h) tt)
+  changed_holds (change.makes {t} {op} v o a m) = answer_holds (with_cell o s) t v h (ready_stopped (ready a h) (makes_fine op m))
+  changed_holds (change.makes_a_timeout {t} a) = answer_holds (record s { next_timeout = suc s.next_timeout }) t (Exception (Timeout s.next_timeout)) h (ready_stopped (ready a h) tt)
+  changed_holds (change.acquires {t} a) = acquired_holds s t [] (ready a h)
+  changed_holds (change.releases {t} {i} a) = released_holds s t i [] (ready a h)
+  changed_holds (change.forks m {env} a) = let f = fork_fine (ready_held (ready a h)) in forked m env (ready a h) f f
+  changed_holds (change.forks_unmasked m {r} {env} a) = let f = fork_unmask_fine (ready_held (ready a h)) in forked m (with_name r (val.Restore Unmasked) env) (ready a h) f f
+  changed_holds (change.receives {t} {th} {f} {fs} a o q) =
+      hit_holds s t th f h a.0 a.1 o
+      (subst (λ gs. Found (Waits s.threads) (throws t) (first_thrown gs)) q (subst (Found (Waits s.threads) (throws t)) (sym (throw_is_first t s.blocked)) (first_found (Waits s.threads) (throws t) s.blocked h.waits)))
+  changed_holds (change.wakes {t} {due} q) = answer_holds s t UnitValue h (wait_stopped s.threads t (Sleeping due) (subst (OnReason (Waits s.threads t)) q (reason_found (Waits s.threads) t s.blocked h.waits)))
+  changed_holds (change.finishes {t} {th} line a f b) =
+      let k = owes_nothing t line th.term.part b (subst (λ fs. Held th.term.part fs (mine t s.marks)) f (thread_held s t th h a.0)) in
+      ended_holds s t th line h a.0 (k.0, f) k.1
+  changed_holds (change.ticks q) = h
+  changed_holds change.strands = resume_all_holds (stranded s) (Throw BlockedIndefinitely) s tt h (stranded_distinct (length s.threads) s) (stranded_stop s h)
+  changed_holds (change.holds c o u k) = changed_holds k
+  changed_holds (change.serves w v u r a k) = let g = changed_holds k in answer_holds u w v g (wait_stopped u.threads w r (each_among (Waits u.threads) w r u.blocked g.waits a))
+  changed_holds (change.all p v u k) = those_hold p (Ret v) u tt (changed_holds k)
+
 pub next_kept : (code : Code) → FineCode code.actions → (s : State) (e : Entry) → Holds s → Keeps (next code s e)
-next_kept code fc s e h = on_thread_kept (slice_get s.threads 0) (λ th. entries.entered code s e) (λ th is f. entered_kept code fc s e h)
+next_kept code fc s e h = by (next code s e) refl
+  where
+    by : (o : Option State) → next code s e ≡ o → Keeps o
+    by None q = tt
+    by (Some u) q = changed_holds code fc s h (changes code s e u q)
 
 pub run_kept : (code : Code) → FineCode code.actions → (es : List Entry) (s u : State) → Run code s es u → Holds s → Holds u
 run_kept code fc [] s u r h = subst Holds r h

@@ -1,21 +1,19 @@
 -- What a Stranded does: to those who are to be stranded, and to nobody else.
-use Rattle.std.proofs.Common.{◌≡◌, ◌≢◌, ℕ, zero, suc, ◌<◌, ◌==◌, List, [], ◌∷◌, length, slice_get, Bool, true, false, cond, ◌&&◌, Option, Some, None, refl, sym, ap, ◌∙◌, subst, arith, inl, ⊎_elim}
-use Rattle.hs_base.specs.declared.mask.Mask.{Mask}
-use Rattle.hs_base.specs.declared.mask.Mask.TheVariants.{Unmasked, Masked, Uninterruptible}
+use Rattle.std.proofs.Common.{◌≡◌, ◌≢◌, ℕ, zero, suc, ◌<◌, ◌==◌, List, [], ◌∷◌, length, slice_get, Bool, true, false, cond, Option, Some, None, refl, sym, ap, ◌∙◌, subst, arith, inl, ⊎_elim}
 use Rattle.hs_base.specs.declared.exn.Exn.TheVariants.{BlockedIndefinitely}
 use Rattle.hs_rules.specs.declared.entry.Entry.TheVariants as entry
 use Rattle.rules_meaning.specs.Values.{V}
 use Rattle.rules_meaning.specs.CoreMeaning.{Code}
-use Rattle.hs_rules.specs.Terms.{Part, Throw, term, mask_at}
-use Rattle.rules_waiting.specs.Waiting.{Reason, Waiting, Sleeper, leaves, is_blocked, reason_of, at_cell, sleepers_of}
+use Rattle.hs_rules.specs.Terms.{Part, Throw, term}
+use Rattle.rules_waiting.specs.Waiting.{Reason, Waiting, leaves, is_blocked, reason_of}
 use Rattle.hs_rules.specs.State.{Thread, State, with_term, frames_of, resume, resume_all}
-use Rattle.hs_rules.specs.Entries.{is_interruptible, mask_of, is_stranded, stranded_below, stranded, strand, strand_entry, on_thread, next}
-use Rattle.hs_rules.specs.Entries as entries
+use Rattle.hs_rules.specs.Entries.{is_stranded, stranded_below, stranded, next}
 use Rattle.hs_laws.specs.MaskLaw.{WaitsOpen, WasRemoved, thrown_out, AreStranded}
 use Rattle.hs_laws.proofs.Lists.{cond_true, cond_false, equal_or, item_same, item_below, Absent_in, Distinct, Ones, StandsIn, stands_before, stands_behind}
 use Rattle.hs_laws.proofs.States.{other_thread, Strands, strands_each, stranded_distinct}
 use Rattle.hs_laws.proofs.CellSteps.{reason_left, not_blocked_reason}
-use Rattle.hs_laws.proofs.WaitsBegan.{thread_is}
+use Rattle.hs_cases.specs.Cases as row
+use Rattle.hs_cases.proofs.Entering.{case_of, all_are, waits_so, stranded_so}
 
 -- ---- who is blocked
 pub left_free : (t : ℕ) (ws : List (Waiting V)) → is_blocked t (leaves t ws) ≡ false
@@ -53,10 +51,6 @@ untouched t (u ∷ us) p s a =
     let apart : t ≢ u = λ e. a.0 (sym e) in
     let k = untouched t us p (resume u p s) a.1 in
     (k.0 ∙ other_thread s.threads u t (slice_get s.threads u) (term p (frames_of (slice_get s.threads u))) apart, k.1 ∙ reason_left u t s.blocked apart)
-
--- a thread that isn't blocked stays so
-stays_free : (t : ℕ) (ts : List ℕ) (p : Part) (s : State) → reason_of t s.blocked ≡ None → Absent_in t ts → reason_of t (resume_all ts p s).blocked ≡ None
-stays_free t ts p s e a = (untouched t ts p s a).1 ∙ e
 
 -- a thread with this part, where it stood
 abbrev with_part : Part → Thread → Thread
@@ -98,42 +92,17 @@ apart_from : (P : ℕ → Type 0) (t : ℕ) (us : List ℕ) → Ones P us → (P
 apart_from P t [] h n = tt
 apart_from P t (u ∷ us) h n = ((λ e. n (subst P e h.0)), apart_from P t us h.1 n)
 
-both_true : (a b : Bool) → a && b ≡ true → (a ≡ true) × (b ≡ true)
-both_true true true e = (refl, refl)
-both_true true false e = absurd (cc e)
-both_true false b e = absurd (cc e)
-
-not_hard : (m : Mask) → is_interruptible m ≡ true → m ≢ Uninterruptible
-not_hard Unmasked e h = cc h
-not_hard Masked e h = cc h
-not_hard Uninterruptible e h = cc e
-
-interruptible : (m : Mask) → m ≢ Uninterruptible → is_interruptible m ≡ true
-interruptible Unmasked n = refl
-interruptible Masked n = refl
-interruptible Uninterruptible n = absurd (n refl)
-
-waits_open : (s : State) (t : ℕ) (o : Option Thread) (r : Option (Reason V)) → slice_get s.threads t ≡ o → reason_of t s.blocked ≡ r → is_stranded o r ≡ true → WaitsOpen s t
-waits_open s t None None a b e = absurd (cc e)
-waits_open s t None (Some r) a b e = let k = both_true (at_cell r) false e in absurd (cc k.1)
-waits_open s t (Some th) None a b e = absurd (cc e)
-waits_open s t (Some th) (Some r) a b e =
-    let k = both_true (at_cell r) (is_interruptible (mask_at th.term.frames)) e in
-    record { thread = th; is = a; reason = r; waits = b; at = k.0; open_now = not_hard (mask_at th.term.frames) k.1 }
+waits_open : (s : State) (t : ℕ) → Strands s t → WaitsOpen s t
+waits_open s t e =
+    let w = waits_so s t (slice_get s.threads t) (reason_of t s.blocked) refl refl e in
+    record { thread = w.thread; is = w.is; reason = w.reason; waits = w.waits; at = w.there; open_now = w.open_now }
 
 strands_is : (s : State) (t : ℕ) → WaitsOpen s t → Strands s t
-strands_is s t w =
-    ap (λ o. is_stranded o (reason_of t s.blocked)) w.is ∙ (ap (is_stranded (Some w.thread)) w.waits
-    ∙ (ap (λ b. b && is_interruptible (mask_at w.thread.term.frames)) w.at ∙ interruptible (mask_at w.thread.term.frames) w.open_now))
+strands_is s t w = stranded_so s t (record { thread = w.thread; is = w.is; reason = w.reason; waits = w.waits; there = w.at; open_now = w.open_now })
 
 -- ---- the entry
-strand_is : (ts : List ℕ) (s u : State) → strand ts s ≡ Some u → u ≡ resume_all ts (Throw BlockedIndefinitely) s
-strand_is [] s u e = absurd (cc e)
-strand_is (t ∷ ts) s u e = let same : resume_all (t ∷ ts) (Throw BlockedIndefinitely) s ≡ u = cc e in sym same
-
-entry_is : (ss : List Sleeper) (s u : State) → strand_entry ss s ≡ Some u → u ≡ resume_all (stranded s) (Throw BlockedIndefinitely) s
-entry_is [] s u e = strand_is (stranded s) s u e
-entry_is (r ∷ rs) s u e = absurd (cc e)
+entry_is : {code : Code} {s u : State} → row.Enters code s entry.Stranded u → u ≡ resume_all (stranded s) (Throw BlockedIndefinitely) s
+entry_is (row.strands {s = r} m e a) = ap (λ ts. resume_all ts (Throw BlockedIndefinitely) r) (sym (all_are a))
 
 stranded_all : (s : State) → AreStranded s (resume_all (stranded s) (Throw BlockedIndefinitely) s)
 stranded_all s = record {
@@ -151,7 +120,7 @@ stranded_all s = record {
         (among (length s.threads) t s (item_below s.threads t w.thread w.is) (strands_is s t w)) w.is
 
     absent : (t : ℕ) → ¬ WaitsOpen s t → Absent_in t (stranded s)
-    absent t n = apart_from (Strands s) t (stranded s) (strands_each (length s.threads) s) (λ e. n (waits_open s t (slice_get s.threads t) (reason_of t s.blocked) refl refl e))
+    absent t n = apart_from (Strands s) t (stranded s) (strands_each (length s.threads) s) (λ e. n (waits_open s t e))
 
     free_now : (t : ℕ) → reason_of t u.blocked ≡ None → (b : Bool) → is_blocked t u.blocked ≡ b → b ≡ false
     free_now t e false q = refl
@@ -164,7 +133,7 @@ stranded_all s = record {
     from t r = by (is_stranded (slice_get s.threads t) (reason_of t s.blocked)) refl
       where
         by : (b : Bool) → is_stranded (slice_get s.threads t) (reason_of t s.blocked) ≡ b → WaitsOpen s t
-        by true e = waits_open s t (slice_get s.threads t) (reason_of t s.blocked) refl refl e
+        by true e = waits_open s t e
         by false e =
             let k = blocked_reason t s.blocked r.0 in
             let a : Absent_in t (stranded s) = apart_from (Strands s) t (stranded s) (strands_each (length s.threads) s) (λ x. let z : true ≡ false = sym x ∙ e in cc z) in
@@ -172,6 +141,4 @@ stranded_all s = record {
             let z : true ≡ false = sym (reason_blocked t u.blocked k.0 still) ∙ r.1 in absurd (cc z)
 
 pub are_stranded : (code : Code) (s u : State) → next code s entry.Stranded ≡ Some u → AreStranded s u
-are_stranded code s u n =
-    let k = thread_is (slice_get s.threads 0) (λ th. entries.entered code s entry.Stranded) u n in
-    subst (AreStranded s) (sym (entry_is (sleepers_of s.blocked) s u k.2)) (stranded_all s)
+are_stranded code s u n = subst (AreStranded s) (sym (entry_is (case_of code s entry.Stranded u n))) (stranded_all s)

@@ -1,15 +1,34 @@
--- The law of the clock, one entry after another.
+-- The clock: the time stays but for Ticks, and its law goes on one entry after another.
 use Rattle.std.proofs.Common.{◌≡◌, ◌≢◌, ℕ, suc, ◌≤◌, List, [], ◌∷◌, ◌++◌, length, Some, refl, sym, ap, ◌∙◌, subst, arith, ◌⊎◌, inl, inr, ⊎_elim, append_assoc, length-append}
 use Rattle.std.proofs.lemmas.Option.{same_Some}
 use Rattle.std.proofs.lemmas.List.Elements.{Contains-append_left, Contains-append_right}
 use Rattle.hs_rules.specs.declared.entry.Entry.{Entry}
 use Rattle.hs_rules.specs.declared.entry.Entry.TheVariants as entry
 use Rattle.rules_trees.specs.Programs.{Fn}
-use Rattle.rules_meaning.specs.CoreMeaning.{code_of}
+use Rattle.rules_meaning.specs.CoreMeaning.{Code, code_of}
+use Rattle.hs_base.specs.declared.exn.Exn.TheVariants.{BlockedIndefinitely}
+use Rattle.hs_rules.specs.Terms.{Ret, Throw}
+use Rattle.hs_rules.specs.Entries.{stranded, next}
 use Rattle.hs_rules.specs.State.{State}
 use Rattle.hs_rules.specs.Endings.{IsTick}
 use Rattle.hs_rules.specs.Runs.{after}
 use Rattle.hs_laws.specs.ClockLaw.{TickStands, IsPunctual, ClockKept}
+use Rattle.hs_laws.proofs.Lists.{those}
+use Rattle.hs_laws.proofs.Changes as change
+use Rattle.hs_laws.proofs.Changes.{Changes, all_kept, changes}
+
+-- ---- no entry but a Tick changes the time
+
+changed_stays : {code : Code} {s u : State} {e : Entry} → ¬ IsTick e → Changes code s e u → u.clock ≡ s.clock
+changed_stays other (change.ticks h) = absurd (other tt)
+changed_stays {s} other change.strands = all_kept (λ u. u.clock ≡ s.clock) (Throw BlockedIndefinitely) (λ t u h. h) (stranded s) s refl
+changed_stays other (change.holds c o u k) = changed_stays other k
+changed_stays other (change.serves w v u r a k) = changed_stays other k
+changed_stays {s} other (change.all p v u k) = all_kept (λ x. x.clock ≡ s.clock) (Ret v) (λ t x h. h) (those p u.blocked) u (changed_stays other k)
+changed_stays other _ = refl
+
+pub entry_stays : (code : Code) (s u : State) (e : Entry) → ¬ IsTick e → next code s e ≡ Some u → u.clock ≡ s.clock
+entry_stays code s u e other n = changed_stays other (changes code s e u n)
 
 -- ---- where an entry stands in a history with one more entry
 

@@ -8,7 +8,6 @@ pub mod CellCalls
 pub mod CellsEntered
 pub mod Operating
 pub mod Printing
-pub mod Held
 pub mod Printed
 pub mod Blocking
 pub mod Spawning
