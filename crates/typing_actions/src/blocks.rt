@@ -5,8 +5,8 @@ ghost use Rattle.rules_trees.specs.Trees.{exn};
 ghost use Rattle.typing_table.specs.Meaning.{type_in};
 ghost use Rattle.rules_trees.specs.Programs.{act_of, bl_of, stmt_of, act_arms_of, scoped, masking};
 ghost use Rattle.rules_typing.specs.Typing.{a_cell, bound, inner_of, no_mask, of, row_arms, row_choose};
-ghost use Rattle.rules_typing.specs.TypingActions.{form_of_acts, row_async, row_modify};
-ghost use Rattle.typing_judge.specs.Judging.{needing, own, part, unless_full, unless_wrong, with1};
+ghost use Rattle.rules_typing.specs.TypingActions.{form_of_acts, row_async, row_bracket, row_modify};
+ghost use Rattle.typing_judge.specs.Judging.{needing, own, part, parts2, unless_full, unless_wrong, with1};
 ghost use Rattle.typing_judge.specs.JudgingActions.{judge_act, judge_act_arms, judge_bl};
 ghost use Rattle.typing_parts.specs.Views.{opt_ty, part_of};
 ghost use Rattle.typing_parts.specs.Contexts.{ctx_of};
@@ -70,18 +70,10 @@ fn action(
             let t = block(checker, alloc, funs, b)?;
             second(checker, alloc, funs, d, *p, TwoParts::Guard(*w), t)
         }
-        Action::Bracket(p, b, x, d, h) => match block(checker, alloc, funs, b)? {
-            None => Ok(None),
-            Some(t) => match open(checker, alloc, &funs.types, x, t)? {
-                false => Ok(None),
-                true => {
-                    let u = block(checker, alloc, funs, d)?;
-                    let r = second(checker, alloc, funs, h, *p, TwoParts::Bracket, u)?;
-                    checker.unbind(&funs.types);
-                    Ok(r)
-                }
-            },
-        },
+        Action::Bracket(p, b, x, d, h) => {
+            let t = block(checker, alloc, funs, b)?;
+            in_bracket(checker, alloc, funs, d, h, *p, t, x)
+        }
         Action::Timeout(p, e, b) => {
             let t = type_of(checker, alloc, funs, e)?;
             second(checker, alloc, funs, b, *p, TwoParts::Timeout, t)
@@ -262,6 +254,35 @@ fn in_scope(
             None => Ok(None),
             Some(u) => {
                 let r = under(checker, alloc, funs, b, x, Part::Whole, &u)?;
+                Ok(r)
+            }
+        },
+    }
+}
+
+/// The two blocks of a `bracket` under its name, after the type of the block before them.
+#[cycle(acts)]
+#[tactic(auto, using(typing_parts::proofs::Noted::step_rules))]
+fn in_bracket(
+    checker: &mut Checker,
+    alloc: Global,
+    funs: &Funs,
+    b: &Block,
+    d: &Block,
+    p: Pos,
+    t: Option<TypeTerm>,
+    x: &Name,
+) -> Result<Option<TypeTerm>, NoMemory>
+    ensures { IfOk result (λ r. Judged funs.now.types.nodes checker.old checker.new (opt_ty funs.now.types.nodes r) (with1 (opt_ty funs.now.types.nodes t) (λ u. unless_full (names funs.now.types.nodes checker.old) x.now (parts2 (judge_bl (ctx_of funs.now) (bound x.now u ∷ names funs.now.types.nodes checker.old) (bl_of b.now)) (judge_bl (ctx_of funs.now) (bound x.now u ∷ names funs.now.types.nodes checker.old) (bl_of d.now)) (λ v w. own p (row_bracket v w)))))) }
+{
+    match t {
+        None => Ok(None),
+        Some(t) => match open(checker, alloc, &funs.types, x, t)? {
+            false => Ok(None),
+            true => {
+                let u = block(checker, alloc, funs, b)?;
+                let r = second(checker, alloc, funs, d, p, TwoParts::Bracket, u)?;
+                checker.unbind(&funs.types);
                 Ok(r)
             }
         },

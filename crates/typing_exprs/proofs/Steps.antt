@@ -1,11 +1,11 @@
 -- Steps of the walk, over the states of the checker.
-use Rattle.std.proofs.Common.{◌≡◌, ℕ, ◌+◌, ◌<◌, List, [], ◌∷◌, ◌++◌, length, drop, get_or, Option, refl, ap, ◌∙◌, sym, append_assoc}
+use Rattle.std.proofs.Common.{◌≡◌, ℕ, ◌+◌, ◌<◌, List, [], ◌∷◌, ◌++◌, length, drop, get_or, Option, refl, ap, ◌∙◌, sym}
 use Rattle.hs_base.specs.declared.pos.Pos.{Pos}
 use Rattle.typing_table.specs.declared.table.Node.{Node}
 use Rattle.typing_table.specs.declared.ty.TypeTerm.{TypeTerm}
 use Rattle.hs_base.specs.declared.tree.expr.Expr.{Expr}
 use Rattle.hs_base.specs.declared.tree.forms.BinaryForm.{BinaryForm}
-use Rattle.rules_trees.specs.Trees.{T, Ex, binary, Links, link, ex_of, exs_of}
+use Rattle.rules_trees.specs.Trees.{T, Ex, Links, link, ex_of, exs_of}
 use Rattle.rules_typing.specs.Typing.{Ctx, Bound, row_binary}
 use Rattle.typing_judge.specs.Judging.{Found, Founds, own, parts2, typed, with2, judge, judges, judge_links, operand_faults, operand_types}
 use Rattle.typing_judge.specs.Least.{least}
@@ -18,20 +18,6 @@ use Rattle.typing_parts.proofs.Chains.{links_step, operands_step}
 -- a node with two parts, in the scope before the first
 abbrev over : Ctx → List Bound → BinaryForm → Pos → Option T → Ex → Found
 over c s f p t e = parts2 (typed t) (judge c s e) (λ u v. own p (row_binary f u v))
-
--- two parts, where the form was read from the operator
-pub binary_step : (ms : List Node) (c : Ctx) (o m n : Checker) (f g : BinaryForm) (p : Pos) (a e : Ex) (t r : Option T) → g ≡ f
-    → Judged ms o m t (judge c (names ms o) a) → Judged ms m n r (over c (names ms m) g p t e) → Judged ms o n r (judge c (names ms o) (binary f p a e))
-binary_step ms c o m n f g p a e t r hf h k =
-    let x = judge c (names ms o) a in
-    let y = judge c (names ms o) e in
-    record {
-      scope = k.scope ∙ h.scope;
-      type = k.type ∙ (ap (λ z. (over c z g p t e).type) h.scope ∙ (ap (λ z. (over c (names ms o) g p z e).type) h.type ∙ ap (λ z. (over c (names ms o) z p x.type e).type) hf));
-      faults = k.faults ∙ (ap (λ z. least (kept ms m) (over c z g p t e).faults) h.scope ∙ (ap (λ z. least (kept ms m) (over c (names ms o) g p z e).faults) h.type ∙ (ap (λ z. least (kept ms m) (over c (names ms o) z p x.type e).faults) hf
-          ∙ (ap (λ z. least z (over c (names ms o) f p x.type e).faults) h.faults ∙ (sym (least-append (kept ms o) x.faults (over c (names ms o) f p x.type e).faults)
-          ∙ ap (least (kept ms o)) (sym (append_assoc x.faults y.faults (with2 x.type y.type (λ u v. own p (row_binary f u v))).faults)))))));
-    }
 
 -- one more link of a chain
 pub link_step : (ms : List Node) (c : Ctx) (o m n : Checker) (f g : BinaryForm) (p : Pos) (e : Ex) (all ks : Links) (t w : Option T) (whole : Found)

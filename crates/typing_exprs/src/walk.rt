@@ -1,7 +1,8 @@
 //! The walk itself: one cycle of calls over the parts of an expression. A function has the tree that it goes down as its
-//! first tree, and what is known of the parts before it after that.
+//! first tree, and what is known of the parts before it after that. `two` and `chain` go down two trees each, so the
+//! measures of the cycle are written out.
 ghost use Rattle.std.specs.Prelude.{◌≡◌, ◌∷◌, [], IfOk};
-ghost use Rattle.rules_trees.specs.Trees.{wr_of, ex_of, exs_of, arms_of, links_of, sum_links_of, list_links_of};
+ghost use Rattle.rules_trees.specs.Trees.{binary, chain, items, name, wr_of, ex_of, exs_of, arms_of, links_of, sum_links_of, list_links_of};
 ghost use Rattle.rules_typing.specs.Typing.{of, bound, form_of_arms, row_unary, row_binary, row_choose, row_side};
 ghost use Rattle.typing_judge.specs.Judging.{after, needing, not_full, own, part, parts2, parts3, typed, written, unless_full, folded, judge, judges, judge_links, judge_arms, operand_faults, operand_types};
 ghost use Rattle.typing_table.specs.Meaning.{type_in};
@@ -42,34 +43,15 @@ pub fn type_of(
         Expr::Unary(w, p, a) => unary(checker, alloc, funs, a.get(), *p, *w),
         Expr::Side(w, p, s, t, a) => side(checker, alloc, funs, a.get(), *p, *w, s, t),
         Expr::Compare(a, o, p, b) => {
-            let t = type_of(checker, alloc, funs, a.get())?;
-            let r = second(checker, alloc, funs, b.get(), *p, compare_form(*o), t)?;
-            Ok(r)
+            let o = compare_form(*o);
+            two(checker, alloc, funs, a.get(), b.get(), *p, o)
         }
-        Expr::Div(p, a, b) => {
-            let t = type_of(checker, alloc, funs, a.get())?;
-            second(checker, alloc, funs, b.get(), *p, BinaryForm::Div, t)
-        }
-        Expr::Mod(p, a, b) => {
-            let t = type_of(checker, alloc, funs, a.get())?;
-            second(checker, alloc, funs, b.get(), *p, BinaryForm::Mod, t)
-        }
-        Expr::Pair(p, a, b) => {
-            let t = type_of(checker, alloc, funs, a.get())?;
-            second(checker, alloc, funs, b.get(), *p, BinaryForm::Pair, t)
-        }
-        Expr::Or(a, ks) => {
-            let t = type_of(checker, alloc, funs, a.get())?;
-            links(checker, alloc, funs, ks, BinaryForm::Or, t)
-        }
-        Expr::And(a, ks) => {
-            let t = type_of(checker, alloc, funs, a.get())?;
-            links(checker, alloc, funs, ks, BinaryForm::And, t)
-        }
-        Expr::Product(a, ks) => {
-            let t = type_of(checker, alloc, funs, a.get())?;
-            links(checker, alloc, funs, ks, BinaryForm::Times, t)
-        }
+        Expr::Div(p, a, b) => two(checker, alloc, funs, a.get(), b.get(), *p, BinaryForm::Div),
+        Expr::Mod(p, a, b) => two(checker, alloc, funs, a.get(), b.get(), *p, BinaryForm::Mod),
+        Expr::Pair(p, a, b) => two(checker, alloc, funs, a.get(), b.get(), *p, BinaryForm::Pair),
+        Expr::Or(a, ks) => chain(checker, alloc, funs, ks, BinaryForm::Or, a.get()),
+        Expr::And(a, ks) => chain(checker, alloc, funs, ks, BinaryForm::And, a.get()),
+        Expr::Product(a, ks) => chain(checker, alloc, funs, ks, BinaryForm::Times, a.get()),
         Expr::Sum(a, ks) => {
             let t = type_of(checker, alloc, funs, a.get())?;
             sum_links(checker, alloc, funs, ks, t)
@@ -92,16 +74,8 @@ pub fn type_of(
             let t = type_of(checker, alloc, funs, a.get())?;
             case(checker, alloc, funs, arms.get(), *p, t)
         }
-        Expr::Call(x, es) => {
-            let us = types_of(checker, alloc, funs, es)?;
-            let t = checker.close_call(alloc, funs, x, es.len(), us)?;
-            Ok(t)
-        }
-        Expr::List(p, es) => {
-            let ts = types_of(checker, alloc, funs, es)?;
-            let t = checker.close_items(alloc, &funs.types, *p, ts)?;
-            Ok(t)
-        }
+        Expr::Call(x, es) => call(checker, alloc, funs, es, x),
+        Expr::List(p, es) => list(checker, alloc, funs, es, *p),
     }
 }
 
@@ -145,6 +119,24 @@ fn side(
     Ok(r)
 }
 
+/// A form with two parts.
+#[cycle(walk)]
+#[tactic(auto, using(typing_parts::proofs::Noted::noted_rules))]
+fn two(
+    checker: &mut Checker,
+    alloc: Global,
+    funs: &Funs,
+    a: &Expr,
+    b: &Expr,
+    p: Pos,
+    o: BinaryForm,
+) -> Result<Option<TypeTerm>, NoMemory>
+    ensures { IfOk result (λ r. Judged funs.now.types.nodes checker.old checker.new (opt_ty funs.now.types.nodes r) (judge (ctx_of funs.now) (names funs.now.types.nodes checker.old) (binary o p (ex_of a.now) (ex_of b.now)))) }
+{
+    let t = type_of(checker, alloc, funs, a)?;
+    second(checker, alloc, funs, b, p, o, t)
+}
+
 /// A form with two parts, after its first.
 #[cycle(walk)]
 #[tactic(auto, using(typing_parts::proofs::Noted::noted_rules))]
@@ -181,6 +173,23 @@ fn third(
     let v = type_of(checker, alloc, funs, b)?;
     let r = checker.close_choose(alloc, &funs.types, p, t, u, v)?;
     Ok(r)
+}
+
+/// An operand and the links of one operator.
+#[cycle(walk)]
+#[tactic(auto, using(typing_parts::proofs::Noted::noted_rules))]
+fn chain(
+    checker: &mut Checker,
+    alloc: Global,
+    funs: &Funs,
+    ks: &Items<Link>,
+    o: BinaryForm,
+    a: &Expr,
+) -> Result<Option<TypeTerm>, NoMemory>
+    ensures { IfOk result (λ r. Judged funs.now.types.nodes checker.old checker.new (opt_ty funs.now.types.nodes r) (judge (ctx_of funs.now) (names funs.now.types.nodes checker.old) (chain (ex_of a.now) (links_of o ks.now)))) }
+{
+    let t = type_of(checker, alloc, funs, a)?;
+    links(checker, alloc, funs, ks, o, t)
 }
 
 /// The links of one operator, after what stands before them.
@@ -257,6 +266,40 @@ fn operands(
         ts.add(u)?;
     }
     Ok(ts)
+}
+
+/// A call of a pure function.
+#[cycle(walk)]
+#[tactic(auto, using(typing_parts::proofs::Noted::noted_rules))]
+fn call(
+    checker: &mut Checker,
+    alloc: Global,
+    funs: &Funs,
+    es: &Items<Expr>,
+    x: &Name,
+) -> Result<Option<TypeTerm>, NoMemory>
+    ensures { IfOk result (λ t. Judged funs.now.types.nodes checker.old checker.new (opt_ty funs.now.types.nodes t) (judge (ctx_of funs.now) (names funs.now.types.nodes checker.old) (name x.now (exs_of es.now)))) }
+{
+    let us = types_of(checker, alloc, funs, es)?;
+    let t = checker.close_call(alloc, funs, x, es.len(), us)?;
+    Ok(t)
+}
+
+/// A list of items.
+#[cycle(walk)]
+#[tactic(auto, using(typing_parts::proofs::Noted::noted_rules))]
+fn list(
+    checker: &mut Checker,
+    alloc: Global,
+    funs: &Funs,
+    es: &Items<Expr>,
+    p: Pos,
+) -> Result<Option<TypeTerm>, NoMemory>
+    ensures { IfOk result (λ t. Judged funs.now.types.nodes checker.old checker.new (opt_ty funs.now.types.nodes t) (judge (ctx_of funs.now) (names funs.now.types.nodes checker.old) (items p (exs_of es.now)))) }
+{
+    let ts = types_of(checker, alloc, funs, es)?;
+    let t = checker.close_items(alloc, &funs.types, p, ts)?;
+    Ok(t)
 }
 
 /// The types of expressions, where each has one.

@@ -1,7 +1,7 @@
 ghost use Rattle.std.specs.Prelude.{◌≡◌, ◌≤◌, ◌+◌, ◌-◌, ◌∷◌, [], IfOk, OnOk, min, max, length, drop};
 ghost use Rattle.rules_trees.specs.Trees.{ex_of, exs_of, arms_of, links_of, sum_links_of, list_links_of};
 ghost use Rattle.rules_typing.specs.Typing.{masked};
-ghost use Rattle.rules_typing.specs.TypingSizes.{extent, extents, link_extents, arm_extents, body_extent, over, beside};
+ghost use Rattle.rules_typing.specs.TypingSizes.{extent, extents, link_extents, arm_extents, body_extent, over, beside, higher};
 ghost use Rattle.rules_typing.specs.Typing.{look};
 ghost use Rattle.typing_parts.specs.Views.{scope_of, sigs_of};
 ghost use Rattle.typing_extents.specs.Measuring.{Extends, ext_of, exts_of};
@@ -154,22 +154,10 @@ impl Meter {
             Expr::Empty(_, _, _) => Ok(over(nothing())),
             Expr::Unary(_, _, a) => self.around(alloc, funs, a.get()),
             Expr::Side(_, _, _, _, a) => self.around(alloc, funs, a.get()),
-            Expr::Compare(a, _, _, b) => {
-                let x = self.extent(alloc, funs, a.get())?;
-                self.around_two(alloc, funs, b.get(), x)
-            }
-            Expr::Div(_, a, b) => {
-                let x = self.extent(alloc, funs, a.get())?;
-                self.around_two(alloc, funs, b.get(), x)
-            }
-            Expr::Mod(_, a, b) => {
-                let x = self.extent(alloc, funs, a.get())?;
-                self.around_two(alloc, funs, b.get(), x)
-            }
-            Expr::Pair(_, a, b) => {
-                let x = self.extent(alloc, funs, a.get())?;
-                self.around_two(alloc, funs, b.get(), x)
-            }
+            Expr::Compare(a, _, _, b) => self.around_both(alloc, funs, a.get(), b.get()),
+            Expr::Div(_, a, b) => self.around_both(alloc, funs, a.get(), b.get()),
+            Expr::Mod(_, a, b) => self.around_both(alloc, funs, a.get(), b.get()),
+            Expr::Pair(_, a, b) => self.around_both(alloc, funs, a.get(), b.get()),
             Expr::If(_, c, a, b) => {
                 let x = self.extent(alloc, funs, c.get())?;
                 let y = self.extent(alloc, funs, a.get())?;
@@ -180,21 +168,9 @@ impl Meter {
                 let y = self.under(alloc, funs, v, b.get())?;
                 Ok(over(beside(x, y)))
             }
-            Expr::Or(a, ks) => {
-                let x = self.extent(alloc, funs, a.get())?;
-                let y = self.links(alloc, funs, BinaryForm::Or, ks)?;
-                Ok(higher(beside(x, y)))
-            }
-            Expr::And(a, ks) => {
-                let x = self.extent(alloc, funs, a.get())?;
-                let y = self.links(alloc, funs, BinaryForm::And, ks)?;
-                Ok(higher(beside(x, y)))
-            }
-            Expr::Product(a, ks) => {
-                let x = self.extent(alloc, funs, a.get())?;
-                let y = self.links(alloc, funs, BinaryForm::Times, ks)?;
-                Ok(higher(beside(x, y)))
-            }
+            Expr::Or(a, ks) => self.chain(alloc, funs, ks, BinaryForm::Or, a.get()),
+            Expr::And(a, ks) => self.chain(alloc, funs, ks, BinaryForm::And, a.get()),
+            Expr::Product(a, ks) => self.chain(alloc, funs, ks, BinaryForm::Times, a.get()),
             Expr::Sum(a, ks) => {
                 let x = self.extent(alloc, funs, a.get())?;
                 let y = self.sum_links(alloc, funs, ks)?;
@@ -228,6 +204,21 @@ impl Meter {
         Ok(over(x))
     }
 
+    /// A node over two parts.
+    #[cycle(extents)]
+    fn around_both(
+        &mut self,
+        alloc: Global,
+        funs: &Funs,
+        a: &Expr,
+        b: &Expr,
+    ) -> Result<Extent, NoMemory>
+        ensures { IfOk result (λ x. Extends self.old self.new x (over (beside (extent (sigs_of funs.now.types.nodes funs.now.sigs) (exts_of self.old.extents) (scope_of [] self.old.scope.items) (ex_of a.now)) (extent (sigs_of funs.now.types.nodes funs.now.sigs) (exts_of self.old.extents) (scope_of [] self.old.scope.items) (ex_of b.now))))) }
+    {
+        let x = self.extent(alloc, funs, a)?;
+        self.around_two(alloc, funs, b, x)
+    }
+
     /// A node over two parts, after its first.
     #[cycle(extents)]
     fn around_two(
@@ -253,6 +244,23 @@ impl Meter {
             x = beside(x, y);
         }
         Ok(x)
+    }
+
+    /// An operand and the links of one operator.
+    #[cycle(extents)]
+    fn chain(
+        &mut self,
+        alloc: Global,
+        funs: &Funs,
+        ks: &Items<Link>,
+        o: BinaryForm,
+        a: &Expr,
+    ) -> Result<Extent, NoMemory>
+        ensures { IfOk result (λ x. Extends self.old self.new x (higher (beside (extent (sigs_of funs.now.types.nodes funs.now.sigs) (exts_of self.old.extents) (scope_of [] self.old.scope.items) (ex_of a.now)) (link_extents (sigs_of funs.now.types.nodes funs.now.sigs) (exts_of self.old.extents) (scope_of [] self.old.scope.items) (links_of o ks.now))))) }
+    {
+        let x = self.extent(alloc, funs, a)?;
+        let y = self.links(alloc, funs, o, ks)?;
+        Ok(higher(beside(x, y)))
     }
 
     #[cycle(extents)]

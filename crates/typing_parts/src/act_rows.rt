@@ -8,6 +8,7 @@ ghost use Rattle.typing_parts.specs.Judged.{Judged};
 
 use crate::checker::Checker;
 use crate::fault::Form;
+use crate::parts::Part;
 use hs_base::tree::forms::{
     BareAction, BinaryAction, BlockAction, GuardAction, MaskingAction, UnaryAction,
 };
@@ -50,61 +51,13 @@ impl Checker {
                 let t = cell_of(alloc, a)?;
                 Ok(self.unless_wide(types, p, t))
             }
-            UnaryAction::TakeMVar => self.row_take(alloc, types, p, a),
-            UnaryAction::ReadMVar => self.row_take(alloc, types, p, a),
+            UnaryAction::TakeMVar => self.its_part(alloc, types, p, Form::Cell, Part::Inner, a),
+            UnaryAction::ReadMVar => self.its_part(alloc, types, p, Form::Cell, Part::Inner, a),
             UnaryAction::TryTakeMVar => self.row_try_take(alloc, types, p, a),
             UnaryAction::KillThread => self.one(alloc, types, p, Base::Thread, a, Base::Unit),
             UnaryAction::ThreadDelay => self.one(alloc, types, p, Base::Int, a, Base::Unit),
-            UnaryAction::Wait => self.row_wait(alloc, types, p, a),
-            UnaryAction::Cancel => self.row_cancel(alloc, types, p, a),
-        }
-    }
-
-    fn row_wait(
-        &mut self,
-        alloc: Global,
-        types: &TypeTable,
-        p: Pos,
-        a: &TypeTerm,
-    ) -> Result<Option<TypeTerm>, NoMemory>
-        ensures { IfOk result (λ t. Judged types.now.nodes self.old self.new (opt_ty types.now.nodes t) (own p (row_unary_act UnaryAction.Wait (type_in types.now.nodes a.now)))) }
-    {
-        if self.fits(alloc, types, p, Form::Async, a)? {
-            Ok(Some(inner_part(alloc, types, a)?))
-        } else {
-            Ok(None)
-        }
-    }
-
-    fn row_cancel(
-        &mut self,
-        alloc: Global,
-        types: &TypeTable,
-        p: Pos,
-        a: &TypeTerm,
-    ) -> Result<Option<TypeTerm>, NoMemory>
-        ensures { IfOk result (λ t. Judged types.now.nodes self.old self.new (opt_ty types.now.nodes t) (own p (row_unary_act UnaryAction.Cancel (type_in types.now.nodes a.now)))) }
-    {
-        if self.fits(alloc, types, p, Form::Async, a)? {
-            Ok(Some(TypeTerm::Base(Base::Unit)))
-        } else {
-            Ok(None)
-        }
-    }
-
-    fn row_take(
-        &mut self,
-        alloc: Global,
-        types: &TypeTable,
-        p: Pos,
-        a: &TypeTerm,
-    ) -> Result<Option<TypeTerm>, NoMemory>
-        ensures { IfOk result (λ t. Judged types.now.nodes self.old self.new (opt_ty types.now.nodes t) (own p (row_unary_act UnaryAction.TakeMVar (type_in types.now.nodes a.now)))) }
-    {
-        if self.fits(alloc, types, p, Form::Cell, a)? {
-            Ok(Some(inner_part(alloc, types, a)?))
-        } else {
-            Ok(None)
+            UnaryAction::Wait => self.its_part(alloc, types, p, Form::Async, Part::Inner, a),
+            UnaryAction::Cancel => self.of_form(alloc, types, p, Form::Async, a, Base::Unit),
         }
     }
 
@@ -156,45 +109,7 @@ impl Checker {
         if !self.is_base(alloc, types, p, Base::Thread, a)? {
             return Ok(None);
         }
-        if self.is_base(alloc, types, p, Base::Exn, b)? {
-            Ok(Some(TypeTerm::Base(Base::Unit)))
-        } else {
-            Ok(None)
-        }
-    }
-
-    fn row_throw(
-        &mut self,
-        alloc: Global,
-        types: &TypeTable,
-        p: Pos,
-        t: &TypeTerm,
-        a: &TypeTerm,
-    ) -> Result<Option<TypeTerm>, NoMemory>
-        ensures { IfOk result (λ r. Judged types.now.nodes self.old self.new (opt_ty types.now.nodes r) (own p (row_throw (type_in types.now.nodes t.now) (type_in types.now.nodes a.now)))) }
-    {
-        if self.is_base(alloc, types, p, Base::Exn, a)? {
-            Ok(Some(t.copy(alloc)?))
-        } else {
-            Ok(None)
-        }
-    }
-
-    fn row_timeout(
-        &mut self,
-        alloc: Global,
-        types: &TypeTable,
-        p: Pos,
-        a: &TypeTerm,
-        b: &TypeTerm,
-    ) -> Result<Option<TypeTerm>, NoMemory>
-        ensures { IfOk result (λ r. Judged types.now.nodes self.old self.new (opt_ty types.now.nodes r) (own p (row_timeout (type_in types.now.nodes a.now) (type_in types.now.nodes b.now)))) }
-    {
-        if !self.is_base(alloc, types, p, Base::Int, a)? {
-            return Ok(None);
-        }
-        let t = maybe_of(alloc, b)?;
-        Ok(self.unless_wide(types, p, t))
+        self.one(alloc, types, p, Base::Exn, b, Base::Unit)
     }
 
     pub fn close_unary_act(
@@ -207,10 +122,8 @@ impl Checker {
     ) -> Result<Option<TypeTerm>, NoMemory>
         ensures { IfOk result (λ t. Judged types.now.nodes self.old self.new (opt_ty types.now.nodes t) (with1 (opt_ty types.now.nodes a) (λ u. own p (row_unary_act o u)))) }
     {
-        match a {
-            None => Ok(None),
-            Some(a) => self.row_unary_act(alloc, types, p, o, &a),
-        }
+        let Some(a) = a else { return Ok(None) };
+        self.row_unary_act(alloc, types, p, o, &a)
     }
 
     pub fn close_binary_act(
@@ -224,13 +137,9 @@ impl Checker {
     ) -> Result<Option<TypeTerm>, NoMemory>
         ensures { IfOk result (λ t. Judged types.now.nodes self.old self.new (opt_ty types.now.nodes t) (with2 (opt_ty types.now.nodes a) (opt_ty types.now.nodes b) (λ u v. own p (row_binary_act o u v)))) }
     {
-        match a {
-            None => Ok(None),
-            Some(a) => match b {
-                None => Ok(None),
-                Some(b) => self.row_binary_act(alloc, types, p, o, &a, &b),
-            },
-        }
+        let Some(a) = a else { return Ok(None) };
+        let Some(b) = b else { return Ok(None) };
+        self.row_binary_act(alloc, types, p, o, &a, &b)
     }
 
     pub fn close_throw(
@@ -243,12 +152,12 @@ impl Checker {
     ) -> Result<Option<TypeTerm>, NoMemory>
         ensures { IfOk result (λ r. Judged types.now.nodes self.old self.new (opt_ty types.now.nodes r) (with2 (opt_ty types.now.nodes t) (opt_ty types.now.nodes a) (λ u v. own p (row_throw u v)))) }
     {
-        match t {
-            None => Ok(None),
-            Some(t) => match a {
-                None => Ok(None),
-                Some(a) => self.row_throw(alloc, types, p, &t, &a),
-            },
+        let Some(t) = t else { return Ok(None) };
+        let Some(a) = a else { return Ok(None) };
+        if self.is_base(alloc, types, p, Base::Exn, &a)? {
+            Ok(Some(t))
+        } else {
+            Ok(None)
         }
     }
 
@@ -262,13 +171,13 @@ impl Checker {
     ) -> Result<Option<TypeTerm>, NoMemory>
         ensures { IfOk result (λ r. Judged types.now.nodes self.old self.new (opt_ty types.now.nodes r) (with2 (opt_ty types.now.nodes a) (opt_ty types.now.nodes b) (λ u v. own p (row_timeout u v)))) }
     {
-        match a {
-            None => Ok(None),
-            Some(a) => match b {
-                None => Ok(None),
-                Some(b) => self.row_timeout(alloc, types, p, &a, &b),
-            },
+        let Some(a) = a else { return Ok(None) };
+        let Some(b) = b else { return Ok(None) };
+        if !self.is_base(alloc, types, p, Base::Int, &a)? {
+            return Ok(None);
         }
+        let t = maybe_of(alloc, &b)?;
+        Ok(self.unless_wide(types, p, t))
     }
 
     pub fn close_new_empty(
@@ -280,13 +189,9 @@ impl Checker {
     ) -> Result<Option<TypeTerm>, NoMemory>
         ensures { IfOk result (λ r. Judged types.now.nodes self.old self.new (opt_ty types.now.nodes r) (with1 (opt_ty types.now.nodes t) (λ u. own p (row_new_empty u)))) }
     {
-        match t {
-            None => Ok(None),
-            Some(t) => {
-                let made = cell_of(alloc, &t)?;
-                Ok(self.unless_wide(types, p, made))
-            }
-        }
+        let Some(t) = t else { return Ok(None) };
+        let made = cell_of(alloc, &t)?;
+        Ok(self.unless_wide(types, p, made))
     }
 
     pub fn close_scoped(
@@ -299,13 +204,11 @@ impl Checker {
     ) -> Result<Option<TypeTerm>, NoMemory>
         ensures { IfOk result (λ t. Judged types.now.nodes self.old self.new (opt_ty types.now.nodes t) (with1 (opt_ty types.now.nodes a) (λ u. own p (row_scoped o u)))) }
     {
-        match a {
-            None => Ok(None),
-            Some(a) => match o {
-                BlockAction::ForkIo => self.one(alloc, types, p, Base::Unit, &a, Base::Thread),
-                BlockAction::MaskOnly => Ok(Some(a)),
-                BlockAction::UninterruptibleMaskOnly => Ok(Some(a)),
-            },
+        let Some(a) = a else { return Ok(None) };
+        match o {
+            BlockAction::ForkIo => self.one(alloc, types, p, Base::Unit, &a, Base::Thread),
+            BlockAction::MaskOnly => Ok(Some(a)),
+            BlockAction::UninterruptibleMaskOnly => Ok(Some(a)),
         }
     }
 
@@ -319,20 +222,13 @@ impl Checker {
     ) -> Result<Option<TypeTerm>, NoMemory>
         ensures { IfOk result (λ t. Judged types.now.nodes self.old self.new (opt_ty types.now.nodes t) (with1 (opt_ty types.now.nodes a) (λ u. own p (row_masking o u)))) }
     {
-        match a {
-            None => Ok(None),
-            Some(a) => match o {
-                MaskingAction::ForkIoWithUnmask => self.one(
-                    alloc,
-                    types,
-                    p,
-                    Base::Unit,
-                    &a,
-                    Base::Thread,
-                ),
-                MaskingAction::Mask => Ok(Some(a)),
-                MaskingAction::UninterruptibleMask => Ok(Some(a)),
-            },
+        let Some(a) = a else { return Ok(None) };
+        match o {
+            MaskingAction::ForkIoWithUnmask => {
+                self.one(alloc, types, p, Base::Unit, &a, Base::Thread)
+            }
+            MaskingAction::Mask => Ok(Some(a)),
+            MaskingAction::UninterruptibleMask => Ok(Some(a)),
         }
     }
 
@@ -347,17 +243,9 @@ impl Checker {
     ) -> Result<Option<TypeTerm>, NoMemory>
         ensures { IfOk result (λ t. Judged types.now.nodes self.old self.new (opt_ty types.now.nodes t) (with1 (opt_ty types.now.nodes a) (λ v. own p (row_modify (type_in types.now.nodes m.now) v)))) }
     {
-        match a {
-            None => Ok(None),
-            Some(a) => {
-                let part = inner_part(alloc, types, m)?;
-                if self.is(alloc, types, p, &part, &a)? {
-                    Ok(Some(TypeTerm::Base(Base::Unit)))
-                } else {
-                    Ok(None)
-                }
-            }
-        }
+        let Some(a) = a else { return Ok(None) };
+        let part = inner_part(alloc, types, m)?;
+        self.of_type(alloc, types, p, &part, &a, Base::Unit)
     }
 
     /// The first block's type, or one of both.
@@ -397,13 +285,9 @@ impl Checker {
     ) -> Result<Option<TypeTerm>, NoMemory>
         ensures { IfOk result (λ t. Judged types.now.nodes self.old self.new (opt_ty types.now.nodes t) (with2 (opt_ty types.now.nodes a) (opt_ty types.now.nodes b) (λ u v. own p (row_guard o u v)))) }
     {
-        match a {
-            None => Ok(None),
-            Some(a) => match b {
-                None => Ok(None),
-                Some(b) => self.row_guard(alloc, types, p, o, a, &b),
-            },
-        }
+        let Some(a) = a else { return Ok(None) };
+        let Some(b) = b else { return Ok(None) };
+        self.row_guard(alloc, types, p, o, a, &b)
     }
 
     /// What a `withAsync` binds, where the action that runs beside its block has type `a`.
@@ -430,13 +314,8 @@ impl Checker {
     ) -> Option<TypeTerm>
         ensures { Judged _types.now.nodes self.old self.new (opt_ty _types.now.nodes result) (with2 (opt_ty _types.now.nodes a) (opt_ty _types.now.nodes b) (λ u v. own p (row_bracket u v))) }
     {
-        match a {
-            None => None,
-            Some(_) => match b {
-                None => None,
-                Some(b) => Some(b),
-            },
-        }
+        let _ = a?;
+        b
     }
 
     /// A cell of some type, and a value of that type.
@@ -455,25 +334,6 @@ impl Checker {
             return Ok(None);
         }
         let part = inner_part(alloc, types, a)?;
-        let r = self.of_part(alloc, types, p, &part, b, t)?;
-        Ok(r)
-    }
-
-    fn of_part(
-        &mut self,
-        alloc: Global,
-        types: &TypeTable,
-        p: Pos,
-        want: &TypeTerm,
-        got: &TypeTerm,
-        t: Base,
-    ) -> Result<Option<TypeTerm>, NoMemory>
-        ensures { IfOk result (λ r. Judged types.now.nodes self.old self.new (opt_ty types.now.nodes r) (own p (gives (is (type_in types.now.nodes want.now) (type_in types.now.nodes got.now) ∷ []) (base_of t)))) }
-    {
-        if self.is(alloc, types, p, want, got)? {
-            Ok(Some(TypeTerm::Base(t)))
-        } else {
-            Ok(None)
-        }
+        self.of_type(alloc, types, p, &part, b, t)
     }
 }

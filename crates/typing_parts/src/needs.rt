@@ -2,13 +2,13 @@ ghost use Rattle.std.specs.Prelude.{◌≡◌, [], ◌∷◌, IfOk, map, true};
 ghost use Rattle.typing_table.specs.Meaning.{base_of, type_in};
 ghost use Rattle.rules_typing.specs.Typing.{is, of, gives, is_each};
 ghost use Rattle.typing_judge.specs.Judging.{own, made};
-ghost use Rattle.typing_parts.specs.Views.{form_of, opt_ty, place_types, tys_of};
+ghost use Rattle.typing_parts.specs.Views.{form_of, opt_ty, part_of, place_types, tys_of};
 ghost use Rattle.typing_parts.specs.Judged.{Judged, Needed, AllNeeded};
 
 use crate::checker::Checker;
 use crate::fault::Form;
 use crate::first::{Asked, Broken};
-use crate::parts::is_form;
+use crate::parts::{Part, is_form, that_part};
 use hs_base::{NoMemory, Pos};
 use std::alloc::Global;
 use typing_table::base::Base;
@@ -87,6 +87,63 @@ impl Checker {
         Ok(same)
     }
 
+    /// A row with one need, that a part is of this type.
+    pub fn of_type(
+        &mut self,
+        alloc: Global,
+        types: &TypeTable,
+        p: Pos,
+        want: &TypeTerm,
+        got: &TypeTerm,
+        t: Base,
+    ) -> Result<Option<TypeTerm>, NoMemory>
+        ensures { IfOk result (λ r. Judged types.now.nodes self.old self.new (opt_ty types.now.nodes r) (own p (gives (is (type_in types.now.nodes want.now) (type_in types.now.nodes got.now) ∷ []) (base_of t)))) }
+    {
+        if self.is(alloc, types, p, want, got)? {
+            Ok(Some(TypeTerm::Base(t)))
+        } else {
+            Ok(None)
+        }
+    }
+
+    /// A row with one need, that a part is of a form.
+    pub fn of_form(
+        &mut self,
+        alloc: Global,
+        types: &TypeTable,
+        p: Pos,
+        form: Form,
+        got: &TypeTerm,
+        t: Base,
+    ) -> Result<Option<TypeTerm>, NoMemory>
+        ensures { IfOk result (λ r. Judged types.now.nodes self.old self.new (opt_ty types.now.nodes r) (own p (gives (of (form_of form) (type_in types.now.nodes got.now) ∷ []) (base_of t)))) }
+    {
+        if self.fits(alloc, types, p, form, got)? {
+            Ok(Some(TypeTerm::Base(t)))
+        } else {
+            Ok(None)
+        }
+    }
+
+    /// A row that asks a form of its part, and gives what that part is of.
+    pub fn its_part(
+        &mut self,
+        alloc: Global,
+        types: &TypeTable,
+        p: Pos,
+        form: Form,
+        which: Part,
+        got: &TypeTerm,
+    ) -> Result<Option<TypeTerm>, NoMemory>
+        ensures { IfOk result (λ r. Judged types.now.nodes self.old self.new (opt_ty types.now.nodes r) (own p (gives (of (form_of form) (type_in types.now.nodes got.now) ∷ []) (part_of which (type_in types.now.nodes got.now))))) }
+    {
+        if self.fits(alloc, types, p, form, got)? {
+            Ok(Some(that_part(alloc, types, which, got)?))
+        } else {
+            Ok(None)
+        }
+    }
+
     /// A row with one need, that a part is of a type.
     pub fn one(
         &mut self,
@@ -99,11 +156,8 @@ impl Checker {
     ) -> Result<Option<TypeTerm>, NoMemory>
         ensures { IfOk result (λ r. Judged types.now.nodes self.old self.new (opt_ty types.now.nodes r) (own p (gives (is (base_of want) (type_in types.now.nodes got.now) ∷ []) (base_of t)))) }
     {
-        if self.is_base(alloc, types, p, want, got)? {
-            Ok(Some(TypeTerm::Base(t)))
-        } else {
-            Ok(None)
-        }
+        let want = TypeTerm::Base(want);
+        self.of_type(alloc, types, p, &want, got, t)
     }
 
     /// A row that asks one type of two parts.
@@ -122,11 +176,7 @@ impl Checker {
         if !self.is_base(alloc, types, p, want, a)? {
             return Ok(None);
         }
-        if self.is_base(alloc, types, p, want, b)? {
-            Ok(Some(TypeTerm::Base(t)))
-        } else {
-            Ok(None)
-        }
+        self.one(alloc, types, p, want, b, t)
     }
 
     /// A row that asks a form of its first part, and of the second that it is the same.
@@ -145,11 +195,7 @@ impl Checker {
         if !self.fits(alloc, types, p, form, a)? {
             return Ok(None);
         }
-        if self.is(alloc, types, p, a, b)? {
-            Ok(Some(TypeTerm::Base(t)))
-        } else {
-            Ok(None)
-        }
+        self.of_type(alloc, types, p, a, b, t)
     }
 
     /// Each is of the type, or a mismatch is noted for the first that isn't.

@@ -9,13 +9,13 @@ ghost use Rattle.typing_parts.specs.Judged.{Judged};
 use crate::checker::Checker;
 use crate::fault::Form;
 use crate::first::Broken;
+use crate::parts::Part;
 use hs_base::tree::Written;
 use hs_base::tree::forms::{BinaryForm, EmptyForm, SideForm, UnaryForm};
 use hs_base::{NoMemory, Pos};
 use hs_items::Items;
 use std::alloc::Global;
 use typing_table::base::Base;
-use typing_table::parts::{first_part, second_part};
 use typing_table::table::TypeTable;
 use typing_table::ty::{TypeTerm, either_of, list_of, maybe_of, pair_of};
 use typing_table::widths::is_wide_written;
@@ -40,58 +40,10 @@ impl Checker {
             }
             UnaryForm::ErrorCall => self.one(alloc, types, p, Base::Text, a, Base::Exn),
             UnaryForm::Not => self.one(alloc, types, p, Base::Bool, a, Base::Bool),
-            UnaryForm::Fst => self.row_first(alloc, types, p, a),
-            UnaryForm::Snd => self.row_second(alloc, types, p, a),
-            UnaryForm::Show => self.row_show(alloc, types, p, a),
+            UnaryForm::Fst => self.its_part(alloc, types, p, Form::Pair, Part::First, a),
+            UnaryForm::Snd => self.its_part(alloc, types, p, Form::Pair, Part::Second, a),
+            UnaryForm::Show => self.of_form(alloc, types, p, Form::Show, a, Base::Text),
             UnaryForm::Negate => self.one(alloc, types, p, Base::Int, a, Base::Int),
-        }
-    }
-
-    fn row_first(
-        &mut self,
-        alloc: Global,
-        types: &TypeTable,
-        p: Pos,
-        a: &TypeTerm,
-    ) -> Result<Option<TypeTerm>, NoMemory>
-        ensures { IfOk result (λ t. Judged types.now.nodes self.old self.new (opt_ty types.now.nodes t) (own p (row_unary UnaryForm.Fst (type_in types.now.nodes a.now)))) }
-    {
-        if self.fits(alloc, types, p, Form::Pair, a)? {
-            Ok(Some(first_part(alloc, types, a)?))
-        } else {
-            Ok(None)
-        }
-    }
-
-    fn row_second(
-        &mut self,
-        alloc: Global,
-        types: &TypeTable,
-        p: Pos,
-        a: &TypeTerm,
-    ) -> Result<Option<TypeTerm>, NoMemory>
-        ensures { IfOk result (λ t. Judged types.now.nodes self.old self.new (opt_ty types.now.nodes t) (own p (row_unary UnaryForm.Snd (type_in types.now.nodes a.now)))) }
-    {
-        if self.fits(alloc, types, p, Form::Pair, a)? {
-            Ok(Some(second_part(alloc, types, a)?))
-        } else {
-            Ok(None)
-        }
-    }
-
-    fn row_show(
-        &mut self,
-        alloc: Global,
-        types: &TypeTable,
-        p: Pos,
-        a: &TypeTerm,
-    ) -> Result<Option<TypeTerm>, NoMemory>
-        ensures { IfOk result (λ t. Judged types.now.nodes self.old self.new (opt_ty types.now.nodes t) (own p (row_unary UnaryForm.Show (type_in types.now.nodes a.now)))) }
-    {
-        if self.fits(alloc, types, p, Form::Show, a)? {
-            Ok(Some(TypeTerm::Base(Base::Text)))
-        } else {
-            Ok(None)
         }
     }
 
@@ -147,27 +99,6 @@ impl Checker {
         }
     }
 
-    fn row_choose(
-        &mut self,
-        alloc: Global,
-        types: &TypeTable,
-        p: Pos,
-        c: &TypeTerm,
-        a: &TypeTerm,
-        b: &TypeTerm,
-    ) -> Result<Option<TypeTerm>, NoMemory>
-        ensures { IfOk result (λ t. Judged types.now.nodes self.old self.new (opt_ty types.now.nodes t) (own p (row_choose (type_in types.now.nodes c.now) (type_in types.now.nodes a.now) (type_in types.now.nodes b.now)))) }
-    {
-        if !self.is_base(alloc, types, p, Base::Bool, c)? {
-            return Ok(None);
-        }
-        if self.is(alloc, types, p, a, b)? {
-            Ok(Some(a.copy(alloc)?))
-        } else {
-            Ok(None)
-        }
-    }
-
     fn row_arms(
         &mut self,
         alloc: Global,
@@ -183,51 +114,6 @@ impl Checker {
         } else {
             Ok(None)
         }
-    }
-
-    fn row_empty(
-        &mut self,
-        alloc: Global,
-        types: &TypeTable,
-        p: Pos,
-        o: EmptyForm,
-        t: &TypeTerm,
-    ) -> Result<Option<TypeTerm>, NoMemory>
-        ensures { IfOk result (λ r. Judged types.now.nodes self.old self.new (opt_ty types.now.nodes r) (own p (row_empty o (type_in types.now.nodes t.now)))) }
-    {
-        match o {
-            EmptyForm::Nothing => {
-                let made = maybe_of(alloc, t)?;
-                Ok(self.unless_wide(types, p, made))
-            }
-            EmptyForm::EmptyList => {
-                let made = list_of(alloc, t)?;
-                Ok(self.unless_wide(types, p, made))
-            }
-        }
-    }
-
-    fn row_side(
-        &mut self,
-        alloc: Global,
-        types: &TypeTable,
-        p: Pos,
-        o: SideForm,
-        s: &TypeTerm,
-        t: &TypeTerm,
-        a: &TypeTerm,
-    ) -> Result<Option<TypeTerm>, NoMemory>
-        ensures { IfOk result (λ r. Judged types.now.nodes self.old self.new (opt_ty types.now.nodes r) (own p (row_side o (type_in types.now.nodes s.now) (type_in types.now.nodes t.now) (type_in types.now.nodes a.now)))) }
-    {
-        let part = match o {
-            SideForm::Left => s,
-            SideForm::Right => t,
-        };
-        if !self.is(alloc, types, p, part, a)? {
-            return Ok(None);
-        }
-        let made = either_of(alloc, s, t)?;
-        Ok(self.unless_wide(types, p, made))
     }
 
     /// A written type, where it isn't too wide.
@@ -256,10 +142,8 @@ impl Checker {
     ) -> Result<Option<TypeTerm>, NoMemory>
         ensures { IfOk result (λ t. Judged types.now.nodes self.old self.new (opt_ty types.now.nodes t) (with1 (opt_ty types.now.nodes a) (λ u. own p (row_unary o u)))) }
     {
-        match a {
-            None => Ok(None),
-            Some(a) => self.row_unary(alloc, types, p, o, &a),
-        }
+        let Some(a) = a else { return Ok(None) };
+        self.row_unary(alloc, types, p, o, &a)
     }
 
     pub fn close_binary(
@@ -273,13 +157,9 @@ impl Checker {
     ) -> Result<Option<TypeTerm>, NoMemory>
         ensures { IfOk result (λ t. Judged types.now.nodes self.old self.new (opt_ty types.now.nodes t) (with2 (opt_ty types.now.nodes a) (opt_ty types.now.nodes b) (λ u v. own p (row_binary o u v)))) }
     {
-        match a {
-            None => Ok(None),
-            Some(a) => match b {
-                None => Ok(None),
-                Some(b) => self.row_binary(alloc, types, p, o, &a, &b),
-            },
-        }
+        let Some(a) = a else { return Ok(None) };
+        let Some(b) = b else { return Ok(None) };
+        self.row_binary(alloc, types, p, o, &a, &b)
     }
 
     pub fn close_choose(
@@ -293,16 +173,13 @@ impl Checker {
     ) -> Result<Option<TypeTerm>, NoMemory>
         ensures { IfOk result (λ t. Judged types.now.nodes self.old self.new (opt_ty types.now.nodes t) (with3 (opt_ty types.now.nodes c) (opt_ty types.now.nodes a) (opt_ty types.now.nodes b) (λ u v w. own p (row_choose u v w)))) }
     {
-        match c {
-            None => Ok(None),
-            Some(c) => match a {
-                None => Ok(None),
-                Some(a) => match b {
-                    None => Ok(None),
-                    Some(b) => self.row_choose(alloc, types, p, &c, &a, &b),
-                },
-            },
+        let Some(c) = c else { return Ok(None) };
+        let Some(a) = a else { return Ok(None) };
+        let Some(b) = b else { return Ok(None) };
+        if !self.is_base(alloc, types, p, Base::Bool, &c)? {
+            return Ok(None);
         }
+        self.row_arms(alloc, types, p, &a, &b)
     }
 
     pub fn close_arms(
@@ -315,13 +192,9 @@ impl Checker {
     ) -> Result<Option<TypeTerm>, NoMemory>
         ensures { IfOk result (λ t. Judged types.now.nodes self.old self.new (opt_ty types.now.nodes t) (with2 (opt_ty types.now.nodes a) (opt_ty types.now.nodes b) (λ u v. own p (row_arms u v)))) }
     {
-        match a {
-            None => Ok(None),
-            Some(a) => match b {
-                None => Ok(None),
-                Some(b) => self.row_arms(alloc, types, p, &a, &b),
-            },
-        }
+        let Some(a) = a else { return Ok(None) };
+        let Some(b) = b else { return Ok(None) };
+        self.row_arms(alloc, types, p, &a, &b)
     }
 
     pub fn close_empty(
@@ -334,10 +207,12 @@ impl Checker {
     ) -> Result<Option<TypeTerm>, NoMemory>
         ensures { IfOk result (λ r. Judged types.now.nodes self.old self.new (opt_ty types.now.nodes r) (with1 (opt_ty types.now.nodes t) (λ u. own p (row_empty o u)))) }
     {
-        match t {
-            None => Ok(None),
-            Some(t) => self.row_empty(alloc, types, p, o, &t),
-        }
+        let Some(t) = t else { return Ok(None) };
+        let made = match o {
+            EmptyForm::Nothing => maybe_of(alloc, &t)?,
+            EmptyForm::EmptyList => list_of(alloc, &t)?,
+        };
+        Ok(self.unless_wide(types, p, made))
     }
 
     pub fn close_side(
@@ -352,16 +227,18 @@ impl Checker {
     ) -> Result<Option<TypeTerm>, NoMemory>
         ensures { IfOk result (λ r. Judged types.now.nodes self.old self.new (opt_ty types.now.nodes r) (with3 (opt_ty types.now.nodes s) (opt_ty types.now.nodes t) (opt_ty types.now.nodes a) (λ u v w. own p (row_side o u v w)))) }
     {
-        match s {
-            None => Ok(None),
-            Some(s) => match t {
-                None => Ok(None),
-                Some(t) => match a {
-                    None => Ok(None),
-                    Some(a) => self.row_side(alloc, types, p, o, &s, &t, &a),
-                },
-            },
+        let Some(s) = s else { return Ok(None) };
+        let Some(t) = t else { return Ok(None) };
+        let Some(a) = a else { return Ok(None) };
+        let part = match o {
+            SideForm::Left => &s,
+            SideForm::Right => &t,
+        };
+        if !self.is(alloc, types, p, part, &a)? {
+            return Ok(None);
         }
+        let made = either_of(alloc, &s, &t)?;
+        Ok(self.unless_wide(types, p, made))
     }
 
     #[tactic(auto, using(typing_table::proofs::Equations::type_rules, crate::proofs::Noted::need_rules))]

@@ -3,9 +3,9 @@ use Rattle.hs_base.specs.declared.tree.action.BlockArms.{BlockArms}
 use Rattle.rules_trees.specs.Trees.{ex_of}
 use Rattle.rules_trees.specs.Programs.{case_act, act_of, act_arms_of, bl_of, stmt_of}
 use Rattle.rules_typing.specs.Typing.{a_cell, bound, inner_of, of}
-use Rattle.rules_typing.specs.TypingActions.{form_of_acts, row_async, row_modify, row_timeout}
-use Rattle.rules_trees.proofs.EquationsOfActions.{act-NewEmptyMVar, act-ThrowIo, act-Call, act-Unary, act-Binary, act-Scoped, act-Masking, act-Restore, act-Case, act-ModifyMVar, act-Timeout, act-WithAsync, stmt-Bind, stmt-Let}
-use Rattle.typing_judge.specs.Judging.{judge, needing, own, part, unless_full}
+use Rattle.rules_typing.specs.TypingActions.{form_of_acts, row_async, row_bracket, row_modify, row_timeout}
+use Rattle.rules_trees.proofs.EquationsOfActions.{act-NewEmptyMVar, act-ThrowIo, act-Call, act-Unary, act-Binary, act-Scoped, act-Masking, act-Restore, act-Case, act-ModifyMVar, act-Bracket, act-Timeout, act-WithAsync, stmt-Bind, stmt-Let}
+use Rattle.typing_judge.specs.Judging.{judge, needing, own, part, parts2, unless_full}
 use Rattle.typing_judge.specs.JudgingActions.{judge_act, judge_act_arms, judge_bl}
 use Rattle.typing_parts.specs.Contexts.{ctx_of}
 use Rattle.typing_parts.specs.Views.{opt_ty}
@@ -50,6 +50,12 @@ action-returns-in_ok-t-in-ModifyMVar t c =
     let k = ctx_of c.args.funs.now in
     tail1 c.args.funs.now.types.nodes c.args.checker.now c.type_of-in-ModifyMVar.new.checker _ _ _ _ _ (λ s u. needing c.in-ModifyMVar.p (of a_cell u ∷ []) (part (unless_full s c.in-ModifyMVar.x (judge_bl k (bound c.in-ModifyMVar.x (inner_of u) ∷ s) (bl_of c.in-ModifyMVar.b))) (λ v. own c.in-ModifyMVar.p (row_modify u v))))
     (ap (judge_act (ctx_of c.args.funs.now) (names c.args.funs.now.types.nodes c.args.checker.now)) (ap act_of c.in-ModifyMVar.is ∙ act-ModifyMVar c.in-ModifyMVar.p c.in-ModifyMVar.e c.in-ModifyMVar.x c.in-ModifyMVar.b)) c.in_ok-t-in-ModifyMVar.ensures c.in_cell.ensures
+
+pub action-returns-in_ok-t-in-Bracket : goal.action-returns-in_ok-t-in-Bracket
+action-returns-in_ok-t-in-Bracket t c =
+    let k = ctx_of c.args.funs.now in
+    tail1 c.args.funs.now.types.nodes c.args.checker.now c.block-in-Bracket.new.checker _ _ _ _ _ (λ s u. unless_full s c.in-Bracket.x (parts2 (judge_bl k (bound c.in-Bracket.x u ∷ s) (bl_of c.in-Bracket.d)) (judge_bl k (bound c.in-Bracket.x u ∷ s) (bl_of c.in-Bracket.h)) (λ v w. own c.in-Bracket.p (row_bracket v w))))
+    (ap (judge_act (ctx_of c.args.funs.now) (names c.args.funs.now.types.nodes c.args.checker.now)) (ap act_of c.in-Bracket.is ∙ act-Bracket c.in-Bracket.p c.in-Bracket.b c.in-Bracket.x c.in-Bracket.d c.in-Bracket.h)) c.in_ok-t-in-Bracket.ensures c.in_bracket.ensures
 
 pub action-returns-in_ok-t-in-Timeout : goal.action-returns-in_ok-t-in-Timeout
 action-returns-in_ok-t-in-Timeout t c =

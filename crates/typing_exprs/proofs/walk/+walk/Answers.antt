@@ -1,13 +1,14 @@
-use Rattle.std.proofs.Common.{◌≡◌, ◌+◌, length, drop, get_or, ap, ◌∙◌, sym, subst, arith, refl}
-use Rattle.rules_trees.specs.Trees.{binary, ex_of, exs_of, links_of, sum_links_of, list_links_of, compare_form, sum_form, cons_form}
-use Rattle.rules_trees.proofs.Equations.{ex-Compare}
+use Rattle.std.proofs.Common.{◌+◌, length, drop, get_or, ap, ◌∙◌, sym, subst, arith, refl}
+use Rattle.std.specs.Prelude.{IfOk}
+use Rattle.rules_trees.specs.Trees.{ex_of, exs_of, links_of, sum_links_of, list_links_of, sum_form, cons_form}
+use Rattle.rules_trees.proofs.Equations.{ex-Call, ex-List}
 use Rattle.typing_judge.specs.Judging.{judge, judges, judge_links, typed}
 use Rattle.typing_parts.specs.Contexts.{ctx_of}
 use Rattle.typing_parts.specs.Views.{opt_ty, opt_tys}
 use Rattle.typing_parts.specs.Judged.{names, Judged}
 use Rattle.typing_parts.proofs.Noted.{opt_tys-pushed}
 use Rattle.typing_parts.proofs.Chains.{gathered-length, links-drop, sum_links-drop, list_links-drop}
-use Rattle.typing_exprs.proofs.Steps.{binary_step, link_step, operand_step, part_step}
+use Rattle.typing_exprs.proofs.Steps.{link_step, operand_step, part_step}
 use Rattle.typing_exprs.proofs.walk.+walk.Goals as goal
 
 pub conses-close_conses-requires : goal.conses-close_conses-requires
@@ -64,18 +65,16 @@ types_of-parts-preserved t c =
     c.parts.invariant.types c.parts.invariant.faults c.in_ok-t.ensures (ap (opt_tys ms) c.in_ok-ts.ensures ∙ opt_tys-pushed ms c.parts.ts c.in_ok-t.t) in
     record { scope = c.in_ok-t.ensures.scope ∙ c.parts.invariant.scope; types = w.0; faults = w.1 }
 
-pub type_of-returns-in_ok-r-in-Compare : goal.type_of-returns-in_ok-r-in-Compare
-type_of-returns-in_ok-r-in-Compare t c =
+pub type_of-returns-in-Call : goal.type_of-returns-in-Call
+type_of-returns-in-Call t c =
     let ms = c.args.funs.now.types.nodes in
     let f = ctx_of c.args.funs.now in
     let s = names ms c.args.checker.now in
-    let v = c.in-Compare in
-    let a = c.get-in-Compare.result.now in
-    let b = c.get-in-Compare-2.result.now in
-    let o = compare_form v.o in
-    let u = opt_ty ms c.in_ok-t-in-Compare.t in
-    let r = opt_ty ms c.in_ok-r-in-Compare.r in
-    let e : ex_of c.args.e.now ≡ binary o v.p (ex_of a) (ex_of b) =
-    ap ex_of v.is ∙ (ex-Compare v.a v.o v.p v.b ∙ (ap (λ z. binary o v.p (ex_of z) (ex_of v.b)) (sym c.get-in-Compare.ensures) ∙ ap (λ z. binary o v.p (ex_of a) (ex_of z)) (sym c.get-in-Compare-2.ensures))) in
-    subst (λ z. Judged ms c.args.checker.now c.second.new.checker r (judge f s z)) (sym e)
-    (binary_step ms f c.args.checker.now c.type_of.new.checker c.second.new.checker o c.compare_form.result v.p (ex_of a) (ex_of b) u r c.compare_form.ensures c.in_ok-t-in-Compare.ensures c.in_ok-r-in-Compare.ensures)
+    subst (λ z. IfOk c.call.result (λ r. Judged ms c.args.checker.now c.call.new.checker (opt_ty ms r) (judge f s z))) (sym (ap ex_of c.in-Call.is ∙ ex-Call c.in-Call.x c.in-Call.es)) c.call.ensures
+
+pub type_of-returns-in-List : goal.type_of-returns-in-List
+type_of-returns-in-List t c =
+    let ms = c.args.funs.now.types.nodes in
+    let f = ctx_of c.args.funs.now in
+    let s = names ms c.args.checker.now in
+    subst (λ z. IfOk c.list.result (λ r. Judged ms c.args.checker.now c.list.new.checker (opt_ty ms r) (judge f s z))) (sym (ap ex_of c.in-List.is ∙ ex-List c.in-List.p c.in-List.es)) c.list.ensures

@@ -1,4 +1,4 @@
-use Rattle.std.proofs.Common.{ap, ◌∙◌, sym}
+use Rattle.std.proofs.Common.{refl, ap, ◌∙◌, sym}
 use Rattle.hs_base.specs.declared.tree.expr.ExprArms.{ExprArms}
 use Rattle.hs_base.specs.declared.tree.forms.BinaryForm.TheVariants as bf
 use Rattle.rules_trees.specs.Trees.{ex_of, exs_of, arms_of, links_of, sum_links_of, list_links_of}
@@ -57,49 +57,70 @@ extent-returns-in-Side t c =
     let v = c.in-Side in
     tail0 _ _ _ _ _ (ap (λ z. at (tree_at gs z) o) (ap ex_of v.is ∙ ex-Side _ _ _ _ v.a) ∙ ap (λ z. rule.over (at (ex_at gs z) o)) (sym c.get-in-Side.ensures)) c.around-in-Side.ensures
 
-pub extent-returns-in_ok-x-in-Compare : goal.extent-returns-in_ok-x-in-Compare
-extent-returns-in_ok-x-in-Compare t c =
+pub extent-returns-in-Compare : goal.extent-returns-in-Compare
+extent-returns-in-Compare t c =
     let gs = sigs_of c.args.funs.now.types.nodes c.args.funs.now.sigs in
     let o = c.args.self.now in
     let v = c.in-Compare in
-    let a = c.get-in-Compare.result.now in
-    let b = c.get-in-Compare-2.result.now in
-    tail2 o c.extent.new.self _ _ c.in_ok-x-in-Compare.x (at (ex_at gs a) o) _ (ex_at gs b)
-    (ap (λ z. at (tree_at gs z) o) (ap ex_of v.is ∙ ex-Compare v.a _ _ v.b) ∙ both (λ x y. rule.over (rule.beside (at (ex_at gs x) o) (at (ex_at gs y) o))) a v.a b v.b c.get-in-Compare.ensures c.get-in-Compare-2.ensures)
-    c.in_ok-x-in-Compare.ensures c.around_two.ensures
+    tail0 _ _ _ _ _ (ap (λ z. at (tree_at gs z) o) (ap ex_of v.is ∙ ex-Compare v.a _ _ v.b) ∙ both (λ x y. rule.over (rule.beside (at (ex_at gs x) o) (at (ex_at gs y) o))) c.get-in-Compare.result.now v.a c.get-in-Compare-2.result.now v.b c.get-in-Compare.ensures c.get-in-Compare-2.ensures) c.around_both.ensures
 
-pub extent-returns-in_ok-x-in-Div : goal.extent-returns-in_ok-x-in-Div
-extent-returns-in_ok-x-in-Div t c =
+pub extent-returns-in-Div : goal.extent-returns-in-Div
+extent-returns-in-Div t c =
     let gs = sigs_of c.args.funs.now.types.nodes c.args.funs.now.sigs in
     let o = c.args.self.now in
     let v = c.in-Div in
-    let a = c.get-in-Div.result.now in
-    let b = c.get-in-Div-2.result.now in
-    tail2 o c.extent-in-Div.new.self _ _ c.in_ok-x-in-Div.x (at (ex_at gs a) o) _ (ex_at gs b)
-    (ap (λ z. at (tree_at gs z) o) (ap ex_of v.is ∙ ex-Div _ v.a v.b) ∙ both (λ x y. rule.over (rule.beside (at (ex_at gs x) o) (at (ex_at gs y) o))) a v.a b v.b c.get-in-Div.ensures c.get-in-Div-2.ensures)
-    c.in_ok-x-in-Div.ensures c.around_two-in-Div.ensures
+    tail0 _ _ _ _ _ (ap (λ z. at (tree_at gs z) o) (ap ex_of v.is ∙ ex-Div _ v.a v.b) ∙ both (λ x y. rule.over (rule.beside (at (ex_at gs x) o) (at (ex_at gs y) o))) c.get-in-Div.result.now v.a c.get-in-Div-2.result.now v.b c.get-in-Div.ensures c.get-in-Div-2.ensures) c.around_both-in-Div.ensures
 
-pub extent-returns-in_ok-x-in-Mod : goal.extent-returns-in_ok-x-in-Mod
-extent-returns-in_ok-x-in-Mod t c =
+pub extent-returns-in-Mod : goal.extent-returns-in-Mod
+extent-returns-in-Mod t c =
     let gs = sigs_of c.args.funs.now.types.nodes c.args.funs.now.sigs in
     let o = c.args.self.now in
     let v = c.in-Mod in
-    let a = c.get-in-Mod.result.now in
-    let b = c.get-in-Mod-2.result.now in
-    tail2 o c.extent-in-Mod.new.self _ _ c.in_ok-x-in-Mod.x (at (ex_at gs a) o) _ (ex_at gs b)
-    (ap (λ z. at (tree_at gs z) o) (ap ex_of v.is ∙ ex-Mod _ v.a v.b) ∙ both (λ x y. rule.over (rule.beside (at (ex_at gs x) o) (at (ex_at gs y) o))) a v.a b v.b c.get-in-Mod.ensures c.get-in-Mod-2.ensures)
-    c.in_ok-x-in-Mod.ensures c.around_two-in-Mod.ensures
+    tail0 _ _ _ _ _ (ap (λ z. at (tree_at gs z) o) (ap ex_of v.is ∙ ex-Mod _ v.a v.b) ∙ both (λ x y. rule.over (rule.beside (at (ex_at gs x) o) (at (ex_at gs y) o))) c.get-in-Mod.result.now v.a c.get-in-Mod-2.result.now v.b c.get-in-Mod.ensures c.get-in-Mod-2.ensures) c.around_both-in-Mod.ensures
 
-pub extent-returns-in_ok-x-in-Pair : goal.extent-returns-in_ok-x-in-Pair
-extent-returns-in_ok-x-in-Pair t c =
+pub extent-returns-in-Pair : goal.extent-returns-in-Pair
+extent-returns-in-Pair t c =
     let gs = sigs_of c.args.funs.now.types.nodes c.args.funs.now.sigs in
     let o = c.args.self.now in
     let v = c.in-Pair in
-    let a = c.get-in-Pair.result.now in
-    let b = c.get-in-Pair-2.result.now in
-    tail2 o c.extent-in-Pair.new.self _ _ c.in_ok-x-in-Pair.x (at (ex_at gs a) o) _ (ex_at gs b)
-    (ap (λ z. at (tree_at gs z) o) (ap ex_of v.is ∙ ex-Pair _ v.a v.b) ∙ both (λ x y. rule.over (rule.beside (at (ex_at gs x) o) (at (ex_at gs y) o))) a v.a b v.b c.get-in-Pair.ensures c.get-in-Pair-2.ensures)
-    c.in_ok-x-in-Pair.ensures c.around_two-in-Pair.ensures
+    tail0 _ _ _ _ _ (ap (λ z. at (tree_at gs z) o) (ap ex_of v.is ∙ ex-Pair _ v.a v.b) ∙ both (λ x y. rule.over (rule.beside (at (ex_at gs x) o) (at (ex_at gs y) o))) c.get-in-Pair.result.now v.a c.get-in-Pair-2.result.now v.b c.get-in-Pair.ensures c.get-in-Pair-2.ensures) c.around_both-in-Pair.ensures
+
+pub around_both-returns : goal.around_both-returns
+around_both-returns t c =
+    let gs = sigs_of c.args.funs.now.types.nodes c.args.funs.now.sigs in
+    let o = c.args.self.now in
+    tail2 o c.extent.new.self _ _ c.in_ok-x.x (at (ex_at gs c.args.a.now) o) _ (ex_at gs c.args.b.now) refl c.in_ok-x.ensures c.around_two.ensures
+
+pub extent-returns-in-Or : goal.extent-returns-in-Or
+extent-returns-in-Or t c =
+    let gs = sigs_of c.args.funs.now.types.nodes c.args.funs.now.sigs in
+    let o = c.args.self.now in
+    let v = c.in-Or in
+    tail0 _ _ _ _ _ (ap (λ z. at (tree_at gs z) o) (ap ex_of v.is ∙ ex-Or v.a v.ks) ∙ ap (λ z. rule.higher (rule.beside (at (ex_at gs z) o) (at (links_at gs (links_of bf.Or v.ks)) o))) (sym c.get-in-Or.ensures)) c.chain.ensures
+
+pub extent-returns-in-And : goal.extent-returns-in-And
+extent-returns-in-And t c =
+    let gs = sigs_of c.args.funs.now.types.nodes c.args.funs.now.sigs in
+    let o = c.args.self.now in
+    let v = c.in-And in
+    tail0 _ _ _ _ _ (ap (λ z. at (tree_at gs z) o) (ap ex_of v.is ∙ ex-And v.a v.ks) ∙ ap (λ z. rule.higher (rule.beside (at (ex_at gs z) o) (at (links_at gs (links_of bf.And v.ks)) o))) (sym c.get-in-And.ensures)) c.chain-in-And.ensures
+
+pub extent-returns-in-Product : goal.extent-returns-in-Product
+extent-returns-in-Product t c =
+    let gs = sigs_of c.args.funs.now.types.nodes c.args.funs.now.sigs in
+    let o = c.args.self.now in
+    let v = c.in-Product in
+    tail0 _ _ _ _ _ (ap (λ z. at (tree_at gs z) o) (ap ex_of v.is ∙ ex-Product v.a v.ks) ∙ ap (λ z. rule.higher (rule.beside (at (ex_at gs z) o) (at (links_at gs (links_of bf.Times v.ks)) o))) (sym c.get-in-Product.ensures)) c.chain-in-Product.ensures
+
+pub chain-returns : goal.chain-returns
+chain-returns t c =
+    let gs = sigs_of c.args.funs.now.types.nodes c.args.funs.now.sigs in
+    let o = c.args.self.now in
+    let a = c.args.a.now in
+    let k : At = links_at gs (links_of c.args.o c.args.ks.now) in
+    higher_parts o c.links.new.self c.beside.result c.higher.result (rule.beside (at (ex_at gs a) o) (at k o)) _ refl
+    (two o c.extent.new.self c.links.new.self c.in_ok-x.x c.in_ok-y.y c.beside.result (at (ex_at gs a) o) k c.in_ok-x.ensures c.in_ok-y.ensures c.beside.ensures)
+    c.higher.ensures
 
 pub extent-returns-in_ok-y-in-If : goal.extent-returns-in_ok-y-in-If
 extent-returns-in_ok-y-in-If t c =
@@ -109,11 +130,11 @@ extent-returns-in_ok-y-in-If t c =
     let a = c.get-in-If.result.now in
     let b = c.get-in-If-2.result.now in
     let d = c.get-in-If-3.result.now in
-    tail2 o c.extent-in-If-2.new.self _ _ c.beside.result (rule.beside (at (ex_at gs a) o) (at (ex_at gs b) o)) _ (ex_at gs d)
+    tail2 o c.extent-in-If.new.self _ _ c.beside.result (rule.beside (at (ex_at gs a) o) (at (ex_at gs b) o)) _ (ex_at gs d)
     (ap (λ z. at (tree_at gs z) o) (ap ex_of v.is ∙ ex-If _ v.c v.a v.b) ∙ (ap (λ z. rule.over (rule.beside (rule.beside (at (ex_at gs z) o) (at (ex_at gs v.a) o)) (at (ex_at gs v.b) o))) (sym c.get-in-If.ensures)
     ∙ both (λ x y. rule.over (rule.beside (rule.beside (at (ex_at gs a) o) (at (ex_at gs x) o)) (at (ex_at gs y) o))) b v.a d v.b c.get-in-If-2.ensures c.get-in-If-3.ensures))
-    (two o c.extent-in-If.new.self c.extent-in-If-2.new.self c.in_ok-x-in-If.x c.in_ok-y-in-If.y c.beside.result (at (ex_at gs a) o) (ex_at gs b) c.in_ok-x-in-If.ensures c.in_ok-y-in-If.ensures c.beside.ensures)
-    c.around_two-in-If.ensures
+    (two o c.extent.new.self c.extent-in-If.new.self c.in_ok-x-in-If.x c.in_ok-y-in-If.y c.beside.result (at (ex_at gs a) o) (ex_at gs b) c.in_ok-x-in-If.ensures c.in_ok-y-in-If.ensures c.beside.ensures)
+    c.around_two.ensures
 
 pub extent-returns-in_ok-y-in-Let : goal.extent-returns-in_ok-y-in-Let
 extent-returns-in_ok-y-in-Let t c =
@@ -128,42 +149,6 @@ extent-returns-in_ok-y-in-Let t c =
     (two o c.extent-in-Let.new.self c.under.new.self c.in_ok-x-in-Let.x c.in_ok-y-in-Let.y c.beside-in-Let.result (at (ex_at gs a) o) k c.in_ok-x-in-Let.ensures c.in_ok-y-in-Let.ensures c.beside-in-Let.ensures)
     c.over-in-Let.ensures
 
-pub extent-returns-in_ok-y-in-Or : goal.extent-returns-in_ok-y-in-Or
-extent-returns-in_ok-y-in-Or t c =
-    let gs = sigs_of c.args.funs.now.types.nodes c.args.funs.now.sigs in
-    let o = c.args.self.now in
-    let v = c.in-Or in
-    let a = c.get-in-Or.result.now in
-    let k : At = links_at gs (links_of bf.Or v.ks) in
-    higher_parts o c.links.new.self c.beside-in-Or.result c.higher.result (rule.beside (at (ex_at gs a) o) (at k o)) _
-    (ap (λ z. at (tree_at gs z) o) (ap ex_of v.is ∙ ex-Or v.a v.ks) ∙ ap (λ z. rule.higher (rule.beside (at (ex_at gs z) o) (at k o))) (sym c.get-in-Or.ensures))
-    (two o c.extent-in-Or.new.self c.links.new.self c.in_ok-x-in-Or.x c.in_ok-y-in-Or.y c.beside-in-Or.result (at (ex_at gs a) o) k c.in_ok-x-in-Or.ensures c.in_ok-y-in-Or.ensures c.beside-in-Or.ensures)
-    c.higher.ensures
-
-pub extent-returns-in_ok-y-in-And : goal.extent-returns-in_ok-y-in-And
-extent-returns-in_ok-y-in-And t c =
-    let gs = sigs_of c.args.funs.now.types.nodes c.args.funs.now.sigs in
-    let o = c.args.self.now in
-    let v = c.in-And in
-    let a = c.get-in-And.result.now in
-    let k : At = links_at gs (links_of bf.And v.ks) in
-    higher_parts o c.links-in-And.new.self c.beside-in-And.result c.higher-in-And.result (rule.beside (at (ex_at gs a) o) (at k o)) _
-    (ap (λ z. at (tree_at gs z) o) (ap ex_of v.is ∙ ex-And v.a v.ks) ∙ ap (λ z. rule.higher (rule.beside (at (ex_at gs z) o) (at k o))) (sym c.get-in-And.ensures))
-    (two o c.extent-in-And.new.self c.links-in-And.new.self c.in_ok-x-in-And.x c.in_ok-y-in-And.y c.beside-in-And.result (at (ex_at gs a) o) k c.in_ok-x-in-And.ensures c.in_ok-y-in-And.ensures c.beside-in-And.ensures)
-    c.higher-in-And.ensures
-
-pub extent-returns-in_ok-y-in-Product : goal.extent-returns-in_ok-y-in-Product
-extent-returns-in_ok-y-in-Product t c =
-    let gs = sigs_of c.args.funs.now.types.nodes c.args.funs.now.sigs in
-    let o = c.args.self.now in
-    let v = c.in-Product in
-    let a = c.get-in-Product.result.now in
-    let k : At = links_at gs (links_of bf.Times v.ks) in
-    higher_parts o c.links-in-Product.new.self c.beside-in-Product.result c.higher-in-Product.result (rule.beside (at (ex_at gs a) o) (at k o)) _
-    (ap (λ z. at (tree_at gs z) o) (ap ex_of v.is ∙ ex-Product v.a v.ks) ∙ ap (λ z. rule.higher (rule.beside (at (ex_at gs z) o) (at k o))) (sym c.get-in-Product.ensures))
-    (two o c.extent-in-Product.new.self c.links-in-Product.new.self c.in_ok-x-in-Product.x c.in_ok-y-in-Product.y c.beside-in-Product.result (at (ex_at gs a) o) k c.in_ok-x-in-Product.ensures c.in_ok-y-in-Product.ensures c.beside-in-Product.ensures)
-    c.higher-in-Product.ensures
-
 pub extent-returns-in_ok-y-in-Sum : goal.extent-returns-in_ok-y-in-Sum
 extent-returns-in_ok-y-in-Sum t c =
     let gs = sigs_of c.args.funs.now.types.nodes c.args.funs.now.sigs in
@@ -171,10 +156,10 @@ extent-returns-in_ok-y-in-Sum t c =
     let v = c.in-Sum in
     let a = c.get-in-Sum.result.now in
     let k : At = links_at gs (sum_links_of v.ks) in
-    higher_parts o c.sum_links.new.self c.beside-in-Sum.result c.higher-in-Sum.result (rule.beside (at (ex_at gs a) o) (at k o)) _
+    higher_parts o c.sum_links.new.self c.beside-in-Sum.result c.higher.result (rule.beside (at (ex_at gs a) o) (at k o)) _
     (ap (λ z. at (tree_at gs z) o) (ap ex_of v.is ∙ ex-Sum v.a v.ks) ∙ ap (λ z. rule.higher (rule.beside (at (ex_at gs z) o) (at k o))) (sym c.get-in-Sum.ensures))
     (two o c.extent-in-Sum.new.self c.sum_links.new.self c.in_ok-x-in-Sum.x c.in_ok-y-in-Sum.y c.beside-in-Sum.result (at (ex_at gs a) o) k c.in_ok-x-in-Sum.ensures c.in_ok-y-in-Sum.ensures c.beside-in-Sum.ensures)
-    c.higher-in-Sum.ensures
+    c.higher.ensures
 
 pub extent-returns-in_ok-y-in-Cons : goal.extent-returns-in_ok-y-in-Cons
 extent-returns-in_ok-y-in-Cons t c =
