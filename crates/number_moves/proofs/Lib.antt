@@ -1,13 +1,6 @@
-pub mod Made
-pub mod Turns
 pub mod Leaving
 pub mod Steps
 pub mod Flying
 pub mod Ended
 pub mod Strands
-pub mod Written
-pub mod Calls
-pub mod Forked
-pub mod Thrown
-pub mod Refused
-pub mod Operates
+pub mod Entered

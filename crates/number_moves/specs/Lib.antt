@@ -1,4 +1,1 @@
-pub mod Moves
 pub mod Lines
-pub mod Standing
-pub mod Calling

@@ -7,19 +7,12 @@
 //! moves of the rules. Which entries to try is left to the crate above.
 #![tactic(auto)]
 
-mod acting;
-mod asking;
-mod calling;
 mod ending;
 mod lines;
 mod local;
 mod moving;
-mod operating;
-mod printing;
 mod receiving;
 mod stranding;
-mod telling;
-mod throwing;
 mod ticking;
 mod waiting;
 

@@ -6,10 +6,10 @@ ghost use Rattle.slot_laws.specs.SlotRules.{locals};
 ghost use Rattle.local_steps.specs.Machine.{funs_of};
 ghost use Rattle.number_states.specs.Stocks.{HasGrown, IsTerm, term_at};
 ghost use Rattle.number_states.specs.States.{AreIn};
-ghost use Rattle.number_moves.specs.Moves.{Enters};
+ghost use Rattle.number_changes.specs.Moves.{Enters};
 
-use crate::acting::acting;
 use hs_base::NoMemory;
+use number_changes::acting;
 use number_states::{NumberState, Numbers};
 use rules_code::Body;
 use std::alloc::Global;

@@ -1,0 +1,36 @@
+-- The operations at which threads in numbers stand (own).
+use Rattle.std.specs.Prelude.{◌≡◌, ℕ, ◌<◌, false, List, None}
+use Rattle.hs_base.specs.declared.mask.Mask.{Mask}
+use Rattle.rules_meaning.specs.Values.{V}
+use Rattle.rules_expansion.specs.declared.primitive.Primitive.{Primitive}
+use Rattle.rules_code.specs.declared.code.Body.{Body}
+use Rattle.slot_laws.specs.SlotRules.{SlotPart, performs, SlotFrame}
+use Rattle.slot_states.specs.SlotStates.{SlotState}
+use Rattle.slot_entries.specs.Operating.{performed}
+use Rattle.slot_entries.specs.Entering.{operates}
+use Rattle.frame_stack.specs.declared.control.Operation.{Operation}
+use Rattle.frame_stack.specs.declared.control.Operation.TheVariants as p
+use Rattle.frame_stack.specs.Parts.{op_of}
+use Rattle.number_states.specs.declared.state.NumberState.{NumberState}
+use Rattle.number_states.specs.Stocks.{Stock, term_at, IsTerm}
+use Rattle.number_operations.specs.declared.operating.Standing.{Standing}
+use Rattle.number_changes.specs.Moves.{IsActing}
+
+-- a primitive with these values does nothing, whoever performs it
+abbrev pub IsRefused : Primitive → List V → Type 0
+IsRefused p vs = (t : ℕ) (m : Mask) (x : SlotState) → performed t m p vs x ≡ None
+
+-- a thread with this part, whoever it is, performs nothing
+abbrev pub IsIdle : SlotPart → Type 0
+IsIdle part = (t : ℕ) (fs : List SlotFrame) (x : SlotState) → operates t fs part x ≡ None
+
+-- thread t, which neither has finished nor is blocked, stands at an operation
+pub record Stands (g : Stock) (x : NumberState) (t : ℕ) (s : Standing) : Type 0 where
+  pub term : IsTerm g s.term
+  pub thread : IsActing x t (record { term = s.term; blocked = false; finished = false })
+  pub part : (b : Body) → (term_at g b s.term).part ≡ performs (op_of b s.operation)
+
+-- a throw is at one of so many threads
+abbrev pub HasTarget : ℕ → Operation → Type 0
+HasTarget count (p.ThrowTo u e) = u < count
+HasTarget count _ = Unit {0}
