@@ -2,8 +2,8 @@
 use Rattle.std.proofs.Common.{◌≡◌, ℕ, zero, suc, List, [], ◌∷◌, map, length, slice_get, Some, refl, ◌∙◌, ap, subst, arith}
 use Rattle.std.proofs.Props.{props}
 use Rattle.std.specs.Coded.{Coded-set}
-use Rattle.rules_code.specs.contracts.code.Body as body
-use Rattle.rules_code.specs.declared.code.Body.{Body}
+use Rattle.rules_code.specs.contracts.code.CodeBody as body
+use Rattle.rules_code.specs.declared.code.CodeBody.{CodeBody}
 use Rattle.crossbeam_queue.specs.SegTies.{IsSegPassOf}
 use Rattle.ticket_queues.specs.declared.deque.Door.{Door}
 use Rattle.ticket_queues.specs.Deques.{door_id, IsDequePass}
@@ -56,7 +56,7 @@ module _ {J S : Type 0} (h k : Hands J S) (same : object_of h ≡ object_of k) (
     one_share = own.one_share;
   }
 
-body_set : IsSet Body
+body_set : IsSet CodeBody
 body_set = Coded-set body.the_row.coded
 
 pub hand_prop : {J S : Type 0} → IsSet J → IsSet S → (h : Hands J S) (x : Hand J S) → IsProp (IsHandOf h x)

@@ -4,7 +4,7 @@ use Rattle.std.specs.declared.alloc.Global.{Global}
 use Rattle.atomic_blocks.specs.Lent.{RowsId}
 use Rattle.atomic_table.specs.Seated.{TableId}
 use Rattle.crossbeam_queue.specs.SegTies.{SegId}
-use Rattle.rules_code.specs.declared.code.Body.{Body}
+use Rattle.rules_code.specs.declared.code.CodeBody.{CodeBody}
 use Rattle.ticket_queues.specs.Deques.{door_id}
 use Rattle.conc_hands.specs.declared.hands.Hands.{Hands}
 use Rattle.conc_hands.specs.Hands.{hands_code, hands_count}
@@ -15,7 +15,7 @@ pub record ObjectId : Type 0 where
   pub inbox : SegId Global
   pub flags : TableId
   pub count : ℕ
-  pub code : Body
+  pub code : CodeBody
 
 abbrev pub object_of : {J S : Type 0} → Hands J S → ObjectId
 object_of h = record { deques = map door_id h.doors.items; inbox = h.inbox.queue; flags = h.flags.table.shared.table_id; count = hands_count h; code = hands_code h }

@@ -8,7 +8,7 @@ ghost use Rattle.caps_loop.specs.Nexts.{RunsOf};
 
 use crate::capability::Capability;
 use crate::jobs::steal_job;
-use crate::next::Next;
+use crate::next::Decision;
 use crate::parkers::{Berth, Parkers};
 use crate::running::leave;
 use crate::runs::Runs;
@@ -34,7 +34,7 @@ pub(crate) fn ask<D: Runs<J, S>, J: Ticketed + Drop, S: Ticketed + Drop, G: Gate
     parkers: &Parkers,
     gate: &G,
     me: Capability<J, S>,
-) -> (Capability<J, S>, Next<J>)
+) -> (Capability<J, S>, Decision<J>)
     requires seat { IsSeatOf D.plan turn.now me.seat }
     requires hand { IsHandOf hands.now me.hand }
     requires code { hands_code hands.now ≡ (turn_plan D.plan turn.now).body }
@@ -55,8 +55,8 @@ pub(crate) fn ask<D: Runs<J, S>, J: Ticketed + Drop, S: Ticketed + Drop, G: Gate
     let found = wait_for_job(rt, hands, own, &mut hand, parkers.berths.len() as u32);
     own.work();
     let next = match found {
-        Some(job) => Next::Run(job),
-        None => Next::Look,
+        Some(job) => Decision::Run(job),
+        None => Decision::Look,
     };
     (Capability { seat, hand }, next)
 }

@@ -1,6 +1,6 @@
 /// What a capability does next.
 #[derive(Drop)]
-pub(crate) enum Next<J> {
+pub(crate) enum Decision<J> {
     /// There is an ending.
     Stop,
     /// It looks for a job.

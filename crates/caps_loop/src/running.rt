@@ -2,7 +2,7 @@
 ghost use Rattle.std.specs.Prelude.{◌≡◌, IfSome};
 ghost use Rattle.rules_code.specs.Codes.{body_of};
 ghost use Rattle.hs_rules.specs.declared.kept.Plan.{Plan};
-ghost use Rattle.rules_code.specs.declared.code.Body.{Body};
+ghost use Rattle.rules_code.specs.declared.code.CodeBody.{CodeBody};
 ghost use Rattle.conc_turn.specs.Seats.{IsLater};
 ghost use Rattle.conc_turn.specs.Turns.{IsSeatOf, turn_plan};
 ghost use Rattle.conc_hands.specs.Hands.{IsHandOf, hands_code};
@@ -10,7 +10,7 @@ ghost use Rattle.caps_loop.specs.Nexts.{RunsOf};
 
 use crate::capability::Capability;
 use crate::cutting::run_slice;
-use crate::next::Next;
+use crate::next::Decision;
 use crate::parkers::Parkers;
 use crate::runs::{Runs, Unsliced};
 use crate::turns::{give_up, try_commit, try_visit, visit};
@@ -33,7 +33,7 @@ pub(crate) fn run_job<D: Runs<J, S>, J: Ticketed + Drop, S: Ticketed + Drop, G: 
     gate: &G,
     me: Capability<J, S>,
     job: J,
-) -> (Capability<J, S>, Next<J>)
+) -> (Capability<J, S>, Decision<J>)
     requires seat { IsSeatOf D.plan turn.now me.seat }
     requires hand { IsHandOf hands.now me.hand }
     requires code { (hands_code hands.now ≡ (turn_plan D.plan turn.now).body) × (body_of code.now ≡ hands_code hands.now) }
@@ -51,16 +51,16 @@ pub(crate) fn run_job<D: Runs<J, S>, J: Ticketed + Drop, S: Ticketed + Drop, G: 
         }
         Err(Unsliced::Cut) => {
             let next = if parkers.has_ended() {
-                Next::Stop
+                Decision::Stop
             } else {
-                Next::Look
+                Decision::Look
             };
             (Capability { seat, hand }, next)
         }
         Err(Unsliced::NoMemory) => {
             let seat = give_up(rt, turn, seat);
             parkers.end();
-            (Capability { seat, hand }, Next::Stop)
+            (Capability { seat, hand }, Decision::Stop)
         }
     }
 }
@@ -75,7 +75,7 @@ fn bring<D: Runs<J, S>, J: Ticketed + Drop, S: Ticketed + Drop, G: Gate, R: Wait
     gate: &G,
     me: Capability<J, S>,
     slice: S,
-) -> (Capability<J, S>, Next<J>)
+) -> (Capability<J, S>, Decision<J>)
     requires seat { IsSeatOf D.plan turn.now me.seat }
     requires hand { IsHandOf hands.now me.hand }
     requires code { hands_code hands.now ≡ (turn_plan D.plan turn.now).body }
@@ -104,7 +104,7 @@ fn hand_over<D: Runs<J, S>, J: Ticketed + Drop, S: Ticketed + Drop, G: Gate, R: 
     gate: &G,
     me: Capability<J, S>,
     slice: S,
-) -> (Capability<J, S>, Next<J>)
+) -> (Capability<J, S>, Decision<J>)
     requires seat { IsSeatOf D.plan turn.now me.seat }
     requires hand { IsHandOf hands.now me.hand }
     requires code { hands_code hands.now ≡ (turn_plan D.plan turn.now).body }
@@ -120,7 +120,7 @@ fn hand_over<D: Runs<J, S>, J: Ticketed + Drop, S: Ticketed + Drop, G: Gate, R: 
             let me = Capability { seat, hand };
             match visit {
                 Some(visit) => (me, leave(parkers, gate, visit)),
-                None => (me, Next::Look),
+                None => (me, Decision::Look),
             }
         }
         Err(slice) => {
@@ -136,8 +136,8 @@ pub(crate) fn leave<J: Ticketed + Drop, G: Gate>(
     parkers: &Parkers,
     gate: &G,
     visit: Visit<J>,
-) -> Next<J>
-    ensures { (c : Body) → IfSome visit.kept (λ job. J.belongs job ≡ c) → RunsOf J.belongs c result }
+) -> Decision<J>
+    ensures { (c : CodeBody) → IfSome visit.kept (λ job. J.belongs job ≡ c) → RunsOf J.belongs c result }
 {
     let Visit {
         committed,
@@ -154,7 +154,7 @@ pub(crate) fn leave<J: Ticketed + Drop, G: Gate>(
         gate.committed(*ticket);
     }
     if ended {
-        return Next::Stop;
+        return Decision::Stop;
     }
     if stirred {
         parkers.wake_parked();
@@ -163,7 +163,7 @@ pub(crate) fn leave<J: Ticketed + Drop, G: Gate>(
         parkers.wake_watching(spare);
     }
     match kept {
-        Some(job) => Next::Run(job),
-        None => Next::Look,
+        Some(job) => Decision::Run(job),
+        None => Decision::Look,
     }
 }

@@ -7,7 +7,7 @@ ghost use Rattle.hs_rules.specs.declared.kept.Plan.{Plan};
 use hs_base::NoMemory;
 use hs_io::Cutter;
 use hs_rules::{Kept, Ticketed};
-use rules_code::{Body, Code};
+use rules_code::{Code, CodeBody};
 use std::alloc::Global;
 
 /// Why there is no slice of a job.

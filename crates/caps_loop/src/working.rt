@@ -10,7 +10,7 @@ ghost use Rattle.caps_loop.specs.Nexts.{RunsOf};
 use crate::asking::ask;
 use crate::capability::Capability;
 use crate::jobs::find_job;
-use crate::next::Next;
+use crate::next::Decision;
 use crate::parkers::Parkers;
 use crate::running::run_job;
 use crate::runs::Runs;
@@ -40,12 +40,12 @@ pub(crate) fn work<D: Runs<J, S>, J: Ticketed + Drop, S: Ticketed + Drop, G: Gat
     ensures hand { IsHandOf hands.now result.hand }
 {
     let mut now = me;
-    let mut next = Next::Look;
+    let mut next = Decision::Look;
     for _ in rt.forever() {
         let (then, what) = step(rt, alloc, turn, hands, code, parkers, gate, now, next);
         now = then;
         next = what;
-        if let Next::Stop = next {
+        if let Decision::Stop = next {
             return now;
         }
     }
@@ -62,8 +62,8 @@ fn step<D: Runs<J, S>, J: Ticketed + Drop, S: Ticketed + Drop, G: Gate, R: Wait>
     parkers: &Parkers,
     gate: &G,
     me: Capability<J, S>,
-    next: Next<J>,
-) -> (Capability<J, S>, Next<J>)
+    next: Decision<J>,
+) -> (Capability<J, S>, Decision<J>)
     requires seat { IsSeatOf D.plan turn.now me.seat }
     requires hand { IsHandOf hands.now me.hand }
     requires code { (hands_code hands.now ≡ (turn_plan D.plan turn.now).body) × (body_of code.now ≡ hands_code hands.now) }
@@ -75,9 +75,9 @@ fn step<D: Runs<J, S>, J: Ticketed + Drop, S: Ticketed + Drop, G: Gate, R: Wait>
 {
     let Capability { seat, mut hand } = me;
     let job = match next {
-        Next::Stop => return (Capability { seat, hand }, Next::Stop),
-        Next::Look => find_job(rt, hands, &mut hand, parkers.berths.len() as u32),
-        Next::Run(job) => Some(job),
+        Decision::Stop => return (Capability { seat, hand }, Decision::Stop),
+        Decision::Look => find_job(rt, hands, &mut hand, parkers.berths.len() as u32),
+        Decision::Run(job) => Some(job),
     };
     let me = Capability { seat, hand };
     match job {

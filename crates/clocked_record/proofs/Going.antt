@@ -9,7 +9,7 @@ use Rattle.std.proofs.Math.Logic.{∥∥₁_elim, ∥∥₁_map}
 use Rattle.hs_rules.specs.declared.entry.Entry.{Entry}
 use Rattle.rules_trees.specs.Programs.{Fn, script_of}
 use Rattle.rules_meaning.specs.CoreMeaning.{code_of}
-use Rattle.rules_code.specs.declared.code.Body.{Body}
+use Rattle.rules_code.specs.declared.code.CodeBody.{CodeBody}
 use Rattle.hs_rules.specs.State.{State}
 use Rattle.hs_rules.specs.Endings.{IsTick}
 use Rattle.hs_laws.proofs.RunParts.{run_before}
@@ -25,7 +25,7 @@ use Rattle.clocked_record.proofs.Keeping.{ticks_begin, ticks_later, ticks_worked
 
 -- ---- the same script
 pub same_script : (old new : Record) → new.of ≡ old.of → script new ≡ script old
-same_script old new e = ap (λ (z : Snapshot Body). script_of z.value.of.value) e
+same_script old new e = ap (λ (z : Snapshot CodeBody). script_of z.value.of.value) e
 
 -- what Ticks are kept to speaks of a record's script and history alone
 abbrev pub Kept : Record → (lent now : ℕ) → Type 0
@@ -49,7 +49,7 @@ same_kept old new lent before now le h k =
     kept_as old new old.history.list lent now h.plan.2 h.history (∥∥₁_map k (λ z. ticks_later (script old) old.history.list lent before now le z))
 
 -- ---- one more entry that isn't a Tick
-worked_time : (b : Body) (es : List Entry) (e : Entry) (old new : World) → ¬ IsTick e → Live b es old → Live b (es ++ e ∷ []) new → new.clock ≡ old.clock
+worked_time : (b : CodeBody) (es : List Entry) (e : Entry) (old new : World) → ¬ IsTick e → Live b es old → Live b (es ++ e ∷ []) new → new.clock ≡ old.clock
 worked_time b es e old new other l m =
     let ds : List Fn = script_of b.of.value in
     let k = run_before ds es (e ∷ []) m.state m.run in
@@ -60,10 +60,10 @@ worked_time b es e old new other l m =
 
 pub appended_time : (old new : Record) (e : Entry) → ¬ IsTick e → Appended e old new → new.world.clock ≡ old.world.clock
 appended_time old new e other h =
-    let b : Body = old.of.value in
+    let b : CodeBody = old.of.value in
     let es : List Entry = old.history.list in
     let now : ∥ Live b (es ++ e ∷ []) new.world ∥₁ =
-    relisted_live b new.history.list (es ++ e ∷ []) new.world (sym h.history) (subst (λ (z : Snapshot Body). ∥ Live z.value new.history.list new.world ∥₁) h.plan.2 new.after) in
+    relisted_live b new.history.list (es ++ e ∷ []) new.world (sym h.history) (subst (λ (z : Snapshot CodeBody). ∥ Live z.value new.history.list new.world ∥₁) h.plan.2 new.after) in
     ∥∥₁_elim old.after (hlevel props) (λ l. ∥∥₁_elim now (hlevel props) (λ m. worked_time b es e old.world new.world other l m))
 
 pub appended_kept : (old new : Record) (e : Entry) (lent before now : ℕ) → before ≤ now → ¬ IsTick e → Appended e old new → Kept old lent before → Kept new lent now

@@ -18,8 +18,8 @@ use Rattle.slot_states.specs.SlotStates.{SlotState}
 use Rattle.slot_states.proofs.Settled.{none_asleep, same_due, rest_quiet}
 use Rattle.world_entries.specs.Worlds.{state_of, Live, Goes}
 use Rattle.world_entries.proofs.Making.{main_goes}
-use Rattle.run_record.specs.declared.acts.Act.{Act}
-use Rattle.run_record.specs.declared.acts.Act.TheVariants as act
+use Rattle.run_record.specs.declared.acts.NextEntry.{NextEntry}
+use Rattle.run_record.specs.declared.acts.NextEntry.TheVariants as act
 use Rattle.run_record.specs.declared.acts.Next.TheVariants as next
 use Rattle.run_record.specs.declared.record.Record.{Record}
 use Rattle.run_record.specs.Acts.{entry_of}
@@ -32,7 +32,7 @@ use Rattle.clocked_record.proofs.Going.{Kept, kept_as, same_time, same_kept}
 use Rattle.clocked_record.proofs.Keeping.{ticks_ticked, ticks_early}
 
 -- ---- main goes where work is
-pub work_goes : (o : Option Act) (r : Record) → IsNext (work o) r → Goes r.world
+pub work_goes : (o : Option NextEntry) (r : Record) → IsNext (work o) r → Goes r.world
 work_goes None r h = h.0
 work_goes (Some a) r h = h.0
 
@@ -49,7 +49,7 @@ module _ (r : Record) (live : Live r.of.value r.history.list r.world) where
   -- ---- beside work
 
   -- something else is legal
-  work_legal : (o : Option Act) → IsNext (work o) r → (e : Entry) × (¬ IsTick e) × Legal r.of.value r.history.list r.world live e
+  work_legal : (o : Option NextEntry) → IsNext (work o) r → (e : Entry) × (¬ IsTick e) × Legal r.of.value r.history.list r.world live e
   work_legal None h = (entry.Local h.2.0 1, λ z. z, goers_are_legal r.of.value r.history.list r.world live h.0 h.2.0 (h.2.1 r.of.value))
   work_legal (Some a) h = (entry_of a, act_no_tick a, acts_are_legal r.of.value r.history.list r.world live h.0 a h.1)
 
@@ -61,7 +61,7 @@ module _ (r : Record) (live : Live r.of.value r.history.list r.world) where
         legal = acts_are_legal r.of.value r.history.list r.world live h.0 (act.Op t) h.1;
       })
 
-  act_asked : (a : Act) → IsNext (work (Some a)) r → Asks a r → ∥ ClockAsked code live.state ∥₁
+  act_asked : (a : NextEntry) → IsNext (work (Some a)) r → Asks a r → ∥ ClockAsked code live.state ∥₁
   act_asked (act.Op t) h a = clock_asked t h a
   act_asked (act.Finish t) h a = absurd a
   act_asked (act.Local t) h a = absurd a
@@ -69,12 +69,12 @@ module _ (r : Record) (live : Live r.of.value r.history.list r.world) where
   act_asked (act.Wake t) h a = absurd a
   act_asked act.Strand h a = absurd a
 
-  wanted_so : (o : Option Act) (read : Bool) → IsNext (work o) r → IsWanted o read r → ∥ ((sleepers_of live.state.blocked ≢ []) ⊎ ClockAsked code live.state) ∥₁
+  wanted_so : (o : Option NextEntry) (read : Bool) → IsNext (work o) r → IsWanted o read r → ∥ ((sleepers_of live.state.blocked ≢ []) ⊎ ClockAsked code live.state) ∥₁
   wanted_so o read h (inr k) = ∣ inl (somebody_sleeps k.1) ∣₁
   wanted_so None read h (inl k) = absurd k
   wanted_so (Some a) read h (inl k) = ∥∥₁_map (act_asked a h k) (λ z. inr z)
 
-  module _ (o : Option Act) (h : IsNext (work o) r) (at : ℕ) where
+  module _ (o : Option NextEntry) (h : IsNext (work o) r) (at : ℕ) where
     work_stands : (sleepers_of live.state.blocked ≢ []) ⊎ ClockAsked code live.state → r.world.clock < at → ¬ EndsInTick r.history.list → TickStands code r.history.list live.state at
     work_stands wanted later apart = record { wanted = wanted; beside = λ e other legal. (omega (arith, later, live.represents.agrees.clock), apart) }
 
@@ -122,7 +122,7 @@ pub ticked_time : (old new : Record) (at last : ℕ) → Ticked at old new → o
 ticked_time old new at last (inl h) le read = omega (arith, h.1, read)
 ticked_time old new at last (inr h) le read = omega (arith, same_time old new h, le)
 
-pub looked_kept : (old new : Record) (o : Option Act) (read : Bool) (at lent before now : ℕ) → before ≤ now → IsNext (work o) old → IsWanted o read old → old.world.clock < at → ¬ EndsInTick old.history.list → Ticked at old new
+pub looked_kept : (old new : Record) (o : Option NextEntry) (read : Bool) (at lent before now : ℕ) → before ≤ now → IsNext (work o) old → IsWanted o read old → old.world.clock < at → ¬ EndsInTick old.history.list → Ticked at old new
     → Kept old lent before → Kept new lent now
 looked_kept old new o read at lent before now le h wanted later apart (inl a) k =
     kept_as old new (old.history.list ++ entry.Tick at ∷ []) lent now a.0.plan.2 a.0.history

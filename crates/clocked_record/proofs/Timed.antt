@@ -5,7 +5,7 @@ use Rattle.std.proofs.Math.Logic.{∥∥₁_elim, ∥∥₁_map}
 use Rattle.rules_trees.specs.Trees.{T}
 use Rattle.rules_trees.specs.Programs.{Fn}
 use Rattle.rules_sorts.specs.Sorts.{Sort}
-use Rattle.rules_code.specs.declared.code.Body.{Body}
+use Rattle.rules_code.specs.declared.code.CodeBody.{CodeBody}
 use Rattle.hs_rules.specs.Terms as named
 use Rattle.hs_rules.specs.Terms.{Calls}
 use Rattle.hs_rules.specs.State.{State}
@@ -23,8 +23,8 @@ use Rattle.thread_table.specs.declared.thread.Thread.{Thread}
 use Rattle.thread_table.specs.Table.{slot_of}
 use Rattle.thread_table.proofs.Table.{slots_is}
 use Rattle.world_entries.specs.Worlds.{state_of, Live}
-use Rattle.run_record.specs.declared.acts.Act.{Act}
-use Rattle.run_record.specs.declared.acts.Act.TheVariants as act
+use Rattle.run_record.specs.declared.acts.NextEntry.{NextEntry}
+use Rattle.run_record.specs.declared.acts.NextEntry.TheVariants as act
 use Rattle.run_record.specs.declared.record.Record.{Record}
 use Rattle.run_record.specs.Records.{script, Can}
 use Rattle.run_record.proofs.GoingOn.{one_state}
@@ -55,12 +55,12 @@ module _ (cells : ℕ → T → Type 0) (ds : List Fn) where
   asks_slots (op_stands (forks_unmask_stands h)) a = a
 
 -- ---- controls
-timed_asks : (b : Body) (k : Control) → is_timed k ≡ true → AsksSlots (part_of b k)
+timed_asks : (b : CodeBody) (k : Control) → is_timed k ≡ true → AsksSlots (part_of b k)
 timed_asks b (control.Op (operation.ThreadDelay n)) e = tt
 timed_asks b (control.Op operation.ClockMicros) e = tt
 timed_asks b _ e = absurd (cc e)
 
-asks_timed : (b : Body) (k : Control) → AsksSlots (part_of b k) → is_timed k ≡ true
+asks_timed : (b : CodeBody) (k : Control) → AsksSlots (part_of b k) → is_timed k ≡ true
 asks_timed b (control.Op (operation.ThreadDelay n)) a = refl
 asks_timed b (control.Op operation.ClockMicros) a = refl
 asks_timed b _ a = absurd a
@@ -90,7 +90,7 @@ module _ (r : Record) (t : ℕ) (th : Thread) (is : slice_get r.world.threads.li
       asks_timed r.of.value th.stack.control (asks_slots (has live.represents.stacks.store) (script r) n.stands.0 (subst (At AsksClock) n.is here))))
 
 -- ---- what an act asks, as it is read
-module _ (r : Record) (a : Act) (t : ℕ) (e : a ≡ act.Op t) where
+module _ (r : Record) (a : NextEntry) (t : ℕ) (e : a ≡ act.Op t) where
   pub asks_so : (th : Thread) → slice_get r.world.threads.list.items t ≡ Some th → (b : Bool) → b ≡ is_timed th.stack.control → (b ≡ true → Asks a r) × (Asks a r → b ≡ true)
   asks_so th is b q = (
     λ h. subst (λ z. Asks z r) (sym e) (timed_op_asks r t th is (sym q ∙ h)),

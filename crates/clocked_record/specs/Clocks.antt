@@ -10,15 +10,15 @@ use Rattle.hs_laws.specs.ClockLaw.{AsksClock, ClockKept}
 use Rattle.frame_stack.specs.declared.control.Operation.TheVariants as operation
 use Rattle.frame_stack.specs.declared.control.Control.{Control}
 use Rattle.frame_stack.specs.declared.control.Control.TheVariants as control
-use Rattle.run_record.specs.declared.acts.Act.{Act}
-use Rattle.run_record.specs.declared.acts.Act.TheVariants as act
+use Rattle.run_record.specs.declared.acts.NextEntry.{NextEntry}
+use Rattle.run_record.specs.declared.acts.NextEntry.TheVariants as act
 use Rattle.run_record.specs.declared.acts.Next.{Next}
 use Rattle.run_record.specs.declared.acts.Next.TheVariants as next
 use Rattle.run_record.specs.declared.record.Record.{Record}
 use Rattle.run_record.specs.Records.{script, Appended}
 
 -- what is next where work is: an act, or local rules of threads that are to do an action
-abbrev pub work : Option Act → Next
+abbrev pub work : Option NextEntry → Next
 work None = next.Goes
 work (Some a) = next.Act a
 
@@ -29,12 +29,12 @@ is_timed (control.Op operation.ClockMicros) = true
 is_timed _ = false
 
 -- the act performs such an operation: its thread stands at it in the state that the history leaves
-abbrev pub Asks : Act → Record → Type 0
+abbrev pub Asks : NextEntry → Record → Type 0
 Asks (act.Op t) r = ∥ ((s : State) × IsRun (script r) r.history.list s × At AsksClock (slice_get s.threads t)) ∥₁
 Asks _ r = ⊥
 
 -- the clock is to be read: such an act is next, or somebody sleeps and it wasn't read for them yet
-abbrev pub IsWanted : Option Act → Bool → Record → Type 0
+abbrev pub IsWanted : Option NextEntry → Bool → Record → Type 0
 IsWanted o read r = IsSomeAnd o (λ a. Asks a r) ⊎ ((read ≡ false) × (r.world.sleepers.list ≢ []))
 
 -- a Tick to a later time was appended, or the record is as it was

@@ -16,7 +16,7 @@ use frame_stack::Slice;
 use hs_base::NoMemory;
 use hs_io::Clock;
 use hs_rules::LimitKind;
-use run_record::{Act, Next};
+use run_record::{Next, NextEntry};
 use std::collections::HashMap;
 
 impl<K: Clock> Clocked<K> {
@@ -31,7 +31,7 @@ impl<K: Clock> Clocked<K> {
     }
 
     /// Appends the entry of an act, which prints so many bytes, or answers the limit that it would exceed.
-    pub fn act(&mut self, act: Act, bytes: usize) -> Result<Option<LimitKind>, NoMemory>
+    pub fn act(&mut self, act: NextEntry, bytes: usize) -> Result<Option<LimitKind>, NoMemory>
         requires next { IsNext (next.Act act) self.old.record }
         requires fuel { steps_of self.old.record.history.list < self.old.record.fuel }
         requires bytes { Prints bytes act self.old.record }

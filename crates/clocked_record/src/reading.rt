@@ -13,7 +13,7 @@ use frame_stack::{Control, Prim};
 use hs_base::NoMemory;
 use hs_io::Clock;
 use hs_rules::Entry;
-use run_record::{Act, Record};
+use run_record::{NextEntry, Record};
 
 fn is_timed(control: &Control) -> bool
     ensures { result ≡ is_timed_by control.now }
@@ -25,11 +25,11 @@ fn is_timed(control: &Control) -> bool
 }
 
 /// Whether an act that is next performs an operation that reads the clock or waits for it.
-fn asks_clock(run: &Record, act: Act) -> bool
+fn asks_clock(run: &Record, act: NextEntry) -> bool
     requires { IsNext (next.Act act) run.now }
     ensures { IsTrue result ↔ Asks act run.now }
 {
-    let Act::Op(t) = act else {
+    let NextEntry::Op(t) = act else {
         return false;
     };
     match run.world.threads.list.get(t as usize) {
@@ -45,7 +45,7 @@ fn somebody_sleeps(run: &Record) -> bool
 }
 
 /// Whether the clock is to be read.
-fn is_wanted(run: &Record, act: Option<Act>, read: bool) -> bool
+fn is_wanted(run: &Record, act: Option<NextEntry>, read: bool) -> bool
     requires { IsNext (work act) run.now }
     ensures { IsTrue result ↔ IsWanted act read run.now }
 {
@@ -79,7 +79,7 @@ fn ends_in_tick(run: &Record) -> bool
 impl<K: Clock> Clocked<K> {
     /// Reads the clock where other work is next: before an operation that asks for it, and once where somebody sleeps, which
     /// `read` keeps. A later reading is entered by a Tick; answers whether it was. The last entry is never a Tick already.
-    pub fn look(&mut self, act: Option<Act>, read: &mut bool) -> Result<bool, NoMemory>
+    pub fn look(&mut self, act: Option<NextEntry>, read: &mut bool) -> Result<bool, NoMemory>
         requires next { IsNext (work act) self.old.record }
         requires fuel { steps_of self.old.record.history.list < self.old.record.fuel }
         ensures ok { IfOk result (λ ticked. Looked ticked self.old.record self.new.record) }

@@ -10,7 +10,7 @@ use hs_items::Items;
 use hs_lex::lex;
 use hs_parse::parse;
 use hs_types::check;
-use rules_code::{Act, ActId, Body, Code, ExprId, Node, Primitive};
+use rules_code::{Act, ActId, Code, CodeBody, ExprId, Node, Primitive};
 use std::alloc::Global;
 use std::test::Fail;
 
@@ -125,7 +125,7 @@ const ROWS: [(&str, &str); 27] = [
 
 /// What is still to be shown.
 #[derive(Clone, Copy, Debug)]
-enum Piece {
+enum ShownPiece {
     Act(ActId),
     Block(ActId),
     Expr(ExprId),
@@ -135,16 +135,16 @@ enum Piece {
     Slot(usize),
 }
 
-fn push_all(left: &mut Vec<Piece>, pieces: &[Piece]) -> Result<(), Fail> {
+fn push_all(left: &mut Vec<ShownPiece>, pieces: &[ShownPiece]) -> Result<(), Fail> {
     for piece in pieces.iter().rev() {
         left.push(*piece)?;
     }
     Ok(())
 }
 
-fn push_arguments(left: &mut Vec<Piece>, ids: &Items<ExprId>) -> Result<(), Fail> {
+fn push_arguments(left: &mut Vec<ShownPiece>, ids: &Items<ExprId>) -> Result<(), Fail> {
     for id in ids.as_slice().iter().rev() {
-        left.push(Piece::Argument(*id))?;
+        left.push(ShownPiece::Argument(*id))?;
     }
     Ok(())
 }
@@ -206,8 +206,8 @@ fn binary_word(form: BinaryForm) -> &'static str {
 }
 
 /// Shows an expression, or puts its parts in front of what is left.
-fn show_expr(left: &mut Vec<Piece>, text: &mut String, node: &Node) -> Result<(), Fail> {
-    use Piece::{Expr, Number, Slot, Word};
+fn show_expr(left: &mut Vec<ShownPiece>, text: &mut String, node: &Node) -> Result<(), Fail> {
+    use ShownPiece::{Expr, Number, Slot, Word};
     match node {
         Node::Int(n) => left.push(Number(*n))?,
         Node::Text(letters) => {
@@ -243,16 +243,27 @@ fn show_expr(left: &mut Vec<Piece>, text: &mut String, node: &Node) -> Result<()
 }
 
 /// Puts the parts of an action in front of what is left.
-fn show_act(left: &mut Vec<Piece>, act: &Act) -> Result<(), Fail> {
-    use Piece::{Argument, Block, Expr, Number, Slot, Word};
+fn show_act(left: &mut Vec<ShownPiece>, act: &Act) -> Result<(), Fail> {
+    use ShownPiece::{Argument, Block, Expr, Number, Slot, Word};
     match act {
         Act::Return(e) => push_all(left, &[Word("return"), Argument(*e)]),
         Act::Throw(e) => push_all(left, &[Word("throwIO"), Argument(*e)]),
-        Act::Let(e, a) => push_all(left, &[Word("let "), Expr(*e), Word("; "), Piece::Act(*a)]),
-        Act::Bind(a, b) => push_all(left, &[Word("* <-"), Block(*a), Word("; "), Piece::Act(*b)]),
+        Act::Let(e, a) => push_all(
+            left,
+            &[Word("let "), Expr(*e), Word("; "), ShownPiece::Act(*a)],
+        ),
+        Act::Bind(a, b) => push_all(
+            left,
+            &[Word("* <-"), Block(*a), Word("; "), ShownPiece::Act(*b)],
+        ),
         Act::Then(a, b) => push_all(
             left,
-            &[Word("{"), Piece::Act(*a), Word("}; "), Piece::Act(*b)],
+            &[
+                Word("{"),
+                ShownPiece::Act(*a),
+                Word("}; "),
+                ShownPiece::Act(*b),
+            ],
         ),
         Act::If(e, a, b) => push_all(left, &[Word("if"), Argument(*e), Block(*a), Block(*b)]),
         Act::CaseMaybe(e, a, b) => push_all(
@@ -286,33 +297,40 @@ fn show_act(left: &mut Vec<Piece>, act: &Act) -> Result<(), Fail> {
 }
 
 /// Shows the body of `main`.
-fn shown(alloc: Global, body: &Body) -> Result<String, Fail> {
+fn shown(alloc: Global, body: &CodeBody) -> Result<String, Fail> {
     let mut left = Vec::new(alloc);
     let mut text = String::new(alloc);
-    left.push(Piece::Act(body.main))?;
+    left.push(ShownPiece::Act(body.main))?;
     for _ in 0..10_000u32 {
         match left.pop() {
             None => break,
-            Some(Piece::Word(word)) => text.push_str(word)?,
-            Some(Piece::Number(n)) => {
+            Some(ShownPiece::Word(word)) => text.push_str(word)?,
+            Some(ShownPiece::Number(n)) => {
                 let number = format!(in alloc; "{}", n)?;
                 text.push_str(number.as_str())?;
             }
-            Some(Piece::Slot(k)) => {
+            Some(ShownPiece::Slot(k)) => {
                 let slot = format!(in alloc; "#{}", k)?;
                 text.push_str(slot.as_str())?;
             }
-            Some(Piece::Argument(e)) => push_all(&mut left, &[Piece::Word(" "), Piece::Expr(e)])?,
-            Some(Piece::Block(a)) => push_all(
+            Some(ShownPiece::Argument(e)) => push_all(
                 &mut left,
-                &[Piece::Word(" {"), Piece::Act(a), Piece::Word("}")],
+                &[ShownPiece::Word(" "), ShownPiece::Expr(e)],
             )?,
-            Some(Piece::Expr(e)) => {
+            Some(ShownPiece::Block(a)) => push_all(
+                &mut left,
+                &[
+                    ShownPiece::Word(" {"),
+                    ShownPiece::Act(a),
+                    ShownPiece::Word("}"),
+                ],
+            )?,
+            Some(ShownPiece::Expr(e)) => {
                 if let Some(node) = body.nodes.get(e.0) {
                     show_expr(&mut left, &mut text, node)?;
                 }
             }
-            Some(Piece::Act(a)) => {
+            Some(ShownPiece::Act(a)) => {
                 if let Some(act) = body.acts.get(a.0) {
                     show_act(&mut left, act)?;
                 }

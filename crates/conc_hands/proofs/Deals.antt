@@ -3,7 +3,7 @@ use Rattle.std.proofs.Common.{◌≡◌, ◌≢◌, ◌⊎◌, ℕ, zero, suc, �
 use Rattle.std.proofs.lemmas.Bool.Decides.{nat_tests}
 use Rattle.std.specs.declared.alloc.Global.{Global}
 use Rattle.std.specs.declared.vec.Vec.{Vec}
-use Rattle.rules_code.specs.declared.code.Body.{Body}
+use Rattle.rules_code.specs.declared.code.CodeBody.{CodeBody}
 use Rattle.ticket_queues.specs.declared.view.QueueView.{QueueView}
 use Rattle.ticket_queues.specs.declared.deque.Deque.{Deque}
 use Rattle.ticket_queues.specs.declared.deque.Door.{Door}
@@ -19,7 +19,7 @@ use Rattle.conc_hands.specs.Dealing.{dealt_if, IsRow, IsRowOf, AreRows, AreDealt
 use Rattle.conc_hands.proofs.Places.{got_after, got_more, got_before, got_last, got_later, within}
 use Rattle.conc_hands.proofs.Tickets.{stolen_none}
 
-clean_if : (code : Body) (v : QueueView) (b : Bool) → v ≡ dealt_if (Some code) b → IsClean (Some code) v × (v.shares ≡ share_if b) × (v.taken ≡ [])
+clean_if : (code : CodeBody) (v : QueueView) (b : Bool) → v ≡ dealt_if (Some code) b → IsClean (Some code) v × (v.shares ≡ share_if b) × (v.taken ≡ [])
 clean_if code v true is = ((ap (λ (u : QueueView). u.put) is, (λ some_share. absurd (let n = ap (λ (u : QueueView). u.shares) is in omega arith)), (λ _. ap (λ (u : QueueView). u.taken) is)), ap (λ (u : QueueView). u.shares) is, ap (λ (u : QueueView). u.taken) is)
 clean_if code v false is = ((ap (λ (u : QueueView). u.put) is, (λ _. ap (λ (u : QueueView). u.code) is), (λ _. ap (λ (u : QueueView). u.taken) is)), ap (λ (u : QueueView). u.shares) is, ap (λ (u : QueueView). u.taken) is)
 
@@ -51,29 +51,30 @@ pub inbox_last : (count number shares : ℕ) → number + 1 ≡ count → shares
 inbox_last count number shares same n = last_case count number shares (number + 1 == count) refl same n
 
 module _ {J : Type 0} where
-  row_more : (doors : List (Door J)) (code : Body) (q : ℕ) (ps : List (DequePass J)) (p : DequePass J) → IsRow doors code q ps
+  row_more : (doors : List (Door J)) (code : CodeBody) (q : ℕ) (ps : List (DequePass J)) (p : DequePass J)
+      → IsRow doors code q ps
       → pass_view p ≡ dealt_if (Some code) (q == length ps) → ((d : Door J) → slice_get doors (length ps) ≡ Some d → IsDequePass (door_id d) p) → IsRow doors code q (ps ++ p ∷ [])
   row_more doors code q ps p r view id = record {
     views = λ k x e. ⊎_elim (λ t. subst (λ (y : ℕ × DequePass J). pass_view y.1 ≡ dealt_if (Some code) (q == y.0)) (λ i. (sym t.0 i, t.1 i)) view) (λ t. r.views k x t) (got_more ps p x k e);
     ids = λ k x e d at. ⊎_elim (λ t. subst (λ (y : DequePass J). IsDequePass (door_id d) y) t.1 (id d (subst (λ n. slice_get doors n ≡ Some d) t.0 at))) (λ t. r.ids k x t d at) (got_more ps p x k e);
   }
 
-  row_wider : (doors : List (Door J)) (door : Door J) (code : Body) (q : ℕ) (ps : List (DequePass J)) → length ps ≤ length doors → IsRow doors code q ps → IsRow (doors ++ door ∷ []) code q ps
+  row_wider : (doors : List (Door J)) (door : Door J) (code : CodeBody) (q : ℕ) (ps : List (DequePass J)) → length ps ≤ length doors → IsRow doors code q ps → IsRow (doors ++ door ∷ []) code q ps
   row_wider doors door code q ps few r = record {
     views = r.views;
     ids = λ k x e d at. r.ids k x e d (got_before doors (door ∷ []) k d at (let w = within ps k x e in omega arith));
   }
 
-  pub rows_wider : (doors : List (Door J)) (door : Door J) (code : Body) (rows : List (Vec (DequePass J) Global)) → AreRows doors code (length doors) 0 rows → AreRows (doors ++ door ∷ []) code (length doors) 0 rows
+  pub rows_wider : (doors : List (Door J)) (door : Door J) (code : CodeBody) (rows : List (Vec (DequePass J) Global)) → AreRows doors code (length doors) 0 rows → AreRows (doors ++ door ∷ []) code (length doors) 0 rows
   rows_wider doors door code rows r = λ q row e. let t = r q row e in (t.0, row_wider doors door code (q + 0) row.items (let n = t.0 in omega arith) t.1)
 
-  pub starts_dealt : (doors : List (Door J)) (code : Body) (own : ℕ) (rows : List (Vec (DequePass J) Global)) → AreRows doors code own 0 rows → AreDealt doors code own 0 rows
+  pub starts_dealt : (doors : List (Door J)) (code : CodeBody) (own : ℕ) (rows : List (Vec (DequePass J) Global)) → AreRows doors code own 0 rows → AreDealt doors code own 0 rows
   starts_dealt doors code own rows r = λ q row e. let t = r q row e in ((λ no. absurd (omega arith)), (λ _. t.0), subst (λ n. IsRow doors code n row.items) (omega arith) t.1)
 
-  pub ends_dealt : (doors : List (Door J)) (code : Body) (own at : ℕ) (rows : List (Vec (DequePass J) Global)) → length rows ≤ at → AreDealt doors code own at rows → AreRows doors code (own + 1) 0 rows
+  pub ends_dealt : (doors : List (Door J)) (code : CodeBody) (own at : ℕ) (rows : List (Vec (DequePass J) Global)) → length rows ≤ at → AreDealt doors code own at rows → AreRows doors code (own + 1) 0 rows
   ends_dealt doors code own at rows all r = λ q row e. let t = r q row e in (t.0 (let w = within rows q row e in omega arith), subst (λ n. IsRow doors code n row.items) (omega arith) t.2)
 
-  pub deals_one : (doors : List (Door J)) (code : Body) (own at : ℕ) (rows : List (Vec (DequePass J) Global)) (row more : Vec (DequePass J) Global) (p : DequePass J) → AreDealt doors code own at rows → slice_get rows at ≡ Some row → more.items ≡ row.items ++ p ∷ []
+  pub deals_one : (doors : List (Door J)) (code : CodeBody) (own at : ℕ) (rows : List (Vec (DequePass J) Global)) (row more : Vec (DequePass J) Global) (p : DequePass J) → AreDealt doors code own at rows → slice_get rows at ≡ Some row → more.items ≡ row.items ++ p ∷ []
       → pass_view p ≡ dealt_if (Some code) (at == own) → ((d : Door J) → slice_get doors own ≡ Some d → IsDequePass (door_id d) p) → AreDealt doors code own (at + 1) (set rows at more)
   deals_one doors code own at rows row more p r here is view id = let old = r at row here in
       let n : length row.items ≡ own = old.1 (omega arith) in
@@ -85,7 +86,7 @@ module _ {J : Type 0} where
       (λ t. let o = r q x t.1 in ((λ small. o.0 (omega (arith, t.0))), (λ big. o.1 (omega arith)), o.2))
       (got_after rows at q more x e)
 
-  pub deques_wider : (doors : List (Door J)) (door : Door J) (code : Body) (caps : ℕ) (ds : List (Deque J)) (d : Deque J) → length ds ≡ length doors → AreDeques doors code caps 0 ds
+  pub deques_wider : (doors : List (Door J)) (door : Door J) (code : CodeBody) (caps : ℕ) (ds : List (Deque J)) (d : Deque J) → length ds ≡ length doors → AreDeques doors code caps 0 ds
       → IsDequeOf (doors ++ door ∷ []) code caps (length doors) d → AreDeques (doors ++ door ∷ []) code caps 0 (ds ++ d ∷ [])
   deques_wider doors door code caps ds d same r new = λ q x e. ⊎_elim
       (λ t. subst (λ (y : ℕ × Deque J). IsDequeOf (doors ++ door ∷ []) code caps y.0 y.1) (λ i. ((let z : length doors ≡ q + 0 = omega (arith, t.0) in z) i, t.1 i)) new)
@@ -93,7 +94,7 @@ module _ {J : Type 0} where
       (got_more ds d x q e)
 
   -- what a hand has for jobs, put together
-  pub end_made : (doors : List (Door J)) (code : Body) (caps : ℕ) (e : JobsEnd J) → 0 < caps → caps ≤ 16 → e.number < caps → length doors ≡ caps → IsDequeOf doors code caps e.number e.deque → IsRowOf doors code caps e.number e.passes
+  pub end_made : (doors : List (Door J)) (code : CodeBody) (caps : ℕ) (e : JobsEnd J) → 0 < caps → caps ≤ 16 → e.number < caps → length doors ≡ caps → IsDequeOf doors code caps e.number e.deque → IsRowOf doors code caps e.number e.passes
       → IsEndOf doors e × IsDealt caps e × (end_code e ≡ Some code) × (end_taken e ≡ [])
   end_made doors code caps e some_cap few small count own row = let named : end_code e ≡ Some code = ap (λ (u : QueueView). u.code) own.0 in (
     record {
@@ -118,16 +119,16 @@ module _ {J : Type 0} where
       let there : slice_get (doors ++ door ∷ []) (length doors) ≡ Some door = got_last doors door in
       cc (sym there ∙ here)
 
-  pub deques_less : (doors : List (Door J)) (code : Body) (caps first : ℕ) (ds : List (Deque J)) → AreDeques doors code caps first ds → AreDeques doors code caps (first + 1) (remove ds 0)
+  pub deques_less : (doors : List (Door J)) (code : CodeBody) (caps first : ℕ) (ds : List (Deque J)) → AreDeques doors code caps first ds → AreDeques doors code caps (first + 1) (remove ds 0)
   deques_less doors code caps first ds r = λ q d e. subst (λ n. IsDequeOf doors code caps n d) (omega arith) (r (suc q) d (got_later ds q d e))
 
-  pub rows_less : (doors : List (Door J)) (code : Body) (count first : ℕ) (rows : List (Vec (DequePass J) Global)) → AreRows doors code count first rows → AreRows doors code count (first + 1) (remove rows 0)
+  pub rows_less : (doors : List (Door J)) (code : CodeBody) (count first : ℕ) (rows : List (Vec (DequePass J) Global)) → AreRows doors code count first rows → AreRows doors code count (first + 1) (remove rows 0)
   rows_less doors code count first rows r = λ q x e. subst (λ n. IsRowOf doors code count n x) (omega arith) (r (suc q) x (got_later rows q x e))
 
-  pub first_deque : (doors : List (Door J)) (code : Body) (caps first : ℕ) (ds : List (Deque J)) (d : Deque J) → AreDeques doors code caps first ds → slice_get ds 0 ≡ Some d → IsDequeOf doors code caps first d
+  pub first_deque : (doors : List (Door J)) (code : CodeBody) (caps first : ℕ) (ds : List (Deque J)) (d : Deque J) → AreDeques doors code caps first ds → slice_get ds 0 ≡ Some d → IsDequeOf doors code caps first d
   first_deque doors code caps first ds d r e = subst (λ n. IsDequeOf doors code caps n d) (omega arith) (r 0 d e)
 
-  pub first_row : (doors : List (Door J)) (code : Body) (count first : ℕ) (rows : List (Vec (DequePass J) Global)) (row : Vec (DequePass J) Global) → AreRows doors code count first rows → slice_get rows 0 ≡ Some row → IsRowOf doors code count first row
+  pub first_row : (doors : List (Door J)) (code : CodeBody) (count first : ℕ) (rows : List (Vec (DequePass J) Global)) (row : Vec (DequePass J) Global) → AreRows doors code count first rows → slice_get rows 0 ≡ Some row → IsRowOf doors code count first row
   first_row doors code count first rows row r e = subst (λ n. IsRowOf doors code count n row) (omega arith) (r 0 row e)
 
 module _ {J S : Type 0} where

@@ -2,7 +2,7 @@
 use Rattle.std.proofs.Common.{◌≡◌, ◌≢◌, ◌⊎◌, ℕ, zero, suc, ◌+◌, ◌-◌, ◌<◌, ◌≤◌, List, [], ◌∷◌, ◌++◌, length, length-set, map, set, slice_get, Option, Some, refl, ap, sym, ◌∙◌, subst, inl, inr, ⊎_elim, arith, append-nil}
 use Rattle.std.specs.declared.alloc.Global.{Global}
 use Rattle.atomic_blocks.specs.Lent.{RowsId}
-use Rattle.rules_code.specs.declared.code.Body.{Body}
+use Rattle.rules_code.specs.declared.code.CodeBody.{CodeBody}
 use Rattle.ticket_queues.specs.declared.view.QueueView.{QueueView}
 use Rattle.ticket_queues.specs.declared.deque.Door.{Door}
 use Rattle.ticket_queues.specs.declared.deque.DequePass.{DequePass}
@@ -16,7 +16,7 @@ use Rattle.conc_hands.proofs.Places.{got_after, got_set, set_same, mapped_set, w
 use Rattle.conc_hands.proofs.Totals.{if_same_plus, same_in, total_set, mapped_same, number_here, by_number, one_number, some_has}
 use Rattle.conc_hands.proofs.Tickets.{stolen_set, stolen_none}
 
-spent_clean : (c : Option Body) → IsClean c spent
+spent_clean : (c : Option CodeBody) → IsClean c spent
 spent_clean c = (refl, (λ no. absurd (omega arith)), λ _. refl)
 
 module _ {J : Type 0} where

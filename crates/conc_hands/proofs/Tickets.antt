@@ -1,7 +1,7 @@
 -- The tickets that a hand has taken.
 use Rattle.std.proofs.Common.{◌≡◌, ◌≢◌, ◌⊎◌, ◌↔◌, ℕ, zero, suc, ◌+◌, ◌<◌, ◌≤◌, List, [], ◌∷◌, ◌++◌, length, set, slice_get, Option, Some, None, IsNone, MatchOption, refl, ap, sym, ◌∙◌, subst, inl, inr, ⊎_elim, arith, append-nil, Bool, true, false, ◌==◌}
 use Rattle.std.proofs.lemmas.Bool.Decides.{nat_tests}
-use Rattle.rules_code.specs.declared.code.Body.{Body}
+use Rattle.rules_code.specs.declared.code.CodeBody.{CodeBody}
 use Rattle.ticket_queues.specs.declared.view.QueueView.{QueueView}
 use Rattle.ticket_queues.specs.declared.deque.DequePass.{DequePass}
 use Rattle.ticket_queues.specs.QueueRule.{weigh, SameTickets, MetEmpty, view_with}
@@ -43,12 +43,12 @@ module _ {J : Type 0} where
   stolen_alone (p ∷ []) few none = ap (λ (xs : List ℕ). xs ++ []) (none p refl)
   stolen_alone (p ∷ q ∷ ps) few none = absurd (omega arith)
 
-module _ {J : Type 0} (number : J → ℕ) (belongs : J → Body) where
+module _ {J : Type 0} (number : J → ℕ) (belongs : J → CodeBody) where
   -- what one take tells, in the words of a queue
   abbrev Told : Option J → QueueView → QueueView → Type 0
   Told o v w = MatchOption o ((w ≡ v) × MetEmpty number belongs v) (λ x. (Some (belongs x) ≡ v.code) × (w ≡ view_with v.code v.shares v.put (v.taken ++ number x ∷ [])))
 
-  pub popped : (o : Option J) (v w : QueueView) (rest : List ℕ) (code : Body) → v.code ≡ Some code → Told o v w
+  pub popped : (o : Option J) (v w : QueueView) (rest : List ℕ) (code : CodeBody) → v.code ≡ Some code → Told o v w
       → MatchOption o (((w.put ≡ v.put) × (w.taken ++ rest ≡ v.taken ++ rest)) × MetEmpty number belongs v)
       (λ x. (belongs x ≡ code) × (w.put ≡ v.put) × SameTickets (w.taken ++ rest) ((v.taken ++ rest) ++ number x ∷ []))
   popped None v w rest code is t = ((ap (λ (u : QueueView). u.put) t.0, ap (λ (u : QueueView). u.taken ++ rest) t.0), t.1)
@@ -68,7 +68,7 @@ module _ {J : Type 0} (number : J → ℕ) (belongs : J → Body) where
   same_rights None v w t = (ap (λ (u : QueueView). u.put) t.0, ap (λ (u : QueueView). u.shares) t.0, ap (λ (u : QueueView). u.code) t.0)
   same_rights (Some x) v w t = (ap (λ (u : QueueView). u.put) t.1, ap (λ (u : QueueView). u.shares) t.1, ap (λ (u : QueueView). u.code) t.1)
 
-  pub stole : (o : Option J) (own : List ℕ) (ps : List (DequePass J)) (i : ℕ) (p q : DequePass J) → slice_get ps i ≡ Some p → (code : Option Body) → (pass_view p).code ≡ code → Told o (pass_view p) (pass_view q)
+  pub stole : (o : Option J) (own : List ℕ) (ps : List (DequePass J)) (i : ℕ) (p q : DequePass J) → slice_get ps i ≡ Some p → (code : Option CodeBody) → (pass_view p).code ≡ code → Told o (pass_view p) (pass_view q)
       → MatchOption o ((own ++ stolen_by (set ps i q) ≡ own ++ stolen_by ps) × ((p' : DequePass J) × (slice_get ps i ≡ Some p') × MetEmpty number belongs (pass_view p')))
       (λ x. (Some (belongs x) ≡ code) × SameTickets (own ++ stolen_by (set ps i q)) ((own ++ stolen_by ps) ++ number x ∷ []))
   stole None own ps i p q at code is t = (ap (λ (ts : List ℕ). own ++ ts) (stolen_same ps i p q at (ap (λ (u : QueueView). u.taken) t.0)), (p, at, t.1))

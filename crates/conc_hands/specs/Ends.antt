@@ -1,6 +1,6 @@
 -- What a hand has for jobs: its own deque, and a pass for each deque.
 use Rattle.std.specs.Prelude.{◌≡◌, ◌≢◌, ℕ, zero, suc, ◌+◌, ◌<◌, ◌≤◌, List, [], ◌∷◌, ◌++◌, length, slice_get, Option, Some, Bool, true, false, ◌==◌}
-use Rattle.rules_code.specs.declared.code.Body.{Body}
+use Rattle.rules_code.specs.declared.code.CodeBody.{CodeBody}
 use Rattle.ticket_queues.specs.declared.view.QueueView.{QueueView}
 use Rattle.ticket_queues.specs.declared.deque.Door.{Door}
 use Rattle.ticket_queues.specs.declared.deque.DequePass.{DequePass}
@@ -9,7 +9,7 @@ use Rattle.ticket_queues.specs.Deques.{deque_view, deque_id, door_id, room_of, p
 use Rattle.conc_hands.specs.declared.hand.JobsEnd.{JobsEnd}
 
 -- a pass has put nothing. One with a share names the code, and one without has taken nothing
-abbrev pub IsClean : Option Body → QueueView → Type 0
+abbrev pub IsClean : Option CodeBody → QueueView → Type 0
 IsClean code v = (v.put ≡ []) × (0 < v.shares → v.code ≡ code) × (v.shares ≡ 0 → v.taken ≡ [])
 
 abbrev pub share_if : Bool → ℕ
@@ -22,7 +22,7 @@ share_at number k = share_if (number == k)
 
 module _ {J : Type 0} where
   -- the code that its jobs belong to
-  abbrev pub end_code : JobsEnd J → Option Body
+  abbrev pub end_code : JobsEnd J → Option CodeBody
   end_code e = (deque_view e.deque).code
 
   abbrev pub end_room : JobsEnd J → ℕ
@@ -54,7 +54,7 @@ module _ {J : Type 0} where
     pub own_shares : (deque_view e.deque).shares + count ≡ 17
     pub pass_shares : (k : ℕ) (p : DequePass J) → slice_get e.passes.items k ≡ Some p → (pass_view p).shares ≡ share_at e.number k
 
-module _ {J : Type 0} (number : J → ℕ) (belongs : J → Body) where
+module _ {J : Type 0} (number : J → ℕ) (belongs : J → CodeBody) where
   -- there is a state that meets the rule of the deque at `from`, with the view of this pass, in which the deque is empty
   abbrev pub EmptyAt : ℕ → JobsEnd J → Type 0
   EmptyAt from e = (p : DequePass J) × (slice_get e.passes.items from ≡ Some p) × MetEmpty number belongs (pass_view p)

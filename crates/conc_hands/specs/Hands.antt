@@ -1,6 +1,6 @@
 -- What a clause says of the hands and of one hand.
 use Rattle.std.specs.Prelude.{◌≡◌, ℕ, ◌+◌, ◌<◌, List, length, Option, Some, if◌then◌else◌, ◌==◌}
-use Rattle.rules_code.specs.declared.code.Body.{Body}
+use Rattle.rules_code.specs.declared.code.CodeBody.{CodeBody}
 use Rattle.ticket_queues.specs.declared.view.QueueView.{QueueView}
 use Rattle.ticket_queues.specs.Deques.{deque_view}
 use Rattle.ticket_queues.specs.Inboxes.{IsInboxPass, inbox_view}
@@ -16,7 +16,7 @@ HasInboxShares count number shares = shares + (if number + 1 == count then count
 
 module _ {J S : Type 0} where
   -- the code that all jobs and slices belong to
-  abbrev pub hands_code : Hands J S → Body
+  abbrev pub hands_code : Hands J S → CodeBody
   hands_code h = flags_code h.flags
 
   -- how many hands there are
@@ -77,7 +77,7 @@ module _ {J S : Type 0} where
   abbrev pub SameFlags : Hand J S → Hand J S → Type 0
   SameFlags x y = (raised_by y ≡ raised_by x) × (read_by y ≡ read_by x)
 
-module _ {J S : Type 0} (number : J → ℕ) (belongs : J → Body) where
+module _ {J S : Type 0} (number : J → ℕ) (belongs : J → CodeBody) where
   -- there is a state that meets the rule of the deque at `from`, with this hand's view, in which the deque is empty
   abbrev pub FoundEmpty : ℕ → Hand J S → Type 0
   FoundEmpty from x = EmptyAt number belongs from x.jobs

@@ -7,7 +7,7 @@ ghost use Rattle.conc_hands.specs.Ends.{share_if};
 
 use hs_base::NoMemory;
 use hs_rules::Ticketed;
-use rules_code::Body;
+use rules_code::CodeBody;
 use std::alloc::{AllocError, Global};
 use ticket_queues::{Deque, DequePass, Door};
 
@@ -21,7 +21,7 @@ pub(crate) struct Dealt<J: Ticketed> {
 pub(crate) fn lay_out<J: Ticketed + Drop>(
     alloc: Global,
     caps: u32,
-    code: &Body,
+    code: &CodeBody,
 ) -> Result<Dealt<J>, NoMemory>
     requires { (0 < caps) × (caps ≤ 16) }
     ensures { IfOk result (λ d. IsLaidOut code.now caps d.deques.items d.doors.items d.rows.items) }
@@ -64,7 +64,7 @@ fn deal<J: Ticketed + Drop>(
     rows: &mut Vec<Vec<DequePass<J>>>,
     deque: &mut Deque<J>,
     doors: &Vec<Door<J>>,
-    code: &Body,
+    code: &CodeBody,
 ) -> Result<(), NoMemory>
     requires few { (0 < length doors.now.items) × (length doors.now.items ≤ length rows.old.items) × (length rows.old.items ≤ 16) }
     requires rows { AreRows doors.now.items code.now (length doors.now.items - 1) 0 rows.old.items }

@@ -16,7 +16,7 @@ use crate::list::HandList;
 use cut_flags::{Flags, Pen};
 use hs_base::NoMemory;
 use hs_rules::Ticketed;
-use rules_code::{Body, Code};
+use rules_code::{Code, CodeBody};
 use std::alloc::{AllocError, Global};
 use ticket_queues::{Deque, DequePass, Inbox, InboxPass};
 
@@ -32,7 +32,7 @@ impl<J: Ticketed + Drop, S: Ticketed + Drop> Hands<J, S> {
         ensures hands { IfOk result (λ r. (hands_count r.0 ≡ caps) × (hands_code r.0 ≡ body_of code.now)) }
         ensures list { IfOk result (λ r. (length (hands_in r.1) ≡ caps) × AreFresh r.0 (hands_in r.1)) }
     {
-        let body: &Body = &code.body;
+        let body: &CodeBody = &code.body;
         let (flags, pen) = Flags::new(alloc, caps, body)?;
         let (inbox, post) = Inbox::new(alloc, body)?;
         let Dealt {

@@ -7,7 +7,7 @@ use Rattle.hs_base.specs.declared.tree.forms.GuardAction.{GuardAction}
 use Rattle.hs_base.specs.declared.tree.forms.GuardAction.TheVariants as g
 use Rattle.rules_trees.specs.Trees.{Ex}
 use Rattle.rules_trees.specs.Programs as tree
-use Rattle.rules_trees.specs.Programs.{Act, Bl}
+use Rattle.rules_trees.specs.Programs.{SurfaceAction, Bl}
 use Rattle.conc_lib.specs.Scopes.{IsOfForm, unary_form, guard_form, scope_form}
 
 unary_stands : (w : UnaryAction) (p : Pos) (e : Ex) → IfSome (unary_form w) (λ o. IsOfForm o (tree.unary_act w p e))
@@ -20,7 +20,7 @@ guard_stands g.Race p a c = refl
 guard_stands g.Concurrently p a c = refl
 guard_stands w p a c = tt
 
-pub scope_stands : (a : Act) → IfSome (scope_form a) (λ o. IsOfForm o a)
+pub scope_stands : (a : SurfaceAction) → IfSome (scope_form a) (λ o. IsOfForm o a)
 scope_stands (tree.unary_act w p e) = unary_stands w p e
 scope_stands (tree.guard w p a c) = guard_stands w p a c
 scope_stands (tree.with_async p a x c) = refl

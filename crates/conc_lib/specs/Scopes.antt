@@ -5,7 +5,7 @@ use Rattle.hs_base.specs.declared.tree.forms.UnaryAction.TheVariants as u
 use Rattle.hs_base.specs.declared.tree.forms.GuardAction.{GuardAction}
 use Rattle.hs_base.specs.declared.tree.forms.GuardAction.TheVariants as g
 use Rattle.rules_trees.specs.Programs as tree
-use Rattle.rules_trees.specs.Programs.{Act}
+use Rattle.rules_trees.specs.Programs.{SurfaceAction}
 use Rattle.rules_expansion.specs.declared.template.Derived.{Derived}
 use Rattle.rules_expansion.specs.declared.template.Derived.TheVariants as d
 use Rattle.rules_expansion.specs.Core.{OfScript, NoValue}
@@ -23,19 +23,19 @@ guard_form g.Concurrently = Some d.Concurrently
 guard_form _ = None
 
 -- the form of async scopes that an action is
-abbrev pub scope_form : Act → Option Derived
+abbrev pub scope_form : SurfaceAction → Option Derived
 scope_form (tree.unary_act w p e) = unary_form w
 scope_form (tree.guard w p a c) = guard_form w
 scope_form (tree.with_async p a x c) = Some d.WithAsync
 scope_form _ = None
 
 -- what an action puts into its template: its expression, or its blocks with the name that it binds
-abbrev pub parts_of : Act → Filling
+abbrev pub parts_of : SurfaceAction → Filling
 parts_of (tree.unary_act w p e) = on_subject (OfScript e)
 parts_of (tree.guard w p a c) = on_two (block_core a) (block_core c)
 parts_of (tree.with_async p a x c) = on_named (block_core a) x.text (block_core c)
 parts_of _ = on_subject NoValue
 
 -- the form's template, with the action's own parts in it, is what the action comes to
-abbrev pub IsOfForm : Derived → Act → Type 0
+abbrev pub IsOfForm : Derived → SurfaceAction → Type 0
 IsOfForm o a = core a ≡ derived o (parts_of a)

@@ -3,7 +3,7 @@ use Rattle.std.proofs.Common.{◌≡◌, ◌<◌, ◌≤◌, ◌+◌, ℕ, zero,
 use Rattle.std.specs.Prelude.{◌⊎◌}
 use Rattle.std.specs.List.{AllByRecursion, Contains}
 use Rattle.std.proofs.lemmas.Option.{same_Some, slice_get_within}
-use Rattle.rules_code.specs.declared.code.Body.{Body}
+use Rattle.rules_code.specs.declared.code.CodeBody.{CodeBody}
 use Rattle.outcome_laws.specs.Outcomes as laws
 use Rattle.outcome_listing.specs.declared.explored.Final.{Final}
 use Rattle.outcome_listing.specs.declared.explored.Outcome.{Outcome}
@@ -48,11 +48,11 @@ outcomes_next old new o es n e at is same before =
 
 -- the outcome of each state below this number that has ended is there
 abbrev pub AreThere : Found → ℕ → List Ended → Type 0
-AreThere f n es = (b : Body) (o : laws.Outcome) (s : Shows b f o) → s.number < n → Has es o
+AreThere f n es = (b : CodeBody) (o : laws.Outcome) (s : Shows b f o) → s.number < n → Has es o
 
 -- the ending is that of the state of this number
 abbrev pub IsEndingAt : Found → ℕ → Final → Ended → Type 0
-IsEndingAt f n end e = (b : Body) (d : Shown) → slice_get (states_of b f) n ≡ Some d → outcome_by e ≡ record { end = final_of end; output = d.output; errors = d.errors }
+IsEndingAt f n end e = (b : CodeBody) (d : Shown) → slice_get (states_of b f) n ≡ Some d → outcome_by e ≡ record { end = final_of end; output = d.output; errors = d.errors }
 
 last_or_below : (i n : ℕ) → i < n + 1 → (i < n) ⊎ (i ≡ n)
 last_or_below i n h = grind arith
@@ -68,7 +68,7 @@ same_parts end output errors o p q r =
     ap one p ∙ ap two q ∙ ap three r
 
 -- how the state of a number has ended, by what it shows
-kind_there : (b : Body) (f : Found) (o : laws.Outcome) (s : Shows b f o) (n : ℕ) (k : Option Final) → slice_get f.kinds.items n ≡ Some k → s.number ≡ n → kind_of k ≡ Some o.end
+kind_there : (b : CodeBody) (f : Found) (o : laws.Outcome) (s : Shows b f o) (n : ℕ) (k : Option Final) → slice_get f.kinds.items n ≡ Some k → s.number ≡ n → kind_of k ≡ Some o.end
 kind_there b f o s n k at is =
     let m = mapped_there kind_of f.kinds.items s.number (Some o.end) s.end in
     let same : m.0 ≡ k = same_Some m.0 k (sym m.1 ∙ ap (slice_get f.kinds.items) is ∙ at) in
@@ -87,7 +87,7 @@ there_more f n end e old new at is keeps has h b o s below =
     let shown = is b s.state (ap (slice_get (states_of b f)) (sym same) ∙ s.is) in
     subst (Has new) (shown ∙ same_parts (final_of end) s.state.output s.state.errors o ended s.output s.errors) has) (last_or_below s.number n below)
 
-pub there_all : (f : Found) (n : ℕ) (es : List Ended) → length f.kinds.items ≤ n → AreThere f n es → (b : Body) (o : laws.Outcome) → Shows b f o → Has es o
+pub there_all : (f : Found) (n : ℕ) (es : List Ended) → length f.kinds.items ≤ n → AreThere f n es → (b : CodeBody) (o : laws.Outcome) → Shows b f o → Has es o
 there_all f n es all h b o s =
     let m = mapped_there kind_of f.kinds.items s.number (Some o.end) s.end in
     let below = slice_get_within f.kinds.items s.number m.0 m.1 in

@@ -7,7 +7,7 @@ use Rattle.hs_base.specs.declared.tree.script.Script.{Script}
 use Rattle.hs_rules.specs.declared.entry.Entry.{Entry}
 use Rattle.hs_rules.specs.State.{State}
 use Rattle.rules_trees.specs.Programs.{Fn, script_of}
-use Rattle.rules_code.specs.declared.code.Body.{Body}
+use Rattle.rules_code.specs.declared.code.CodeBody.{CodeBody}
 use Rattle.timing_laws.specs.WithoutTime.{without_ticks}
 use Rattle.outcome_listing.specs.declared.bounds.Bounds.{Bounds}
 use Rattle.number_tables.specs.Tables.{Grows}
@@ -33,7 +33,7 @@ stands_kept clock ds c d s h slots output errors = record {
   errors = h.errors ∙ errors;
 }
 
-shown_same : (g : Stock) (b : Body) (x y : NumberState) → contents x ≡ contents y → shown g b x ≡ shown g b y
+shown_same : (g : Stock) (b : CodeBody) (x y : NumberState) → contents x ≡ contents y → shown g b x ≡ shown g b y
 shown_same g b x y e = let show : Contents → Shown = λ k. record { slots = slots_of g b k; output = text_at g k.output; errors = text_at g k.errors } in ap show e
 
 -- a copy is there as long as what was copied is
@@ -46,8 +46,8 @@ behind old new to round g same rest =
     let e : round ≡ g.0 = rest ∙ ap (λ es. drop (length es) new) same ∙ ap (drop (length old)) g.1 ∙ drop-append_seam old g.0 in
     g.1 ∙ ap (λ es. es ++ g.0) (sym same) ∙ ap (λ es. to ++ es) (sym e)
 
-pub comes_back : (bounds : Bounds) (b : Body) (g h : Stock) (w v : Walk) (begin : NumberState) (to round : List Entry) → IsAt bounds b g w → IsAt bounds b h v → contents begin ≡ contents w.state → HasGrown g h → Grows w.history.list v.history.list → to ≡ w.history.list
-    → round ≡ drop (length to) v.history.list → 0 < length (without_ticks round) → ((c : Body) → AreAlike bounds.clock c h begin v.state) → (script : Script) → IsCodeOf b script → ComesBack bounds.clock (script_of script) to round
+pub comes_back : (bounds : Bounds) (b : CodeBody) (g h : Stock) (w v : Walk) (begin : NumberState) (to round : List Entry) → IsAt bounds b g w → IsAt bounds b h v → contents begin ≡ contents w.state → HasGrown g h → Grows w.history.list v.history.list → to ≡ w.history.list
+    → round ≡ drop (length to) v.history.list → 0 < length (without_ticks round) → ((c : CodeBody) → AreAlike bounds.clock c h begin v.state) → (script : Script) → IsCodeOf b script → ComesBack bounds.clock (script_of script) to round
 comes_back bounds b g h w v begin to round at then copied grown grows same rest works alike script code =
     let ds = script_of script in
     let before = at.leads script code in

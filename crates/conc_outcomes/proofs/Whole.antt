@@ -3,7 +3,7 @@ use Rattle.std.proofs.Common.{◌≡◌, ℕ, List, length, map, Option, Some, N
 use Rattle.std.specs.List.{AllByRecursion, Contains}
 use Rattle.hs_base.specs.declared.tree.script.Script.{Script}
 use Rattle.rules_trees.specs.Programs.{Fn, script_of}
-use Rattle.rules_code.specs.declared.code.Body.{Body}
+use Rattle.rules_code.specs.declared.code.CodeBody.{CodeBody}
 use Rattle.outcome_laws.specs.Outcomes as laws
 use Rattle.outcome_listing.specs.declared.bounds.Bounds.{Bounds}
 use Rattle.outcome_listing.specs.declared.explored.Extent.{Extent}
@@ -26,12 +26,12 @@ use Rattle.conc_outcomes.specs.Parts.{IsExtentOf, IsEndOf}
 use Rattle.conc_outcomes.proofs.Listed.{outcomes_rise, has_among}
 
 -- what the parts have promised
-pub record HasParts (bounds : Bounds) (b : Body) (f : Found) (es : List Ended) (e : Ends) (x : Explored) : Type 0 where
+pub record HasParts (bounds : Bounds) (b : CodeBody) (f : Found) (es : List Ended) (e : Ends) (x : Explored) : Type 0 where
   pub searched : Searched bounds b f
   pub closed : f.gap ≡ None → IsClosed bounds b f
   pub reached : (script : Script) → IsCodeOf b script → AreReached bounds script b f
   pub complete : (script : Script) → IsCodeOf b script → f.gap ≡ None → ShowsAll bounds script b f
-  pub endings : (c : Body) (o : laws.Outcome) → Shows c f o → Has es o
+  pub endings : (c : CodeBody) (o : laws.Outcome) → Shows c f o → Has es o
   pub rising : IsRising es
   pub right : IsRightOf f e
   pub listed : (script : Script) → IsCodeOf b script → AllByRecursion (IsListed bounds (script_of script)) x.outcomes
@@ -55,7 +55,7 @@ none_if bounds ds n None x is all = refl
 none_if bounds ds n (Some g) All is all = absurd is
 none_if bounds ds n (Some g) (NotAll why run) is all = absurd (cc all)
 
-module _ (bounds : Bounds) (b : Body) (f : Found) (es : List Ended) (script : Script) (code : IsCodeOf b script) where
+module _ (bounds : Bounds) (b : CodeBody) (f : Found) (es : List Ended) (script : Script) (code : IsCodeOf b script) where
   abbrev ds : List Fn
   ds = script_of script
 

@@ -8,7 +8,7 @@ use Rattle.hs_rules.specs.declared.entry.Entry.{Entry}
 use Rattle.hs_rules.specs.State.{State}
 use Rattle.hs_rules.specs.Histories.{steps_of}
 use Rattle.rules_trees.specs.Programs.{Fn, script_of}
-use Rattle.rules_code.specs.declared.code.Body.{Body}
+use Rattle.rules_code.specs.declared.code.CodeBody.{CodeBody}
 use Rattle.outcome_laws.specs.Timings.{IsEndless}
 use Rattle.outcome_laws.specs.Outcomes as laws
 use Rattle.outcome_laws.specs.Outcomes.{HasOutcome, IsOutcomeOf, outcome_cmp}
@@ -75,7 +75,7 @@ HasEnds bounds ds extent Unknown = extent ≡ All → ⊥
 -- ---- how many states there are
 
 -- Each state of some search is one that a run of the timing leaves, no two of them have one key, and there are so many.
-pub record AreCounted (bounds : Bounds) (script : Script) (b : Body) (n : ℕ) : Type 0 where
+pub record AreCounted (bounds : Bounds) (script : Script) (b : CodeBody) (n : ℕ) : Type 0 where
   pub found : Found
   pub searched : Searched bounds b found
   pub reached : AreReached bounds script b found
@@ -83,7 +83,7 @@ pub record AreCounted (bounds : Bounds) (script : Script) (b : Body) (n : ℕ) :
 
 -- ---- the whole
 
-pub record Explores (bounds : Bounds) (script : Script) (b : Body) (x : Explored) : Type 0 where
+pub record Explores (bounds : Bounds) (script : Script) (b : CodeBody) (x : Explored) : Type 0 where
   pub sound : AllByRecursion (IsListed bounds (script_of script)) x.outcomes
   pub rising : AreRising (outcomes_of x.outcomes)
   pub lists : Lists bounds (script_of script) x.outcomes x.states x.extent

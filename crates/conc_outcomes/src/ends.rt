@@ -15,7 +15,7 @@ use hs_base::NoMemory;
 use hs_rules::History;
 use number_states::Numbers;
 use outcome_listing::{Bounds, Endless};
-use rules_code::Body;
+use rules_code::CodeBody;
 use search_ends::Ends;
 use state_search::{Gap, Move, Origin};
 use std::alloc::Global;
@@ -36,7 +36,7 @@ fn entries_from(alloc: Global, history: &History, place: usize) -> Result<Histor
 /// Takes the moves at these places, one after another, and the eager rules behind each.
 fn go_round(
     alloc: Global,
-    body: &Body,
+    body: &CodeBody,
     bounds: &Bounds,
     numbers: &mut Numbers,
     moves: &[Move],
@@ -61,7 +61,7 @@ fn go_round(
 /// not promised: where they can't, the answer is want of memory.
 fn round(
     alloc: Global,
-    body: &Body,
+    body: &CodeBody,
     bounds: &Bounds,
     numbers: &mut Numbers,
     origins: &[Origin],
@@ -88,7 +88,7 @@ fn round(
 /// Whether every schedule ends, by the ends of the moves of a search that has this gap.
 pub fn endless(
     alloc: Global,
-    body: &Body,
+    body: &CodeBody,
     bounds: &Bounds,
     numbers: &mut Numbers,
     origins: &[Origin],

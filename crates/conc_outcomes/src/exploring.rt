@@ -11,7 +11,7 @@ use crate::listing::{endings, outcomes};
 use hs_base::NoMemory;
 use hs_rules::Code;
 use outcome_listing::{Bounds, Explored};
-use rules_code::Body;
+use rules_code::CodeBody;
 use search_ends::ends;
 use state_search::{Found, search};
 use std::alloc::Global;
@@ -33,7 +33,7 @@ fn count(found: &Found, bounds: &Bounds) -> u32
 pub fn explore(alloc: Global, code: &Code, bounds: &Bounds) -> Result<Explored, NoMemory>
     ensures { IfOk result (λ x. (script : Script) → IsCodeOf (body_of code.now) script → Explores bounds.now script (body_of code.now) x) }
 {
-    let body: &Body = &code.body;
+    let body: &CodeBody = &code.body;
     let found = search(alloc, code, bounds)?;
     let endings = endings(alloc, &found)?;
     let ends = ends(alloc, &found)?;

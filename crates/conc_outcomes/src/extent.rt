@@ -15,14 +15,14 @@ use hs_base::{ClockChoice, NoMemory};
 use hs_rules::{History, LimitKind};
 use number_states::Numbers;
 use outcome_listing::{Bounds, Cause, Extent};
-use rules_code::Body;
+use rules_code::CodeBody;
 use state_search::{Gap, Origin};
 use std::alloc::Global;
 
 /// A run whose last entry reads the clock.
 fn reading(
     alloc: Global,
-    body: &Body,
+    body: &CodeBody,
     bounds: &Bounds,
     numbers: &mut Numbers,
     origins: &[Origin],
@@ -44,7 +44,7 @@ fn reading(
 
 /// Whether a walk's last state exceeds this limit, and none before it.
 fn shows_limit(
-    body: &Body,
+    body: &CodeBody,
     bounds: &Bounds,
     numbers: &Numbers,
     kind: LimitKind,
@@ -61,7 +61,7 @@ fn shows_limit(
 
 /// Whether a walk is the evidence of a gap, where a search has so many states. It never is of a clock that is read.
 fn shows(
-    body: &Body,
+    body: &CodeBody,
     bounds: &Bounds,
     numbers: &Numbers,
     cause: Cause,
@@ -83,7 +83,7 @@ fn shows(
 /// can't, the answer is want of memory.
 fn evidence(
     alloc: Global,
-    body: &Body,
+    body: &CodeBody,
     bounds: &Bounds,
     numbers: &mut Numbers,
     origins: &[Origin],
@@ -108,7 +108,7 @@ fn evidence(
 /// Whether each outcome is listed, where a search has this gap and so many states; and the evidence where not.
 pub fn extent(
     alloc: Global,
-    body: &Body,
+    body: &CodeBody,
     bounds: &Bounds,
     numbers: &mut Numbers,
     origins: &[Origin],

@@ -4,7 +4,7 @@ ghost use Rattle.std.specs.List.{AllByRecursion};
 ghost use Rattle.hs_base.specs.declared.tree.script.Script.{Script};
 ghost use Rattle.hs_rules.specs.Histories.{steps_of};
 ghost use Rattle.rules_trees.specs.Programs.{script_of};
-ghost use Rattle.rules_code.specs.declared.code.Body.{Body as ABody};
+ghost use Rattle.rules_code.specs.declared.code.CodeBody.{CodeBody};
 ghost use Rattle.outcome_laws.specs.Outcomes as laws;
 ghost use Rattle.outcome_laws.specs.Outcomes.{HasOutcome};
 ghost use Rattle.outcome_listing.specs.Finals.{final_of, outcome_of, outcomes_of};
@@ -23,13 +23,13 @@ use hs_items::Items;
 use number_states::Numbers;
 use outcome_listing::{Bounds, Final, Outcome};
 use outcome_order::{Ended, Endings};
-use rules_code::Body;
+use rules_code::CodeBody;
 use state_search::{Found, Origin};
 use std::alloc::Global;
 
 /// The ending of the state of a number, which has ended so.
 fn ending(alloc: Global, found: &Found, end: Final, state: u32) -> Result<Ended, NoMemory>
-    ensures { IfOk result (λ e. (b : ABody) (d : Shown) → slice_get (states_of b found.now) state ≡ Some d → outcome_by e ≡ record { end = final_of end; output = d.output; errors = d.errors }) }
+    ensures { IfOk result (λ e. (b : CodeBody) (d : Shown) → slice_get (states_of b found.now) state ≡ Some d → outcome_by e ≡ record { end = final_of end; output = d.output; errors = d.errors }) }
 {
     let Some(one) = found.states.get(state) else {
         return Err(NoMemory);
@@ -50,7 +50,7 @@ fn ending(alloc: Global, found: &Found, end: Final, state: u32) -> Result<Ended,
 
 /// The ends of all runs of what was found, in the order of outcomes, none twice.
 pub fn endings(alloc: Global, found: &Found) -> Result<Endings, NoMemory>
-    ensures { IfOk result (λ es. (b : ABody) (o : laws.Outcome) → Shows b found.now o → Has es o) }
+    ensures { IfOk result (λ es. (b : CodeBody) (o : laws.Outcome) → Shows b found.now o → Has es o) }
 {
     let mut endings = Endings::new(alloc);
     for (state, kind) in found.kinds.iter().enumerate() {
@@ -73,7 +73,12 @@ fn is_text(numbers: &Numbers, number: u32, text: &Txt) -> bool
 }
 
 /// Whether a run has no more steps than may be, and exceeds no limit.
-fn is_within(body: &Body, bounds: &Bounds, numbers: &Numbers, walk: &Walk) -> Result<bool, NoMemory>
+fn is_within(
+    body: &CodeBody,
+    bounds: &Bounds,
+    numbers: &Numbers,
+    walk: &Walk,
+) -> Result<bool, NoMemory>
     requires { IsAt bounds.now body.now numbers.now walk.now }
     ensures { IfOk result (λ yes. IsTrue yes → (steps_of walk.now.history.list ≤ bounds.now.fuel) × IsWithin bounds.now body.now walk.now) }
 {
@@ -86,7 +91,7 @@ fn is_within(body: &Body, bounds: &Bounds, numbers: &Numbers, walk: &Walk) -> Re
 /// Whether a run has come to an ending: has ended so, and printed both texts.
 fn comes_to(
     alloc: Global,
-    body: &Body,
+    body: &CodeBody,
     bounds: &Bounds,
     numbers: &mut Numbers,
     walk: &Walk,
@@ -111,7 +116,7 @@ fn comes_to(
 /// can't, the answer is want of memory.
 fn outcome(
     alloc: Global,
-    body: &Body,
+    body: &CodeBody,
     bounds: &Bounds,
     numbers: &mut Numbers,
     origins: &[Origin],
@@ -139,7 +144,7 @@ fn outcome(
 /// The outcomes of these endings, in order.
 pub fn outcomes(
     alloc: Global,
-    body: &Body,
+    body: &CodeBody,
     bounds: &Bounds,
     numbers: &mut Numbers,
     origins: &[Origin],

@@ -8,7 +8,7 @@ use hs_base::NoMemory;
 use hs_rules::Entry;
 use number_states::Numbers;
 use outcome_listing::Bounds;
-use rules_code::Body;
+use rules_code::CodeBody;
 use state_search::Origin;
 use std::alloc::Global;
 
@@ -90,7 +90,7 @@ fn path_by(alloc: Global, origins: &[Origin], by: &Origin) -> Result<Vec<Entry>,
 /// The walk along these entries.
 fn walked(
     alloc: Global,
-    body: &Body,
+    body: &CodeBody,
     bounds: &Bounds,
     numbers: &mut Numbers,
     entries: &[Entry],
@@ -105,7 +105,7 @@ fn walked(
 /// The walk to the state of a number.
 pub fn walk_to(
     alloc: Global,
-    body: &Body,
+    body: &CodeBody,
     bounds: &Bounds,
     numbers: &mut Numbers,
     origins: &[Origin],
@@ -120,7 +120,7 @@ pub fn walk_to(
 /// The walk to what was met by an origin, its last entry taken.
 pub fn walk_by(
     alloc: Global,
-    body: &Body,
+    body: &CodeBody,
     bounds: &Bounds,
     numbers: &mut Numbers,
     origins: &[Origin],

@@ -2,7 +2,7 @@
 use Rattle.std.specs.Prelude.{◌≡◌, ◌<◌, ◌+◌, ◌⊎◌, ℕ, List, length, slice_get, Option, Some, None}
 use Rattle.hs_base.specs.declared.limits.Limits.{Limits}
 use Rattle.hs_base.specs.declared.tree.script.Script.{Script}
-use Rattle.rules_code.specs.declared.code.Body.{Body}
+use Rattle.rules_code.specs.declared.code.CodeBody.{CodeBody}
 use Rattle.rules_code.specs.Codes.{body_of}
 use Rattle.rules_traces.specs.Traces.{document_of}
 use Rattle.hs_compile.specs.Verdicts.{IsAccepted}
@@ -32,7 +32,7 @@ Searches words bounds witness = (words ≡ Some (commands.Outcomes bounds.clock 
 pub record IsExplored (bounds : Bounds) (bytes : List ℕ) (x : Explored) : Type 0 where
   pub script : Script
   pub accepted : IsAccepted bytes script
-  pub body : Body
+  pub body : CodeBody
   pub code : IsCodeOf body script
   pub explores : Explores bounds script body x
 

@@ -4,7 +4,7 @@ use Rattle.std.proofs.Common.{◌≡◌, ◌≤◌, ℕ, List, Option, Some, Non
 use Rattle.std.proofs.Math.Logic.{∥∥₁_map}
 use Rattle.std.specs.declared.snapshot.Snapshot.{Snapshot}
 use Rattle.hs_base.specs.declared.no_memory.NoMemory.{NoMemory}
-use Rattle.rules_code.specs.declared.code.Body.{Body}
+use Rattle.rules_code.specs.declared.code.CodeBody.{CodeBody}
 use Rattle.hs_rules.specs.declared.entry.Entry.{Entry}
 use Rattle.job_tickets.specs.declared.tickets.Out.{Out}
 use Rattle.job_tickets.specs.declared.tickets.Tickets.{Tickets}
@@ -27,11 +27,11 @@ settled_open (Ok u) before ended r ok err e = (subst (λ z. IsAtRest z r) e ok).
 settled_open (Err x) before ended r ok err e = let z : None ≡ Some end.Memory = sym e ∙ err.1 in absurd (cc z)
 
 -- ---- the code stays
-pub code_kept : (b : Body) (old new : Record) → b ≡ old.of.value → KeepsPlan old new → b ≡ new.of.value
-code_kept b old new e plan = e ∙ sym (ap (λ (z : Snapshot Body). z.value) plan.of)
+pub code_kept : (b : CodeBody) (old new : Record) → b ≡ old.of.value → KeepsPlan old new → b ≡ new.of.value
+code_kept b old new e plan = e ∙ sym (ap (λ (z : Snapshot CodeBody). z.value) plan.of)
 
-pub code_alike : (b : Body) (old new : Record) → b ≡ old.of.value → Same old new → b ≡ new.of.value
-code_alike b old new e h = e ∙ sym (ap (λ (z : Snapshot Body). z.value) h.plan.2)
+pub code_alike : (b : CodeBody) (old new : Record) → b ≡ old.of.value → Same old new → b ≡ new.of.value
+code_alike b old new e h = e ∙ sym (ap (λ (z : Snapshot CodeBody). z.value) h.plan.2)
 
 -- ---- what the tickets know of a history that goes on
 pub knows_on : (s : Tickets) (seen : ℕ) (before after : Option RunEnd) (old new : List Entry) → GoesOn before old after new → ∥ Knows s seen old ∥₁ → ∥ Knows s seen new ∥₁

@@ -4,7 +4,7 @@ use Rattle.std.proofs.Common.{◌≡◌, ◌∙◌, ℕ, [], Some, ap, get_or, s
 use Rattle.std.proofs.lemmas.Option.{get_or_from_slice_get}
 use Rattle.hs_base.specs.declared.mask.Mask.{Mask}
 use Rattle.hs_base.specs.declared.mask.Mask.TheVariants.{Unmasked}
-use Rattle.rules_code.specs.declared.code.Body.{Body}
+use Rattle.rules_code.specs.declared.code.CodeBody.{CodeBody}
 use Rattle.local_steps.specs.Frames.{mask_inside}
 use Rattle.frame_stack.specs.declared.control.Control.{Control}
 use Rattle.frame_stack.specs.Parts.{part_of}
@@ -29,8 +29,8 @@ module _ (r : Record) (t : ℕ) (goer : IsAt t Goes r.world.threads.list.items) 
   pub read_doing : IsDoing th.stack.control
   read_doing = doing_is th.stack.control read_goes.2
 
-  pub may_do : (b : Body) (m : Mask) (start : Control) → b ≡ r.of.value → m ≡ mask_inside Unmasked th.stack.frames → start ≡ th.stack.control → ∥ MayGo b m (part_of b start) [] ∥₁
+  pub may_do : (b : CodeBody) (m : Mask) (start : Control) → b ≡ r.of.value → m ≡ mask_inside Unmasked th.stack.frames → start ≡ th.stack.control → ∥ MayGo b m (part_of b start) [] ∥₁
   may_do b m start code mask at =
-      subst (λ (y : Body). ∥ MayGo y m (part_of y start) [] ∥₁) (sym code)
+      subst (λ (y : CodeBody). ∥ MayGo y m (part_of y start) [] ∥₁) (sym code)
       (subst (λ (y : Mask). ∥ MayGo r.of.value y (part_of r.of.value start) [] ∥₁) (sym mask)
       (subst (λ (y : Control). ∥ MayGo r.of.value (mask_inside Unmasked th.stack.frames) (part_of r.of.value y) [] ∥₁) (sym at) (may_go r t th read_at read_goes)))

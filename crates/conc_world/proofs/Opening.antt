@@ -5,7 +5,7 @@ use Rattle.std.proofs.Common.{◌≡◌, ◌<◌, inl, inr, false, List, [], ◌
 use Rattle.std.proofs.Math.Logic.{∥∥₁_elim, ∥∥₁_map}
 use Rattle.std.proofs.Props.{props}
 use Rattle.hs_base.specs.declared.no_memory.NoMemory.{NoMemory}
-use Rattle.rules_code.specs.declared.code.Body.{Body}
+use Rattle.rules_code.specs.declared.code.CodeBody.{CodeBody}
 use Rattle.hs_rules.specs.declared.entry.Entry.{Entry}
 use Rattle.hs_rules.specs.declared.entry.Entry.TheVariants as entry
 use Rattle.hs_rules.specs.declared.entry.LimitKind.TheVariants as limit
@@ -35,7 +35,7 @@ mapped_from : (f : Thread → SlotThread) (o : Option Thread) (y : SlotThread) �
 mapped_from f None y e = absurd (cc e)
 mapped_from f (Some x) y e = (x, refl, cc e)
 
-goes_same : (b : Body) (old new : World) → SameState old new → Goes old → Goes new
+goes_same : (b : CodeBody) (old new : World) → SameState old new → Goes old → Goes new
 goes_same b old new same g =
     let slots : slots_of b new.threads.list.items ≡ slots_of b old.threads.list.items = ap (λ (x : SlotState). x.threads) (same b) in
     let at = sym (slots_at b new.threads.list.items 0) ∙ ap (λ xs. slice_get xs 0) slots ∙ slots_is b old.threads.list.items 0 g.main g.is in

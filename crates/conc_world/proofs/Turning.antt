@@ -2,7 +2,7 @@
 use Rattle.std.specs.Prelude.{IfSome, IfNone}
 use Rattle.std.proofs.Common.{◌≡◌, ◌++◌, ◌∷◌, [], ◌⊎◌, inl, inr, ◌<◌, ◌≤◌, ◌+◌, ℕ, List, Option, Some, None, IsSome, true, false, arith, refl, sym, ap, ◌∙◌, subst, slice_get, ⊎_elim, append-nil, append_assoc}
 use Rattle.std.proofs.lemmas.Option.{same_Some}
-use Rattle.rules_code.specs.declared.code.Body.{Body}
+use Rattle.rules_code.specs.declared.code.CodeBody.{CodeBody}
 use Rattle.hs_rules.specs.declared.entry.Entry.{Entry}
 use Rattle.hs_rules.specs.declared.entry.Entry.TheVariants as entry
 use Rattle.hs_rules.specs.Histories.{steps_of}
@@ -38,7 +38,7 @@ use Rattle.conc_world.specs.Committing.{Differs, IsCommitted, IsStale, TicketBac
 -- ---- a thread that is to do an action has no job out where none is
 
 -- the thread that goes in the state with slots
-goer : (b : Body) (w : World) (t : ℕ) → rest.Goes (state_of b w) t → IsAt t Goes w.threads.list.items
+goer : (b : CodeBody) (w : World) (t : ℕ) → rest.Goes (state_of b w) t → IsAt t Goes w.threads.list.items
 goer b w t g =
     let s = slot_back b w.threads.list.items t g.thread g.is in
     record {

@@ -16,7 +16,7 @@ use clocked_record::Clocked;
 use frame_stack::Control;
 use hs_base::{Limits, NoMemory};
 use hs_io::{Clock, Sink};
-use hs_rules::{Body, Code, History, Kept};
+use hs_rules::{Code, CodeBody, History, Kept};
 use job_tickets::Tickets;
 use run_course::{Course, RunEnd};
 use run_record::Record;
@@ -34,7 +34,7 @@ pub struct Desk<O: Sink, E: Sink, K: Clock> {
     /// So many entries were looked at for exceptions that overtake jobs.
     pub seen: usize,
     /// The code's body, as clauses see it.
-    pub of: Snapshot<Body>,
+    pub of: Snapshot<CodeBody>,
     pub ghost of_code: { body_of code ≡ course.clocked.record.of.value } by { bodies_are_a_set of-code of (body_of code) course.clocked.record.of.value },
     pub ghost open_still: { ∥ (course.end ≡ None → IsOpen course.clocked.record) ∥₁ },
     pub ghost few: { (k : ℕ) (o : Out) → job tickets k ≡ Some o → k ≤ given },
@@ -84,7 +84,7 @@ impl<O: Sink, E: Sink, K: Clock> Desk<O, E, K> {
         let clocked = Clocked::begin(record, clock);
         let mut course = Course::begin(clocked, out, err);
         course.conclude();
-        let body: &Body = &code.body;
+        let body: &CodeBody = &code.body;
         let of = Snapshot::of(body);
         Ok(Desk {
             code,

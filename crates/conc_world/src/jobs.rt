@@ -14,7 +14,7 @@ use crate::desk::Desk;
 use frame_stack::{Control, Job};
 use hs_base::NoMemory;
 use hs_io::{Clock, Sink};
-use hs_rules::{Body, Entry};
+use hs_rules::{CodeBody, Entry};
 use job_tickets::Tickets;
 use run_course::Course;
 use std::alloc::Global;
@@ -163,7 +163,7 @@ impl<O: Sink, E: Sink, K: Clock> Desk<O, E, K> {
         let thread = &run.world.threads.list[t as usize];
         let start = start_of(run.world.alloc, thread.stack.control())?;
         let left = u64::from(run.fuel) - run.history.steps();
-        let body: &Body = &self.code.body;
+        let body: &CodeBody = &self.code.body;
         Ok(Job {
             ticket,
             tid: t,

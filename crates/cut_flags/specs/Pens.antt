@@ -1,6 +1,6 @@
 -- What a clause says of the flags and of a pen.
 use Rattle.std.specs.Prelude.{◌≡◌, ℕ, ◌<◌}
-use Rattle.rules_code.specs.declared.code.Body.{Body}
+use Rattle.rules_code.specs.declared.code.CodeBody.{CodeBody}
 use Rattle.cut_flags.specs.declared.view.PenView.{PenView}
 use Rattle.cut_flags.specs.declared.pen.Pen.{Pen}
 use Rattle.cut_flags.specs.declared.flags.Flags.{Flags}
@@ -15,5 +15,5 @@ IsPenOf f p = (p.seat.table_id ≡ f.table.shared.table_id) × (0 < (view_of p).
 abbrev pub flags_hands : Flags → ℕ
 flags_hands f = f.table.shared.key.hands
 
-abbrev pub flags_code : Flags → Body
+abbrev pub flags_code : Flags → CodeBody
 flags_code f = f.table.shared.key.code.value

@@ -10,13 +10,13 @@ use crate::rule::{AddUp, GiveAll, GiveOne, Raise, Read};
 use crate::view::FlagsKey;
 use atomic_table::Table;
 use hs_base::NoMemory;
-use rules_code::Body;
+use rules_code::CodeBody;
 use std::alloc::Global;
 use std::snapshot::Snapshot;
 
 impl Flags {
     /// The flags of so many hands and of tickets of this code, and a pen with a share for each hand.
-    pub fn new(alloc: Global, hands: u32, code: &Body) -> Result<(Flags, Pen), NoMemory>
+    pub fn new(alloc: Global, hands: u32, code: &CodeBody) -> Result<(Flags, Pen), NoMemory>
         requires { 0 < hands }
         ensures flags { IfOk result (λ f. (flags_hands f.0 ≡ hands) × (flags_code f.0 ≡ code.now)) }
         ensures pen { IfOk result (λ f. IsPenOf f.0 f.1 × (view_of f.1 ≡ pen_view hands [] [])) }

@@ -1,4 +1,4 @@
-use rules_code::Body;
+use rules_code::CodeBody;
 use std::collections::LinkedList;
 use std::snapshot::Snapshot;
 
@@ -19,5 +19,5 @@ pub struct PenView {
 #[derive(Drop)]
 pub struct FlagsKey {
     pub hands: u32,
-    pub code: Snapshot<Body>,
+    pub code: Snapshot<CodeBody>,
 }

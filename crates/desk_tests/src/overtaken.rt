@@ -4,7 +4,7 @@ ghost use Rattle.run_course.specs.Settled.{KeepsPlan};
 use crate::desks::{Quiet, at, job_of, ran};
 use conc_world::{Committed, Why};
 use frame_stack::Control;
-use hs_rules::{Act, Body, Code, Node};
+use hs_rules::{Act, Code, CodeBody, Node};
 use std::alloc::Global;
 use std::test::Fail;
 
@@ -35,7 +35,7 @@ fn called_with(code: &Code, control: &Control) -> Option<i64> {
     let Control::Doing(at, _) = control else {
         return None;
     };
-    let body: &Body = &code.body;
+    let body: &CodeBody = &code.body;
     let Act::Call(0, arguments) = body.acts.as_slice().get(at.0)? else {
         return None;
     };

@@ -5,7 +5,7 @@ use Rattle.rules_trees.specs.Programs.{script_of}
 use Rattle.rules_expansion.specs.Core.{Core}
 use Rattle.rules_meaning.specs.Values.{V}
 use Rattle.rules_sorts.specs.Sorts.{a_value}
-use Rattle.rules_code.specs.declared.code.Body.{Body}
+use Rattle.rules_code.specs.declared.code.CodeBody.{CodeBody}
 use Rattle.rules_code.specs.declared.node.ExprId.{ExprId}
 use Rattle.rules_code.specs.Slots.{tree_at}
 use Rattle.rules_code.specs.CodeTrees.{act_tree_at, main_tree, StandsFor}
@@ -16,12 +16,12 @@ use Rattle.slot_laws.specs.Standing.{cells_of, Reads, do_stands, none_stand, Sta
 use Rattle.slot_laws.specs.Expressions.{Evaluable}
 
 -- the node of `main`'s body, alone, stands for the term of the first thread
-pub first_stands : (b : Body) → StandsFor b.nodes b.acts b.funs b.main b.of.value → (a : Core) → Reads (cells_of None) (script_of b.of.value) (main_tree (script_of b.of.value)) [] a [] (a_value unit)
+pub first_stands : (b : CodeBody) → StandsFor b.nodes b.acts b.funs b.main b.of.value → (a : Core) → Reads (cells_of None) (script_of b.of.value) (main_tree (script_of b.of.value)) [] a [] (a_value unit)
     → Stands (cells_of None) (script_of b.of.value) (at (doing (act_tree_at b.nodes b.acts b.main) []) []) (term (Do a []) [])
 first_stands b w a r = subst (λ z. Stands (cells_of None) (script_of b.of.value) (at (doing z []) []) (term (Do a []) [])) (sym w.main_is) (record { sort = a_value unit; part = do_stands r; frames = none_stand })
 
 -- what may be evaluated has a reading
-pub reading_of : (b : Body) (q : Part) (n : ℕ) (e : ExprId) (vs : List V) → Evaluable (script_of b.of.value) q n (tree_at b.nodes e) vs → Reading b e vs
+pub reading_of : (b : CodeBody) (q : Part) (n : ℕ) (e : ExprId) (vs : List V) → Evaluable (script_of b.of.value) q n (tree_at b.nodes e) vs → Reading b e vs
 reading_of b q n e vs r = record {
   here = r.here;
   scope = r.scope;

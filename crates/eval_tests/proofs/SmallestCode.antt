@@ -8,7 +8,7 @@ use Rattle.hs_base.specs.declared.tree.script.Script.{Script}
 use Rattle.rules_code.specs.declared.node.Node.{Node}
 use Rattle.rules_code.specs.declared.act.Act.{Act}
 use Rattle.rules_code.specs.declared.code.Fun.{Fun}
-use Rattle.rules_code.specs.declared.code.Body.{Body}
+use Rattle.rules_code.specs.declared.code.CodeBody.{CodeBody}
 use Rattle.rules_trees.specs.Trees.{T, unit, lit, nothing_more}
 use Rattle.rules_trees.specs.Programs.{Bl, last, unary_act, bl_of, io_body, Fn, script_of}
 use Rattle.rules_sorts.specs.Sorts.{a_value}
@@ -50,7 +50,7 @@ smallest_stands p = record {
   main_is = sym (ap main_tree (script_is p));
 }
 
-pub smallest_reading : (code : Body) (p : Pos) → code.nodes ≡ smallest_nodes → Reading code (record { 0 = 0 }) []
+pub smallest_reading : (code : CodeBody) (p : Pos) → code.nodes ≡ smallest_nodes → Reading code (record { 0 = 0 }) []
 smallest_reading code p is = record {
   here = 0;
   scope = [];

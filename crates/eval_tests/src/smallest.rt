@@ -7,11 +7,11 @@ ghost use Rattle.rules_code.specs.Codes.{body_of};
 ghost use Rattle.eval_tests.specs.SmallestCode.{smallest_script, smallest_nodes};
 
 use hs_base::tree::forms::UnaryAction;
-use hs_base::tree::{Action, Block, Body as DefBody, Def, Expr, Name, Script, Ty, Written};
+use hs_base::tree::{Action, Block, Body, Def, Expr, Name, Script, Ty, Written};
 use hs_base::{NoMemory, Pos, Txt, Value};
 use hs_eval::{Outcome, eval};
 use hs_items::{Boxed, Items};
-use rules_code::{Act, ActId, Body, Code, ExprId, Fun, Node};
+use rules_code::{Act, ActId, Code, CodeBody, ExprId, Fun, Node};
 use std::alloc::Global;
 use std::snapshot::Snapshot;
 use std::test::Fail;
@@ -48,7 +48,7 @@ fn main_script(alloc: Global, pos: Pos) -> Result<Script, NoMemory>
     let def = Def {
         name: Name { text, pos },
         params: Items::new(alloc),
-        body: DefBody::Action(Written { ty: Ty::Unit, pos }, block),
+        body: Body::Action(Written { ty: Ty::Unit, pos }, block),
     };
     let defs = only(alloc, def)?;
     Ok(Script { defs })
@@ -66,7 +66,7 @@ fn smallest_code(alloc: Global) -> Result<Code, NoMemory>
     let of = Snapshot::of(&script);
     Code::new(
         alloc,
-        Body {
+        CodeBody {
             nodes,
             acts,
             funs,

@@ -9,7 +9,7 @@ use Rattle.hs_rules.specs.State.{State}
 use Rattle.hs_rules.specs.Endings as endings
 use Rattle.hs_rules.specs.Runs.{after, IsRun}
 use Rattle.rules_trees.specs.Programs.{Fn, script_of}
-use Rattle.rules_code.specs.declared.code.Body.{Body}
+use Rattle.rules_code.specs.declared.code.CodeBody.{CodeBody}
 use Rattle.rules_code.specs.CodeTrees.{SlottedFunction, code_trees}
 use Rattle.hs_laws.specs.HistoryEndings.{StaysWithin}
 use Rattle.hs_laws.proofs.RunParts.{is_after, same_after}
@@ -43,7 +43,7 @@ all_within : (limits : Limits) (ds : List Fn) (es : List Entry) (s : State) → 
 all_within limits ds es s run within before front [] u split a = subst (endings.IsWithin limits) (same_after ds es s u run (ap (after ds) (split ∙ append-nil front) ∙ a)) within
 all_within limits ds es s run within before front (e ∷ back) u split a = before front back e u split a
 
-module _ (bounds : Bounds) (b : Body) (g : Stock) (w : Walk) (at : IsAt bounds b g w) where
+module _ (bounds : Bounds) (b : CodeBody) (g : Stock) (w : Walk) (at : IsAt bounds b g w) where
   abbrev here : Shown
   here = shown g b w.state
 

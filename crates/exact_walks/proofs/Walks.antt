@@ -5,7 +5,7 @@ use Rattle.hs_rules.specs.declared.entry.Entry.{Entry}
 use Rattle.hs_rules.specs.declared.entry.Entry.TheVariants as entry
 use Rattle.hs_rules.specs.Endings.{IsTick}
 use Rattle.rules_trees.specs.Programs.{Fn, script_of}
-use Rattle.rules_code.specs.declared.code.Body.{Body}
+use Rattle.rules_code.specs.declared.code.CodeBody.{CodeBody}
 use Rattle.rules_code.specs.CodeTrees.{code_trees}
 use Rattle.hs_laws.specs.ClockLaw.{EndsInTick}
 use Rattle.hs_laws.proofs.Ticking.{last_or, clock_begins}
@@ -30,7 +30,7 @@ use Rattle.exact_walks.proofs.OneMore.{one_more}
 
 -- ---- the tables have grown
 
-pub slots_later : (b : Body) (g h : Stock) (x : NumberState) → AreIn g x → HasGrown g h → slots h b x ≡ slots g b x
+pub slots_later : (b : CodeBody) (g h : Stock) (x : NumberState) → AreIn g x → HasGrown g h → slots h b x ≡ slots g b x
 slots_later b g h x there grown = slots_of_on g h grown b (contents x) there
 
 pub there_later : (g h : Stock) (x : NumberState) → AreIn g x → HasGrown g h → AreIn h x
@@ -40,12 +40,12 @@ there_later g h x there grown = all_in_on g h grown (contents x) there
 same_shown : (x y : SlotState) (o p r q : List ℕ) → x ≡ y → o ≡ p → r ≡ q → ◌≡◌ {A = Shown} (record { slots = x; output = o; errors = r }) (record { slots = y; output = p; errors = q })
 same_shown x y o p r q a b c = cc
 
-pub shown_later : (b : Body) (g h : Stock) (x : NumberState) → AreIn g x → HasGrown g h → shown g b x ≡ shown h b x
+pub shown_later : (b : CodeBody) (g h : Stock) (x : NumberState) → AreIn g x → HasGrown g h → shown g b x ≡ shown h b x
 shown_later b g h x there grown =
     same_shown (slots g b x) (slots h b x) (text_at g x.output) (text_at h x.output) (text_at g x.errors) (text_at h x.errors)
     (sym (slots_later b g h x there grown)) (sym (text_at_on g h grown x.output there.output)) (sym (text_at_on g h grown x.errors there.errors))
 
-pub at_later : (bounds : Bounds) (b : Body) (g h : Stock) (w : Walk) → HasGrown g h → IsAt bounds b g w → IsAt bounds b h w
+pub at_later : (bounds : Bounds) (b : CodeBody) (g h : Stock) (w : Walk) → HasGrown g h → IsAt bounds b g w → IsAt bounds b h w
 at_later bounds b g h w grown at = record {
   there = there_later g h w.state at.there grown;
   leads = λ script code. subst (LeadsTo bounds.clock bounds.limits (script_of script) w.history.list) (shown_later b g h w.state at.there grown) (at.leads script code);
@@ -58,7 +58,7 @@ no_split : (front back : List Entry) (e : Entry) → [] ≡ front ++ e ∷ back 
 no_split [] back e h = cc h
 no_split (x ∷ front) back e h = cc h
 
-begins : (bounds : Bounds) (b : Body) (script : Script) → IsCodeOf b script → (d : Shown) → d.slots ≡ first_slots (act_of b b.main) → d.output ≡ [] → d.errors ≡ [] → LeadsTo bounds.clock bounds.limits (script_of script) [] d
+begins : (bounds : Bounds) (b : CodeBody) (script : Script) → IsCodeOf b script → (d : Shown) → d.slots ≡ first_slots (act_of b b.main) → d.output ≡ [] → d.errors ≡ [] → LeadsTo bounds.clock bounds.limits (script_of script) [] d
 begins bounds b script code d is output errors =
     let ds : List Fn = script_of script in
     let h = first_stands_for script code.0 in
@@ -79,7 +79,7 @@ begins bounds b script code d is output errors =
       };
     }
 
-pub begun_at : (bounds : Bounds) (b : Body) (g : Stock) (w : Walk) → AreIn g w.state → slots g b w.state ≡ first_slots (act_of b b.main) → text_at g w.state.output ≡ [] → text_at g w.state.errors ≡ [] → w.history.list ≡ [] → IsAt bounds b g w
+pub begun_at : (bounds : Bounds) (b : CodeBody) (g : Stock) (w : Walk) → AreIn g w.state → slots g b w.state ≡ first_slots (act_of b b.main) → text_at g w.state.output ≡ [] → text_at g w.state.errors ≡ [] → w.history.list ≡ [] → IsAt bounds b g w
 begun_at bounds b g w there is output errors none = record {
   there = there;
   leads = λ script code. subst (λ es. LeadsTo bounds.clock bounds.limits (script_of script) es (shown g b w.state)) (sym none) (begins bounds b script code (shown g b w.state) is output errors);
@@ -96,7 +96,7 @@ ends_by es e (front, at, split) =
     (λ k. absurd (no_split k.0 [] e (k.1)))
     (last_or es e front (entry.Tick at) [] split)
 
-module _ (bounds : Bounds) (b : Body) (g h i : Stock) (w v : Walk) (e : Entry) (at : IsAt bounds b g w) (grown : HasGrown g h) (fits : FitsIn bounds.limits (slots g b w.state)) (may : EntryMay bounds.clock (funs_of b) (slots g b w.state) w.ticked e) where
+module _ (bounds : Bounds) (b : CodeBody) (g h i : Stock) (w v : Walk) (e : Entry) (at : IsAt bounds b g w) (grown : HasGrown g h) (fits : FitsIn bounds.limits (slots g b w.state)) (may : EntryMay bounds.clock (funs_of b) (slots g b w.state) w.ticked e) where
   abbrev here : Shown
   here = shown h b w.state
 

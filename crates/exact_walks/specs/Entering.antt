@@ -8,7 +8,7 @@ use Rattle.hs_rules.specs.declared.entry.Entry.TheVariants as entry
 use Rattle.hs_rules.specs.declared.entry.LimitKind.{LimitKind}
 use Rattle.rules_trees.specs.Programs.{script_of}
 use Rattle.rules_waiting.specs.Waiting.{earliest}
-use Rattle.rules_code.specs.declared.code.Body.{Body}
+use Rattle.rules_code.specs.declared.code.CodeBody.{CodeBody}
 use Rattle.rules_code.specs.CodeTrees.{SlottedFunction}
 use Rattle.hs_laws.specs.ClockLaw.{EndsInTick}
 use Rattle.outcome_laws.specs.Outcomes.{HasOutcome}
@@ -27,7 +27,7 @@ use Rattle.exact_walks.specs.declared.walk.Walk.{Walk}
 use Rattle.exact_walks.specs.Walking.{LeadsTo, IsWitness, ExceedsLast}
 
 -- A walk is at the state that its history leaves, whatever accepted script the code is of.
-pub record IsAt (bounds : Bounds) (b : Body) (g : Stock) (w : Walk) : Type 0 where
+pub record IsAt (bounds : Bounds) (b : CodeBody) (g : Stock) (w : Walk) : Type 0 where
   pub there : AreIn g w.state
   pub leads : (script : Script) → IsCodeOf b script → LeadsTo bounds.clock bounds.limits (script_of script) w.history.list (shown g b w.state)
   pub ticked : w.ticked ≡ false → ¬ EndsInTick w.history.list
@@ -50,15 +50,15 @@ EntryMay clock funs x ticked entry.Stranded = Unit {0}
 -- ---- what it is evidence for
 
 -- its history comes to this end, with what its state printed
-abbrev pub EndsIn : Body → Stock → Walk → Final → Type 0
+abbrev pub EndsIn : CodeBody → Stock → Walk → Final → Type 0
 EndsIn b g w end = (script : Script) → IsCodeOf b script → HasOutcome (script_of script) w.history.list (record { end = final_of end; output = text_at g w.state.output; errors = text_at g w.state.errors })
 
-abbrev pub IsWithin : Bounds → Body → Walk → Type 0
+abbrev pub IsWithin : Bounds → CodeBody → Walk → Type 0
 IsWithin bounds b w = (script : Script) → IsCodeOf b script → IsWitness bounds.clock bounds.limits (script_of script) w.history.list
 
-abbrev pub Exceeds : Bounds → Body → Walk → LimitKind → Type 0
+abbrev pub Exceeds : Bounds → CodeBody → Walk → LimitKind → Type 0
 Exceeds bounds b w kind = (script : Script) → IsCodeOf b script → ExceedsLast kind bounds.clock bounds.limits (script_of script) w.history.list
 
 -- two states show the same but for what the timing forgets
-abbrev pub AreAlike : ClockChoice → Body → Stock → NumberState → NumberState → Type 0
+abbrev pub AreAlike : ClockChoice → CodeBody → Stock → NumberState → NumberState → Type 0
 AreAlike clock b g x y = (forget clock (shown g b x).slots ≡ forget clock (shown g b y).slots) × (text_at g x.output ≡ text_at g y.output) × (text_at g x.errors ≡ text_at g y.errors)

@@ -13,7 +13,7 @@ use hs_base::{ClockChoice, NoMemory};
 use hs_rules::{Entry, LimitKind};
 use number_states::Numbers;
 use outcome_listing::{Bounds, Final};
-use rules_code::Body;
+use rules_code::CodeBody;
 use state_search::{ended, exceeded, reads_time};
 use std::alloc::Global;
 
@@ -21,7 +21,7 @@ impl Walk {
     /// The first limit that the state exceeds, if there is one.
     pub fn exceeds(
         &self,
-        body: &Body,
+        body: &CodeBody,
         bounds: &Bounds,
         numbers: &Numbers,
     ) -> Result<Option<LimitKind>, NoMemory>
@@ -36,7 +36,7 @@ impl Walk {
     pub fn ended(
         &self,
         alloc: Global,
-        body: &Body,
+        body: &CodeBody,
         bounds: &Bounds,
         numbers: &mut Numbers,
     ) -> Result<Option<Final>, NoMemory>
@@ -58,7 +58,7 @@ impl Walk {
     pub fn enter_reading(
         &mut self,
         alloc: Global,
-        body: &Body,
+        body: &CodeBody,
         bounds: &Bounds,
         numbers: &mut Numbers,
         entry: Entry,

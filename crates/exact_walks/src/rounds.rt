@@ -1,6 +1,6 @@
 //! Whether a walk came back to where it was.
 ghost use Rattle.std.specs.Prelude.{◌≡◌, ◌<◌, IfOk, IsTrue, length};
-ghost use Rattle.rules_code.specs.declared.code.Body.{Body as ABody};
+ghost use Rattle.rules_code.specs.declared.code.CodeBody.{CodeBody};
 ghost use Rattle.timing_laws.specs.WithoutTime.{without_ticks};
 ghost use Rattle.number_states.specs.declared.state.NumberState.{NumberState as AState};
 ghost use Rattle.number_states.specs.States.{AreIn, Becomes};
@@ -43,7 +43,7 @@ pub fn are_alike(
 ) -> Result<bool, NoMemory>
     requires one { AreIn numbers.now one.now }
     requires other { AreIn numbers.now other.now }
-    ensures { IfOk result (λ yes. IsTrue yes → (b : ABody) → AreAlike clock b numbers.now one.now other.now) }
+    ensures { IfOk result (λ yes. IsTrue yes → (b : CodeBody) → AreAlike clock b numbers.now one.now other.now) }
 {
     Ok(key_in(alloc, clock, numbers, one)? == key_in(alloc, clock, numbers, other)?)
 }

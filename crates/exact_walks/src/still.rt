@@ -8,14 +8,14 @@ ghost use Rattle.search_laws.specs.Going.{IsStill};
 use hs_base::NoMemory;
 use number_moves::next;
 use number_states::{NumberState, Numbers};
-use rules_code::Body;
+use rules_code::CodeBody;
 use state_search::entries_to_try;
 use std::alloc::Global;
 
 /// Whether no entry but a Tick has a next state. Where memory runs out the tables may have more numbers than before.
 pub fn is_still(
     alloc: Global,
-    body: &Body,
+    body: &CodeBody,
     numbers: &mut Numbers,
     state: &NumberState,
 ) -> Result<bool, NoMemory>

@@ -16,7 +16,7 @@ use number_rests::{EagerRules, rest};
 use number_states::{NumberState, Numbers, first};
 use number_waits::{due_of, first_due};
 use outcome_listing::Bounds;
-use rules_code::Body;
+use rules_code::CodeBody;
 use state_search::exceeded;
 use std::alloc::Global;
 
@@ -35,7 +35,7 @@ pub struct Walk {
 /// more numbers than before.
 fn may_stand(
     alloc: Global,
-    body: &Body,
+    body: &CodeBody,
     clock: ClockChoice,
     numbers: &mut Numbers,
     state: &NumberState,
@@ -72,7 +72,7 @@ fn tick_before(clock: ClockChoice, state: &NumberState, entry: Entry) -> Option<
 
 impl Walk {
     /// Before any entry.
-    pub fn begin(alloc: Global, body: &Body, numbers: &mut Numbers) -> Result<Walk, NoMemory>
+    pub fn begin(alloc: Global, body: &CodeBody, numbers: &mut Numbers) -> Result<Walk, NoMemory>
         ensures at { IfOk result (λ w. (bounds : AnyBounds) → IsAt bounds body.now numbers.new w) }
         ensures history { IfOk result (λ w. w.history.list ≡ []) }
         ensures grows { HasGrown numbers.old numbers.new }
@@ -90,7 +90,7 @@ impl Walk {
     pub fn enter(
         &mut self,
         alloc: Global,
-        body: &Body,
+        body: &CodeBody,
         bounds: &Bounds,
         numbers: &mut Numbers,
         entry: Entry,
@@ -127,7 +127,7 @@ impl Walk {
     pub fn take(
         &mut self,
         alloc: Global,
-        body: &Body,
+        body: &CodeBody,
         bounds: &Bounds,
         numbers: &mut Numbers,
         entry: Entry,
@@ -147,7 +147,7 @@ impl Walk {
     pub fn take_all(
         &mut self,
         alloc: Global,
-        body: &Body,
+        body: &CodeBody,
         bounds: &Bounds,
         numbers: &mut Numbers,
         entries: &[Entry],
@@ -167,7 +167,7 @@ impl Walk {
     pub fn settle(
         &mut self,
         alloc: Global,
-        body: &Body,
+        body: &CodeBody,
         bounds: &Bounds,
         numbers: &mut Numbers,
     ) -> Result<(), NoMemory>

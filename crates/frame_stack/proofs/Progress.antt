@@ -11,7 +11,7 @@ use Rattle.rules_meaning.specs.Values.{V, values_of}
 use Rattle.rules_meaning.specs.CoreMeaning.{code_of}
 use Rattle.rules_sorts.specs.Sorts.{Sort}
 use Rattle.rules_sorts.specs.TypedMeaning.{any_cell}
-use Rattle.rules_code.specs.declared.code.Body.{Body}
+use Rattle.rules_code.specs.declared.code.CodeBody.{CodeBody}
 use Rattle.rules_code.specs.CodeTrees.{StandsFor, code_trees}
 use Rattle.hs_rules.specs.Terms as named
 use Rattle.hs_rules.specs.LocalRules as name
@@ -33,7 +33,7 @@ use Rattle.frame_stack.specs.Slicing.{Fits, IsDoing, MayGo, Stops, Unfit}
 
 -- ---- no rule
 
-pub no_frames : (b : Body) (fs : List Frame) → frames_of b fs ≡ [] → fs ≡ []
+pub no_frames : (b : CodeBody) (fs : List Frame) → frames_of b fs ≡ [] → fs ≡ []
 no_frames b [] e = refl
 no_frames b (f ∷ fs) e = absurd (let z : frame_of b f ∷ frames_of b fs ≡ [] = e in cc z)
 
@@ -64,7 +64,7 @@ no_step cells ds (Some s) r e h = let z : Some s ≡ None = e in cc z
 
 -- ---- steps
 
-module _ (b : Body) (stands : StandsFor b.nodes b.acts b.funs b.main b.of.value) (heads : HeadsKept (script_of b.of.value)) where
+module _ (b : CodeBody) (stands : StandsFor b.nodes b.acts b.funs b.main b.of.value) (heads : HeadsKept (script_of b.of.value)) where
   goes_on : (m : Mask) (p : SlotPart) (fs : List Frame) → MayGo b m p (frames_of b fs) → (Stops p fs → ⊥) → local (funs_of b) m p (frames_of b fs) ≡ None → ⊥
   goes_on m (doing tree vs) fs may go e =
       no_step any_cell (script_of b.of.value) _ _
@@ -82,16 +82,16 @@ module _ (b : Body) (stands : StandsFor b.nodes b.acts b.funs b.main b.of.value)
       (at q (gs ++ mask_in m ∷ [])) (ap (λ z. local z Unmasked p (fs ++ mask_in m ∷ [])) (sym stands.functions) ∙ f) h in
       (w.0, w.2)
 
-pub never_stuck : (b : Body) (m : Mask) (p : SlotPart) (fs : List Frame) → ∥ MayGo b m p (frames_of b fs) ∥₁ → (Stops p fs → ⊥) → local (funs_of b) m p (frames_of b fs) ≡ None → ⊥
+pub never_stuck : (b : CodeBody) (m : Mask) (p : SlotPart) (fs : List Frame) → ∥ MayGo b m p (frames_of b fs) ∥₁ → (Stops p fs → ⊥) → local (funs_of b) m p (frames_of b fs) ≡ None → ⊥
 never_stuck b m p fs may go e =
     ∥∥₁_elim b.stands (λ x y. absurd x) (λ s. ∥∥₁_elim may (λ x y. absurd x) (λ w. goes_on b s (heads_kept b.of.value s.accepted) m p fs w go e))
 
-pub may_again : (b : Body) (m : Mask) (p q : SlotPart) (fs gs : List SlotFrame) → ∥ MayGo b m p fs ∥₁ → local (funs_of b) m p fs ≡ Some (at q gs) → ∥ MayGo b m q gs ∥₁
+pub may_again : (b : CodeBody) (m : Mask) (p q : SlotPart) (fs gs : List SlotFrame) → ∥ MayGo b m p fs ∥₁ → local (funs_of b) m p fs ≡ Some (at q gs) → ∥ MayGo b m q gs ∥₁
 may_again b m p q fs gs may e =
     ∥∥₁_elim b.stands ∥∥₁_prop (λ s. ∥∥₁_map may (λ w. stands_again b s (heads_kept b.of.value s.accepted) m p q fs gs w e))
 
 -- some rules and one more, which was done in frames with the same masking state below them
-pub one_further : (b : Body) (m below : Mask) (k : ℕ) (start p q : SlotPart) (fs gs : List SlotFrame) → below ≡ m → locals (funs_of b) m k (at start []) ≡ Some (at p fs) → local (funs_of b) below p fs ≡ Some (at q gs)
+pub one_further : (b : CodeBody) (m below : Mask) (k : ℕ) (start p q : SlotPart) (fs gs : List SlotFrame) → below ≡ m → locals (funs_of b) m k (at start []) ≡ Some (at p fs) → local (funs_of b) below p fs ≡ Some (at q gs)
     → locals (funs_of b) m (k + 1) (at start []) ≡ Some (at q gs)
 one_further b m below k start p q fs gs is h e = one_after (funs_of b) m k (k + 1) (at start []) (at p fs) (at q gs) refl h (ap (λ s. local (funs_of b) s p fs) (sym is) ∙ e)
 
@@ -100,7 +100,7 @@ one_further b m below k start p q fs gs is h e = one_after (funs_of b) m k (k + 
 asks_fit : {ds : List Fn} {x : named.Part} {k : Sort} (p : Primitive) (vs : List V) → PartStands any_cell ds (performs (calls p vs)) x k → Unfit p vs → ⊥
 asks_fit p vs (op_stands (calls_stands {ks} {k} q h)) u = u ks k q h
 
-pub part_fits : (b : Body) (p : Active) {x : named.Part} {k : Sort} → PartStands any_cell (script_of b.of.value) (active_of b p) x k → Fits p
+pub part_fits : (b : CodeBody) (p : Active) {x : named.Part} {k : Sort} → PartStands any_cell (script_of b.of.value) (active_of b p) x k → Fits p
 part_fits b (a.Asks p vs) h = asks_fit p (values_of vs) h
 part_fits b (a.Doing i vs) h = tt
 part_fits b (a.Ret v) h = tt
@@ -117,7 +117,7 @@ fits_prop (a.Forks i vs) f g = refl
 fits_prop (a.ForksUnmask i vs) f g = refl
 
 -- where a part stands for a named one, a primitive has values of its types
-pub fits : (b : Body) (m : Mask) (p : Active) (fs : List SlotFrame) → ∥ MayGo b m (active_of b p) fs ∥₁ → Fits p
+pub fits : (b : CodeBody) (m : Mask) (p : Active) (fs : List SlotFrame) → ∥ MayGo b m (active_of b p) fs ∥₁ → Fits p
 fits b m p fs may = ∥∥₁_elim may (fits_prop p) (λ w. part_fits b p w.1.part)
 
 -- ---- a job's start
@@ -129,7 +129,7 @@ is_doing (c.Throw e) h = ∥∥₁_elim h (λ x y. absurd x) (λ z. z)
 is_doing (c.Op o) h = ∥∥₁_elim h (λ x y. absurd x) (λ z. z)
 
 -- what is to do something doesn't stop
-pub doing_goes : (b : Body) (p : Control) (fs : List Frame) → ∥ IsDoing p ∥₁ → Stops (part_of b p) fs → ⊥
+pub doing_goes : (b : CodeBody) (p : Control) (fs : List Frame) → ∥ IsDoing p ∥₁ → Stops (part_of b p) fs → ⊥
 doing_goes b (c.Doing i vs) fs h s = s
 doing_goes b (c.Ret v) fs h s = ∥∥₁_elim h (λ x y. absurd x) (λ z. z)
 doing_goes b (c.Throw e) fs h s = ∥∥₁_elim h (λ x y. absurd x) (λ z. z)

@@ -6,7 +6,7 @@ use Rattle.hs_base.specs.declared.mask.Mask.TheVariants.{Unmasked}
 use Rattle.rules_trees.specs.Programs.{script_of}
 use Rattle.rules_meaning.specs.CoreMeaning.{code_of}
 use Rattle.rules_sorts.specs.TypedMeaning.{any_cell}
-use Rattle.rules_code.specs.declared.code.Body.{Body}
+use Rattle.rules_code.specs.declared.code.CodeBody.{CodeBody}
 use Rattle.rules_code.specs.CodeTrees.{SlottedFunction, StandsFor, code_trees}
 use Rattle.hs_rules.specs.Terms.{Term}
 use Rattle.hs_rules.specs.LocalRules as rules
@@ -47,7 +47,7 @@ stuck_after funs s (suc i) (suc k) t u h e n =
 -- ---- over other frames
 
 -- a rule over frames of one's own is one over the others too
-pub rule_over : (b : Body) (s below : Mask) (p q : SlotPart) (own new rest : List Frame) → below ≡ mask_inside s rest → local (funs_of b) below p (frames_of b own) ≡ Some (at q (frames_of b new))
+pub rule_over : (b : CodeBody) (s below : Mask) (p q : SlotPart) (own new rest : List Frame) → below ≡ mask_inside s rest → local (funs_of b) below p (frames_of b own) ≡ Some (at q (frames_of b new))
     → local (funs_of b) s p (frames_of b (own ++ rest)) ≡ Some (at q (frames_of b (new ++ rest)))
 rule_over b s below p q own new rest is e =
     ap (local (funs_of b) s p) (frames_joined b own rest)
@@ -55,7 +55,7 @@ rule_over b s below p q own new rest is e =
     ∙ ap (λ z. Some (at q z)) (sym (frames_joined b new rest)))
 
 -- and where there is none, there is none over the others, but for a value or an exception with no frame of its own
-pub none_over : (b : Body) (s below : Mask) (p : SlotPart) (own rest : List Frame) → below ≡ mask_inside s rest → (IsBare p own → ⊥) → local (funs_of b) below p (frames_of b own) ≡ None
+pub none_over : (b : CodeBody) (s below : Mask) (p : SlotPart) (own rest : List Frame) → below ≡ mask_inside s rest → (IsBare p own → ⊥) → local (funs_of b) below p (frames_of b own) ≡ None
     → local (funs_of b) s p (frames_of b (own ++ rest)) ≡ None
 none_over b s below (doing a vs) own rest is n e =
     ap (local (funs_of b) s (doing a vs)) (frames_joined b own rest)
@@ -65,7 +65,7 @@ none_over b s below (throw x) own rest is n e = absurd (n (no_frames b own (thro
 none_over b s below (performs o) own rest is n e = refl
 
 -- a value or an exception in no frame at all has no rule
-pub bare_stuck : (b : Body) (s : Mask) (p : SlotPart) (own all : List Frame) → IsBare p own → all ≡ [] → local (funs_of b) s p (frames_of b all) ≡ None
+pub bare_stuck : (b : CodeBody) (s : Mask) (p : SlotPart) (own all : List Frame) → IsBare p own → all ≡ [] → local (funs_of b) s p (frames_of b all) ≡ None
 bare_stuck b s (doing a vs) own all h e = absurd h
 bare_stuck b s (ret v) own all h e = ap (λ z. local (funs_of b) s (ret v) (frames_of b z)) e
 bare_stuck b s (throw x) own all h e = ap (λ z. local (funs_of b) s (throw x) (frames_of b z)) e
@@ -80,7 +80,7 @@ bare_own (performs o) own h = absurd h
 -- ---- the end
 
 -- where a stack stands for a term with names, a primitive that local rules lead to has values of its types
-one_end : (b : Body) → StandsFor b.nodes b.acts b.funs b.main b.of.value → (k : ℕ) (s : Stacked) (p : Active) (fs : List SlotFrame) (t : Term) → Stands any_cell (script_of b.of.value) (term_of b s) t
+one_end : (b : CodeBody) → StandsFor b.nodes b.acts b.funs b.main b.of.value → (k : ℕ) (s : Stacked) (p : Active) (fs : List SlotFrame) (t : Term) → Stands any_cell (script_of b.of.value) (term_of b s) t
     → locals (funs_of b) Unmasked k (term_of b s) ≡ Some (at (active_of b p) fs) → Fits p
 one_end b stands k s p fs t h e =
     let heads = heads_kept b.of.value stands.accepted in
@@ -89,5 +89,5 @@ one_end b stands k s p fs t h e =
     (same_rules any_cell b.of.value stands.accepted heads k (term_of b s) t h) in
     part_fits b p w.2.part
 
-pub end_fits : (b : Body) (k : ℕ) (s : Stacked) (p : Active) (fs : List SlotFrame) → MayAdvance b s → locals (funs_of b) Unmasked k (term_of b s) ≡ Some (at (active_of b p) fs) → Fits p
+pub end_fits : (b : CodeBody) (k : ℕ) (s : Stacked) (p : Active) (fs : List SlotFrame) → MayAdvance b s → locals (funs_of b) Unmasked k (term_of b s) ≡ Some (at (active_of b p) fs) → Fits p
 end_fits b k s p fs may e = ∥∥₁_elim b.stands (fits_prop p) (λ z. ∥∥₁_elim may (fits_prop p) (λ w. one_end b z k s p fs w.0 w.1 e))

@@ -3,7 +3,7 @@ use Rattle.std.specs.Prelude.{◌≡◌, ◌≤◌, List, [], ◌++◌, length, 
 use Rattle.hs_base.specs.declared.mask.Mask.{Mask}
 use Rattle.rules_trees.specs.Programs.{script_of}
 use Rattle.rules_sorts.specs.TypedMeaning.{any_cell}
-use Rattle.rules_code.specs.declared.code.Body.{Body}
+use Rattle.rules_code.specs.declared.code.CodeBody.{CodeBody}
 use Rattle.hs_rules.specs.Terms.{Term}
 use Rattle.slot_laws.specs.Standing.{Stands}
 use Rattle.slot_laws.specs.SlotRules.{SlotPart, ret, throw, doing, performs}
@@ -13,7 +13,7 @@ use Rattle.frame_stack.specs.declared.advancing.Walk.{Walk}
 use Rattle.frame_stack.specs.Parts.{Stacked, term_of}
 
 -- The stack stands for a term of the code's script with names, so where it comes to a primitive, that has values of its types.
-abbrev pub MayAdvance : Body → Stacked → Type 0
+abbrev pub MayAdvance : CodeBody → Stacked → Type 0
 MayAdvance b s = ∥ ((t : Term) × Stands any_cell (script_of b.of.value) (term_of b s) t) ∥₁
 
 -- a value or an exception with no frame of its own

@@ -3,7 +3,7 @@ use Rattle.std.specs.Prelude.{List, [], ◌∷◌}
 use Rattle.rules_expansion.specs.declared.primitive.Primitive.TheVariants.{PutStr, PutStrLn, HPutStrLn, NewMVar, NewEmptyMVar, TakeMVar, PutMVar, ReadMVar, TryTakeMVar, TryPutMVar, MyThreadId, GetMaskingState, ClockMicros, ThreadDelay, ThrowTo, NewTimeout, Acquired, Release}
 use Rattle.rules_meaning.specs.Values as val
 use Rattle.rules_meaning.specs.Values.{value_of, values_of}
-use Rattle.rules_code.specs.declared.code.Body.{Body}
+use Rattle.rules_code.specs.declared.code.CodeBody.{CodeBody}
 use Rattle.slot_laws.specs.SlotRules.{SlotOp, calls, forks, forks_unmask, SlotPart, ret, throw, doing, performs, SlotTerm, at}
 use Rattle.local_steps.specs.declared.active.Frame.{Frame}
 use Rattle.local_steps.specs.Machine.{act_of, frames_of}
@@ -13,7 +13,7 @@ use Rattle.frame_stack.specs.declared.control.Control.{Control}
 use Rattle.frame_stack.specs.declared.control.Control.TheVariants as c
 
 -- the operation of a primitive with its values, or of a fork
-abbrev pub op_of : Body → Operation → SlotOp
+abbrev pub op_of : CodeBody → Operation → SlotOp
 op_of b (p.PutStr t) = calls PutStr (val.Text t ∷ [])
 op_of b (p.PutStrLn t) = calls PutStrLn (val.Text t ∷ [])
 op_of b (p.HPutStrLn t) = calls HPutStrLn (val.Text t ∷ [])
@@ -35,7 +35,7 @@ op_of b (p.Release i) = calls Release (val.Inst i ∷ [])
 op_of b (p.Fork i vs) = forks (act_of b i) (values_of vs)
 op_of b (p.ForkUnmask i vs) = forks_unmask (act_of b i) (values_of vs)
 
-abbrev pub part_of : Body → Control → SlotPart
+abbrev pub part_of : CodeBody → Control → SlotPart
 part_of b (c.Doing i vs) = doing (act_of b i) (values_of vs)
 part_of b (c.Ret v) = ret (value_of v)
 part_of b (c.Throw e) = throw e
@@ -50,7 +50,7 @@ abbrev pub stacked : Control → List Frame → Stacked
 stacked p fs = record { control = p; frames = fs }
 
 -- the term that a stack stands for
-abbrev pub term_of : Body → Stacked → SlotTerm
+abbrev pub term_of : CodeBody → Stacked → SlotTerm
 term_of b s = at (part_of b s.control) (frames_of b s.frames)
 
 abbrev pub IsOp : Control → Type 0

@@ -6,7 +6,7 @@ use Rattle.rules_meaning.specs.Values.{V, values_of}
 use Rattle.rules_sorts.specs.Sorts.{Sort}
 use Rattle.rules_sorts.specs.TypedMeaning.{any_cell}
 use Rattle.rules_expansion.specs.declared.primitive.Primitive.{Primitive}
-use Rattle.rules_code.specs.declared.code.Body.{Body}
+use Rattle.rules_code.specs.declared.code.CodeBody.{CodeBody}
 use Rattle.hs_rules.specs.Terms.{Term}
 use Rattle.hs_progress.specs.CoreTyping.{Asks}
 use Rattle.hs_progress.specs.TypedStates.{AllOfSorts}
@@ -24,11 +24,11 @@ use Rattle.frame_stack.specs.Parts.{part_of}
 
 -- A part in frames stands for a term of the code's script in a masking scope with the state m. Of a part that is an action
 -- this says that it is an action of the code with values that fit its scope.
-abbrev pub MayGo : Body → Mask → SlotPart → List SlotFrame → Type 0
+abbrev pub MayGo : CodeBody → Mask → SlotPart → List SlotFrame → Type 0
 MayGo b m p fs = (t : Term) × Stands any_cell (script_of b.of.value) (at p (fs ++ mask_in m ∷ [])) t
 
 -- so many local rules lead from a control alone, where the masking state is m, to another in these frames
-abbrev pub Moves : Body → Mask → ℕ → Control → Control → List Frame → Type 0
+abbrev pub Moves : CodeBody → Mask → ℕ → Control → Control → List Frame → Type 0
 Moves b m k start end pushed = locals (funs_of b) m k (at (part_of b start) []) ≡ Some (at (part_of b end) (frames_of b pushed))
 
 -- a slice goes no further here: at an operation, and at a value or an exception with no frame of its own

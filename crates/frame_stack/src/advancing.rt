@@ -4,7 +4,7 @@
 //! that they use up, one at a time, so the cost goes by the rules and not by the depth of the stack.
 ghost use Rattle.std.specs.Prelude.{◌≡◌, ◌<◌, ◌++◌, [], false, drop, ◌↔◌, IsTrue, IfOk, OnOk, OnErr, MatchOption, Some, None};
 ghost use Rattle.hs_base.specs.declared.mask.Mask.TheVariants.{Unmasked};
-ghost use Rattle.rules_code.specs.declared.code.Body.{Body};
+ghost use Rattle.rules_code.specs.declared.code.CodeBody.{CodeBody};
 ghost use Rattle.rules_code.specs.Codes.{body_of};
 ghost use Rattle.slot_laws.specs.SlotRules.{at, local, locals};
 ghost use Rattle.local_steps.specs.Machine.{active_of, frames_of, funs_of};
@@ -17,8 +17,8 @@ use crate::running::control;
 use crate::slicing::body;
 use crate::stack::Stack;
 use hs_base::{NoMemory, Value};
-use local_steps::{Active, Frames, Next, step, step_in_place};
-use rules_code::{Body, Code};
+use local_steps::{Active, Frames, StepResult, step, step_in_place};
+use rules_code::{Code, CodeBody};
 use std::alloc::Global;
 use std::mem;
 
@@ -47,7 +47,7 @@ impl Walk {
     fn end(self, stack: &mut Stack) -> Result<(), NoMemory>
         requires fits { Fits self.part }
         requires over { IsOver Unmasked stack.old.frames self }
-        ensures ok { OnOk result ((b : Body) → term_of b stack.new ≡ at (active_of b self.part) (frames_of b (over_frames self stack.old.frames))) }
+        ensures ok { OnOk result ((b : CodeBody) → term_of b stack.new ≡ at (active_of b self.part) (frames_of b (over_frames self stack.old.frames))) }
         ensures err { OnErr result (stack.new ≡ stack.old) }
     {
         let Walk { part, own, gone } = self;
@@ -57,7 +57,7 @@ impl Walk {
 
 /// The active part of a control that is no operation.
 fn starting(alloc: Global, start: &Control) -> Result<Option<Active>, NoMemory>
-    ensures { IfOk result (λ found. MatchOption found (IsOp start.now) (λ p. (b : Body) → active_of b p ≡ part_of b start.now)) }
+    ensures { IfOk result (λ found. MatchOption found (IsOp start.now) (λ p. (b : CodeBody) → active_of b p ≡ part_of b start.now)) }
 {
     match start {
         Control::Doing(i, env) => Ok(Some(Active::Doing(*i, env.copy(alloc)?))),
@@ -69,7 +69,7 @@ fn starting(alloc: Global, start: &Control) -> Result<Option<Active>, NoMemory>
 
 /// Whether it is a value or an exception with no frame of its own.
 fn is_bare(active: &Active, own: &Frames) -> bool
-    ensures is { (b : Body) → IsTrue result ↔ IsBare (active_of b active.now) own.now.list }
+    ensures is { (b : CodeBody) → IsTrue result ↔ IsBare (active_of b active.now) own.now.list }
     ensures own { IsTrue result → own.now.list ≡ [] }
 {
     match active {
@@ -87,8 +87,8 @@ fn framed(alloc: Global, frames: &Frames, walk: &mut Walk) -> Result<bool, NoMem
     requires over { IsOver frames.now.below frames.now.list walk.old }
     ensures over { IfOk result (λ done. IsTrue done → IsOver frames.now.below frames.now.list walk.new) }
     ensures same { IfOk result (λ done. IsTrue done → over_frames walk.new frames.now.list ≡ over_frames walk.old frames.now.list) }
-    ensures meets { IfOk result (λ done. IsTrue done → (b : Body) → IsBare (active_of b walk.new.part) walk.new.own.list → ⊥) }
-    ensures none { IfOk result (λ done. (done ≡ false) → (over_frames walk.old frames.now.list ≡ []) × ((b : Body) → IsBare (active_of b walk.old.part) walk.old.own.list)) }
+    ensures meets { IfOk result (λ done. IsTrue done → (b : CodeBody) → IsBare (active_of b walk.new.part) walk.new.own.list → ⊥) }
+    ensures none { IfOk result (λ done. (done ≡ false) → (over_frames walk.old frames.now.list ≡ []) × ((b : CodeBody) → IsBare (active_of b walk.old.part) walk.old.own.list)) }
     ensures part { walk.new.part ≡ walk.old.part }
 {
     if !is_bare(&walk.part, &walk.own) {
@@ -110,7 +110,7 @@ fn framed(alloc: Global, frames: &Frames, walk: &mut Walk) -> Result<bool, NoMem
 /// One local rule of a part over frames of its own, if there is one.
 fn step_alone(
     alloc: Global,
-    body: &Body,
+    body: &CodeBody,
     active: &mut Active,
     own: &mut Frames,
 ) -> Result<bool, NoMemory>
@@ -123,16 +123,16 @@ fn step_alone(
     }
     let part = mem::replace(active, Active::Ret(Value::Unit));
     match step(alloc, body, part, own)? {
-        Next::To(next) => {
+        StepResult::To(next) => {
             *active = next;
             Ok(true)
         }
-        Next::Stuck => Ok(false),
+        StepResult::Stuck => Ok(false),
     }
 }
 
 /// One local rule over the frames of a stack, if there is one.
-fn turn(alloc: Global, body: &Body, frames: &Frames, walk: &mut Walk) -> Result<bool, NoMemory>
+fn turn(alloc: Global, body: &CodeBody, frames: &Frames, walk: &mut Walk) -> Result<bool, NoMemory>
     requires over { IsOver frames.now.below frames.now.list walk.old }
     ensures over { IfOk result (λ done. IsTrue done → IsOver frames.now.below frames.now.list walk.new) }
     ensures rule { IfOk result (λ done. IsTrue done → local (funs_of body.now) frames.now.below (active_of body.now walk.old.part) (frames_of body.now (over_frames walk.old frames.now.list)) ≡ Some (at (active_of body.now walk.new.part) (frames_of body.now (over_frames walk.new frames.now.list)))) }
@@ -147,7 +147,7 @@ fn turn(alloc: Global, body: &Body, frames: &Frames, walk: &mut Walk) -> Result<
 /// So many local rules in turn over the frames of a stack, if there are so many.
 fn walked(
     alloc: Global,
-    body: &Body,
+    body: &CodeBody,
     start: Active,
     frames: &Frames,
     k: u32,

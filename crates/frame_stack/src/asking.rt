@@ -3,7 +3,7 @@ ghost use Rattle.std.specs.Prelude.{◌≡◌, [], ◌∷◌, MatchOption};
 ghost use Rattle.rules_meaning.specs.Values as val;
 ghost use Rattle.rules_meaning.specs.Values.{value_of, values_of};
 ghost use Rattle.rules_sorts.specs.TypedMeaning.{of_int, of_text, of_exn, of_thread, of_cell};
-ghost use Rattle.rules_code.specs.declared.code.Body.{Body};
+ghost use Rattle.rules_code.specs.declared.code.CodeBody.{CodeBody};
 ghost use Rattle.hs_soundness.specs.CoreSorts.{of_instance};
 ghost use Rattle.slot_laws.specs.SlotRules.{calls};
 ghost use Rattle.frame_stack.specs.Parts.{op_of};
@@ -15,7 +15,7 @@ use rules_code::Primitive;
 
 /// A primitive with its values, where they are of its types.
 pub fn asked(primitive: Primitive, values: Values) -> Option<Operation>
-    ensures { MatchOption result (Unfit primitive (values_of values)) (λ p. (b : Body) → op_of b p ≡ calls primitive (values_of values)) }
+    ensures { MatchOption result (Unfit primitive (values_of values)) (λ p. (b : CodeBody) → op_of b p ≡ calls primitive (values_of values)) }
 {
     let mut values = values;
     let last = values.pop();
@@ -33,7 +33,7 @@ pub fn asked(primitive: Primitive, values: Values) -> Option<Operation>
 
 /// A primitive that takes no value.
 fn bare(primitive: Primitive) -> Option<Operation>
-    ensures { MatchOption result (Unfit primitive []) (λ p. (b : Body) → op_of b p ≡ calls primitive []) }
+    ensures { MatchOption result (Unfit primitive []) (λ p. (b : CodeBody) → op_of b p ≡ calls primitive []) }
 {
     match primitive {
         Primitive::NewEmptyMVar => Some(Operation::NewEmptyMVar),
@@ -49,7 +49,7 @@ fn bare(primitive: Primitive) -> Option<Operation>
 /// A primitive that takes one value.
 #[tactic(auto, using(crate::proofs::Forms::one_unfit))]
 fn of_one(primitive: Primitive, value: Value) -> Option<Operation>
-    ensures { MatchOption result (Unfit primitive (value_of value ∷ [])) (λ p. (b : Body) → op_of b p ≡ calls primitive (value_of value ∷ [])) }
+    ensures { MatchOption result (Unfit primitive (value_of value ∷ [])) (λ p. (b : CodeBody) → op_of b p ≡ calls primitive (value_of value ∷ [])) }
 {
     match primitive {
         Primitive::PutStr => Some(Operation::PutStr(text(value)?)),
@@ -68,7 +68,7 @@ fn of_one(primitive: Primitive, value: Value) -> Option<Operation>
 /// A primitive that takes two values.
 #[tactic(auto, using(crate::proofs::Forms::two_unfit))]
 fn of_two(primitive: Primitive, first: Value, second: Value) -> Option<Operation>
-    ensures { MatchOption result (Unfit primitive (value_of first ∷ value_of second ∷ [])) (λ p. (b : Body) → op_of b p ≡ calls primitive (value_of first ∷ value_of second ∷ [])) }
+    ensures { MatchOption result (Unfit primitive (value_of first ∷ value_of second ∷ [])) (λ p. (b : CodeBody) → op_of b p ≡ calls primitive (value_of first ∷ value_of second ∷ [])) }
 {
     match primitive {
         Primitive::PutMVar => Some(Operation::PutMVar(cell(first)?, second)),

@@ -4,7 +4,7 @@ ghost use Rattle.frame_stack.specs.Slicing.{IsDoing, MayGo};
 
 use crate::control::Control;
 use hs_base::Mask;
-use rules_code::Body;
+use rules_code::CodeBody;
 use std::snapshot::Snapshot;
 
 /// Local rules to be done for a thread: those of an action, alone.
@@ -18,7 +18,7 @@ pub struct Job {
     /// So many rules at most, from 1 to 1,024.
     pub budget: u32,
     /// The code that it belongs to.
-    pub of: Snapshot<Body>,
+    pub of: Snapshot<CodeBody>,
     pub ghost doing: { ∥ IsDoing start ∥₁ },
     pub ghost may: { ∥ MayGo of.value mask (part_of of.value start) [] ∥₁ },
     pub ghost some: { 0 < budget },

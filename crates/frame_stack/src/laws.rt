@@ -8,7 +8,7 @@ ghost use Rattle.rules_expansion.specs.declared.primitive.Primitive.{Primitive};
 ghost use Rattle.rules_meaning.specs.Values.{V};
 ghost use Rattle.rules_meaning.specs.CoreMeaning.{code_of};
 ghost use Rattle.rules_sorts.specs.Sorts.{Sort};
-ghost use Rattle.rules_code.specs.declared.code.Body.{Body};
+ghost use Rattle.rules_code.specs.declared.code.CodeBody.{CodeBody};
 ghost use Rattle.rules_code.specs.CodeTrees.{StandsFor};
 ghost use Rattle.hs_rules.specs.Terms as named;
 ghost use Rattle.hs_rules.specs.Terms.{Ret, Throw, Performs, Calls, Term, mask_at};
@@ -25,8 +25,8 @@ ghost use Rattle.frame_stack.specs.Parts.{Stacked, term_of};
 /// Where its part stands for one with names, a value is that value, an exception that exception, a primitive with values
 /// that primitive with those.
 pub fn stacks_are_terms()
-    ensures masks { (store : Option Store) (ds : List Fn) (k : Sort) (b : Body) (fs : List Frame) (gs : List named.Frame) → FramesStand (cells_of store) ds k (frames_of b fs) gs → mask_inside Unmasked fs ≡ mask_at gs }
-    ensures frames { (store : Option Store) (ds : List Fn) (k : Sort) (b : Body) (fs : List Frame) (gs : List named.Frame) → FramesStand (cells_of store) ds k (frames_of b fs) gs → length fs ≡ length gs }
+    ensures masks { (store : Option Store) (ds : List Fn) (k : Sort) (b : CodeBody) (fs : List Frame) (gs : List named.Frame) → FramesStand (cells_of store) ds k (frames_of b fs) gs → mask_inside Unmasked fs ≡ mask_at gs }
+    ensures frames { (store : Option Store) (ds : List Fn) (k : Sort) (b : CodeBody) (fs : List Frame) (gs : List named.Frame) → FramesStand (cells_of store) ds k (frames_of b fs) gs → length fs ≡ length gs }
     ensures values { (store : Option Store) (ds : List Fn) (k : Sort) (v : V) (x : named.Part) → PartStands (cells_of store) ds (ret v) x k → x ≡ Ret v }
     ensures exceptions { (store : Option Store) (ds : List Fn) (k : Sort) (e : Exn) (x : named.Part) → PartStands (cells_of store) ds (throw e) x k → x ≡ Throw e }
     ensures primitives { (store : Option Store) (ds : List Fn) (k : Sort) (p : Primitive) (vs : List V) (x : named.Part) → PartStands (cells_of store) ds (performs (calls p vs)) x k → x ≡ Performs (Calls p vs) }
@@ -34,5 +34,5 @@ pub fn stacks_are_terms()
 
 /// Local rules of a stack are local rules of each term with names that it stands for, and it stands for the term after them.
 pub fn stacks_move_as_terms()
-    ensures { (store : Option Store) (b : Body) → StandsFor b.nodes b.acts b.funs b.main b.of.value → (k : ℕ) (s u : Stacked) (t : Term) → Stands (cells_of store) (script_of b.of.value) (term_of b s) t → locals (funs_of b) Unmasked k (term_of b s) ≡ Some (term_of b u) → (v : Term) × (rules.locals (code_of (script_of b.of.value)) k t ≡ Some v) × Stands (cells_of store) (script_of b.of.value) (term_of b u) v }
+    ensures { (store : Option Store) (b : CodeBody) → StandsFor b.nodes b.acts b.funs b.main b.of.value → (k : ℕ) (s u : Stacked) (t : Term) → Stands (cells_of store) (script_of b.of.value) (term_of b s) t → locals (funs_of b) Unmasked k (term_of b s) ≡ Some (term_of b u) → (v : Term) × (rules.locals (code_of (script_of b.of.value)) k t ≡ Some v) × Stands (cells_of store) (script_of b.of.value) (term_of b u) v }
 {}

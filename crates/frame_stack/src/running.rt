@@ -1,6 +1,6 @@
 //! How far a control goes alone.
 ghost use Rattle.std.specs.Prelude.{◌≡◌, ◌<◌, ◌≤◌, ◌⊎◌, [], ◌↔◌, IsTrue, IfOk, IfErr, OnOk, Some, List};
-ghost use Rattle.rules_code.specs.declared.code.Body.{Body};
+ghost use Rattle.rules_code.specs.declared.code.CodeBody.{CodeBody};
 ghost use Rattle.rules_meaning.specs.Values.{values_of};
 ghost use Rattle.slot_laws.specs.SlotRules.{at, local, locals};
 ghost use Rattle.local_steps.specs.Machine.{active_of, frames_of, funs_of};
@@ -12,8 +12,8 @@ use crate::control::{Control, Operation};
 use crate::fault::SliceFault;
 use hs_base::{Mask, NoMemory, Value};
 use hs_io::Cutter;
-use local_steps::{Active, Frames, Next, step, step_in_place};
-use rules_code::Body;
+use local_steps::{Active, Frames, StepResult, step, step_in_place};
+use rules_code::CodeBody;
 use std::alloc::Global;
 use std::mem;
 
@@ -31,7 +31,7 @@ pub struct Ran {
 /// Some local rules of an action alone: the budget, or as many as it goes on.
 pub fn run<C: Cutter>(
     alloc: Global,
-    body: &Body,
+    body: &CodeBody,
     start: Active,
     mask: Mask,
     budget: u32,
@@ -84,7 +84,7 @@ fn look<C: Cutter>(ticket: u64, cutter: &mut C) -> Result<(), SliceFault>
 /// One local rule of an active part that doesn't stop.
 fn step_on(
     alloc: Global,
-    body: &Body,
+    body: &CodeBody,
     active: &mut Active,
     frames: &mut Frames,
 ) -> Result<(), NoMemory>
@@ -99,15 +99,15 @@ fn step_on(
     }
     let part = mem::replace(active, Active::Ret(Value::Unit));
     match step(alloc, body, part, frames)? {
-        Next::To(next) => *active = next,
-        Next::Stuck => unreachable!(),
+        StepResult::To(next) => *active = next,
+        StepResult::Stuck => unreachable!(),
     }
     Ok(())
 }
 
 /// Whether a slice goes no further.
 fn stopped(active: &Active, frames: &Frames) -> bool
-    ensures { (b : Body) → IsTrue result ↔ Stops (active_of b active.now) frames.now.list }
+    ensures { (b : CodeBody) → IsTrue result ↔ Stops (active_of b active.now) frames.now.list }
 {
     match active {
         Active::Doing(_, _) => false,
@@ -123,7 +123,7 @@ fn stopped(active: &Active, frames: &Frames) -> bool
 #[tactic(auto, using(crate::proofs::Progress::is_doing))]
 pub fn active(alloc: Global, start: &Control) -> Result<Active, NoMemory>
     requires { ∥ IsDoing start.now ∥₁ }
-    ensures { IfOk result (λ a. (b : Body) → active_of b a ≡ part_of b start.now) }
+    ensures { IfOk result (λ a. (b : CodeBody) → active_of b a ≡ part_of b start.now) }
 {
     match start {
         Control::Doing(i, env) => Ok(Active::Doing(*i, env.copy(alloc)?)),
@@ -134,7 +134,7 @@ pub fn active(alloc: Global, start: &Control) -> Result<Active, NoMemory>
 /// The control that an active part is.
 pub fn control(active: Active) -> Control
     requires { Fits active }
-    ensures { (b : Body) → part_of b result ≡ active_of b active }
+    ensures { (b : CodeBody) → part_of b result ≡ active_of b active }
 {
     match active {
         Active::Doing(i, env) => Control::Doing(i, env),

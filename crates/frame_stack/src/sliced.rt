@@ -4,7 +4,7 @@ ghost use Rattle.frame_stack.specs.Slicing.{IsDoing, Moves};
 use crate::control::Control;
 use hs_base::Mask;
 use local_steps::Frames;
-use rules_code::Body;
+use rules_code::CodeBody;
 use std::snapshot::Snapshot;
 
 /// Local rules that were done for a thread: `steps` of them lead from `start`, where the masking state is `mask`, to `end` in
@@ -21,7 +21,7 @@ pub struct Slice {
     /// From 1 to 1,024.
     pub steps: u32,
     /// The code that it belongs to.
-    pub of: Snapshot<Body>,
+    pub of: Snapshot<CodeBody>,
     pub ghost doing: { ∥ IsDoing start ∥₁ },
     pub ghost moves: { ∥ Moves of.value mask steps start end pushed.list ∥₁ },
     pub ghost under: { pushed.below ≡ mask },

@@ -9,11 +9,11 @@ use crate::job::Job;
 use crate::running::{Ran, active, control, run};
 use crate::sliced::Slice;
 use hs_io::Cutter;
-use rules_code::{Body, Code};
+use rules_code::{Code, CodeBody};
 use std::alloc::Global;
 
 /// Lends what a code is.
-pub fn body(code: &Code) -> &Body
+pub fn body(code: &Code) -> &CodeBody
     ensures { result.now ≡ codes.body_of code.now }
 {
     &code.body

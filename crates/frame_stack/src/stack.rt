@@ -1,6 +1,6 @@
 ghost use Rattle.std.specs.Prelude.{◌≡◌, ◌≤◌, ◌++◌, ◌∷◌, [], drop, length, OnOk, OnErr, IfOk, IfErr, Some};
 ghost use Rattle.hs_base.specs.declared.mask.Mask.TheVariants.{Unmasked};
-ghost use Rattle.rules_code.specs.declared.code.Body.{Body};
+ghost use Rattle.rules_code.specs.declared.code.CodeBody.{CodeBody};
 ghost use Rattle.slot_laws.specs.SlotRules.{mask_from, local, locals};
 ghost use Rattle.local_steps.specs.declared.active.Frame.TheVariants as frame;
 ghost use Rattle.local_steps.specs.Frames.{framed, masking, mask_inside};
@@ -11,7 +11,7 @@ ghost use Rattle.frame_stack.specs.Parts.{part_of, stacked, term_of, IsOp, IsThr
 use crate::control::Control;
 use crate::sliced::Slice;
 use hs_base::{Exn, Mask, NoMemory, Value};
-use local_steps::{Active, Frames, Next, meet_exception, meet_value};
+use local_steps::{Active, Frames, StepResult, meet_exception, meet_value};
 use std::alloc::Global;
 use std::marker::Model;
 use std::mem;
@@ -74,7 +74,7 @@ impl Stack {
     /// The masking state at the control. It takes no memory.
     pub fn mask(&self) -> Mask
         ensures inside { result ≡ mask_inside Unmasked self.now.frames }
-        ensures state { (b : Body) → result ≡ mask_from Unmasked (frames_of b self.now.frames) }
+        ensures state { (b : CodeBody) → result ≡ mask_from Unmasked (frames_of b self.now.frames) }
     {
         self.frames.mask()
     }
@@ -140,7 +140,7 @@ impl Stack {
     /// One local rule, where the control is a value or an exception in a frame. It takes no memory.
     pub fn pop_step(&mut self)
         requires { Meets self.old }
-        ensures { (b : Body) → local (funs_of b) Unmasked (part_of b self.old.control) (frames_of b self.old.frames) ≡ Some (term_of b self.new) }
+        ensures { (b : CodeBody) → local (funs_of b) Unmasked (part_of b self.old.control) (frames_of b self.old.frames) ≡ Some (term_of b self.new) }
     {
         let next = match self.replace(Control::Ret(Value::Unit)) {
             Control::Ret(value) => meet_value(value, &mut self.frames),
@@ -148,9 +148,9 @@ impl Stack {
             _ => unreachable!(),
         };
         match next {
-            Next::To(Active::Doing(i, env)) => self.control = Control::Doing(i, env),
-            Next::To(Active::Ret(value)) => self.control = Control::Ret(value),
-            Next::To(Active::Throw(exn)) => self.control = Control::Throw(exn),
+            StepResult::To(Active::Doing(i, env)) => self.control = Control::Doing(i, env),
+            StepResult::To(Active::Ret(value)) => self.control = Control::Ret(value),
+            StepResult::To(Active::Throw(exn)) => self.control = Control::Throw(exn),
             // No frame leads to an operation.
             _ => {}
         }

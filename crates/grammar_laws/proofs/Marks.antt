@@ -4,7 +4,7 @@ use Rattle.std.proofs.Common.{◌≡◌, ℕ, zero, suc, ◌+◌, ◌<◌, ◌�
 use Rattle.rules_tokens.specs.declared.token.Token.{Token}
 use Rattle.rules_grammar.specs.Grammar.{rule_of, block_item, Below, SpelledIn}
 use Rattle.rules_grammar.specs.GrammarForms.{Rule, give, one, seq, alt, go_on, many, ended, within, Item, tokens_of, Spelling, Empty, Single, Made, Then, Either, Each, OnLeft, Passed, Last, Spelled}
-use Rattle.rules_grammar.specs.GrammarParts.{Kind, kind_of, Part, type_in_parens, type_in_brackets, param_in_parens, block_in_braces, block_if, block_case, block_arms, let_stmt, no_items, two_names, expr_if, expr_case, expr_arms, expr_let, expr_in_parens, items_in_brackets, items_or_none}
+use Rattle.rules_grammar.specs.GrammarParts.{TokenKind, kind_of, OpenerPart, type_in_parens, type_in_brackets, param_in_parens, block_in_braces, block_if, block_case, block_arms, let_stmt, no_items, two_names, expr_if, expr_case, expr_arms, expr_let, expr_in_parens, items_in_brackets, items_or_none}
 use Rattle.hs_grammar.specs.Parser.{same_kind, either, both, negated, apart, where', may_be_empty, firsts, begins, is_in, too_deep, Out, Done, Stop, Parser, bind, done, choose, take_if, take, on_left, turn, loop, another, after_separator, behind_item, item_step, read_then, read, enter}
 use Rattle.hs_grammar.proofs.Checks.{after_part, after, fine, plain, opened, fine_part, after_rule, plain_item, fine_item}
 use Rattle.hs_grammar.proofs.Good.{tokens_append, below_append}
@@ -24,77 +24,77 @@ marked i t = record { token = t; opener = Some i }
 spread : (x y : List Item) (ts : List Token) → tokens_of (x ++ y) ++ ts ≡ tokens_of x ++ (tokens_of y ++ ts)
 spread x y ts = ap (λ v. v ++ ts) (tokens_append x y) ∙ append_assoc (tokens_of x) (tokens_of y) ts
 
-head_of : (ks : List Kind) (u : List Item) (i : Item) (rest : List Item) (z : List Token) → begins ks (tokens_of (u ++ i ∷ rest)) ≡ begins ks (tokens_of u ++ i.token ∷ z)
+head_of : (ks : List TokenKind) (u : List Item) (i : Item) (rest : List Item) (z : List Token) → begins ks (tokens_of (u ++ i ∷ rest)) ≡ begins ks (tokens_of u ++ i.token ∷ z)
 head_of ks [] i rest z = refl
 head_of ks (x ∷ u) i rest z = refl
 
-apart_nil : (ks : List Kind) → apart ks [] ≡ true
+apart_nil : (ks : List TokenKind) → apart ks [] ≡ true
 apart_nil [] = refl
 apart_nil (k ∷ ks) = apart_nil ks
 
 -- nothing is spelled, or what is spelled begins so
-abbrev Next : Bool → List Kind → List Item → List Item → Type 0
-Next e ks w k = ((e ≡ true) × (w ≡ k)) ⊎ ((begins ks (tokens_of w) ≡ true) × (length k < length w))
+abbrev NoneOrBegins : Bool → List TokenKind → List Item → List Item → Type 0
+NoneOrBegins e ks w k = ((e ≡ true) × (w ≡ k)) ⊎ ((begins ks (tokens_of w) ≡ true) × (length k < length w))
 
-next_length : (e : Bool) (ks : List Kind) (w k : List Item) → Next e ks w k → length k ≤ length w
+next_length : (e : Bool) (ks : List TokenKind) (w k : List Item) → NoneOrBegins e ks w k → length k ≤ length w
 next_length e ks w k (inl s) = omega (arith, ap length s.1)
 next_length e ks w k (inr s) = omega (arith, s.1)
 
 module _ (m : ℕ) where
   -- the items in front of k are below m, and are read where nothing of K follows
-  abbrev Passes : {A : Type 0} → Parser A → List Kind → A → List Item → List Item → Type 0
+  abbrev Passes : {A : Type 0} → Parser A → List TokenKind → A → List Item → List Item → Type 0
   Passes P K a w k = (u : List Item) × (w ≡ u ++ k) × Below m u × ((ts : List Token) → begins K ts ≡ false → P (tokens_of u ++ ts) ≡ Done a ts)
 
   -- there is a first one in m, and the parser stops at it
   abbrev Stops : {A : Type 0} → Parser A → List Item → List Item → Type 0
   Stops P w k = (u : List Item) × (t : Token) × (rest : List Item) × (w ≡ u ++ marked m t ∷ rest) × (length k ≤ length rest) × Below m u × ((z : List Token) → P (tokens_of u ++ t ∷ z) ≡ Stop too_deep (t ∷ z))
 
-  abbrev pub Marked : {A : Type 0} → Parser A → List Kind → A → List Item → List Item → Type 0
+  abbrev pub Marked : {A : Type 0} → Parser A → List TokenKind → A → List Item → List Item → Type 0
   Marked P K a w k = Passes P K a w k ⊎ Stops P w k
 
-  same_parser : {A : Type 0} (P Q : Parser A) (K : List Kind) (a : A) (w k : List Item) → ((ts : List Token) → Q ts ≡ P ts) → Marked P K a w k → Marked Q K a w k
+  same_parser : {A : Type 0} (P Q : Parser A) (K : List TokenKind) (a : A) (w k : List Item) → ((ts : List Token) → Q ts ≡ P ts) → Marked P K a w k → Marked Q K a w k
   same_parser P Q K a w k e (inl c) = inl (c.0, c.1, c.2, λ ts g. e (tokens_of c.0 ++ ts) ∙ c.3 ts g)
   same_parser P Q K a w k e (inr d) = inr (d.0, d.1, d.2, d.3, d.4, d.5, λ z. e (tokens_of d.0 ++ d.1 ∷ z) ∙ d.6 z)
 
-  weaker : {A : Type 0} (P : Parser A) (K K' : List Kind) (a : A) (w k : List Item) → ((ts : List Token) → begins K' ts ≡ false → begins K ts ≡ false) → Marked P K a w k → Marked P K' a w k
+  weaker : {A : Type 0} (P : Parser A) (K K' : List TokenKind) (a : A) (w k : List Item) → ((ts : List Token) → begins K' ts ≡ false → begins K ts ≡ false) → Marked P K a w k → Marked P K' a w k
   weaker P K K' a w k f (inl c) = inl (c.0, c.1, c.2, λ ts g. c.3 ts (f ts g))
   weaker P K K' a w k f (inr d) = inr d
 
-  made : {A B : Type 0} (f : B → A) (P : Parser B) (K : List Kind) (b : B) (w k : List Item) → Marked P K b w k → Marked (λ ts. bind (P ts) (λ x. done (f x))) K (f b) w k
+  made : {A B : Type 0} (f : B → A) (P : Parser B) (K : List TokenKind) (b : B) (w k : List Item) → Marked P K b w k → Marked (λ ts. bind (P ts) (λ x. done (f x))) K (f b) w k
   made f P K b w k (inl c) = inl (c.0, c.1, c.2, λ ts g. ap (λ o. bind o (λ x. done (f x))) (c.3 ts g))
   made f P K b w k (inr d) = inr (d.0, d.1, d.2, d.3, d.4, d.5, λ z. ap (λ o. bind o (λ x. done (f x))) (d.6 z))
 
   -- what is spelled behind does not go on what is in front
-  module _ (KP K : List Kind) (e : Bool) (first : List Kind) (w k : List Item) (next : Next e first w k) (ap' : apart KP first ≡ true)
+  module _ (KP K : List TokenKind) (e : Bool) (first : List TokenKind) (w k : List Item) (next : NoneOrBegins e first w k) (ap' : apart KP first ≡ true)
       (none : e ≡ true → (ts : List Token) → begins K ts ≡ false → begins KP ts ≡ false) where
     front_passes : (u : List Item) → w ≡ u ++ k → (ts : List Token) → begins K ts ≡ false → begins KP (tokens_of u ++ ts) ≡ false
     front_passes [] q ts g = by next
       where
-        by : Next e first w k → begins KP ts ≡ false
+        by : NoneOrBegins e first w k → begins KP ts ≡ false
         by (inl s) = none s.0 ts g
         by (inr s) = absurd (omega (arith, s.1, ap length q))
     front_passes (x ∷ u) q ts g = by next
       where
-        by : Next e first w k → begins KP (x.token ∷ (tokens_of u ++ ts)) ≡ false
+        by : NoneOrBegins e first w k → begins KP (x.token ∷ (tokens_of u ++ ts)) ≡ false
         by (inl s) = absurd (omega (arith, ap length s.1, ap length q, length-append u k))
         by (inr s) = begins_apart KP first (x.token ∷ (tokens_of u ++ ts)) ap' (ap (λ v. begins first (tokens_of v)) (sym q) ∙ s.0)
 
     front_stops : (u : List Item) (t : Token) (rest : List Item) → w ≡ u ++ marked m t ∷ rest → length k ≤ length rest → (z : List Token) → begins KP (tokens_of u ++ t ∷ z) ≡ false
     front_stops u t rest q l z = by next
       where
-        by : Next e first w k → begins KP (tokens_of u ++ t ∷ z) ≡ false
+        by : NoneOrBegins e first w k → begins KP (tokens_of u ++ t ∷ z) ≡ false
         by (inl s) = absurd (omega (arith, ap length s.1, ap length q, length-append u (marked m t ∷ rest)))
         by (inr s) = begins_apart KP first (tokens_of u ++ t ∷ z) ap' (sym (head_of first u (marked m t) rest z) ∙ (ap (λ v. begins first (tokens_of v)) (sym q) ∙ s.0))
 
   -- the second of two alternatives
-  chosen_no : {A : Type 0} (P Q : Parser A) (ks K : List Kind) (e : Bool) (first : List Kind) (a : A) (w k : List Item) → Next e first w k → apart ks first ≡ true → (e ≡ true → (ts : List Token) → begins K ts ≡ false → begins ks ts ≡ false) → Marked Q K a w k → Marked (λ ts. choose (begins ks ts) P Q ts) K a w k
+  chosen_no : {A : Type 0} (P Q : Parser A) (ks K : List TokenKind) (e : Bool) (first : List TokenKind) (a : A) (w k : List Item) → NoneOrBegins e first w k → apart ks first ≡ true → (e ≡ true → (ts : List Token) → begins K ts ≡ false → begins ks ts ≡ false) → Marked Q K a w k → Marked (λ ts. choose (begins ks ts) P Q ts) K a w k
   chosen_no P Q ks K e first a w k next ap' none (inl c) =
       inl (c.0, c.1, c.2, λ ts g. ap (λ b. choose b P Q (tokens_of c.0 ++ ts)) (front_passes ks K e first w k next ap' none c.0 c.1 ts g) ∙ c.3 ts g)
   chosen_no P Q ks K e first a w k next ap' none (inr d) =
       inr (d.0, d.1, d.2, d.3, d.4, d.5, λ z. ap (λ b. choose b P Q (tokens_of d.0 ++ d.1 ∷ z)) (front_stops ks K e first w k next ap' none d.0 d.1 d.2 d.3 d.4 z) ∙ d.6 z)
 
   -- a parser that is another where the next token is one of these
-  on_first : {A : Type 0} (P Q : Parser A) (ks K : List Kind) (a : A) (w k : List Item) → begins ks (tokens_of w) ≡ true → length k < length w → ((ts : List Token) → begins ks ts ≡ true → Q ts ≡ P ts) → Marked P K a w k → Marked Q K a w k
+  on_first : {A : Type 0} (P Q : Parser A) (ks K : List TokenKind) (a : A) (w k : List Item) → begins ks (tokens_of w) ≡ true → length k < length w → ((ts : List Token) → begins ks ts ≡ true → Q ts ≡ P ts) → Marked P K a w k → Marked Q K a w k
   on_first {A} P Q ks K a w k b l e (inl c) = inl (c.0, c.1, c.2, λ ts g. by c.0 c.1 ts ∙ c.3 ts g)
     where
       by : (u : List Item) → w ≡ u ++ k → (ts : List Token) → Q (tokens_of u ++ ts) ≡ P (tokens_of u ++ ts)
@@ -104,7 +104,7 @@ module _ (m : ℕ) where
       inr (d.0, d.1, d.2, d.3, d.4, d.5, λ z. e (tokens_of d.0 ++ d.1 ∷ z) (sym (head_of ks d.0 (marked m d.1) d.2 z) ∙ (ap (λ v. begins ks (tokens_of v)) (sym d.3) ∙ b)) ∙ d.6 z)
 
   -- a parser, and one behind it
-  behind : {A B : Type 0} (P : Parser B) (KP : List Kind) (F : B → Parser A) (K : List Kind) (e : Bool) (first : List Kind) (b : B) (a : A) (w mid k : List Item) → Next e first mid k → apart KP first ≡ true → (e ≡ true → (ts : List Token) → begins K ts ≡ false → begins KP ts ≡ false) → Marked P KP b w mid → Marked (F b) K a mid k → Marked (λ ts. bind (P ts) F) K a w k
+  behind : {A B : Type 0} (P : Parser B) (KP : List TokenKind) (F : B → Parser A) (K : List TokenKind) (e : Bool) (first : List TokenKind) (b : B) (a : A) (w mid k : List Item) → NoneOrBegins e first mid k → apart KP first ≡ true → (e ≡ true → (ts : List Token) → begins K ts ≡ false → begins KP ts ≡ false) → Marked P KP b w mid → Marked (F b) K a mid k → Marked (λ ts. bind (P ts) F) K a w k
   behind P KP F K e first b a w mid k next ap' none (inr c) q =
       let l = next_length e first mid k next in
       inr (c.0, c.1, c.2, c.3, omega (arith, l, c.4), c.5, λ z. ap (λ o. bind o F) (c.6 z))
@@ -125,7 +125,7 @@ module _ (m : ℕ) where
   )
 
   -- a token and what its value makes of it
-  token : {A : Type 0} (l : Kind) (F : Token → Parser A) (K : List Kind) (a : A) (t : Token) (w mid k : List Item) → Single None l t w mid → Marked (F t) K a mid k → Marked (take l F) K a w k
+  token : {A : Type 0} (l : TokenKind) (F : Token → Parser A) (K : List TokenKind) (a : A) (t : Token) (w mid k : List Item) → Single None l t w mid → Marked (F t) K a mid k → Marked (take l F) K a w k
   token l F K a t w mid k s (inl c) = inl (
     simple t ∷ c.0,
     s.1 ∙ ap (λ v. simple t ∷ v) c.1,
@@ -142,22 +142,22 @@ module _ (m : ℕ) where
     λ z. ap (λ b. take_if b t F (tokens_of d.0 ++ d.1 ∷ z)) (same_of (kind_of t.tok) l s.0) ∙ d.6 z,
   )
 
-  nothing : {A : Type 0} (K : List Kind) (x a : A) (w k : List Item) → x ≡ a → w ≡ k → Marked (done x) K a w k
+  nothing : {A : Type 0} (K : List TokenKind) (x a : A) (w k : List Item) → x ≡ a → w ≡ k → Marked (done x) K a w k
   nothing K x a w k e q = inl ([], q, tt, λ ts g. ap (λ z. Done z ts) e)
 
   -- ---- rules
   -- a part that stands in an opener in j: the opener is the first in m, or the part is marked so
-  abbrev PartMarks : ℕ → ℕ → ℕ → (B : Type 0) → Part B → Type 0
+  abbrev PartMarks : ℕ → ℕ → ℕ → (B : Type 0) → OpenerPart B → Type 0
   PartMarks N n j B part =
       (t : Token) (b : B) (w k : List Item) → SpelledIn N j B part b w k
       → ((j ≡ m) × ((z : List Token) → enter n B part t z ≡ Stop too_deep (t ∷ z))) ⊎ ((j < m) × Marked (enter n B part t) (after_part part) b w k)
 
-  module _ (N n j : ℕ) (parts : (B : Type 0) (part : Part B) → PartMarks N n j B part) where
+  module _ (N n j : ℕ) (parts : (B : Type 0) (part : OpenerPart B) → PartMarks N n j B part) where
     abbrev Y : {A : Type 0} → Rule A → Spelling A
     Y r = Spelled (SpelledIn N j) j r
 
     -- an opener, and what stands in it
-    opener : {A B : Type 0} (g : Token → B → A) (l : Kind) (part : Part B) (t : Token) (b : B) (w mid k : List Item) → Single (Some j) l t w mid → SpelledIn N j B part b mid k → Marked (take l (λ t us. bind (enter n B part t us) (λ b. done (g t b)))) (after_part part) (g t b) w k
+    opener : {A B : Type 0} (g : Token → B → A) (l : TokenKind) (part : OpenerPart B) (t : Token) (b : B) (w mid k : List Item) → Single (Some j) l t w mid → SpelledIn N j B part b mid k → Marked (take l (λ t us. bind (enter n B part t us) (λ b. done (g t b)))) (after_part part) (g t b) w k
     opener {A} {B} g l part t b w mid k s h = by (parts B part t b mid k h)
       where
         at : (ts : List Token) → take l (λ t us. bind (enter n B part t us) (λ b. done (g t b))) (t ∷ ts) ≡ bind (enter n B part t ts) (λ b. done (g t b))
@@ -212,11 +212,12 @@ module _ (m : ℕ) where
       next_item : (b : B) (w mid : List Item) → Y p b w mid → (begins (firsts p) (tokens_of w) ≡ true) × (length mid < length w)
       next_item b w mid h = by (starts (SpelledIn N j) (parts_shrink N j) j p f b w mid h)
         where
-          by : Next (may_be_empty p) (firsts p) w mid → (begins (firsts p) (tokens_of w) ≡ true) × (length mid < length w)
+          by : NoneOrBegins (may_be_empty p) (firsts p) w mid
+              → (begins (firsts p) (tokens_of w) ≡ true) × (length mid < length w)
           by (inl s) = clash (may_be_empty p) s.0 ne
           by (inr s) = s
 
-      next_items : (bs : List B) (w k : List Item) → Each (Y p) bs w k → Next true (firsts p) w k
+      next_items : (bs : List B) (w k : List Item) → Each (Y p) bs w k → NoneOrBegins true (firsts p) w k
       next_items [] w k h = inl (refl, h)
       next_items (b ∷ bs) w k h =
           let s = next_item b w h.0 h.1 in let l = next_length true (firsts p) h.0 k (next_items bs h.0 k h.2) in
@@ -231,7 +232,7 @@ module _ (m : ℕ) where
           (ih b w h.0 h.1) (made (λ ys. b ∷ ys) repeated (firsts p ++ after p) bs h.0 k (many_marks bs h.0 k h.2)))
 
     -- one rule behind another
-    second : {A B C : Type 0} (c : B → C → A) (p : Rule B) (q : Rule C) (K : List Kind) (b : B) (a : A) (w mid k : List Item) → fine q ≡ true → apart (after p) (firsts q) ≡ true → ((ts : List Token) → begins K ts ≡ false → begins (after q) ts ≡ false) → (may_be_empty q ≡ true → (ts : List Token) → begins K ts ≡ false → begins (after p) ts ≡ false) → (F : B → Parser A) → ((r : List Token) → F b r ≡ bind (read (enter n) q r) (λ d. done (c b d))) → Marked (read (enter n) p) (after p) b w mid → Made (c b) (Y q) a mid k → Rules q → Marked (λ ts. bind (read (enter n) p ts) F) K a w k
+    second : {A B C : Type 0} (c : B → C → A) (p : Rule B) (q : Rule C) (K : List TokenKind) (b : B) (a : A) (w mid k : List Item) → fine q ≡ true → apart (after p) (firsts q) ≡ true → ((ts : List Token) → begins K ts ≡ false → begins (after q) ts ≡ false) → (may_be_empty q ≡ true → (ts : List Token) → begins K ts ≡ false → begins (after p) ts ≡ false) → (F : B → Parser A) → ((r : List Token) → F b r ≡ bind (read (enter n) q r) (λ d. done (c b d))) → Marked (read (enter n) p) (after p) b w mid → Made (c b) (Y q) a mid k → Rules q → Marked (λ ts. bind (read (enter n) p ts) F) K a w k
     second c p q K b a w mid k fq ap' le none F fe mp h iq =
         behind (read (enter n) p) (after p) F K (may_be_empty q) (firsts q) b a w mid k (starts (SpelledIn N j) (parts_shrink N j) j q fq h.0 mid k h.2) ap' none mp
         (same_parser (λ r. bind (read (enter n) q r) (λ d. done (c b d))) (F b) K a mid k fe
@@ -261,7 +262,7 @@ module _ (m : ℕ) where
         choose_first ne (starts (SpelledIn N j) (parts_shrink N j) j p fp.0 a w k h)
         (weaker (read (enter n) p) (after p) (after p ++ (after q ++ where' (may_be_empty q) (firsts p))) a w k (λ ts g. (not_begins (after p) (after q ++ where' (may_be_empty q) (firsts p)) ts g).0) (rule_marks p pls.0 fp.0 a w k h))
       where
-        choose_first : may_be_empty p ≡ false → Next (may_be_empty p) (firsts p) w k → Marked (read (enter n) p) (after (alt p q)) a w k → Marked (read (enter n) (alt p q)) (after (alt p q)) a w k
+        choose_first : may_be_empty p ≡ false → NoneOrBegins (may_be_empty p) (firsts p) w k → Marked (read (enter n) p) (after (alt p q)) a w k → Marked (read (enter n) (alt p q)) (after (alt p q)) a w k
         choose_first ne (inl s) x = clash (may_be_empty p) s.0 ne
         choose_first ne (inr s) x =
             on_first (read (enter n) p) (read (enter n) (alt p q)) (firsts p) (after (alt p q)) a w k s.0 s.1 (λ ts g. ap (λ b. choose b (read (enter n) p) (read (enter n) q) ts) g) x
@@ -310,7 +311,7 @@ module _ (m : ℕ) where
         subst (λ z. Marked (read (enter n) (within c l part)) (after_part part) z w k) h.3.1 (opener (λ t b. c t.pos b) l part h.0 h.3.0 w h.1 k h.2 h.3.2)
 
     -- ---- a block
-    module _ {B C : Type 0} (as_item : C → B) (sep close : Kind) (p : Rule (B ⊎ C)) (pl : plain p ≡ true) (f : fine p ≡ true) (ne : may_be_empty p ≡ false)
+    module _ {B C : Type 0} (as_item : C → B) (sep close : TokenKind) (p : Rule (B ⊎ C)) (pl : plain p ≡ true) (f : fine p ≡ true) (ne : may_be_empty p ≡ false)
         (a0 : apart (after p) (sep ∷ close ∷ []) ≡ true) (a1 : apart (close ∷ []) (firsts p) ≡ true) (a2 : same_kind sep close ≡ false) (ih : Rules p) where
       abbrev istep : Parser (B ⊎ C)
       istep = item_step as_item sep close (read (enter n) p)
@@ -324,14 +325,14 @@ module _ (m : ℕ) where
       at_close : (t : Token) (ts : List Token) → kind_of t.tok ≡ close → begins (close ∷ []) (t ∷ ts) ≡ true
       at_close t ts q = ap (λ b. either b false) (same_of (kind_of t.tok) close q)
 
-      taken : {A : Type 0} (l : Kind) (F : Token → Parser A) (t : Token) (ts : List Token) → kind_of t.tok ≡ l → take l F (t ∷ ts) ≡ F t ts
+      taken : {A : Type 0} (l : TokenKind) (F : Token → Parser A) (t : Token) (ts : List Token) → kind_of t.tok ≡ l → take l F (t ∷ ts) ≡ F t ts
       taken l F t ts q = ap (λ b. take_if b t F ts) (same_of (kind_of t.tok) l q)
 
-      begins_sep : (t : Token) (w k : List Item) → Single None sep t w k → Next false (sep ∷ close ∷ []) w k
+      begins_sep : (t : Token) (w k : List Item) → Single None sep t w k → NoneOrBegins false (sep ∷ close ∷ []) w k
       begins_sep t w k s =
           inr (ap (λ v. begins (sep ∷ close ∷ []) (tokens_of v)) s.1 ∙ ap (λ b. either b (either (same_kind (kind_of t.tok) close) false)) (same_of (kind_of t.tok) sep s.0), omega (arith, ap length s.1))
 
-      begins_close : (t : Token) (w k : List Item) → Single None close t w k → Next false (sep ∷ close ∷ []) w k
+      begins_close : (t : Token) (w k : List Item) → Single None close t w k → NoneOrBegins false (sep ∷ close ∷ []) w k
       begins_close t w k s =
           inr (ap (λ v. begins (sep ∷ close ∷ []) (tokens_of v)) s.1 ∙ (ap (λ b. either (same_kind (kind_of t.tok) sep) (either b false)) (same_of (kind_of t.tok) close s.0) ∙ by (same_kind (kind_of t.tok) sep)), omega (arith, ap length s.1))
         where
@@ -388,11 +389,12 @@ module _ (m : ℕ) where
                     ∙ ap (λ z. Done (inr z) ts) d.3.3.0,
               ))
             where
-              longer : (t u : Token) → Next false (sep ∷ close ∷ []) h.1 (simple u ∷ k) → Next false (sep ∷ close ∷ []) h.1 k
+              longer : (t u : Token) → NoneOrBegins false (sep ∷ close ∷ []) h.1 (simple u ∷ k)
+                  → NoneOrBegins false (sep ∷ close ∷ []) h.1 k
               longer t u (inl s) = absurd (cc s.0)
               longer t u (inr s) = inr (s.0, omega (arith, s.1))
 
-      starts_rest : (bs : List B) (c : C) (w mid k : List Item) → Each (Passed as_item sep (Y p)) bs w mid → Last sep close (Y p) c mid k → Next false (firsts p) w k
+      starts_rest : (bs : List B) (c : C) (w mid k : List Item) → Each (Passed as_item sep (Y p)) bs w mid → Last sep close (Y p) c mid k → NoneOrBegins false (firsts p) w k
       unfolding may_be_empty firsts
       starts_rest bs c w mid k h l = go (starts (SpelledIn N j) (parts_shrink N j) j (ended {A = Unit {0}} (λ bs c. tt) as_item sep close p) fe (tt {0}) w k (bs, mid, h, (c, refl {0}, l)))
         where
@@ -401,7 +403,7 @@ module _ (m : ℕ) where
               ∙ (ap (λ b. both (negated b) (both (apart (after p) (sep ∷ close ∷ [])) (both (apart (close ∷ []) (firsts p)) (negated (same_kind sep close))))) ne
               ∙ (ap (λ b. both b (both (apart (close ∷ []) (firsts p)) (negated (same_kind sep close)))) a0 ∙ (ap (λ b. both b (negated (same_kind sep close))) a1 ∙ ap negated a2)))
 
-          go : Next (may_be_empty p) (firsts p) w k → Next false (firsts p) w k
+          go : NoneOrBegins (may_be_empty p) (firsts p) w k → NoneOrBegins false (firsts p) w k
           go (inl s) = clash (may_be_empty p) s.0 ne
           go (inr s) = inr s
 
@@ -420,7 +422,7 @@ module _ (m : ℕ) where
           subst (λ z. Marked (read (enter n) (ended c as_item sep close p)) [] z w k) h.3.1
           (made (λ x. c x.0 x.1) rest_of [] (h.0, h.3.0) w k (block_marks h.0 h.3.0 w h.1 k h.2 h.3.2))
 
-    part_marks : {A : Type 0} (part : Part A) → Rules (rule_of part)
+    part_marks : {A : Type 0} (part : OpenerPart A) → Rules (rule_of part)
     unfolding opened
     part_marks type_in_parens = rule_marks (rule_of type_in_parens) refl (fine_part type_in_parens)
     part_marks type_in_brackets = rule_marks (rule_of type_in_brackets) refl (fine_part type_in_brackets)
@@ -440,7 +442,7 @@ module _ (m : ℕ) where
     part_marks items_in_brackets = rule_marks (rule_of items_in_brackets) refl (fine_part items_in_brackets)
     part_marks items_or_none = rule_marks (rule_of items_or_none) refl (fine_part items_or_none)
 
-  enter_marks : (n N j : ℕ) → j + n ≡ m → (B : Type 0) (part : Part B) → PartMarks N n j B part
+  enter_marks : (n N j : ℕ) → j + n ≡ m → (B : Type 0) (part : OpenerPart B) → PartMarks N n j B part
   unfolding enter
   enter_marks n zero j e B part t b w k h = absurd h
   enter_marks zero (suc N) j e B part t b w k h = inl (omega (arith, e), λ z. refl)

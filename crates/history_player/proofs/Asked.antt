@@ -7,7 +7,7 @@ use Rattle.hs_rules.specs.declared.entry.Entry.{Entry}
 use Rattle.hs_rules.specs.declared.entry.Entry.TheVariants as entry
 use Rattle.rules_trees.specs.Programs.{Fn, script_of}
 use Rattle.rules_meaning.specs.Values.{V}
-use Rattle.rules_code.specs.declared.code.Body.{Body}
+use Rattle.rules_code.specs.declared.code.CodeBody.{CodeBody}
 use Rattle.rules_code.specs.CodeTrees.{code_trees}
 use Rattle.rules_waiting.specs.Waiting.{Flying, flying_to, first_thrown, first_awake, earliest}
 use Rattle.exn_flight.specs.Asleep.{due_of}
@@ -22,7 +22,7 @@ use Rattle.frame_stack.specs.declared.control.Control.{Control}
 use Rattle.frame_stack.specs.declared.control.Control.TheVariants as c
 use Rattle.frame_stack.specs.Parts.{IsOp, Stacked, part_of, term_of}
 use Rattle.thread_table.specs.declared.thread.Thread.{Thread}
-use Rattle.thread_table.specs.declared.kinds.Kind.TheVariants as kind
+use Rattle.thread_table.specs.declared.kinds.EntryKind.TheVariants as kind
 use Rattle.thread_table.specs.Kinds.{IsEnd, IsBare, IsKind, Own, Hears}
 use Rattle.thread_table.specs.Listing.{is_hit, is_receptive}
 use Rattle.thread_table.specs.Table.{slot_of}
@@ -30,32 +30,32 @@ use Rattle.thread_table.proofs.Slots.{slot_back, receptive_same, hit_is}
 use Rattle.thread_table.proofs.Table.{slots_is}
 use Rattle.world_entries.specs.declared.world.World.{World}
 use Rattle.world_entries.specs.Worlds.{state_of, Goes, SameState}
-use Rattle.run_record.specs.declared.acts.Act.TheVariants as act
+use Rattle.run_record.specs.declared.acts.NextEntry.TheVariants as act
 use Rattle.run_record.specs.declared.acts.Next.{Next}
 use Rattle.run_record.specs.declared.acts.Next.TheVariants as next
 use Rattle.run_record.specs.Records.{Can, IsNextOf}
 use Rattle.history_player.specs.Entering.{IsFree, is_strand}
 
 -- ---- controls of parts
-performs_op : (b : Body) (k : Control) (p : SlotOp) → part_of b k ≡ performs p → IsOp k
+performs_op : (b : CodeBody) (k : Control) (p : SlotOp) → part_of b k ≡ performs p → IsOp k
 performs_op b (c.Doing i vs) p e = absurd (cc e)
 performs_op b (c.Ret v) p e = absurd (cc e)
 performs_op b (c.Throw x) p e = absurd (cc e)
 performs_op b (c.Op o) p e = tt
 
-ret_end : (b : Body) (k : Control) (v : V) → part_of b k ≡ ret v → IsEnd k
+ret_end : (b : CodeBody) (k : Control) (v : V) → part_of b k ≡ ret v → IsEnd k
 ret_end b (c.Doing i vs) v e = absurd (cc e)
 ret_end b (c.Ret w) v e = tt
 ret_end b (c.Throw x) v e = tt
 ret_end b (c.Op o) v e = absurd (cc e)
 
-throw_end : (b : Body) (k : Control) (x : Exn) → part_of b k ≡ throw x → IsEnd k
+throw_end : (b : CodeBody) (k : Control) (x : Exn) → part_of b k ≡ throw x → IsEnd k
 throw_end b (c.Doing i vs) x e = absurd (cc e)
 throw_end b (c.Ret w) x e = tt
 throw_end b (c.Throw y) x e = tt
 throw_end b (c.Op o) x e = absurd (cc e)
 
-no_frames : (b : Body) (fs : List Frame) → frames_of b fs ≡ [] → fs ≡ []
+no_frames : (b : CodeBody) (fs : List Frame) → frames_of b fs ≡ [] → fs ≡ []
 no_frames b [] e = refl
 no_frames b (f ∷ fs) e = absurd (cc e)
 
@@ -67,7 +67,7 @@ no_hit : (fs : List Flying) → fs ≡ [] → (w : ℕ × Exn) → first_thrown 
 no_hit [] none w e = absurd (cc e)
 no_hit (f ∷ fs) none w e = absurd (cc none)
 
-module _ (b : Body) (w : World) where
+module _ (b : CodeBody) (w : World) where
   abbrev ds : List Fn
   ds = script_of b.of.value
 
@@ -167,5 +167,5 @@ strand_can w (next.Act act.Strand) h e = h
 strand_can w _ h e = absurd (cc e)
 
 -- where what is asked was, in the same state, it is
-pub not_then : (b : Body) (e : Entry) (old new : World) → SameState old new → (Asks (script_of b.of.value) e (state_of b new) → ⊥) → Asks (script_of b.of.value) e (state_of b old) → ⊥
+pub not_then : (b : CodeBody) (e : Entry) (old new : World) → SameState old new → (Asks (script_of b.of.value) e (state_of b new) → ⊥) → Asks (script_of b.of.value) e (state_of b old) → ⊥
 not_then b e old new same never a = never (subst (Asks (script_of b.of.value) e) (sym (same b)) a)

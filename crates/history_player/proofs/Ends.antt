@@ -6,7 +6,7 @@ use Rattle.hs_rules.specs.declared.entry.Entry.{Entry}
 use Rattle.hs_rules.specs.declared.entry.Entry.TheVariants as entry
 use Rattle.rules_trees.specs.Programs.{Fn, script_of}
 use Rattle.rules_meaning.specs.CoreMeaning.{Code, code_of}
-use Rattle.rules_code.specs.declared.code.Body.{Body}
+use Rattle.rules_code.specs.declared.code.CodeBody.{CodeBody}
 use Rattle.rules_waiting.specs.Waiting.{earliest}
 use Rattle.hs_rules.specs.Terms.{Part}
 use Rattle.hs_rules.specs.State.{State}
@@ -21,7 +21,7 @@ use Rattle.thread_table.specs.declared.thread.Thread.{Thread}
 use Rattle.world_entries.specs.declared.world.World.{World}
 use Rattle.world_entries.specs.Worlds.{state_of, Live, Goes, SameState}
 use Rattle.world_entries.proofs.Making as making
-use Rattle.run_record.specs.declared.acts.Act.{Act}
+use Rattle.run_record.specs.declared.acts.NextEntry.{NextEntry}
 use Rattle.run_record.specs.declared.acts.Next.{Next}
 use Rattle.run_record.specs.declared.acts.Next.TheVariants as next
 use Rattle.run_record.specs.Acts.{entry_of, is_value}
@@ -59,7 +59,7 @@ by_value (c.Throw e) code s h = (λ d. one_result (result_of (slice_get s.thread
 by_value (c.Op p) code s h = (λ d. one_result (result_of (slice_get s.threads 0)) d h, h)
 
 -- ---- of a live world
-module _ (b : Body) (es : List Entry) (w : World) (live : Live b es w) where
+module _ (b : CodeBody) (es : List Entry) (w : World) (live : Live b es w) where
   abbrev ds : List Fn
   ds = script_of b.of.value
 

@@ -12,7 +12,7 @@ use Rattle.hs_rules.specs.State.{State}
 use Rattle.hs_laws.proofs.RunParts.{is_after, same_after, run_more}
 use Rattle.rules_meaning.specs.CoreMeaning.{code_of}
 use Rattle.rules_trees.specs.Programs.{Fn, script_of}
-use Rattle.rules_code.specs.declared.code.Body.{Body}
+use Rattle.rules_code.specs.declared.code.CodeBody.{CodeBody}
 use Rattle.slot_states.specs.SlotStates.{MainGoes, Enters}
 use Rattle.slot_laws.specs.SlotRules.{locals}
 use Rattle.local_steps.specs.Machine.{funs_of}
@@ -31,31 +31,32 @@ use Rattle.history_player.specs.Entering.{IsFree, Tried, TriedOf}
 use Rattle.history_player.proofs.Asked.{stuck_asked}
 
 -- it stands for the state that some run leaves
-abbrev pub Stood : Body → World → Type 0
+abbrev pub Stood : CodeBody → World → Type 0
 Stood b w = ∥ ((es : List Entry) × Live b es w) ∥₁
 
-pub still_stood : (b : Body) (old new : World) → SameState old new → Stood b old → Stood b new
+pub still_stood : (b : CodeBody) (old new : World) → SameState old new → Stood b old → Stood b new
 still_stood b old new same h = ∥∥₁_elim h ∥∥₁_prop (λ k. ∥∥₁_map (still_live b k.0 old new same ∣ k.1 ∣₁) (λ l. (k.0, l)))
 
-live_more : (b : Body) (es : List Entry) (e : Entry) (old new : World) → MakesOf b e old new → Live b es old → Live b (es ++ e ∷ []) new
+live_more : (b : CodeBody) (es : List Entry) (e : Entry) (old new : World) → MakesOf b e old new → Live b es old → Live b (es ++ e ∷ []) new
 live_more b es e old new makes l =
     let k = makes l.accepted l.code es l.state l.run l.represents in
     record { accepted = l.accepted; code = l.code; state = k.0; run = run_more (script_of b.of.value) es e l.state k.0 l.run k.1; represents = k.2 }
 
-more_live : (b : Body) (es : List Entry) (e : Entry) (old new : World) → MakesOf b e old new → ∥ Live b es old ∥₁ → ∥ Live b (es ++ e ∷ []) new ∥₁
+more_live : (b : CodeBody) (es : List Entry) (e : Entry) (old new : World) → MakesOf b e old new → ∥ Live b es old ∥₁ → ∥ Live b (es ++ e ∷ []) new ∥₁
 more_live b es e old new makes h = ∥∥₁_map h (live_more b es e old new makes)
 
-more_stood : (b : Body) (e : Entry) (old new : World) → MakesOf b e old new → Stood b old → Stood b new
+more_stood : (b : CodeBody) (e : Entry) (old new : World) → MakesOf b e old new → Stood b old → Stood b new
 more_stood b e old new makes h = ∥∥₁_elim h ∥∥₁_prop (λ k. ∥∥₁_map (more_live b k.0 e old new makes ∣ k.1 ∣₁) (λ l. (k.0 ++ e ∷ [], l)))
 
-pub stood_lives : (b : Body) (w : World) → Stood b w → IsLive w
+pub stood_lives : (b : CodeBody) (w : World) → Stood b w → IsLive w
 stood_lives b w h = ∥∥₁_map h (λ k. (b, k.0, k.1))
 
 pub still_lives : (old new : World) → SameState old new → IsLive old → IsLive new
 still_lives old new same h = ∥∥₁_elim h ∥∥₁_prop (λ k. ∥∥₁_map (still_live k.0 k.1 old new same ∣ k.2 ∣₁) (λ l. (k.0, k.1, l)))
 
 -- what is entered in the same state is entered
-pub makes_from : (b : Body) (e : Entry) (old mid new : World) → SameState old mid → MakesOf b e mid new → MakesOf b e old new
+pub makes_from : (b : CodeBody) (e : Entry) (old mid new : World) → SameState old mid → MakesOf b e mid new
+    → MakesOf b e old new
 makes_from b e old mid new same makes accepted code = subst (λ x. Enters b.of.value e x (state_of b new)) (same b) (makes accepted code)
 
 -- ---- what isn't legal
@@ -69,7 +70,7 @@ asked_here p es e can live = asked p.of.value.of.value live.accepted es live.sta
 pub refused : (p : Player) (e : Entry) → (MainGoes (state_of p.of.value p.world) × Asks (script p) e (state_of p.of.value p.world) → ⊥) → (es : List Entry) → Played es p → CanFollow es e p → ⊥
 refused p e never es played can = ∥∥₁_elim played (λ x y. absurd x) (λ live. never (asked_here p es e can live))
 
-main_back : (b : Body) (w : World) → MainGoes (state_of b w) → Goes w
+main_back : (b : CodeBody) (w : World) → MainGoes (state_of b w) → Goes w
 main_back b w m = let k = slot_back b w.threads.list.items 0 m.main m.is in record { main = k.0; is = k.1; unfinished = ap (λ z. z.finished) k.2 ∙ m.unfinished }
 
 -- nothing follows where main has finished
@@ -77,7 +78,7 @@ pub none_follows : (p : Player) (e : Entry) → (Goes p.world → ⊥) → (es :
 none_follows p e over = refused p e (λ k. over (main_back p.of.value p.world k.0))
 
 -- ---- after an entry was tried, where room was made before
-module _ (p : Player) (b : Body) (of : p.of.value ≡ b) (mid new : World) (room : SameState p.world mid) (e : Entry) where
+module _ (p : Player) (b : CodeBody) (of : p.of.value ≡ b) (mid new : World) (room : SameState p.world mid) (e : Entry) where
   makes_on : MakesOf b e mid new → (es : List Entry) → Played es p → ∥ Live p.of.value (es ++ e ∷ []) new ∥₁
   makes_on makes es played = more_live p.of.value es e mid new (subst (λ z. MakesOf z e mid new) (sym of) makes) (still_live p.of.value es p.world mid room played)
 
@@ -86,7 +87,7 @@ module _ (p : Player) (b : Body) (of : p.of.value ≡ b) (mid new : World) (room
 
   never_on : (Asks (script_of b.of.value) e (state_of b mid) → ⊥) → (es : List Entry) → Played es p → CanFollow es e p → ⊥
   never_on never =
-      refused p e (λ k. never (subst (λ x. Asks (script_of b.of.value) e x) (sym (room b)) (subst (λ (z : Body). Asks (script_of z.of.value) e (state_of z p.world)) of k.1)))
+      refused p e (λ k. never (subst (λ x. Asks (script_of b.of.value) e x) (sym (room b)) (subst (λ (z : CodeBody). Asks (script_of z.of.value) e (state_of z p.world)) of k.1)))
 
   pub legal_on : (r : Result Bool NoMemory) → IfOk r (λ done. TriedOf b e mid new done) → IfOk r (λ done. IsTrue done → (es : List Entry) → Played es p → ∥ Live p.of.value (es ++ e ∷ []) new ∥₁)
   legal_on (Ok true) h = λ t es played. makes_on h es played
@@ -105,12 +106,12 @@ module _ (p : Player) (b : Body) (of : p.of.value ≡ b) (mid new : World) (room
   stands_on (Err x) h k = still_stood p.of.value p.world new (still_on k) p.live
 
 -- ---- of each answer
-pub tried_as : (r : Result Bool NoMemory) (b : Body) (e f : Entry) (old new : World) → e ≡ f → IfOk r (λ done. Tried f old new done) → IfOk r (λ done. TriedOf b e old new done)
+pub tried_as : (r : Result Bool NoMemory) (b : CodeBody) (e f : Entry) (old new : World) → e ≡ f → IfOk r (λ done. Tried f old new done) → IfOk r (λ done. TriedOf b e old new done)
 tried_as (Ok x) b e f old new is h = subst (λ z. TriedOf b z old new x) (sym is) (h b)
 tried_as (Err x) b e f old new is h = tt
 
 -- local rules that were tried
-pub advance_tried : (b : Body) (old new : World) (t k : ℕ) → IsFree t old.threads → (r : Result Bool NoMemory)
+pub advance_tried : (b : CodeBody) (old new : World) (t k : ℕ) → IsFree t old.threads → (r : Result Bool NoMemory)
     → IfOk r (λ done. IsTrue done → MakesOf b (entry.Local t k) old new)
     → IfOk r (λ done. (done ≡ false) → SameState old new × ((th : Thread) → slice_get old.threads.list.items t ≡ Some th → locals (funs_of b) Unmasked k (term_of b th.stack) ≡ None))
     → IfOk r (λ done. TriedOf b (entry.Local t k) old new done)

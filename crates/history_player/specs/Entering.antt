@@ -2,24 +2,24 @@
 use Rattle.std.specs.Prelude.{◌≡◌, ℕ, Bool, true, false, Some, slice_get}
 use Rattle.hs_rules.specs.declared.entry.Entry.{Entry}
 use Rattle.rules_trees.specs.Programs.{script_of}
-use Rattle.rules_code.specs.declared.code.Body.{Body}
+use Rattle.rules_code.specs.declared.code.CodeBody.{CodeBody}
 use Rattle.entry_demands.specs.Demands.{Asks}
 use Rattle.thread_table.specs.declared.thread.Thread.{Thread}
 use Rattle.thread_table.specs.declared.threads.Threads.{Threads}
 use Rattle.world_entries.specs.declared.world.World.{World}
 use Rattle.world_entries.specs.Worlds.{state_of, MakesOf, SameState}
-use Rattle.run_record.specs.declared.acts.Act.TheVariants as act
+use Rattle.run_record.specs.declared.acts.NextEntry.TheVariants as act
 use Rattle.run_record.specs.declared.acts.Next.{Next}
 use Rattle.run_record.specs.declared.acts.Next.TheVariants as next
 
 -- With actions of this code: the entry was entered, or the world is the same and has not what the entry asks.
-abbrev pub TriedOf : Body → Entry → World → World → Bool → Type 0
+abbrev pub TriedOf : CodeBody → Entry → World → World → Bool → Type 0
 TriedOf b e old new true = MakesOf b e old new
 TriedOf b e old new false = SameState old new × ¬ Asks (script_of b.of.value) e (state_of b old)
 
 -- the same, whatever code they are of
 abbrev pub Tried : Entry → World → World → Bool → Type 0
-Tried e old new done = (b : Body) → TriedOf b e old new done
+Tried e old new done = (b : CodeBody) → TriedOf b e old new done
 
 -- thread t is there, hasn't finished, and isn't blocked
 abbrev pub IsFree : ℕ → Threads → Type 0

@@ -2,10 +2,10 @@
 ghost use Rattle.std.specs.Prelude.{◌≡◌, IfOk, List, MatchBool, OnErr};
 ghost use Rattle.hs_rules.specs.declared.entry.Entry.{Entry as AnEntry};
 ghost use Rattle.hs_rules.specs.declared.entry.Entry.TheVariants as entry;
-ghost use Rattle.rules_code.specs.declared.code.Body.{Body};
+ghost use Rattle.rules_code.specs.declared.code.CodeBody.{CodeBody};
 ghost use Rattle.rules_code.specs.Codes.{body_of};
 ghost use Rattle.thread_table.specs.Kinds.{IsKind};
-ghost use Rattle.thread_table.specs.declared.kinds.Kind.TheVariants as kind;
+ghost use Rattle.thread_table.specs.declared.kinds.EntryKind.TheVariants as kind;
 ghost use Rattle.run_record.specs.declared.acts.Next.TheVariants as next;
 ghost use Rattle.world_entries.specs.Worlds.{Ends, Goes, HasRoom, IsLive, Live, SameState};
 ghost use Rattle.history_player.specs.Entering.{IsFree, Tried, TriedOf, is_strand as is_strand_by};
@@ -13,8 +13,8 @@ ghost use Rattle.history_player.specs.Entering.{IsFree, Tried, TriedOf, is_stran
 use frame_stack::Control;
 use hs_base::NoMemory;
 use hs_rules::{Code, Entry};
-use run_record::{Act, Next, next_of};
-use thread_table::{Kind, Threads};
+use run_record::{Next, NextEntry, next_of};
+use thread_table::{EntryKind, Threads};
 use world_entries::World;
 use world_entries::lines::uncaught;
 
@@ -73,7 +73,7 @@ fn op(world: &mut World, t: u32) -> Result<bool, NoMemory>
     ensures tried { IfOk result (λ done. Tried (entry.Op t) world.old world.new done) }
     ensures err { OnErr result (SameState world.old world.new) }
 {
-    if !world.threads.has(Kind::Op, t) {
+    if !world.threads.has(EntryKind::Op, t) {
         return Ok(false);
     }
     world.op(t)?;
@@ -86,7 +86,7 @@ fn receive(world: &mut World, t: u32) -> bool
     requires room { HasRoom world.old }
     ensures { Tried (entry.Receive t) world.old world.new result }
 {
-    if !world.threads.has(Kind::Receive, t) {
+    if !world.threads.has(EntryKind::Receive, t) {
         return false;
     }
     world.receive(t);
@@ -100,7 +100,7 @@ fn finish(world: &mut World, t: u32) -> Result<bool, NoMemory>
     ensures tried { IfOk result (λ done. Tried (entry.Finish t) world.old world.new done) }
     ensures err { OnErr result (SameState world.old world.new) }
 {
-    if !world.threads.has(Kind::Finish, t) {
+    if !world.threads.has(EntryKind::Finish, t) {
         return Ok(false);
     }
     let bytes = end_bytes(world, t)?;
@@ -176,15 +176,15 @@ fn is_strand(next: Next) -> bool
     }
 }
 
-fn strands(act: Act) -> bool
+fn strands(act: NextEntry) -> bool
     ensures { result ≡ is_strand_by (next.Act act) }
 {
     match act {
-        Act::Op(_) => false,
-        Act::Finish(_) => false,
-        Act::Local(_) => false,
-        Act::Receive(_) => false,
-        Act::Wake(_) => false,
-        Act::Strand => true,
+        NextEntry::Op(_) => false,
+        NextEntry::Finish(_) => false,
+        NextEntry::Local(_) => false,
+        NextEntry::Receive(_) => false,
+        NextEntry::Wake(_) => false,
+        NextEntry::Strand => true,
     }
 }

@@ -4,7 +4,7 @@ ghost use Rattle.rules_code.specs.Codes.{body_of};
 ghost use Rattle.world_entries.specs.Worlds.{Live};
 
 use hs_base::NoMemory;
-use hs_rules::{Body, Code};
+use hs_rules::{Code, CodeBody};
 use std::alloc::Global;
 use std::snapshot::Snapshot;
 use world_entries::World;
@@ -14,7 +14,7 @@ use world_entries::World;
 pub struct Player {
     pub world: World,
     /// The code whose script the run is of.
-    pub of: Snapshot<Body>,
+    pub of: Snapshot<CodeBody>,
     pub ghost live: { ∥ ((es : List Entry) × Live of.value es world) ∥₁ },
 }
 
@@ -39,7 +39,7 @@ impl Player {
         ensures { IfOk result (λ p. (p.of.value ≡ body_of code.now) × Played [] p) }
     {
         let world = World::first(alloc, code)?;
-        let body: &Body = &code.body;
+        let body: &CodeBody = &code.body;
         Ok(Player {
             world,
             of: Snapshot::of(body),

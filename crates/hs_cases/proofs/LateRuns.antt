@@ -11,7 +11,7 @@ use Rattle.hs_base.specs.declared.tree.forms.UnaryAction.TheVariants.{PutStrLn, 
 use Rattle.hs_base.specs.declared.tree.forms.BlockAction.TheVariants.{UninterruptibleMaskOnly}
 use Rattle.hs_base.specs.declared.tree.forms.GuardAction.TheVariants.{Finally}
 use Rattle.rules_trees.specs.Trees.{Ex, unary, chain, link, end}
-use Rattle.rules_trees.specs.Programs.{Act, unary_act, scoped, catch, guard, case_act, maybe_acts, Bl, last, then, bind, Fn}
+use Rattle.rules_trees.specs.Programs.{SurfaceAction, unary_act, scoped, catch, guard, case_act, maybe_acts, Bl, last, then, bind, Fn}
 use Rattle.rules_meaning.specs.CoreMeaning.{code_of}
 use Rattle.rules_waiting.specs.Waiting.{sleepers_of}
 use Rattle.hs_rules.specs.State.{State}
@@ -21,10 +21,10 @@ use Rattle.hs_rules.specs.Endings.{Done, Uncaught, Deadlock}
 use Rattle.hs_rules.proofs.SmallScripts.{here, named, text, int, var, say, script, throwing, show_it, new, fork, take, put, nothing, kill, nap}
 use Rattle.hs_cases.proofs.Driving.{Worked, drive, worked}
 
-abbrev read : List ℕ → Act
+abbrev read : List ℕ → SurfaceAction
 read m = unary_act ReadMVar here (var m)
 
-abbrev uninterruptibly : Bl → Act
+abbrev uninterruptibly : Bl → SurfaceAction
 uninterruptibly b = scoped UninterruptibleMaskOnly here b
 
 -- orders of up to four threads
@@ -174,7 +174,7 @@ a_stranded_finally_serves_main_down = worked rescued down 200 Done _ [] refl
 abbrev sum : Ex
 sum = chain (var (codes "a")) (link Plus here (var (codes "b")) (link Plus here (var (codes "c")) end))
 
-abbrev later : ℕ → Act → Bl → Bl
+abbrev later : ℕ → SurfaceAction → Bl → Bl
 later n a b = fork (codes "_") (then (nap n) (bind (named (codes "x")) a (last (put (codes "d") (var (codes "x")))))) b
 
 abbrev read_by_two : List Fn

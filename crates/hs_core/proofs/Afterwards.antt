@@ -7,7 +7,7 @@ use Rattle.rules_code.specs.declared.act.Act.{Act}
 use Rattle.rules_code.specs.declared.act.ActId.{ActId}
 use Rattle.rules_code.specs.Slots.{Sx, Scope, tree_in}
 use Rattle.rules_code.specs.CodeTrees.{Sa, act_in, act_decode}
-use Rattle.rules_trees.specs.Programs.{Act as Action}
+use Rattle.rules_trees.specs.Programs.{SurfaceAction}
 use Rattle.rules_expansion.specs.Core.{Core}
 use Rattle.rules_expansion.specs.Expansion.{core}
 use Rattle.hs_nodes.specs.Names.{scope_of}
@@ -31,7 +31,7 @@ held_branch d t r mk mt dec f p = emits (goes f) p (λ k. done_ex2 mk mt dec p (
 pub all_as_core : {E : Type 0} (r : Result ActId E) (a n : ActEmitter) (d : Defs) (x y : Core) → y ≡ x → IfOk r (λ id. Emits (Knows a.emitter.nodes d) a n id (λ s. core_tree d s x)) → IfOk r (λ id. Emits (Knows a.emitter.nodes d) a n id (λ s. core_tree d s y))
 all_as_core r a n d x y e h = subst (λ z. IfOk r (λ id. Emits (Knows a.emitter.nodes d) a n id (λ s. core_tree d s z))) (sym e) h
 
-pub all_as_action : {E : Type 0} (r : Result ActId E) (a n : ActEmitter) (d : Defs) (p q : Action) → q ≡ p → IfOk r (λ id. Emits (Knows a.emitter.nodes d) a n id (λ s. action_tree d s p)) → IfOk r (λ id. Emits (Knows a.emitter.nodes d) a n id (λ s. action_tree d s q))
+pub all_as_action : {E : Type 0} (r : Result ActId E) (a n : ActEmitter) (d : Defs) (p q : SurfaceAction) → q ≡ p → IfOk r (λ id. Emits (Knows a.emitter.nodes d) a n id (λ s. action_tree d s p)) → IfOk r (λ id. Emits (Knows a.emitter.nodes d) a n id (λ s. action_tree d s q))
 all_as_action r a n d p q e h = all_as_core r a n d (core p) (core q) (ap core e) h
 
 pub act_then : {E : Type 0} {b : ActEmitter} {i : ActId} (r : Result ActId E) (a n : ActEmitter) (t : Scope → Sa) (d : Defs) (mt : Scope → Sa → Sa) → Emits (Knows a.emitter.nodes d) a b i t

@@ -9,7 +9,7 @@ use Rattle.rules_expansion.specs.Core.{ActionFunction}
 use Rattle.rules_expansion.specs.Templates.{Template, hole, give, throw, let_in, bind, then, choose, either, perform, perform_one, perform_two, fork, fork_unmask, catch, mask, mask_hard, restore, Filling, named, operand, fill, flat}
 use Rattle.rules_code.specs.Slots.{Sx, Scope, Root}
 use Rattle.rules_code.specs.CodeTrees.{Sa, a_let, a_bind, a_then, a_either, a_fork_unmask, a_catch, a_mask, a_mask_hard, is_unread, slotted_core, slotted_core_ex}
-use Rattle.hs_nodes.specs.declared.names.Bound.{Bound}
+use Rattle.hs_nodes.specs.declared.names.ScopedName.{ScopedName}
 use Rattle.hs_nodes.specs.Names.{name_of}
 use Rattle.hs_core.specs.Making.{Trees, above, bound, run}
 
@@ -21,28 +21,28 @@ is_read : (y : List ℕ) (x : Binder) → is_unread (named y x) ≡ false
 is_read y (b.Own h) = refl
 is_read y b.Given = refl
 
-abbrev waiting : List Bound → List Sx → List Sa → Trees
+abbrev waiting : List ScopedName → List Sx → List Sa → Trees
 waiting ns xs us = record { names = ns; operands = xs; acts = us }
 
 module _ (rs : List Root) (fs : List ActionFunction) (s : Scope) (f : Filling) where
-  abbrev made_of : Template → List Bound → Sa
+  abbrev made_of : Template → List ScopedName → Sa
   made_of t ns = slotted_core rs fs (above ns s) (fill f t)
 
-  abbrev inner : Template → Name → List Bound → Sa
+  abbrev inner : Template → Name → List ScopedName → Sa
   inner t x ns = slotted_core rs fs (x ∷ above ns s) (fill f t)
 
-  abbrev on : List Step → List Bound → List Sx → List Sa → Trees
+  abbrev on : List Step → List ScopedName → List Sx → List Sa → Trees
   on k ns xs us = run rs fs s f k (waiting ns xs us)
 
   -- a name is that of its entry
-  entered : (x : Binder) (t : Template) (ns : List Bound) (k : List Step) (xs : List Sx) (us : List Sa) (g : Sa → Sa)
+  entered : (x : Binder) (t : Template) (ns : List ScopedName) (k : List Step) (xs : List Sx) (us : List Sa) (g : Sa → Sa)
       → on k ns xs (g (made_of t (bound f.given x ∷ ns)) ∷ us) ≡ on k ns xs (g (inner t (named f.given x) ns) ∷ us)
   entered x t ns k xs us g = ap (λ z. on k ns xs (g (inner t z ns) ∷ us)) (bound_is f.given x)
 
-  binds : (x : Binder) (a c : Template) (ns : List Bound) → a_bind (made_of a ns) (inner c (named f.given x) ns) ≡ made_of (bind x a c) ns
+  binds : (x : Binder) (a c : Template) (ns : List ScopedName) → a_bind (made_of a ns) (inner c (named f.given x) ns) ≡ made_of (bind x a c) ns
   binds x a c ns = sym (ap (λ z. cond z (a_then (made_of a ns) (made_of c ns)) (a_bind (made_of a ns) (inner c (named f.given x) ns))) (is_read f.given x))
 
-  pub makes : (t : Template) (k : List Step) (ns : List Bound) (xs : List Sx) (us : List Sa) → on (flat t k) ns xs us ≡ on k ns xs (made_of t ns ∷ us)
+  pub makes : (t : Template) (k : List Step) (ns : List ScopedName) (xs : List Sx) (us : List Sa) → on (flat t k) ns xs us ≡ on k ns xs (made_of t ns ∷ us)
   makes (hole i) k ns xs us = refl
   makes (give e) k ns xs us = refl
   makes (throw e) k ns xs us = refl

@@ -14,14 +14,14 @@ use Rattle.rules_trees.specs.Trees.{Ex}
 use Rattle.rules_expansion.specs.Names.{Written}
 use Rattle.rules_expansion.specs.Core.{Core}
 use Rattle.rules_expansion.specs.Expansion.{core}
-use Rattle.rules_trees.specs.Programs.{Act as Action, Bl, last, ActArms, maybe_acts, either_acts, list_acts, pair_acts, case_act, before, stmt_of, act_of, bl_of}
+use Rattle.rules_trees.specs.Programs.{SurfaceAction, Bl, last, ActArms, maybe_acts, either_acts, list_acts, pair_acts, case_act, before, stmt_of, act_of, bl_of}
 use Rattle.rules_trees.proofs.EquationsOfActions.{bl_is}
 use Rattle.hs_base.specs.declared.tree.action.Block.{Block}
-use Rattle.hs_base.specs.declared.tree.action.Action.{Action as Action-tree}
+use Rattle.hs_base.specs.declared.tree.action.Action.{Action}
 use Rattle.rules_code.specs.Slots.{Sx, Scope, slotted, tree_in}
 use Rattle.rules_code.specs.CodeTrees.{Sa, a_bad, act_in, act_decode, a_let, a_bind, a_then}
-use Rattle.hs_nodes.specs.declared.names.Bound.{Bound}
-use Rattle.hs_nodes.specs.declared.names.Bound.TheVariants as w
+use Rattle.hs_nodes.specs.declared.names.ScopedName.{ScopedName}
+use Rattle.hs_nodes.specs.declared.names.ScopedName.TheVariants as w
 use Rattle.hs_nodes.specs.Names.{name_of, scope_after, scope_of}
 use Rattle.hs_nodes.proofs.Scopes.{scope-push}
 use Rattle.hs_core.specs.declared.defs.Defs.{Defs}
@@ -68,7 +68,7 @@ before_snoc (x ∷ cs) c b = ap (stmt_of x) (before_snoc cs c b)
 -- ---- one statement
 
 -- a name is bound to what an action gives
-pub opens_bind : {a b : ActEmitter} {i : ActId} {wide : List Bound} (d : Defs) (x : List ℕ) (t : Action) (c : Stmt) (mk : Bl → Bl) → Emits (Knows a.emitter.nodes d) a b i (λ s. action_tree d s t)
+pub opens_bind : {a b : ActEmitter} {i : ActId} {wide : List ScopedName} (d : Defs) (x : List ℕ) (t : SurfaceAction) (c : Stmt) (mk : Bl → Bl) → Emits (Knows a.emitter.nodes d) a b i (λ s. action_tree d s t)
     → wide ≡ b.emitter.scope ++ w.Written x ∷ [] → stmt_of c ≡ mk → ((s : Scope) (y : Bl) → block_tree d s (mk y) ≡ a_bind (action_tree d s t) (block_tree d (Written x ∷ s) y)) → Opens d a (at_scope b wide) (p.Bind i) c
 opens_bind {a = o} {b = n} {i = j} {wide = z} d x t c mk e eq is dec = record {
   nodes = e.nodes;
@@ -83,7 +83,7 @@ opens_bind {a = o} {b = n} {i = j} {wide = z} d x t c mk e eq is dec = record {
   });
 }
 
-pub opens_let : {a b : ActEmitter} {i : ExprId} {wide : List Bound} (d : Defs) (x : List ℕ) (t : Ex) (c : Stmt) (mk : Bl → Bl) → EmitsEx (Knows a.emitter.nodes d) a b i (λ s. slotted (roots d) s t)
+pub opens_let : {a b : ActEmitter} {i : ExprId} {wide : List ScopedName} (d : Defs) (x : List ℕ) (t : Ex) (c : Stmt) (mk : Bl → Bl) → EmitsEx (Knows a.emitter.nodes d) a b i (λ s. slotted (roots d) s t)
     → wide ≡ b.emitter.scope ++ w.Written x ∷ [] → stmt_of c ≡ mk → ((s : Scope) (y : Bl) → block_tree d s (mk y) ≡ a_let (slotted (roots d) s t) (block_tree d (Written x ∷ s) y)) → Opens d a (at_scope b wide) (p.Let i) c
 opens_let {a = o} {b = n} {i = j} {wide = z} d x t c mk e eq is dec = record {
   nodes = e.nodes;
@@ -98,7 +98,7 @@ opens_let {a = o} {b = n} {i = j} {wide = z} d x t c mk e eq is dec = record {
   });
 }
 
-pub opens_then : {a b : ActEmitter} {i : ActId} (d : Defs) (t : Action) (c : Stmt) (mk : Bl → Bl) → Emits (Knows a.emitter.nodes d) a b i (λ s. action_tree d s t)
+pub opens_then : {a b : ActEmitter} {i : ActId} (d : Defs) (t : SurfaceAction) (c : Stmt) (mk : Bl → Bl) → Emits (Knows a.emitter.nodes d) a b i (λ s. action_tree d s t)
     → stmt_of c ≡ mk → ((s : Scope) (y : Bl) → block_tree d s (mk y) ≡ a_then (action_tree d s t) (block_tree d s y)) → Opens d a b (p.Then i) c
 opens_then {a = o} {b = n} {i = j} d t c mk e is dec = record {
   nodes = e.nodes;
@@ -201,12 +201,12 @@ closes_more {a = o} {b = y} {e = m} {new = n} qs os i j q t s l is h g =
 
 -- ---- names that are taken off
 
-snoc_of : (zs : List Bound) → 0 < length zs → (ws : List Bound) × (x : Bound) × (zs ≡ ws ++ x ∷ [])
+snoc_of : (zs : List ScopedName) → 0 < length zs → (ws : List ScopedName) × (x : ScopedName) × (zs ≡ ws ++ x ∷ [])
 snoc_of [] l = absurd (omega arith)
 snoc_of (z ∷ []) l = ([], z, refl)
 snoc_of (z ∷ y ∷ zs) l = let r = snoc_of (y ∷ zs) (omega arith) in (z ∷ r.0, r.1, ap (λ u. z ∷ u) r.2)
 
-pub shorter : (old new : List Bound) → ((xs : List Bound) (x : Bound) → old ≡ xs ++ x ∷ [] → new ≡ xs) → 0 < length old → length new < length old
+pub shorter : (old new : List ScopedName) → ((xs : List ScopedName) (x : ScopedName) → old ≡ xs ++ x ∷ [] → new ≡ xs) → 0 < length old → length new < length old
 shorter old new f l =
     let r = snoc_of old l in
     let n : length new ≡ length r.0 = ap length (f r.0 r.1 r.2) in
@@ -214,14 +214,14 @@ shorter old new f l =
     let g = length-append r.0 (r.1 ∷ []) in
     omega (arith, n, o, g)
 
-pub keeps_front : (old new xs zs : List Bound) → ((ys : List Bound) (x : Bound) → old ≡ ys ++ x ∷ [] → new ≡ ys) → old ≡ xs ++ zs → length xs < length old → (ws : List Bound) × (new ≡ xs ++ ws)
+pub keeps_front : (old new xs zs : List ScopedName) → ((ys : List ScopedName) (x : ScopedName) → old ≡ ys ++ x ∷ [] → new ≡ ys) → old ≡ xs ++ zs → length xs < length old → (ws : List ScopedName) × (new ≡ xs ++ ws)
 keeps_front old new xs zs f e l =
     let o : length old ≡ length (xs ++ zs) = ap length e in
     let g = length-append xs zs in
     let r = snoc_of zs (omega (arith, o, g, l)) in
     (r.0, f (xs ++ r.0) r.1 (e ∙ (ap (λ z. xs ++ z) r.2 ∙ sym (append_assoc xs r.0 (r.1 ∷ [])))))
 
-pub all_off : (s xs zs : List Bound) → s ≡ xs ++ zs → length s ≤ length xs → s ≡ xs
+pub all_off : (s xs zs : List ScopedName) → s ≡ xs ++ zs → length s ≤ length xs → s ≡ xs
 all_off s xs [] e l = e ∙ (let z : xs ++ [] ≡ xs = append-nil xs in z)
 all_off s xs (z ∷ zs) e l = let o : length s ≡ length (xs ++ z ∷ zs) = ap length e in let g = length-append xs (z ∷ zs) in absurd (omega (arith, o, g, l))
 
@@ -231,9 +231,9 @@ opens_step {a = o} {e = n} {q = r} {more = ps} d qs cs i c h g is l eq =
     subst (OpensAll d o n ps) (sym z) (subst (λ y. OpensAll d o n y (take i cs ++ c ∷ [])) (sym eq) (opens_snoc d qs (take i cs) h g))
 
 -- a block is its statements and its last action
-pub block_is : {s0 s1 s2 s3 : ActEmitter} {end id : ActId} {narrow : List Bound} (d : Defs) (b : Block) (x : Action-tree) (n : ℕ) (qs : List Pending) → x ≡ b.last → OpensAll d s0 s1 qs b.stmts
+pub block_is : {s0 s1 s2 s3 : ActEmitter} {end id : ActId} {narrow : List ScopedName} (d : Defs) (b : Block) (x : Action) (n : ℕ) (qs : List Pending) → x ≡ b.last → OpensAll d s0 s1 qs b.stmts
     → Emits (Knows s1.emitter.nodes d) s1 s2 end (λ s. action_tree d s (act_of x)) → n ≡ length s0.emitter.scope
-    → ((xs ys : List Bound) → s2.emitter.scope ≡ xs ++ ys → length xs ≡ n → narrow ≡ xs)
+    → ((xs ys : List ScopedName) → s2.emitter.scope ≡ xs ++ ys → length xs ≡ n → narrow ≡ xs)
     → ((os : List Opened) (t : Sa) → Emits (HoldAll (at_scope s2 narrow) qs os × DoneIn (at_scope s2 narrow) end t) (at_scope s2 narrow) s3 id (λ s. wrap_all os t))
     → Emits (Knows s0.emitter.nodes d) s0 s3 id (λ s. block_tree d s (bl_of b))
 block_is {s0 = o} {s1 = m} {s2 = l} {s3 = e} {end = i} {id = j} {narrow = z'} d b x n qs xe h a eq f g =
@@ -251,12 +251,12 @@ block_is {s0 = o} {s1 = m} {s2 = l} {s3 = e} {end = i} {id = j} {narrow = z'} d 
 
 -- ---- blocks under names
 
-pub added_more : (s : Scope) (xs ys : List Bound) → scope_after s (xs ++ ys) ≡ scope_after (scope_after s xs) ys
+pub added_more : (s : Scope) (xs ys : List ScopedName) → scope_after s (xs ++ ys) ≡ scope_after (scope_after s xs) ys
 added_more s [] ys = refl
 added_more s (x ∷ xs) ys = added_more (name_of x ∷ s) xs ys
 
-pub under_names : {K : Type 0} {id : ActId} {t : Scope → Sa} {wide narrow : List Bound} (old mid : ActEmitter) (more : List Bound) (n : ℕ) → wide ≡ old.emitter.scope ++ more
-    → Emits K (at_scope old wide) mid id t → n ≡ length old.emitter.scope → ((xs ys : List Bound) → mid.emitter.scope ≡ xs ++ ys → length xs ≡ n → narrow ≡ xs)
+pub under_names : {K : Type 0} {id : ActId} {t : Scope → Sa} {wide narrow : List ScopedName} (old mid : ActEmitter) (more : List ScopedName) (n : ℕ) → wide ≡ old.emitter.scope ++ more
+    → Emits K (at_scope old wide) mid id t → n ≡ length old.emitter.scope → ((xs ys : List ScopedName) → mid.emitter.scope ≡ xs ++ ys → length xs ≡ n → narrow ≡ xs)
     → Emits K old (at_scope mid narrow) id (λ s. t (scope_after s more))
 under_names {id = j} {t = u} old mid more n eq e is f = record {
   nodes = e.nodes;
@@ -298,7 +298,7 @@ closes_all os (suc i) t l h = absurd (omega arith)
 pub as_core : {L : Type 0} {a n : ActEmitter} {id : ActId} {p q : Core} (d : Defs) → q ≡ p → Emits L a n id (λ s. core_tree d s p) → Emits L a n id (λ s. core_tree d s q)
 as_core {L = l} {a = o} {n = m} {id = i} d e h = subst (λ z. Emits l o m i (λ s. core_tree d s z)) (sym e) h
 
-pub as_action : {L : Type 0} {a n : ActEmitter} {id : ActId} (d : Defs) (r q : Action) → q ≡ r → Emits L a n id (λ s. action_tree d s r) → Emits L a n id (λ s. action_tree d s q)
+pub as_action : {L : Type 0} {a n : ActEmitter} {id : ActId} (d : Defs) (r q : SurfaceAction) → q ≡ r → Emits L a n id (λ s. action_tree d s r) → Emits L a n id (λ s. action_tree d s q)
 as_action d r q e h = as_core d (ap core e) h
 
 pub as_case : {L : Type 0} {a n : ActEmitter} {id : ActId} (d : Defs) (p : Pos) (e : Ex) (q : ActArms) → Emits L a n id (λ s. arms_tree d s (slotted (roots d) s e) q) → Emits L a n id (λ s. action_tree d s (case_act p e q))

@@ -24,7 +24,7 @@ use Rattle.rules_typing.specs.TypingScripts.{Accepted, main_by, sigs_from, param
 use Rattle.rules_typing.specs.Typing.{Sig, find}
 use Rattle.hs_nodes.specs.declared.emitter.Emitter.{Emitter}
 use Rattle.hs_nodes.specs.declared.places.Place.{Place}
-use Rattle.hs_nodes.specs.declared.names.Bound.{Bound}
+use Rattle.hs_nodes.specs.declared.names.ScopedName.{ScopedName}
 use Rattle.hs_nodes.specs.Names.{scope_after, scope_of}
 use Rattle.hs_nodes.specs.Standing.{Stands, Known}
 use Rattle.hs_nodes.specs.Emitting.{nodes_of, Emitted}
@@ -35,7 +35,7 @@ use Rattle.hs_core.specs.Numbering.{names_of, index_among}
 use Rattle.hs_core.specs.Defining.{Knows, roots, functions}
 use Rattle.hs_core.specs.Emits.{Grows, DoneIn, Emits}
 use Rattle.hs_core.specs.Opening.{block_tree}
-use Rattle.hs_core.specs.Placing.{written, Places, FunsStand, Functions, main_id, Body}
+use Rattle.hs_core.specs.Placing.{written, Places, FunsStand, Functions, main_id, PureBody}
 use Rattle.hs_core.proofs.Numbering.{bytes_sym}
 use Rattle.hs_core.proofs.ActArena.{grows_same, grows_by, grows_on, done_on, knows_on}
 
@@ -260,9 +260,9 @@ one_more ds i d is l =
     let z : take (i + 1) ds ≡ take i ds ++ d ∷ [] = ap (λ j. take j ds) (let y : i + 1 ≡ suc i = omega arith in y) ∙ (take-suc ds i d l ∙ ap (λ y. take i ds ++ y ∷ []) (sym is)) in
     ap (map fn_of) z ∙ map_append (take i ds) (d ∷ [])
 
-pub body_is : (places : List Place) (old mid : Emitter) (wide narrow : List Bound) (id : ExprId) (ps : List Param) (e : Ex) (n : ℕ) → wide ≡ old.scope ++ written ps
+pub body_is : (places : List Place) (old mid : Emitter) (wide narrow : List ScopedName) (id : ExprId) (ps : List Param) (e : Ex) (n : ℕ) → wide ≡ old.scope ++ written ps
     → Emitted (record { nodes = old.nodes; scope = wide }) mid id (nodes_of places (scope_of wide) (length old.nodes) e) → n ≡ length old.scope
-    → ((xs ys : List Bound) → mid.scope ≡ xs ++ ys → length xs ≡ n → narrow ≡ xs) → Body places old (record { nodes = mid.nodes; scope = narrow }) id ps e
+    → ((xs ys : List ScopedName) → mid.scope ≡ xs ++ ys → length xs ≡ n → narrow ≡ xs) → PureBody places old (record { nodes = mid.nodes; scope = narrow }) id ps e
 body_is places old mid wide narrow id ps e n eq h is f =
     let ns = nodes_of places (scope_of wide) (length old.nodes) e in
     record {

@@ -10,7 +10,7 @@ use Rattle.rules_code.specs.Slots.{Sx, Sxs, s_none, s_more, Scope, slotted, slot
 use Rattle.rules_code.specs.CodeTrees.{Sa, a_perform, a_restore, a_call, place_among, act_in, act_decode, act_trees, act_tree_at}
 use Rattle.rules_code.proofs.Arena.{tree_at-more, tree_at-last}
 use Rattle.hs_nodes.specs.declared.emitter.Emitter.{Emitter}
-use Rattle.hs_nodes.specs.declared.names.Bound.{Bound}
+use Rattle.hs_nodes.specs.declared.names.ScopedName.{ScopedName}
 use Rattle.hs_nodes.specs.Names.{name_of, scope_of}
 use Rattle.hs_nodes.specs.Standing.{Stands, AllStand}
 use Rattle.hs_nodes.proofs.Scopes.{scope-push}
@@ -186,11 +186,12 @@ performed_two {a = o} p e g t u es eq h f w = weaken (λ k. subst (λ z. AllStan
 
 -- ---- names that are bound on the way
 
-abbrev pub at_scope : ActEmitter → List Bound → ActEmitter
+abbrev pub at_scope : ActEmitter → List ScopedName → ActEmitter
 at_scope e s = record { emitter = record { nodes = e.emitter.nodes; scope = s }; acts = e.acts }
 
-pub under : {K : Type 0} {id : ActId} {t : Scope → Sa} {wide narrow : List Bound} (old mid : ActEmitter) (h : Bound) → wide ≡ old.emitter.scope ++ h ∷ []
-    → Emits K (at_scope old wide) mid id t → ((xs : List Bound) (x : Bound) → mid.emitter.scope ≡ xs ++ x ∷ [] → narrow ≡ xs)
+pub under : {K : Type 0} {id : ActId} {t : Scope → Sa} {wide narrow : List ScopedName} (old mid : ActEmitter) (h : ScopedName) → wide ≡ old.emitter.scope ++ h ∷ []
+    → Emits K (at_scope old wide) mid id t
+    → ((xs : List ScopedName) (x : ScopedName) → mid.emitter.scope ≡ xs ++ x ∷ [] → narrow ≡ xs)
     → Emits K old (at_scope mid narrow) id (λ s. t (name_of h ∷ s))
 under {id = j} {t = u} old mid h eq e f = record {
   nodes = e.nodes;

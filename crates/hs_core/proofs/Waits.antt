@@ -14,7 +14,7 @@ use Rattle.rules_expansion.specs.Expansion.{derived}
 use Rattle.rules_expansion.specs.Templates.{Filling, named, template, steps}
 use Rattle.rules_code.specs.Slots.{Sx, s_empty, Scope, slot_of, tree_in, trees}
 use Rattle.rules_code.specs.CodeTrees.{Sa, a_bad, a_restore, slot_or_end, act_in, act_decode, act_trees, act_tree_at}
-use Rattle.hs_nodes.specs.declared.names.Bound.{Bound}
+use Rattle.hs_nodes.specs.declared.names.ScopedName.{ScopedName}
 use Rattle.hs_nodes.specs.Names.{name_of, scope_of}
 use Rattle.hs_nodes.proofs.Scopes.{scope-push}
 use Rattle.hs_core.specs.declared.defs.Defs.{Defs}
@@ -105,7 +105,7 @@ with_parts m ops ids = record { base = m.base; operands = ops; acts = ids }
 -- an action's node is put on, after its parts were taken off
 puts : {a b n : ActEmitter} {m l : Making} {k : Act} (d : Defs) (g : Goes a b) (ops : List ExprId) (ids : List ActId) (xs : List Sx) (u : Sa) (us : List Sa) → Put b n (with_parts m ops ids) l k → (t : Trees)
     → (OperandsWait a m.operands t.operands → ActsWait a m.acts t.acts → Reading b k u × OperandsWait b ops xs × ActsWait b ids us)
-    → (start : List Bound) → Named a m start t → Stepped d start a n m l t (record { names = t.names; operands = xs; acts = u ∷ us })
+    → (start : List ScopedName) → Named a m start t → Stepped d start a n m l t (record { names = t.names; operands = xs; acts = u ∷ us })
 puts {b = o} {n = e} d g ops ids xs u us p t f start h =
     let w = goes_push p.pushed in
     record {
@@ -183,28 +183,28 @@ moves_operand_acts {a = q} {b = e} {m = v} {ops = js} {rest = is} {i = i'} {j = 
 
 -- ---- names
 
-pub above_is : (ns start : List Bound) → scope_of (put_on start ns) ≡ above ns (scope_of start)
+pub above_is : (ns start : List ScopedName) → scope_of (put_on start ns) ≡ above ns (scope_of start)
 above_is [] start = refl
 above_is (x ∷ ns) start = scope-push (put_on start ns) x ∙ ap (λ z. name_of x ∷ z) (above_is ns start)
 
 -- the scope of an emitter, by the names above that of the form
-scope_is : {a : ActEmitter} {m : Making} {start : List Bound} {t : Trees} → Named a m start t → scope_of a.emitter.scope ≡ above t.names (scope_of start)
+scope_is : {a : ActEmitter} {m : Making} {start : List ScopedName} {t : Trees} → Named a m start t → scope_of a.emitter.scope ≡ above t.names (scope_of start)
 scope_is {start = s} {t = v} h = ap scope_of h.scope ∙ above_is v.names s
 
-put_length : (start ns : List Bound) → length (put_on start ns) ≡ length start + length ns
+put_length : (start ns : List ScopedName) → length (put_on start ns) ≡ length start + length ns
 put_length start [] = omega arith
 put_length start (x ∷ ns) = let h = put_length start ns in let l = length-append (put_on start ns) (x ∷ []) in omega (arith, h, l)
 
-left_scope : (start scope new ns : List Bound) → length start < length scope → scope ≡ put_on start ns → ((xs : List Bound) (x : Bound) → scope ≡ xs ++ x ∷ [] → new ≡ xs) → new ≡ put_on start (behind ns)
+left_scope : (start scope new ns : List ScopedName) → length start < length scope → scope ≡ put_on start ns → ((xs : List ScopedName) (x : ScopedName) → scope ≡ xs ++ x ∷ [] → new ≡ xs) → new ≡ put_on start (behind ns)
 left_scope start scope new [] l e f = let z : length scope ≡ length start = ap length e in absurd (omega (arith, l, z))
 left_scope start scope new (x ∷ ns) l e f = f (put_on start ns) x e
 
-kept_scope : (start scope ns : List Bound) → length scope ≤ length start → scope ≡ put_on start ns → scope ≡ put_on start (behind ns)
+kept_scope : (start scope ns : List ScopedName) → length scope ≤ length start → scope ≡ put_on start ns → scope ≡ put_on start (behind ns)
 kept_scope start scope [] l e = e
 kept_scope start scope (x ∷ ns) l e = let z : length scope ≡ length (put_on start (x ∷ ns)) = ap length e in let p = put_length start (x ∷ ns) in absurd (omega (arith, l, z, p))
 
 -- no node is added
-moves_scope : {a : ActEmitter} {m : Making} {scope : List Bound} {start : List Bound} (d : Defs) (t : Trees) (ns : List Bound) → Named a m start t → scope ≡ put_on start ns
+moves_scope : {a : ActEmitter} {m : Making} {scope : List ScopedName} {start : List ScopedName} (d : Defs) (t : Trees) (ns : List ScopedName) → Named a m start t → scope ≡ put_on start ns
     → Stepped d start a (at_scope a scope) m m t (record { names = ns; operands = t.operands; acts = t.acts })
 moves_scope {a = o} {m = v} {scope = z} d t ns h e = record {
   nodes = grows_same refl;
@@ -213,7 +213,7 @@ moves_scope {a = o} {m = v} {scope = z} d t ns h e = record {
   is = (λ q. record { known = q.known; operands = operands_on o (at_scope o z) v.operands t.operands (grows_same refl) q.operands; acts = acts_on o (at_scope o z) v.acts t.acts (grows_same refl) (grows_same refl) q.acts });
 }
 
-pub moves_off : {a : ActEmitter} {m : Making} {scope : List Bound} (d : Defs) → m.base < length a.emitter.scope → ((xs : List Bound) (x : Bound) → a.emitter.scope ≡ xs ++ x ∷ [] → scope ≡ xs) → Moves d a (at_scope a scope) m m (λ s. leaving)
+pub moves_off : {a : ActEmitter} {m : Making} {scope : List ScopedName} (d : Defs) → m.base < length a.emitter.scope → ((xs : List ScopedName) (x : ScopedName) → a.emitter.scope ≡ xs ++ x ∷ [] → scope ≡ xs) → Moves d a (at_scope a scope) m m (λ s. leaving)
 moves_off {a = o} {scope = w} d l f = λ start t h. let b = h.base in moves_scope d t (behind t.names) h (left_scope start o.emitter.scope w t.names (omega (arith, l, b)) h.scope f)
 
 pub moves_stay : {a : ActEmitter} {m : Making} (d : Defs) → length a.emitter.scope ≤ m.base → Moves d a a m m (λ s. leaving)

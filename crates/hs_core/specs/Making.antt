@@ -8,10 +8,10 @@ use Rattle.hs_base.specs.declared.tree.expr.Expr.{Expr}
 use Rattle.hs_base.specs.declared.tree.forms.EmptyForm.TheVariants as n
 use Rattle.rules_trees.specs.Trees.{ex_of}
 use Rattle.rules_trees.specs.Programs as tree
-use Rattle.rules_trees.specs.Programs.{Act}
+use Rattle.rules_trees.specs.Programs.{SurfaceAction}
 use Rattle.rules_expansion.specs.declared.template.Binder.{Binder}
 use Rattle.rules_expansion.specs.declared.template.Binder.TheVariants as b
-use Rattle.rules_expansion.specs.declared.template.Part.{Part}
+use Rattle.rules_expansion.specs.declared.template.FormBlock.{FormBlock}
 use Rattle.rules_expansion.specs.declared.template.Step.{Step}
 use Rattle.rules_expansion.specs.declared.template.Step.TheVariants as p
 use Rattle.rules_expansion.specs.Core.{CoreEx, OfScript, NoValue, Core, Return, ActionFunction}
@@ -19,8 +19,8 @@ use Rattle.rules_expansion.specs.Expansion.{block_core, of_three}
 use Rattle.rules_expansion.specs.Templates.{Filling, named, operand}
 use Rattle.rules_code.specs.Slots.{Sx, s_empty, s_none, s_more, Scope, Root, slot_of}
 use Rattle.rules_code.specs.CodeTrees.{Sa, a_return, a_throw, a_let, a_bind, a_then, a_if, a_either, a_perform, a_fork, a_fork_unmask, a_catch, a_mask, a_mask_hard, a_restore, a_bad, slot_or_end, slotted_core, slotted_core_ex}
-use Rattle.hs_nodes.specs.declared.names.Bound.{Bound}
-use Rattle.hs_nodes.specs.declared.names.Bound.TheVariants as w
+use Rattle.hs_nodes.specs.declared.names.ScopedName.{ScopedName}
+use Rattle.hs_nodes.specs.declared.names.ScopedName.TheVariants as w
 use Rattle.hs_nodes.specs.Names.{name_of}
 
 -- ---- what a form puts into its template
@@ -38,7 +38,7 @@ no_block = Return NoValue
 
 -- the blocks of an action, in the order in which they are written, and its last one in the places of those that it lacks;
 -- an action that stands for no others has `return Nothing` there
-abbrev pub blocks_of : Act → Part → Core
+abbrev pub blocks_of : SurfaceAction → FormBlock → Core
 blocks_of (tree.modify q e x a) = λ i. block_core a
 blocks_of (tree.scoped k q a) = λ i. block_core a
 blocks_of (tree.guard k q a c) = of_three (block_core a) (block_core c) (block_core c)
@@ -57,14 +57,14 @@ blocks_of (tree.masking k q x a) = λ i. no_block
 blocks_of (tree.restore q x a) = λ i. no_block
 blocks_of (tree.catch q a x c) = λ i. no_block
 
-abbrev pub filling_of : Option Expr → Option (List ℕ) → Act → Filling
+abbrev pub filling_of : Option Expr → Option (List ℕ) → SurfaceAction → Filling
 filling_of e x a = record { subject = subject_of e; given = given_of x; block = blocks_of a }
 
 -- ---- what waits
 
 -- the names above the scope of the form, the innermost first, and the trees of expressions and of actions, the last first
 pub record Trees : Type 0 where
-  pub names : List Bound
+  pub names : List ScopedName
   pub operands : List Sx
   pub acts : List Sa
 
@@ -72,7 +72,7 @@ abbrev pub nothing_waits : Trees
 nothing_waits = record { names = []; operands = []; acts = [] }
 
 -- the scope with these names above it
-abbrev pub above : List Bound → Scope → Scope
+abbrev pub above : List ScopedName → Scope → Scope
 above [] s = s
 above (x ∷ xs) s = name_of x ∷ above xs s
 
@@ -114,14 +114,14 @@ of_operand_acts g t = record { names = t.names; operands = behind t.operands; ac
 abbrev pub pushing : Sx → Trees → Trees
 pushing x t = record { names = t.names; operands = x ∷ t.operands; acts = t.acts }
 
-abbrev pub under : Bound → Trees → Trees
+abbrev pub under : ScopedName → Trees → Trees
 under x t = record { names = x ∷ t.names; operands = t.operands; acts = t.acts }
 
 -- the innermost name goes
 abbrev pub leaving : Trees → Trees
 leaving t = record { names = behind t.names; operands = t.operands; acts = t.acts }
 
-abbrev pub bound : List ℕ → Binder → Bound
+abbrev pub bound : List ℕ → Binder → ScopedName
 bound y (b.Own h) = w.Added h
 bound y b.Given = w.Written y
 

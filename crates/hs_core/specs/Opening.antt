@@ -7,11 +7,11 @@ use Rattle.rules_code.specs.declared.act.Act.{Act}
 use Rattle.rules_code.specs.declared.act.Act.TheVariants as k
 use Rattle.rules_expansion.specs.Names.{Written}
 use Rattle.rules_expansion.specs.Core.{Core}
-use Rattle.rules_trees.specs.Programs.{Act as Action, Bl, ActArms, maybe_acts, either_acts, list_acts, pair_acts, before, stmt_of}
+use Rattle.rules_trees.specs.Programs.{SurfaceAction, Bl, ActArms, maybe_acts, either_acts, list_acts, pair_acts, before, stmt_of}
 use Rattle.rules_expansion.specs.Expansion.{core, block_core}
 use Rattle.rules_code.specs.Slots.{Sx, Scope}
 use Rattle.rules_code.specs.CodeTrees.{Sa, a_let, a_bind, a_then, a_maybe, a_either, a_list, a_pair, slotted_core}
-use Rattle.hs_nodes.specs.declared.names.Bound.{Bound}
+use Rattle.hs_nodes.specs.declared.names.ScopedName.{ScopedName}
 use Rattle.hs_nodes.specs.Names.{scope_of}
 use Rattle.hs_core.specs.declared.defs.Defs.{Defs}
 use Rattle.hs_core.specs.declared.emitter.ActEmitter.{ActEmitter}
@@ -25,7 +25,7 @@ abbrev pub core_tree : Defs → Scope → Core → Sa
 core_tree d s c = slotted_core (roots d) (functions d) s c
 
 -- the tree of an action, of a block and of arms in a scope
-abbrev pub action_tree : Defs → Scope → Action → Sa
+abbrev pub action_tree : Defs → Scope → SurfaceAction → Sa
 action_tree d s a = core_tree d s (core a)
 
 abbrev pub block_tree : Defs → Scope → Bl → Sa
@@ -83,7 +83,7 @@ pub record Opening (d : Defs) (old new : ActEmitter) (q : Pending) (c : Stmt) : 
 pub record Opens (d : Defs) (old new : ActEmitter) (q : Pending) (c : Stmt) : Type 0 where
   pub nodes : Grows Node old.emitter.nodes new.emitter.nodes
   pub acts : Grows Act old.acts new.acts
-  pub scope : Grows Bound old.emitter.scope new.emitter.scope
+  pub scope : Grows ScopedName old.emitter.scope new.emitter.scope
   pub is : Knows old.emitter.nodes d → Opening d old new q c
 
 -- statements in a row
@@ -95,5 +95,5 @@ pub record AllOpening (d : Defs) (old new : ActEmitter) (qs : List Pending) (cs 
 pub record OpensAll (d : Defs) (old new : ActEmitter) (qs : List Pending) (cs : List Stmt) : Type 0 where
   pub nodes : Grows Node old.emitter.nodes new.emitter.nodes
   pub acts : Grows Act old.acts new.acts
-  pub scope : Grows Bound old.emitter.scope new.emitter.scope
+  pub scope : Grows ScopedName old.emitter.scope new.emitter.scope
   pub is : Knows old.emitter.nodes d → AllOpening d old new qs cs

@@ -14,8 +14,8 @@ use Rattle.rules_code.specs.Slots.{Root, root_with, slotted, scope_onto}
 use Rattle.rules_code.specs.CodeTrees.{SlottedFunction, slotted_functions}
 use Rattle.hs_nodes.specs.declared.emitter.Emitter.{Emitter}
 use Rattle.hs_nodes.specs.declared.places.Place.{Place}
-use Rattle.hs_nodes.specs.declared.names.Bound.{Bound}
-use Rattle.hs_nodes.specs.declared.names.Bound.TheVariants as w
+use Rattle.hs_nodes.specs.declared.names.ScopedName.{ScopedName}
+use Rattle.hs_nodes.specs.declared.names.ScopedName.TheVariants as w
 use Rattle.hs_nodes.specs.Standing.{Stands, Known}
 use Rattle.hs_core.specs.declared.defs.Defs.{Defs}
 use Rattle.hs_core.specs.declared.emitter.ActEmitter.{ActEmitter}
@@ -23,7 +23,7 @@ use Rattle.hs_core.specs.Defining.{Knows, roots, functions}
 use Rattle.hs_core.specs.Emits.{Grows, DoneIn}
 
 -- the entries of parameters
-abbrev pub written : List Param → List Bound
+abbrev pub written : List Param → List ScopedName
 written [] = []
 written (p ∷ ps) = w.Written p.name.text ∷ written ps
 
@@ -52,7 +52,7 @@ main_id None c = record { 0 = c }
 main_id (Some f) c = f.body
 
 -- the body of a pure function
-pub record Body (places : List Place) (old new : Emitter) (id : ExprId) (ps : List Param) (e : Ex) : Type 0 where
+pub record PureBody (places : List Place) (old new : Emitter) (id : ExprId) (ps : List Param) (e : Ex) : Type 0 where
   pub nodes : Grows Node old.nodes new.nodes
   pub scope : new.scope ≡ old.scope
   pub is : (bs : List Root) → Known old.nodes places bs → old.scope ≡ [] → Stands new.nodes id (slotted bs (scope_onto [] (texts_of (map par_of ps))) e)

@@ -6,7 +6,7 @@ use Rattle.rules_code.specs.declared.act.ActId.{ActId}
 use Rattle.rules_code.specs.declared.act.Act.{Act}
 use Rattle.rules_code.specs.Slots.{Sx, Scope}
 use Rattle.rules_code.specs.CodeTrees.{Sa, act_tree_at}
-use Rattle.hs_nodes.specs.declared.names.Bound.{Bound}
+use Rattle.hs_nodes.specs.declared.names.ScopedName.{ScopedName}
 use Rattle.hs_nodes.specs.Names.{scope_of}
 use Rattle.hs_core.specs.declared.defs.Defs.{Defs}
 use Rattle.hs_core.specs.declared.emitter.ActEmitter.{ActEmitter}
@@ -16,7 +16,7 @@ use Rattle.hs_core.specs.Emits.{Grows, DoneIn, StandsIn, Pushed}
 use Rattle.hs_core.specs.Making.{Trees, behind, last_operand, last_act}
 
 -- names put on a scope, the innermost first
-abbrev pub put_on : List Bound → List Bound → List Bound
+abbrev pub put_on : List ScopedName → List ScopedName → List ScopedName
 put_on start [] = start
 put_on start (x ∷ xs) = put_on start xs ++ x ∷ []
 
@@ -56,7 +56,7 @@ pub record Put (old new : ActEmitter) (m n : Making) (act : Act) : Type 0 where
 -- ---- steps
 
 -- the names that stand above the scope of the form
-pub record Named (e : ActEmitter) (m : Making) (start : List Bound) (t : Trees) : Type 0 where
+pub record Named (e : ActEmitter) (m : Making) (start : List ScopedName) (t : Trees) : Type 0 where
   pub scope : e.emitter.scope ≡ put_on start t.names
   pub base : m.base ≡ length start
 
@@ -66,7 +66,7 @@ pub record Waits (d : Defs) (e : ActEmitter) (m : Making) (t : Trees) : Type 0 w
   pub acts : ActsWait e m.acts t.acts
 
 -- from these trees to those
-pub record Stepped (d : Defs) (start : List Bound) (old new : ActEmitter) (m n : Making) (t u : Trees) : Type 0 where
+pub record Stepped (d : Defs) (start : List ScopedName) (old new : ActEmitter) (m n : Making) (t u : Trees) : Type 0 where
   pub nodes : Grows Node old.emitter.nodes new.emitter.nodes
   pub acts : Grows Act old.acts new.acts
   pub named : Named new n start u
@@ -74,4 +74,4 @@ pub record Stepped (d : Defs) (start : List Bound) (old new : ActEmitter) (m n :
 
 -- What a step does to the numbers is what this does to the trees.
 abbrev pub Moves : Defs → ActEmitter → ActEmitter → Making → Making → (Scope → Trees → Trees) → Type 0
-Moves d old new m n g = (start : List Bound) (t : Trees) → Named old m start t → Stepped d start old new m n t (g (scope_of start) t)
+Moves d old new m n g = (start : List ScopedName) (t : Trees) → Named old m start t → Stepped d start old new m n t (g (scope_of start) t)

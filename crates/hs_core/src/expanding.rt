@@ -14,18 +14,18 @@ use crate::defs::{Defs, counted};
 use crate::emitter::ActEmitter;
 use crate::pending::back_to;
 use hs_base::tree::{Def, Param, Script};
-use hs_base::{Block, Body as DefBody, Expr, NoMemory, Txt};
+use hs_base::{Block, Body, Expr, NoMemory, Txt};
 use hs_items::Items;
-use hs_nodes::names::{Bound, bind};
+use hs_nodes::names::{ScopedName, bind};
 use hs_nodes::{Emitter, Place, Places};
-use rules_code::{ActId, Body, Code, ExprId, Fun};
+use rules_code::{ActId, Code, CodeBody, ExprId, Fun};
 use rules_typing::Checked;
 use std::alloc::Global;
 use std::snapshot::Snapshot;
 
 /// Puts the names of parameters on.
 fn bind_params(
-    scope: &mut Items<Bound>,
+    scope: &mut Items<ScopedName>,
     alloc: Global,
     params: &Items<Param>,
 ) -> Result<(), NoMemory>
@@ -45,7 +45,7 @@ fn pure_body(
     params: &Items<Param>,
     e: &Expr,
 ) -> Result<ExprId, NoMemory>
-    ensures { IfOk result (λ id. form.Body places.now.all emitter.old emitter.new id params.now (ex_of e.now)) }
+    ensures { IfOk result (λ id. form.PureBody places.now.all emitter.old emitter.new id params.now (ex_of e.now)) }
 {
     let count = emitter.scope.len();
     bind_params(&mut emitter.scope, alloc, params)?;
@@ -64,14 +64,14 @@ fn place(
     ensures { IfOk result (λ more. form.Places emitter.old emitter.new places.all more.all (fn_of def.now)) }
 {
     match &def.body {
-        DefBody::Pure(_, e) => {
+        Body::Pure(_, e) => {
             let node = pure_body(emitter, alloc, &places, &def.params, e)?;
             let text = def.name.text.copy(alloc)?;
             let params = def.params.len();
             let more = places.add(alloc, Place { text, params, node })?;
             Ok(more)
         }
-        DefBody::Action(_, _) => Ok(places),
+        Body::Action(_, _) => Ok(places),
     }
 }
 
@@ -123,8 +123,8 @@ impl ActEmitter {
         ensures { OnOk result (Functions defs.now self.old self.new funs.old funs.new (fn_of def.now ∷ [])) }
     {
         match &def.body {
-            DefBody::Pure(_, _) => Ok(()),
-            DefBody::Action(_, b) => {
+            Body::Pure(_, _) => Ok(()),
+            Body::Action(_, b) => {
                 let body = self.action_body(alloc, defs, &def.params, b)?;
                 let params = counted(def.params.len())?;
                 funs.add(Fun { params, body })?;
@@ -184,7 +184,7 @@ pub fn expand(alloc: Global, checked: &Checked) -> Result<Code, NoMemory>
     let of = Snapshot::of(script);
     let code = Code::new(
         alloc,
-        Body {
+        CodeBody {
             nodes,
             acts,
             funs,

@@ -10,7 +10,7 @@ use hs_base::{Action, Expr, NoMemory, Txt};
 use hs_items::Items;
 use hs_nodes::names::{bind, bind_added, off};
 use rules_code::{Act, ActId};
-use rules_expansion::{Binder, Derived, Operand, Part, Step, steps};
+use rules_expansion::{Binder, Derived, FormBlock, Operand, Step, steps};
 use std::alloc::Global;
 
 /// The name that a form binds; an empty one where it binds none.
@@ -31,7 +31,7 @@ impl ActEmitter {
     ghost use Rattle.rules_trees.specs.Programs.{act_of};
     ghost use Rattle.hs_core.specs.declared.making.Making.{Making};
     ghost use Rattle.rules_expansion.specs.Templates.{Filling, operand};
-    ghost use Rattle.rules_expansion.specs.declared.template.Part.{Part};
+    ghost use Rattle.rules_expansion.specs.declared.template.FormBlock.{FormBlock};
     ghost use Rattle.rules_expansion.specs.Expansion as expansion;
     ghost use Rattle.rules_code.specs.CodeTrees.{slotted_core, slotted_core_ex};
     ghost use Rattle.hs_core.specs.Defining.{Knows, roots, functions};
@@ -100,7 +100,7 @@ impl ActEmitter {
         subject: Option<&Expr>,
         given: &Txt,
     ) -> Result<(), NoMemory>
-        ensures { (f : Filling) → f.subject ≡ subject_of (option_copied subject.entry) → f.given ≡ given.now → ((i : Part) → step ≡ Step.Hole i → ⊥) → OnOk result (Moves defs.now self.old self.new making.old making.new (λ s. after (roots defs.now) (functions defs.now) s f step)) }
+        ensures { (f : Filling) → f.subject ≡ subject_of (option_copied subject.entry) → f.given ≡ given.now → ((i : FormBlock) → step ≡ Step.Hole i → ⊥) → OnOk result (Moves defs.now self.old self.new making.old making.new (λ s. after (roots defs.now) (functions defs.now) s f step)) }
     {
         match step {
             Step::Hole(_) => Ok(()),
@@ -144,7 +144,7 @@ impl ActEmitter {
         &mut self,
         alloc: Global,
         defs: &Defs,
-        part: Part,
+        part: FormBlock,
         a: &Action,
     ) -> Result<ActId, NoMemory>
         ensures { IfOk result (λ id. Emits (Knows self.old.emitter.nodes defs.now) self.old self.new id (λ s. core_tree defs.now s (blocks_of (act_of a.now) part))) }
@@ -154,14 +154,14 @@ impl ActEmitter {
             Action::Scoped(_, _, b) => self.block(alloc, defs, b),
             Action::Timeout(_, _, b) => self.block(alloc, defs, b),
             Action::Guard(_, _, b, d) | Action::WithAsync(_, b, _, d) => match part {
-                Part::First => self.block(alloc, defs, b),
-                Part::Second => self.block(alloc, defs, d),
-                Part::Third => self.block(alloc, defs, d),
+                FormBlock::First => self.block(alloc, defs, b),
+                FormBlock::Second => self.block(alloc, defs, d),
+                FormBlock::Third => self.block(alloc, defs, d),
             },
             Action::Bracket(_, b, _, d, u) => match part {
-                Part::First => self.block(alloc, defs, b),
-                Part::Second => self.block(alloc, defs, d),
-                Part::Third => self.block(alloc, defs, u),
+                FormBlock::First => self.block(alloc, defs, b),
+                FormBlock::Second => self.block(alloc, defs, d),
+                FormBlock::Third => self.block(alloc, defs, u),
             },
             Action::Bare(_, _)
             | Action::Unary(_, _, _)

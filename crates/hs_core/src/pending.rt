@@ -4,7 +4,7 @@ ghost use Rattle.std.specs.Prelude.{◌≡◌, ◌++◌, List, length, ◌<◌, 
 use crate::emitter::ActEmitter;
 use hs_base::NoMemory;
 use hs_items::Items;
-use hs_nodes::names::{Bound, off};
+use hs_nodes::names::{ScopedName, off};
 use rules_code::{Act, ActId, ExprId};
 
 /// A statement that has its nodes, before what follows it in its block.
@@ -72,8 +72,8 @@ fn item(items: &[Pending], at: usize) -> Pending
 }
 
 /// Takes off the names that came after the first ones.
-pub fn back_to(scope: &mut Items<Bound>, count: usize)
-    ensures { (xs ys : List Bound) → scope.old ≡ xs ++ ys → length xs ≡ count → scope.new ≡ xs }
+pub fn back_to(scope: &mut Items<ScopedName>, count: usize)
+    ensures { (xs ys : List ScopedName) → scope.old ≡ xs ++ ys → length xs ≡ count → scope.new ≡ xs }
 {
     'back: while scope.len() > count {
         off(scope);

@@ -2,7 +2,7 @@
 use Rattle.std.proofs.Common.{◌≡◌, ℕ, zero, suc, ◌<◌, ◌≤◌, Bool, true, false, List, [], ◌∷◌, ◌++◌, length, refl, sym, ap, ◌∙◌, subst, arith, append_assoc, length-append, ◌⊎◌, inl, inr}
 use Rattle.std.proofs.lemmas.List.{append_cancel_right}
 use Rattle.rules_tokens.specs.declared.token.Token.{Token}
-use Rattle.rules_grammar.specs.GrammarParts.{Kind, kind_of}
+use Rattle.rules_grammar.specs.GrammarParts.{TokenKind, kind_of}
 use Rattle.hs_grammar.specs.Parser.{same_kind, begins, is_in, unexpected, too_deep, Out, Done, Stop, Parser, bind, done, choose, take_if, take, turn, turns, loop, another, after_separator, behind_item, item_step}
 use Rattle.hs_grammar.proofs.Loops.{TakesLeft, loop_eq}
 
@@ -40,14 +40,14 @@ within_bind p f wp wf ts = in_bind (p ts) f ts (wp ts) wf
 pub within_done : {A : Type 0} (a : A) → Within (done a)
 within_done a ts = ([], refl)
 
-pub within_choose : {A : Type 0} (ks : List Kind) (p q : Parser A) → Within p → Within q → Within (λ ts. choose (begins ks ts) p q ts)
+pub within_choose : {A : Type 0} (ks : List TokenKind) (p q : Parser A) → Within p → Within q → Within (λ ts. choose (begins ks ts) p q ts)
 within_choose ks p q wp wq ts = by (begins ks ts)
   where
     by : (b : Bool) → InOut (choose b p q ts) ts
     by true = wp ts
     by false = wq ts
 
-pub within_take : {A : Type 0} (k : Kind) (f : Token → Parser A) → ((t : Token) → Within (f t)) → Within (take k f)
+pub within_take : {A : Type 0} (k : TokenKind) (f : Token → Parser A) → ((t : Token) → Within (f t)) → Within (take k f)
 within_take k f w [] = ([], refl)
 within_take k f w (t ∷ ts) = by (same_kind (kind_of t.tok) k)
   where
@@ -68,13 +68,14 @@ pub within_loop : {B C : Type 0} (step : Parser (B ⊎ C)) → Within step → W
 unfolding loop
 within_loop step w ts = within_turns (suc (length ts)) step w ts
 
-pub within_another : {B : Type 0} (ks : List Kind) (p : Parser B) → Within p → Within (another ks p)
+pub within_another : {B : Type 0} (ks : List TokenKind) (p : Parser B) → Within p → Within (another ks p)
 within_another {B} ks p w = within_choose ks (λ us. bind (p us) (λ a. done (inl a))) (done (inr tt)) (within_bind p (λ a. done (inl a)) w (λ a. within_done {A = B ⊎ Unit {0}} (inl a))) (within_done {A = B ⊎ Unit {0}} (inr tt))
 
-within_after : {B C : Type 0} (as_item : C → B) (close : Kind) (c : C) → Within (after_separator as_item close c)
+within_after : {B C : Type 0} (as_item : C → B) (close : TokenKind) (c : C) → Within (after_separator as_item close c)
 within_after {B} {C} as_item close c = within_choose (close ∷ []) (take close (λ t. done (inr c))) (done (inl (as_item c))) (within_take close (λ t. done (inr c)) (λ t. within_done {A = B ⊎ C} (inr c))) (within_done {A = B ⊎ C} (inl (as_item c)))
 
-pub within_behind : {B C : Type 0} (as_item : C → B) (sep close : Kind) (x : B ⊎ C) → Within (behind_item as_item sep close x)
+pub within_behind : {B C : Type 0} (as_item : C → B) (sep close : TokenKind) (x : B ⊎ C)
+    → Within (behind_item as_item sep close x)
 within_behind {B} {C} as_item sep close (inl b) = within_take sep (λ t. done (inl b)) (λ t. within_done {A = B ⊎ C} (inl b))
 within_behind {B} {C} as_item sep close (inr c) =
     within_choose (close ∷ []) (take close (λ t. done (inr c))) (take sep (λ t. after_separator as_item close c)) (within_take close (λ t. done (inr c)) (λ t. within_done {A = B ⊎ C} (inr c)))
@@ -91,7 +92,7 @@ SameHead [] (u ∷ y) = ⊥
 SameHead (t ∷ x) [] = ⊥
 SameHead (t ∷ x) (u ∷ y) = t ≡ u
 
-begins_head : (ks : List Kind) (X Y : List Token) → SameHead X Y → begins ks X ≡ begins ks Y
+begins_head : (ks : List TokenKind) (X Y : List Token) → SameHead X Y → begins ks X ≡ begins ks Y
 begins_head ks [] [] s = refl
 begins_head ks [] (u ∷ y) s = absurd s
 begins_head ks (t ∷ x) [] s = absurd s
@@ -140,11 +141,11 @@ module _ (X Y : List Token) (same : SameHead X Y) where
       ap (λ z. Done z (pre ++ Y)) ab ∙ ap (λ z. Done b (z ++ Y)) s
   agree_done a pre (bad b) h = absurd (cc h)
 
-  begins_same : (ks : List Kind) (pre : List Token) → begins ks (pre ++ X) ≡ begins ks (pre ++ Y)
+  begins_same : (ks : List TokenKind) (pre : List Token) → begins ks (pre ++ X) ≡ begins ks (pre ++ Y)
   begins_same ks [] = begins_head ks X Y same
   begins_same ks (u ∷ us) = refl
 
-  pub agree_choose : {A : Type 0} (ks : List Kind) (p q p' q' : Parser A) → Agree p p' → Agree q q' → Agree (λ ts. choose (begins ks ts) p q ts) (λ ts. choose (begins ks ts) p' q' ts)
+  pub agree_choose : {A : Type 0} (ks : List TokenKind) (p q p' q' : Parser A) → Agree p p' → Agree q q' → Agree (λ ts. choose (begins ks ts) p q ts) (λ ts. choose (begins ks ts) p' q' ts)
   agree_choose {A} ks p q p' q' ag ah pre o h =
       ap (λ b. choose b p' q' (pre ++ Y)) (sym (begins_same ks pre)) ∙ by (begins ks (pre ++ X)) h
     where
@@ -157,7 +158,7 @@ module _ (X Y : List Token) (same : SameHead X Y) where
   agree_bad pre (bad b) h =
       let e : pre ++ X ≡ b ++ X = cc h in ap (λ z. Stop unexpected (z ++ Y)) (append_cancel_right pre b X e)
 
-  take_front : {A : Type 0} (k : Kind) (f g : Token → Parser A) (x y : List Token) → X ≡ x → Y ≡ y → SameHead x y → ((t : Token) → Within (f t)) → (o : Rel A) → take k f x ≡ with_end o X → take k g y ≡ with_end o Y
+  take_front : {A : Type 0} (k : TokenKind) (f g : Token → Parser A) (x y : List Token) → X ≡ x → Y ≡ y → SameHead x y → ((t : Token) → Within (f t)) → (o : Rel A) → take k f x ≡ with_end o X → take k g y ≡ with_end o Y
   take_front k f g [] [] ex ey s w o h = ap (Stop unexpected) (sym ey) ∙ agree_bad [] o (ap (Stop unexpected) ex ∙ h)
   take_front k f g [] (u ∷ y) ex ey s w o h = absurd s
   take_front k f g (t ∷ x) [] ex ey s w o h = absurd s
@@ -168,7 +169,7 @@ module _ (X Y : List Token) (same : SameHead X Y) where
       by true k = absurd (too_long t x o (subst (λ z. InOut (with_end o z) x) ex (subst (λ z. InOut z x) k (w t x))))
       by false k = ap (Stop unexpected) (sym ey) ∙ agree_bad [] o (ap (Stop unexpected) ex ∙ k)
 
-  pub agree_take : {A : Type 0} (k : Kind) (f g : Token → Parser A) → ((t : Token) → Within (f t)) → ((t : Token) → Agree (f t) (g t)) → Agree (take k f) (take k g)
+  pub agree_take : {A : Type 0} (k : TokenKind) (f g : Token → Parser A) → ((t : Token) → Within (f t)) → ((t : Token) → Agree (f t) (g t)) → Agree (take k f) (take k g)
   agree_take k f g w ag [] o h = take_front k f g X Y refl refl same w o h
   agree_take k f g w ag (u ∷ us) o h = by (same_kind (kind_of u.tok) k) h
     where
@@ -192,13 +193,13 @@ module _ (X Y : List Token) (same : SameHead X Y) where
     pub agree_loop : Agree (loop p) (loop q)
     agree_loop pre = loop_at (suc (length pre)) pre (omega arith)
 
-  pub agree_another : {B : Type 0} (ks : List Kind) (p q : Parser B) → Agree p q → Agree (another ks p) (another ks q)
+  pub agree_another : {B : Type 0} (ks : List TokenKind) (p q : Parser B) → Agree p q → Agree (another ks p) (another ks q)
   agree_another {B} ks p q ag =
       agree_choose ks (λ us. bind (p us) (λ a. done (inl a))) (done (inr tt)) (λ us. bind (q us) (λ a. done (inl a))) (done (inr tt))
       (agree_bind p q (λ a. done (inl a)) (λ a. done (inl a)) ag (λ a. within_done {A = B ⊎ Unit {0}} (inl a)) (λ a. agree_done {A = B ⊎ Unit {0}} (inl a))) (agree_done {A = B ⊎ Unit {0}} (inr tt))
 
-  module _ {B C : Type 0} (as_item : C → B) (sep close : Kind) where
-    agree_token : {A : Type 0} (k : Kind) (a : A) → Agree (take k (λ t. done a)) (take k (λ t. done a))
+  module _ {B C : Type 0} (as_item : C → B) (sep close : TokenKind) where
+    agree_token : {A : Type 0} (k : TokenKind) (a : A) → Agree (take k (λ t. done a)) (take k (λ t. done a))
     agree_token k a = agree_take k (λ t. done a) (λ t. done a) (λ t. within_done a) (λ t. agree_done a)
 
     agree_after : (c : C) → Agree (after_separator as_item close c) (after_separator as_item close c)

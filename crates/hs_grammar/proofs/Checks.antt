@@ -4,19 +4,19 @@ use Rattle.rules_grammar.specs.Grammar as g
 use Rattle.rules_grammar.specs.Grammar.{rule_of, script, block_item, other_action}
 use Rattle.rules_grammar.specs.GrammarForms.{Rule, give, one, seq, alt, go_on, many, ended, within}
 use Rattle.rules_grammar.specs.GrammarKinds as k
-use Rattle.rules_grammar.specs.GrammarParts.{Kind, name, int, text, Part, type_in_parens, type_in_brackets, param_in_parens, block_in_braces, block_if, block_case, block_arms, let_stmt, no_items, two_names, expr_if, expr_case, expr_arms, expr_let, expr_in_parens, items_in_brackets, items_or_none}
+use Rattle.rules_grammar.specs.GrammarParts.{TokenKind, name, int, text, OpenerPart, type_in_parens, type_in_brackets, param_in_parens, block_in_braces, block_if, block_case, block_arms, let_stmt, no_items, two_names, expr_if, expr_case, expr_arms, expr_let, expr_in_parens, items_in_brackets, items_or_none}
 use Rattle.hs_grammar.specs.Parser.{same_kind, either, both, negated, apart, where', may_be_empty, firsts}
 use Rattle.hs_grammar.proofs.KindLists.{contained}
 
 -- what goes on an expression: an argument or an operator
-abbrev behind_expr : List Kind
+abbrev behind_expr : List TokenKind
 behind_expr =
     name ∷ k.open_bracket ∷ int ∷ text ∷ k.True ∷ k.False ∷ k.ThreadKilled ∷ k.UserInterrupt ∷ k.DivideByZero ∷ k.Overflow ∷ k.open_paren
     ∷ k.star ∷ k.plus ∷ k.minus ∷ k.colon ∷ k.plus_plus
     ∷ k.equal_equal ∷ k.slash_equal ∷ k.less ∷ k.less_equal ∷ k.greater ∷ k.greater_equal ∷ k.and_and ∷ k.or_or ∷ []
 
 -- what a part would still take behind what it has read
-abbrev pub after_part : {A : Type 0} → Part A → List Kind
+abbrev pub after_part : {A : Type 0} → OpenerPart A → List TokenKind
 after_part type_in_parens = []
 after_part type_in_brackets = []
 after_part param_in_parens = []
@@ -36,7 +36,7 @@ after_part items_in_brackets = []
 after_part items_or_none = []
 
 -- what a rule would still take behind what it has read
-abbrev pub after : {A : Type 0} → Rule A → List Kind
+abbrev pub after : {A : Type 0} → Rule A → List TokenKind
 unfolding may_be_empty firsts
 after (give x) = []
 after (one l f) = []
@@ -72,7 +72,7 @@ plain (ended f as_item sep close p) = false
 plain (within f l part) = true
 
 -- it can be closed where the parts of a test can
-abbrev pub can_close : {A : Type 0} → ((B : Type 0) → Part B → Bool) → Rule A → Bool
+abbrev pub can_close : {A : Type 0} → ((B : Type 0) → OpenerPart B → Bool) → Rule A → Bool
 can_close test (give x) = true
 can_close test (one l f) = true
 can_close test (seq f p q) = both (can_close test p) (can_close test q)
@@ -82,11 +82,11 @@ can_close test (many f p) = true
 can_close test (ended f as_item sep close p) = false
 can_close test (within {B = B} f l part) = test B part
 
-abbrev pub no_part : (B : Type 0) → Part B → Bool
+abbrev pub no_part : (B : Type 0) → OpenerPart B → Bool
 no_part B part = false
 
 -- parts that can be closed without others, and with those
-abbrev pub simple_part : (B : Type 0) → Part B → Bool
+abbrev pub simple_part : (B : Type 0) → OpenerPart B → Bool
 simple_part B type_in_parens = true
 simple_part B type_in_brackets = true
 simple_part B param_in_parens = true
@@ -105,7 +105,7 @@ simple_part B expr_in_parens = true
 simple_part B items_in_brackets = true
 simple_part B items_or_none = true
 
-abbrev pub near_part : (B : Type 0) → Part B → Bool
+abbrev pub near_part : (B : Type 0) → OpenerPart B → Bool
 near_part B block_case = false
 near_part B type_in_parens = true
 near_part B type_in_brackets = true
@@ -151,7 +151,7 @@ pub fine_item : fine block_item ≡ true
 unfolding opened
 fine_item = refl
 
-pub fine_part : {A : Type 0} (part : Part A) → fine (rule_of part) ≡ true
+pub fine_part : {A : Type 0} (part : OpenerPart A) → fine (rule_of part) ≡ true
 unfolding opened
 fine_part type_in_parens = refl
 fine_part type_in_brackets = refl
@@ -171,7 +171,7 @@ fine_part expr_in_parens = refl
 fine_part items_in_brackets = refl
 fine_part items_or_none = refl
 
-pub after_rule : {A : Type 0} (part : Part A) → contained (after (rule_of part)) (after_part part) ≡ true
+pub after_rule : {A : Type 0} (part : OpenerPart A) → contained (after (rule_of part)) (after_part part) ≡ true
 unfolding opened
 after_rule type_in_parens = refl
 after_rule type_in_brackets = refl

@@ -2,7 +2,7 @@
 use Rattle.std.proofs.Common.{◌≡◌, ℕ, suc, ◌<◌, Bool, true, false, List, [], ◌∷◌, ◌++◌, length, Option, Some, None, refl, sym, ap, ◌∙◌, subst, ◌⊎◌, inl, inr, arith, length-append}
 use Rattle.rules_tokens.specs.declared.token.Token.{Token}
 use Rattle.rules_grammar.specs.GrammarForms.{Rule, give, one, seq, alt, go_on, many, ended, within, Item, tokens_of, Spelling, Empty, Single, Made, Then, Either, Each, OnLeft, Passed, Last, Spelled}
-use Rattle.rules_grammar.specs.GrammarParts.{Kind, kind_of, Part}
+use Rattle.rules_grammar.specs.GrammarParts.{TokenKind, kind_of, OpenerPart}
 use Rattle.hs_grammar.specs.Parser.{same_kind, either, both, negated, apart, where', may_be_empty, firsts, begins, Why, Out, Done, Stop, Parser, bind, done, choose, take_if, take, on_left, turn, turns, loop, another, after_separator, behind_item, item_step, Inner, read_then, read, enter}
 use Rattle.hs_grammar.proofs.KindLists.{both_true, negated_true, clash, same_of, begins_apart, not_begins}
 use Rattle.hs_grammar.proofs.Checks.{after_part, after, fine}
@@ -17,19 +17,19 @@ tokens_length [] = refl
 tokens_length (i ∷ w) = ap suc (tokens_length w)
 
 -- a token that stands there is taken
-take_single : {A : Type 0} (o : Option ℕ) (l : Kind) (f : Token → Parser A) (t : Token) (w k : List Item) → Single o l t w k → take l f (tokens_of w) ≡ f t (tokens_of k)
+take_single : {A : Type 0} (o : Option ℕ) (l : TokenKind) (f : Token → Parser A) (t : Token) (w k : List Item) → Single o l t w k → take l f (tokens_of w) ≡ f t (tokens_of k)
 take_single o l f t w k h = ap (λ z. take l f (tokens_of z)) h.1 ∙ ap (λ b. take_if b t f (tokens_of k)) (same_of (kind_of t.tok) l h.0)
 
-single_begins : (o : Option ℕ) (l : Kind) (t : Token) (w k : List Item) → Single o l t w k → begins (l ∷ []) (tokens_of w) ≡ true
+single_begins : (o : Option ℕ) (l : TokenKind) (t : Token) (w k : List Item) → Single o l t w k → begins (l ∷ []) (tokens_of w) ≡ true
 single_begins o l t w k h = ap (λ z. begins (l ∷ []) (tokens_of z)) h.1 ∙ ap (λ b. either b false) (same_of (kind_of t.tok) l h.0)
 
-single_other : (o : Option ℕ) (l l' : Kind) (t : Token) (w k : List Item) → Single o l t w k → same_kind l l' ≡ false → begins (l' ∷ []) (tokens_of w) ≡ false
+single_other : (o : Option ℕ) (l l' : TokenKind) (t : Token) (w k : List Item) → Single o l t w k → same_kind l l' ≡ false → begins (l' ∷ []) (tokens_of w) ≡ false
 single_other o l l' t w k h n = ap (λ z. begins (l' ∷ []) (tokens_of z)) h.1 ∙ (ap (λ z. either (same_kind z l') false) h.0 ∙ ap (λ b. either b false) n)
 
-single_in : (o : Option ℕ) (l : Kind) (ls : List Kind) (t : Token) (w k : List Item) → Single o l t w k → begins (l ∷ ls) (tokens_of w) ≡ true
+single_in : (o : Option ℕ) (l : TokenKind) (ls : List TokenKind) (t : Token) (w k : List Item) → Single o l t w k → begins (l ∷ ls) (tokens_of w) ≡ true
 single_in o l ls t w k h = ap (λ z. begins (l ∷ ls) (tokens_of z)) h.1 ∙ ap (λ b. either b (Rattle.hs_grammar.specs.Parser.is_in (kind_of t.tok) ls)) (same_of (kind_of t.tok) l h.0)
 
-in_second : (l l' : Kind) (ts : List Token) → begins (l' ∷ []) ts ≡ true → begins (l ∷ l' ∷ []) ts ≡ true
+in_second : (l l' : TokenKind) (ts : List Token) → begins (l' ∷ []) ts ≡ true → begins (l ∷ l' ∷ []) ts ≡ true
 in_second l l' [] h = absurd (cc h)
 in_second l l' (t ∷ ts) h = by (same_kind (kind_of t.tok) l)
   where
@@ -38,9 +38,9 @@ in_second l l' (t ∷ ts) h = by (same_kind (kind_of t.tok) l)
     by false = h
 
 module _ (m j : ℕ) (inner : Inner) (X Y : Parts) (xa : PartsAppend X) (ya : PartsAppend Y) (sub : PartsSub X Y)
-    (pg : (B : Type 0) (part : Part B) (t : Token) (ts : List Token) → PartOut m j (X B part) (Y B part) t ts (inner B part t ts))
-    (pc : (B : Type 0) (part : Part B) → Closes (Y B part))
-    (xs : (B : Type 0) (part : Part B) → Shrinks (X B part)) where
+    (pg : (B : Type 0) (part : OpenerPart B) (t : Token) (ts : List Token) → PartOut m j (X B part) (Y B part) t ts (inner B part t ts))
+    (pc : (B : Type 0) (part : OpenerPart B) → Closes (Y B part))
+    (xs : (B : Type 0) (part : OpenerPart B) → Shrinks (X B part)) where
   takes : {A : Type 0} (r : Rule A) → Ends m j inner X Y xa ya sub pg pc r → fine r ≡ true → may_be_empty r ≡ false → Takes (read inner r)
   takes {A} r e f n ts a q h = by (subst (GoodOut m (Spelled X j r) (Spelled Y j r) ts) h (good m j inner X Y xa ya sub pg pc r e ts))
     where
@@ -51,7 +51,7 @@ module _ (m j : ℕ) (inner : Inner) (X Y : Parts) (xa : PartsAppend X) (ya : Pa
           go (inl s) = clash (may_be_empty r) s.0 n
           go (inr s) = omega (arith, s.1, ap length g.1, length-append (tokens_of g.0) q, tokens_length g.0)
 
-  module _ (complete_part : (B : Type 0) (part : Part B) (t : Token) (b : B) (w k : List Item) → X B part b w k → begins (after_part part) (tokens_of k) ≡ false → inner B part t (tokens_of w) ≡ Done b (tokens_of k)) where
+  module _ (complete_part : (B : Type 0) (part : OpenerPart B) (t : Token) (b : B) (w k : List Item) → X B part b w k → begins (after_part part) (tokens_of k) ≡ false → inner B part t (tokens_of w) ≡ Done b (tokens_of k)) where
     abbrev Completes : {A : Type 0} → Rule A → Type 0
     Completes {A} r = (a : A) (w k : List Item) → Spelled X j r a w k → begins (after r) (tokens_of k) ≡ false → read inner r (tokens_of w) ≡ Done a (tokens_of k)
 
@@ -82,7 +82,7 @@ module _ (m j : ℕ) (inner : Inner) (X Y : Parts) (xa : PartsAppend X) (ya : Pa
           ∙ ap (λ o. bind (bind o (λ a. done (inl a))) (turn (loop step))) (ih b w h.0 h.1 (follows bs h.0 k h.2 g))
           ∙ ap (λ o. bind o (λ x. done (b ∷ x.0, x.1))) (many_complete bs h.0 k h.2 e g)
 
-    module _ {B C : Type 0} (as_item : C → B) (sep close : Kind) (p : Rule (B ⊎ C)) (fe : fine (ended {A = Unit {0}} (λ bs c. tt) as_item sep close p) ≡ true) (n : may_be_empty p ≡ false)
+    module _ {B C : Type 0} (as_item : C → B) (sep close : TokenKind) (p : Rule (B ⊎ C)) (fe : fine (ended {A = Unit {0}} (λ bs c. tt) as_item sep close p) ≡ true) (n : may_be_empty p ≡ false)
         (a0 : apart (after p) (sep ∷ close ∷ []) ≡ true) (a1 : apart (close ∷ []) (firsts p) ≡ true) (a2 : same_kind sep close ≡ false) (tk : Takes (read inner p)) (ih : Completes p) where
       abbrev istep : Parser (B ⊎ C)
       istep = item_step as_item sep close (read inner p)

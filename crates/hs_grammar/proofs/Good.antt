@@ -4,7 +4,7 @@ use Rattle.rules_tokens.specs.declared.token.Tok.TheVariants as tok
 use Rattle.rules_tokens.specs.declared.token.Token.{Token}
 use Rattle.rules_grammar.specs.Grammar.{Below}
 use Rattle.rules_grammar.specs.GrammarForms.{Rule, give, one, seq, alt, go_on, many, ended, within, Item, tokens_of, Spelling, Empty, Single, Made, Then, Either, Each, OnLeft, Passed, Last, Spelled}
-use Rattle.rules_grammar.specs.GrammarParts.{Kind, name, upper, int, text, word, symbol, kind_of, Part}
+use Rattle.rules_grammar.specs.GrammarParts.{TokenKind, name, upper, int, text, word, symbol, kind_of, OpenerPart}
 use Rattle.hs_grammar.specs.Parser.{same_kind, firsts, begins, Why, unexpected, too_deep, Out, Done, Stop, Parser, bind, done, choose, take_if, take, on_left, turn, turns, loop, another, after_separator, behind_item, item_step, Inner, read_then, read}
 use Rattle.hs_grammar.proofs.KindLists.{same_is}
 use Rattle.hs_grammar.proofs.Reading.{take_bind, read_seq, read_go_on}
@@ -77,7 +77,7 @@ module _ {A B : Type 0} (m : ℕ) (S C : Spelling B) (T D : B → Spelling A) (s
   closes_then c cl = let d = cl c.0 in (d.0, c.1 ++ d.1, (c.0, d.1, ca c.0 c.1 [] d.1 c.2, d.2))
 
 -- ---- tokens
-token_of : Kind → Token
+token_of : TokenKind → Token
 token_of name = record { tok = tok.Name []; start = 0; end = 0; pos = record { line = 1; col = 1 } }
 token_of upper = record { tok = tok.Upper; start = 0; end = 0; pos = record { line = 1; col = 1 } }
 token_of int = record { tok = tok.Int (pos 0); start = 0; end = 0; pos = record { line = 1; col = 1 } }
@@ -85,7 +85,7 @@ token_of text = record { tok = tok.Text []; start = 0; end = 0; pos = record { l
 token_of (word w) = record { tok = tok.Word w; start = 0; end = 0; pos = record { line = 1; col = 1 } }
 token_of (symbol s) = record { tok = tok.Sym s; start = 0; end = 0; pos = record { line = 1; col = 1 } }
 
-token_kind : (k : Kind) → kind_of (token_of k).tok ≡ k
+token_kind : (k : TokenKind) → kind_of (token_of k).tok ≡ k
 unfolding token_of
 token_kind name = refl
 token_kind upper = refl
@@ -94,10 +94,10 @@ token_kind text = refl
 token_kind (word w) = refl
 token_kind (symbol s) = refl
 
-pub closes_single : (o : Option ℕ) (k : Kind) → Closes (Single o k)
+pub closes_single : (o : Option ℕ) (k : TokenKind) → Closes (Single o k)
 closes_single o k = (token_of k, record { token = token_of k; opener = o } ∷ [], (token_kind k, refl))
 
-good_take : (m : ℕ) (k : Kind) (ts : List Token) → GoodOut m (Single None k) (Single None k) ts (take k done ts)
+good_take : (m : ℕ) (k : TokenKind) (ts : List Token) → GoodOut m (Single None k) (Single None k) ts (take k done ts)
 good_take m k [] = good_stop m (Single None k) (Single None k) [] (closes_single None k)
 good_take m k (t ∷ ts) = by (same_kind (kind_of t.tok) k) refl
   where
@@ -106,21 +106,21 @@ good_take m k (t ∷ ts) = by (same_kind (kind_of t.tok) k) refl
     by false e = good_stop m (Single None k) (Single None k) (t ∷ ts) (closes_single None k)
 
 -- a token and then a value without tokens
-abbrev pub Token' : {A : Type 0} → Kind → A → Spelling A
+abbrev pub Token' : {A : Type 0} → TokenKind → A → Spelling A
 Token' k a = Then (Single None k) (λ t. Empty a)
 
 pub closes_empty : {A : Type 0} (a : A) → Closes (Empty a)
 closes_empty a = (a, [], (refl, refl))
 
-pub appends_token : {A : Type 0} (k : Kind) (a : A) → Appends (Token' k a)
+pub appends_token : {A : Type 0} (k : TokenKind) (a : A) → Appends (Token' k a)
 appends_token k a = appends_then (Single None k) (λ t. Empty a) (appends_single None k) (λ t. appends_empty a)
 
-good_token_then : {A : Type 0} (m : ℕ) (k : Kind) (S C : Spelling A) (F : Parser A) → Closes C → ((mid : List Token) → GoodOut m S C mid (F mid)) → (ts : List Token) → GoodOut m (Then (Single None k) (λ t. S)) (Then (Single None k) (λ t. C)) ts (take k (λ t. F) ts)
+good_token_then : {A : Type 0} (m : ℕ) (k : TokenKind) (S C : Spelling A) (F : Parser A) → Closes C → ((mid : List Token) → GoodOut m S C mid (F mid)) → (ts : List Token) → GoodOut m (Then (Single None k) (λ t. S)) (Then (Single None k) (λ t. C)) ts (take k (λ t. F) ts)
 good_token_then m k S C F c f ts =
     subst (GoodOut m (Then (Single None k) (λ t. S)) (Then (Single None k) (λ t. C)) ts) (sym (take_bind k done (λ t. F) ts))
     (good_bind m (Single None k) (Single None k) (λ t. S) (λ t. C) (appends_single None k) (appends_single None k) (λ t w z h. h) (λ t. c) (λ t. F) (λ t. f) ts (take k done ts) (good_take m k ts))
 
-good_token : {A : Type 0} (m : ℕ) (k : Kind) (a : A) (ts : List Token) → GoodOut m (Token' k a) (Token' k a) ts (take k (λ t. done a) ts)
+good_token : {A : Type 0} (m : ℕ) (k : TokenKind) (a : A) (ts : List Token) → GoodOut m (Token' k a) (Token' k a) ts (take k (λ t. done a) ts)
 good_token m k a ts = good_token_then m k (Empty a) (Empty a) (done a) (closes_empty a) (λ mid. good_done m (Empty a) (Empty a) a mid (refl, refl)) ts
 
 good_choose : {A : Type 0} (m : ℕ) (b : Bool) (S C S' C' : Spelling A) (p q : Parser A) (ts : List Token) → GoodOut m S C ts (p ts) → GoodOut m S' C' ts (q ts) → GoodOut m (Either S S') (Either C C') ts (choose b p q ts)
@@ -179,7 +179,7 @@ sub_many : {B : Type 0} (S T : Spelling B) → Sub S T → Sub (ManyS S) (ManyS 
 sub_many S T s (inl b) w k h = s b w k h
 sub_many S T s (inr u) w k h = h
 
-good_another : {B : Type 0} (m : ℕ) (S K : Spelling B) (ks : List Kind) (p : Parser B) → ((ts : List Token) → GoodOut m S K ts (p ts)) → (ts : List Token) → GoodOut m (ManyS S) (ManyS K) ts (another ks p ts)
+good_another : {B : Type 0} (m : ℕ) (S K : Spelling B) (ks : List TokenKind) (p : Parser B) → ((ts : List Token) → GoodOut m S K ts (p ts)) → (ts : List Token) → GoodOut m (ManyS S) (ManyS K) ts (another ks p ts)
 good_another {B} m S K ks p g ts = by (begins ks ts)
   where
     left : (o : Out B) → GoodOut m S K ts o → GoodOut m (ManyS S) (ManyS K) ts (bind o (λ a. done (inl a)))
@@ -194,7 +194,7 @@ many_of_loop : {A B : Type 0} (f : List B → A) (S : Spelling B) → Sub (Made 
 many_of_loop f S a w k h = (h.0.0, h.1, subst (λ z. Each S h.0.0 w z) h.2.2 h.2.1)
 
 -- ---- items, the last one with the end
-module _ {B C : Type 0} (as_item : C → B) (sep close : Kind) where
+module _ {B C : Type 0} (as_item : C → B) (sep close : TokenKind) where
   abbrev pub EndS : Spelling (B ⊎ C) → Spelling (B ⊎ C)
   EndS S (inl b) = Passed as_item sep S b
   EndS S (inr c) = Last sep close S c
@@ -229,7 +229,7 @@ module _ {B C : Type 0} (as_item : C → B) (sep close : Kind) where
       by (inl b) s d = subst (λ z. EndS S z w k) d.3.0 (b, h.1, inl s, (d.0, d.1, d.2, (refl, d.3.1)))
       by (inr c) s d = ends c s d
 
-  closes_token : {A : Type 0} (k : Kind) (a : A) → Closes (Token' k a)
+  closes_token : {A : Type 0} (k : TokenKind) (a : A) → Closes (Token' k a)
   closes_token k a = let c = closes_single None k in (a, c.1, (c.0, [], c.2, (refl, refl)))
 
   closes_after : (c : C) → Closes (AfterS c)
@@ -259,7 +259,7 @@ module _ {B C : Type 0} (as_item : C → B) (sep close : Kind) where
     pub closes_end : Closes (λ c. K (inr c)) → Closes (λ c. EndS K (inr c))
     closes_end e = let d = closes_single None close in (e.0, e.1 ++ d.1, (e.0, d.1, ka (inr e.0) e.1 [] d.1 e.2, inl (d.0, [], d.2, (refl, refl))))
 
-ended_of_loop : {A B C : Type 0} (f : List B → C → A) (as_item : C → B) (sep close : Kind) (S : Spelling (B ⊎ C)) → Sub (Made (λ x. f x.0 x.1) (LoopS (EndS as_item sep close S))) (Then (Each (Passed as_item sep S)) (λ bs. Made (f bs) (Last sep close S)))
+ended_of_loop : {A B C : Type 0} (f : List B → C → A) (as_item : C → B) (sep close : TokenKind) (S : Spelling (B ⊎ C)) → Sub (Made (λ x. f x.0 x.1) (LoopS (EndS as_item sep close S))) (Then (Each (Passed as_item sep S)) (λ bs. Made (f bs) (Last sep close S)))
 ended_of_loop f as_item sep close S a w k h = (h.0.0, h.2.0, h.2.1, (h.0.1, h.1, h.2.2))
 
 -- ---- rules, by what holds of the parts that stand in an opener
@@ -269,8 +269,8 @@ abbrev pub PartOut : {A : Type 0} → ℕ → ℕ → Spelling A → Spelling A 
 PartOut m j S C t ts o = ((j < m) × GoodOut m S C ts o) ⊎ ((o ≡ Stop too_deep (t ∷ ts)) × (j ≡ m))
 
 module _ (m j : ℕ) (inner : Inner) (X Y : Parts) (xa : PartsAppend X) (ya : PartsAppend Y) (sub : PartsSub X Y)
-    (part_good : (B : Type 0) (part : Part B) (t : Token) (ts : List Token) → PartOut m j (X B part) (Y B part) t ts (inner B part t ts))
-    (part_closes : (B : Type 0) (part : Part B) → Closes (Y B part)) where
+    (part_good : (B : Type 0) (part : OpenerPart B) (t : Token) (ts : List Token) → PartOut m j (X B part) (Y B part) t ts (inner B part t ts))
+    (part_closes : (B : Type 0) (part : OpenerPart B) → Closes (Y B part)) where
   -- the last item of a block can be spelled
   abbrev pub Ends : {A : Type 0} → Rule A → Type 0
   Ends (give x) = Unit {0}
@@ -308,7 +308,7 @@ module _ (m j : ℕ) (inner : Inner) (X Y : Parts) (xa : PartsAppend X) (ya : Pa
       let s = closes_single (Some j) k in let c = part_closes B part in
       (g s.0.pos c.0, s.1 ++ c.1, (s.0, c.1, (s.2.0, ap (λ v. v ++ c.1) s.2.1), (c.0, refl, c.2)))
 
-  good_within : {A B : Type 0} (g : _ → B → A) (k : Kind) (part : Part B) (ts : List Token) → GoodOut m (Spelled X j (within g k part)) (Spelled Y j (within g k part)) ts (read inner (within g k part) ts)
+  good_within : {A B : Type 0} (g : _ → B → A) (k : TokenKind) (part : OpenerPart B) (ts : List Token) → GoodOut m (Spelled X j (within g k part)) (Spelled Y j (within g k part)) ts (read inner (within g k part) ts)
   unfolding read_then
   good_within g k part [] = good_stop m (Spelled X j (within g k part)) (Spelled Y j (within g k part)) [] (shortest (within g k part) tt)
   good_within {A} {B} g k part (t ∷ ts) = by (same_kind (kind_of t.tok) k) refl

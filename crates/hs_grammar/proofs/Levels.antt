@@ -5,7 +5,7 @@ use Rattle.rules_tokens.specs.declared.token.Token.{Token}
 use Rattle.rules_grammar.specs.GrammarKinds as k
 use Rattle.rules_grammar.specs.Grammar.{rule_of, block_item, other_action, SpelledIn}
 use Rattle.rules_grammar.specs.GrammarForms.{Rule, give, one, seq, alt, go_on, many, ended, within, Spelling, Single, Made, OnLeft, Spelled}
-use Rattle.rules_grammar.specs.GrammarParts.{Part, type_in_parens, type_in_brackets, param_in_parens, block_in_braces, block_if, block_case, block_arms, let_stmt, no_items, two_names, expr_if, expr_case, expr_arms, expr_let, expr_in_parens, items_in_brackets, items_or_none}
+use Rattle.rules_grammar.specs.GrammarParts.{OpenerPart, type_in_parens, type_in_brackets, param_in_parens, block_in_braces, block_if, block_case, block_arms, let_stmt, no_items, two_names, expr_if, expr_case, expr_arms, expr_let, expr_in_parens, items_in_brackets, items_or_none}
 use Rattle.hs_grammar.specs.Parser.{either, Inner, read, enter}
 use Rattle.hs_grammar.proofs.KindLists.{both_true}
 use Rattle.hs_grammar.proofs.Spellings.{Parts, PartsAppend, appends, subs, PartsSub}
@@ -23,7 +23,7 @@ parts_sub (suc n) zero j l B part = λ a w k h. absurd (omega arith)
 parts_sub (suc n) (suc m) j l B part = subs (SpelledIn n (suc j)) (SpelledIn m (suc j)) (parts_sub n m (suc j) (omega arith)) (suc j) (rule_of part)
 
 -- ---- each part can be closed
-module _ (Y : Parts) (ya : PartsAppend Y) (j : ℕ) (test : (B : Type 0) → Part B → Bool) (closes : (B : Type 0) (part : Part B) → test B part ≡ true → Closes (Y B part)) where
+module _ (Y : Parts) (ya : PartsAppend Y) (j : ℕ) (test : (B : Type 0) → OpenerPart B → Bool) (closes : (B : Type 0) (part : OpenerPart B) → test B part ≡ true → Closes (Y B part)) where
   made : {A B : Type 0} (f : B → A) (C : Spelling B) → Closes C → Closes (Made f C)
   made f C c = (f c.0, c.1, (c.0, refl, c.2))
 
@@ -64,7 +64,7 @@ block_closes Y ya j =
     let c = closes_end s.Do k.semicolon k.close_brace 0 (Spelled Y j block_item) (Spelled Y j block_item) (appends Y ya j block_item) (appends Y ya j block_item) (λ a w k h. h) (item_closes Y ya j) in
     (record { stmts = []; last = c.0 }, c.1, ([], c.1, refl, (c.0, refl, c.2)))
 
-simple_closes : (n j : ℕ) (B : Type 0) (part : Part B) → simple_part B part ≡ true → Closes (SpelledIn (suc n) j B part)
+simple_closes : (n j : ℕ) (B : Type 0) (part : OpenerPart B) → simple_part B part ≡ true → Closes (SpelledIn (suc n) j B part)
 unfolding opened
 simple_closes n j B type_in_parens h = closed (SpelledIn n (suc j)) (parts_append n (suc j)) (suc j) no_part (λ B part h. absurd (cc h)) (rule_of type_in_parens) refl
 simple_closes n j B type_in_brackets h = closed (SpelledIn n (suc j)) (parts_append n (suc j)) (suc j) no_part (λ B part h. absurd (cc h)) (rule_of type_in_brackets) refl
@@ -84,7 +84,7 @@ simple_closes n j B expr_in_parens h = closed (SpelledIn n (suc j)) (parts_appen
 simple_closes n j B items_in_brackets h = closed (SpelledIn n (suc j)) (parts_append n (suc j)) (suc j) no_part (λ B part h. absurd (cc h)) (rule_of items_in_brackets) refl
 simple_closes n j B items_or_none h = closed (SpelledIn n (suc j)) (parts_append n (suc j)) (suc j) no_part (λ B part h. absurd (cc h)) (rule_of items_or_none) refl
 
-near_closes : (n j : ℕ) (B : Type 0) (part : Part B) → near_part B part ≡ true → Closes (SpelledIn (suc (suc n)) j B part)
+near_closes : (n j : ℕ) (B : Type 0) (part : OpenerPart B) → near_part B part ≡ true → Closes (SpelledIn (suc (suc n)) j B part)
 unfolding opened
 near_closes n j B type_in_parens h = closed (SpelledIn (suc n) (suc j)) (parts_append (suc n) (suc j)) (suc j) simple_part (simple_closes n (suc j)) (rule_of type_in_parens) refl
 near_closes n j B type_in_brackets h = closed (SpelledIn (suc n) (suc j)) (parts_append (suc n) (suc j)) (suc j) simple_part (simple_closes n (suc j)) (rule_of type_in_brackets) refl
@@ -104,7 +104,7 @@ near_closes n j B expr_in_parens h = closed (SpelledIn (suc n) (suc j)) (parts_a
 near_closes n j B items_in_brackets h = closed (SpelledIn (suc n) (suc j)) (parts_append (suc n) (suc j)) (suc j) simple_part (simple_closes n (suc j)) (rule_of items_in_brackets) refl
 near_closes n j B items_or_none h = closed (SpelledIn (suc n) (suc j)) (parts_append (suc n) (suc j)) (suc j) simple_part (simple_closes n (suc j)) (rule_of items_or_none) refl
 
-pub part_closes : (n j : ℕ) (B : Type 0) (part : Part B) → Closes (SpelledIn (suc (suc (suc n))) j B part)
+pub part_closes : (n j : ℕ) (B : Type 0) (part : OpenerPart B) → Closes (SpelledIn (suc (suc (suc n))) j B part)
 unfolding opened
 part_closes n j B type_in_parens = closed (SpelledIn (suc (suc n)) (suc j)) (parts_append (suc (suc n)) (suc j)) (suc j) near_part (near_closes n (suc j)) (rule_of type_in_parens) refl
 part_closes n j B type_in_brackets = closed (SpelledIn (suc (suc n)) (suc j)) (parts_append (suc (suc n)) (suc j)) (suc j) near_part (near_closes n (suc j)) (rule_of type_in_brackets) refl
@@ -126,8 +126,8 @@ part_closes n j B items_or_none = closed (SpelledIn (suc (suc n)) (suc j)) (part
 
 -- ---- what is read in an opener
 module _ (m j : ℕ) (inner : Inner) (X Y : Parts) (xa : PartsAppend X) (ya : PartsAppend Y) (sub : PartsSub X Y)
-    (pg : (B : Type 0) (part : Part B) (t : Token) (ts : List Token) → PartOut m j (X B part) (Y B part) t ts (inner B part t ts))
-    (pc : (B : Type 0) (part : Part B) → Closes (Y B part)) where
+    (pg : (B : Type 0) (part : OpenerPart B) (t : Token) (ts : List Token) → PartOut m j (X B part) (Y B part) t ts (inner B part t ts))
+    (pc : (B : Type 0) (part : OpenerPart B) → Closes (Y B part)) where
   pub plain_ends : {A : Type 0} (r : Rule A) → plain r ≡ true → Ends m j inner X Y xa ya sub pg pc r
   plain_ends (give x) h = tt
   plain_ends (one l f) h = tt
@@ -138,7 +138,7 @@ module _ (m j : ℕ) (inner : Inner) (X Y : Parts) (xa : PartsAppend X) (ya : Pa
   plain_ends (ended f g sep close p) h = absurd (cc h)
   plain_ends (within f l part) h = tt
 
-  pub part_ends : {A : Type 0} (part : Part A) → Ends m j inner X Y xa ya sub pg pc (rule_of part)
+  pub part_ends : {A : Type 0} (part : OpenerPart A) → Ends m j inner X Y xa ya sub pg pc (rule_of part)
   unfolding opened
   part_ends type_in_parens = plain_ends (rule_of type_in_parens) refl
   part_ends type_in_brackets = plain_ends (rule_of type_in_brackets) refl
@@ -161,7 +161,7 @@ module _ (m j : ℕ) (inner : Inner) (X Y : Parts) (xa : PartsAppend X) (ya : Pa
 abbrev pub more : ℕ → ℕ
 more n = suc (suc (suc n))
 
-pub enter_good : (n j m : ℕ) → j + n ≡ m → (B : Type 0) (part : Part B) (t : Token) (ts : List Token) → PartOut m j (SpelledIn n j B part) (SpelledIn (more n) j B part) t ts (enter n B part t ts)
+pub enter_good : (n j m : ℕ) → j + n ≡ m → (B : Type 0) (part : OpenerPart B) (t : Token) (ts : List Token) → PartOut m j (SpelledIn n j B part) (SpelledIn (more n) j B part) t ts (enter n B part t ts)
 unfolding enter
 enter_good zero j m e B part t ts = inr (refl, omega arith)
 enter_good (suc n) j m e B part t ts = inl (

@@ -2,7 +2,7 @@
 use Rattle.std.proofs.Common.{◌≡◌, ℕ, zero, suc, ◌<◌, ◌≤◌, Bool, true, false, List, ◌∷◌, length, refl, ap, subst, ◌⊎◌, inl, inr, arith, length-append}
 use Rattle.rules_tokens.specs.declared.token.Token.{Token}
 use Rattle.rules_grammar.specs.GrammarForms.{tokens_of}
-use Rattle.rules_grammar.specs.GrammarParts.{Kind}
+use Rattle.rules_grammar.specs.GrammarParts.{TokenKind}
 use Rattle.hs_grammar.specs.Parser.{begins, Out, Done, Stop, Parser, bind, done, choose, turn, turns, loop, another, behind_item, item_step}
 use Rattle.hs_grammar.proofs.Good.{GoodOut, BehindS, good_behind}
 
@@ -35,7 +35,7 @@ module _ {B C : Type 0} (step : Parser (B ⊎ C)) (takes : TakesLeft step) where
   unfolding loop turns
   loop_eq ts = loop_turn ts (step ts) refl
 
-pub another_takes : {B : Type 0} (ks : List Kind) (p : Parser B) → Takes p → TakesLeft (another ks p)
+pub another_takes : {B : Type 0} (ks : List TokenKind) (p : Parser B) → Takes p → TakesLeft (another ks p)
 another_takes {B} ks p takes ts b r = by (begins ks ts)
   where
     read' : (o : Out B) → p ts ≡ o → bind o (λ a. done {A = B ⊎ Unit {0}} (inl a)) ≡ Done (inl b) r → length r < length ts
@@ -46,7 +46,7 @@ another_takes {B} ks p takes ts b r = by (begins ks ts)
     by true h = read' (p ts) refl h
     by false h = absurd (cc h)
 
-pub item_takes : {B C : Type 0} (as_item : C → B) (sep close : Kind) (p : Parser (B ⊎ C)) → Takes p → TakesLeft (item_step as_item sep close p)
+pub item_takes : {B C : Type 0} (as_item : C → B) (sep close : TokenKind) (p : Parser (B ⊎ C)) → Takes p → TakesLeft (item_step as_item sep close p)
 item_takes {B} {C} as_item sep close p takes ts b r h = by (p ts) refl h
   where
     behind : (x : B ⊎ C) (q : List Token) (o : Out (B ⊎ C)) → behind_item as_item sep close x q ≡ o → GoodOut 0 (BehindS as_item sep close x) (BehindS as_item sep close x) q o → o ≡ Done (inl b) r → length r ≤ length q

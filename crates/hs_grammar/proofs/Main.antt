@@ -4,7 +4,7 @@ use Rattle.hs_base.specs.declared.tree.script.Script.{Script}
 use Rattle.rules_tokens.specs.declared.token.Token.{Token}
 use Rattle.rules_grammar.specs.Grammar.{rule_of, script, block_item, SpelledIn, SpelledBy, SpellsWithin, Spells, Below, IsViable, IsViableBelow}
 use Rattle.rules_grammar.specs.GrammarForms.{Rule, give, one, seq, alt, go_on, many, ended, within, Item, tokens_of, Spelled}
-use Rattle.rules_grammar.specs.GrammarParts.{Kind, Part, type_in_parens, type_in_brackets, param_in_parens, block_in_braces, block_if, block_case, block_arms, let_stmt, no_items, two_names, expr_if, expr_case, expr_arms, expr_let, expr_in_parens, items_in_brackets, items_or_none}
+use Rattle.rules_grammar.specs.GrammarParts.{TokenKind, OpenerPart, type_in_parens, type_in_brackets, param_in_parens, block_in_braces, block_if, block_case, block_arms, let_stmt, no_items, two_names, expr_if, expr_case, expr_arms, expr_let, expr_in_parens, items_in_brackets, items_or_none}
 use Rattle.hs_grammar.specs.Parser.{both, negated, apart, may_be_empty, firsts, begins, Why, unexpected, too_deep, Out, Done, Stop, Parser, bind, done, on_left, loop, another, item_step, Inner, read_then, read, enter, at_end, whole, Means}
 use Rattle.hs_grammar.proofs.KindLists.{both_true, negated_true, clash, not_begins_contained}
 use Rattle.hs_grammar.proofs.Checks.{after_part, after, fine, plain, opened, fine_part, after_rule, fine_script, plain_script, plain_item, fine_item}
@@ -18,7 +18,7 @@ use Rattle.hs_grammar.proofs.Complete.{complete, tokens_length}
 use Rattle.hs_grammar.proofs.Agree.{Rel, bad, with_end, InOut, Within, within_bind, within_done, within_another, within_behind, SameHead, Agree, agree_bind, agree_done, agree_choose, agree_take, agree_loop, agree_another, agree_item, agree_bad, deep_agrees}
 
 -- ---- what is spelled is read, at every level
-pub enter_complete : (n j : ℕ) (B : Type 0) (part : Part B) (t : Token) (b : B) (w k : List Item) → SpelledIn n j B part b w k → begins (after_part part) (tokens_of k) ≡ false → enter n B part t (tokens_of w) ≡ Done b (tokens_of k)
+pub enter_complete : (n j : ℕ) (B : Type 0) (part : OpenerPart B) (t : Token) (b : B) (w k : List Item) → SpelledIn n j B part b w k → begins (after_part part) (tokens_of k) ≡ false → enter n B part t (tokens_of w) ≡ Done b (tokens_of k)
 unfolding enter
 enter_complete zero j B part t b w k h g = absurd h
 enter_complete (suc n) j B part t b w k h g =
@@ -44,7 +44,7 @@ within_out n S C ts (Stop too_deep b) g = tt
 within_rule : {A : Type 0} (n : ℕ) (r : Rule A) → plain r ≡ true → Within (read (enter n) r)
 within_rule n r h ts = within_out n (Spelled (SpelledIn n 0) 0 r) (Spelled (SpelledIn (more n) 0) 0 r) ts (read (enter n) r ts) (rule_good n r h ts)
 
-within_enter : (n : ℕ) (B : Type 0) (part : Part B) (t : Token) → Within (enter n B part t)
+within_enter : (n : ℕ) (B : Type 0) (part : OpenerPart B) (t : Token) → Within (enter n B part t)
 within_enter n B part t ts = by (enter_good n 0 n (omega arith) B part t ts)
   where
     by : PartOut n 0 (SpelledIn n 0 B part) (SpelledIn (more n) 0 B part) t ts (enter n B part t ts) → InOut (enter n B part t ts) ts
@@ -63,7 +63,7 @@ takes_rule {A} n r pl f e ts a q h = by (subst (GoodOut n (Spelled (SpelledIn n 
 
 -- ---- it looks at one token ahead
 module _ (X Y : List Token) (same : SameHead X Y) where
-  module _ (n m : ℕ) (inner : (B : Type 0) (part : Part B) (t : Token) → Agree X Y same (enter n B part t) (enter m B part t)) where
+  module _ (n m : ℕ) (inner : (B : Type 0) (part : OpenerPart B) (t : Token) → Agree X Y same (enter n B part t) (enter m B part t)) where
     within_second : {A B C : Type 0} (f : B → C → A) (q : Rule C) → plain q ≡ true → (b : B) → Within (λ r. bind (read (enter n) q r) (λ c. done (f b c)))
     within_second f q h b = within_bind (read (enter n) q) (λ c. done (f b c)) (within_rule n q h) (λ c. within_done (f b c))
 
@@ -109,7 +109,7 @@ module _ (X Y : List Token) (same : SameHead X Y) where
         (λ t. agree_bind X Y same (enter n B part t) (enter m B part t) (λ b. done (c t.pos b)) (λ b. done (c t.pos b)) (inner B part t) (λ b. within_done (c t.pos b)) (λ b. agree_done X Y same (c t.pos b)))
 
     -- a block
-    agree_ended : {A B C : Type 0} (c : List B → C → A) (g : C → B) (sep close : Kind) (p : Rule (B ⊎ C)) → plain p ≡ true → fine p ≡ true → may_be_empty p ≡ false → Agree X Y same (read (enter n) (ended c g sep close p)) (read (enter m) (ended c g sep close p))
+    agree_ended : {A B C : Type 0} (c : List B → C → A) (g : C → B) (sep close : TokenKind) (p : Rule (B ⊎ C)) → plain p ≡ true → fine p ≡ true → may_be_empty p ≡ false → Agree X Y same (read (enter n) (ended c g sep close p)) (read (enter m) (ended c g sep close p))
     unfolding read_then
     agree_ended c g sep close p pl f e =
         agree_bind X Y same (loop (item_step g sep close (read (enter n) p))) (loop (item_step g sep close (read (enter m) p))) (λ x. done (c x.0 x.1)) (λ x. done (c x.0 x.1))
@@ -117,7 +117,8 @@ module _ (X Y : List Token) (same : SameHead X Y) where
         (within_bind (read (enter n) p) (Rattle.hs_grammar.specs.Parser.behind_item g sep close) (within_rule n p pl) (within_behind g sep close)) (agree_item X Y same g sep close (read (enter n) p) (read (enter m) p) (agree_rule p pl f)))
         (λ x. within_done (c x.0 x.1)) (λ x. agree_done X Y same (c x.0 x.1))
 
-    agree_part : {A : Type 0} (part : Part A) → Agree X Y same (read (enter n) (rule_of part)) (read (enter m) (rule_of part))
+    agree_part : {A : Type 0} (part : OpenerPart A)
+        → Agree X Y same (read (enter n) (rule_of part)) (read (enter m) (rule_of part))
     unfolding opened
     agree_part type_in_parens = agree_rule (rule_of type_in_parens) refl (fine_part type_in_parens)
     agree_part type_in_brackets = agree_rule (rule_of type_in_brackets) refl (fine_part type_in_brackets)
@@ -137,7 +138,7 @@ module _ (X Y : List Token) (same : SameHead X Y) where
     agree_part items_in_brackets = agree_rule (rule_of items_in_brackets) refl (fine_part items_in_brackets)
     agree_part items_or_none = agree_rule (rule_of items_or_none) refl (fine_part items_or_none)
 
-  agree_enter : (n m : ℕ) → n ≤ m → (B : Type 0) (part : Part B) (t : Token) → Agree X Y same (enter n B part t) (enter m B part t)
+  agree_enter : (n m : ℕ) → n ≤ m → (B : Type 0) (part : OpenerPart B) (t : Token) → Agree X Y same (enter n B part t) (enter m B part t)
   unfolding enter
   agree_enter zero m l B part t = λ pre o h. absurd (deep_agrees X Y same (t ∷ (pre ++ X)) o h)
   agree_enter (suc n) zero l B part t = λ pre o h. absurd (omega arith)

@@ -2,7 +2,7 @@
 use Rattle.std.proofs.Common.{◌≡◌, Bool, true, false, List, [], ◌∷◌, refl, sym, ap, ◌∙◌, ◌⊎◌, inl, inr}
 use Rattle.rules_tokens.specs.declared.token.Token.{Token}
 use Rattle.rules_grammar.specs.GrammarForms.{Rule, give, one, seq, alt, go_on, many, ended, within}
-use Rattle.rules_grammar.specs.GrammarParts.{Kind, kind_of}
+use Rattle.rules_grammar.specs.GrammarParts.{TokenKind, kind_of}
 use Rattle.hs_grammar.specs.Parser.{same_kind, firsts, begins, Out, Done, Stop, Parser, bind, done, choose, take_if, take, on_left, loop, another, item_step, Inner, read_then, read}
 
 pub bind_done : {A : Type 0} (o : Out A) → bind o done ≡ o
@@ -21,7 +21,7 @@ take_if_bind : {A B : Type 0} (b : Bool) (t : Token) (f : Token → Parser A) (g
 take_if_bind true t f g ts = refl
 take_if_bind false t f g ts = refl
 
-pub take_bind : {A B : Type 0} (k : Kind) (f : Token → Parser A) (g : A → Parser B) (ts : List Token) → take k (λ u us. bind (f u us) g) ts ≡ bind (take k f ts) g
+pub take_bind : {A B : Type 0} (k : TokenKind) (f : Token → Parser A) (g : A → Parser B) (ts : List Token) → take k (λ u us. bind (f u us) g) ts ≡ bind (take k f ts) g
 take_bind k f g [] = refl
 take_bind k f g (t ∷ ts) = take_if_bind (same_kind (kind_of t.tok) k) t f g ts
 
@@ -29,7 +29,7 @@ take_if_same : {A : Type 0} (b : Bool) (t : Token) (f g : Token → Parser A) �
 take_if_same true t f g h ts = h t ts
 take_if_same false t f g h ts = refl
 
-pub take_same : {A : Type 0} (k : Kind) (f g : Token → Parser A) → ((t : Token) (us : List Token) → f t us ≡ g t us) → (ts : List Token) → take k f ts ≡ take k g ts
+pub take_same : {A : Type 0} (k : TokenKind) (f g : Token → Parser A) → ((t : Token) (us : List Token) → f t us ≡ g t us) → (ts : List Token) → take k f ts ≡ take k g ts
 take_same k f g h [] = refl
 take_same k f g h (t ∷ ts) = take_if_same (same_kind (kind_of t.tok) k) t f g h ts
 

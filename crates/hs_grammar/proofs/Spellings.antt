@@ -1,7 +1,7 @@
 -- What follows can be taken apart from what a rule spells, and parts may spell more.
 use Rattle.std.proofs.Common.{ℕ, List, [], ◌∷◌, ◌++◌, Option, Some, None, ap, ◌⊎◌, inl, inr}
 use Rattle.rules_grammar.specs.GrammarForms.{Rule, give, one, seq, alt, go_on, many, ended, within, Item, Spelling, Empty, Single, Made, Then, Either, Each, OnLeft, Passed, Last, Spelled}
-use Rattle.rules_grammar.specs.GrammarParts.{Kind, Part}
+use Rattle.rules_grammar.specs.GrammarParts.{TokenKind, OpenerPart}
 
 -- ---- something may follow
 abbrev pub Appends : {A : Type 0} → Spelling A → Type 0
@@ -10,7 +10,7 @@ Appends {A} S = (a : A) (w k z : List Item) → S a w k → S a (w ++ z) (k ++ z
 pub appends_empty : {A : Type 0} (x : A) → Appends (Empty x)
 appends_empty x a w k z h = (h.0, ap (λ v. v ++ z) h.1)
 
-pub appends_single : (o : Option ℕ) (l : Kind) → Appends (Single o l)
+pub appends_single : (o : Option ℕ) (l : TokenKind) → Appends (Single o l)
 appends_single o l t w k z h = (h.0, ap (λ v. v ++ z) h.1)
 
 pub appends_made : {A B : Type 0} (f : B → A) (S : Spelling B) → Appends S → Appends (Made f S)
@@ -31,13 +31,13 @@ pub appends_on_left : {A B : Type 0} (T : B → Spelling A) → ((b : B) → App
 appends_on_left T t (inl b) = t b
 appends_on_left T t (inr a) = appends_empty a
 
-pub appends_passed : {B C : Type 0} (f : C → B) (sep : Kind) (S : Spelling (B ⊎ C)) → Appends S → Appends (Passed f sep S)
+pub appends_passed : {B C : Type 0} (f : C → B) (sep : TokenKind) (S : Spelling (B ⊎ C)) → Appends S → Appends (Passed f sep S)
 appends_passed f sep S s =
     appends_then (Either (λ b. S (inl b)) (Made f (λ c. S (inr c)))) (λ b. Then (Single None sep) (λ t. Empty b))
     (appends_either (λ b. S (inl b)) (Made f (λ c. S (inr c))) (λ b. s (inl b)) (appends_made f (λ c. S (inr c)) (λ c. s (inr c))))
     (λ b. appends_then (Single None sep) (λ t. Empty b) (appends_single None sep) (λ t. appends_empty b))
 
-pub appends_last : {B C : Type 0} (sep close : Kind) (S : Spelling (B ⊎ C)) → Appends S → Appends (Last sep close S)
+pub appends_last : {B C : Type 0} (sep close : TokenKind) (S : Spelling (B ⊎ C)) → Appends S → Appends (Last sep close S)
 appends_last sep close S s =
     appends_then (λ c. S (inr c)) (λ c. Either (Then (Single None close) (λ t. Empty c)) (Then (Single None sep) (λ t. Then (Single None close) (λ u. Empty c))))
     (λ c. s (inr c))
@@ -47,10 +47,10 @@ appends_last sep close S s =
     (λ t. appends_then (Single None close) (λ u. Empty c) (appends_single None close) (λ u. appends_empty c))))
 
 abbrev pub Parts : Type 1
-Parts = (B : Type 0) → Part B → Spelling B
+Parts = (B : Type 0) → OpenerPart B → Spelling B
 
 abbrev pub PartsAppend : Parts → Type 1
-PartsAppend X = (B : Type 0) (part : Part B) → Appends (X B part)
+PartsAppend X = (B : Type 0) (part : OpenerPart B) → Appends (X B part)
 
 pub appends : {A : Type 0} (X : Parts) → PartsAppend X → (j : ℕ) (r : Rule A) → Appends (Spelled X j r)
 appends X x j (give a) = appends_empty a
@@ -91,15 +91,16 @@ sub_on_left : {A B : Type 0} (T T' : B → Spelling A) → ((b : B) → Sub (T b
 sub_on_left T T' t (inl b) = t b
 sub_on_left T T' t (inr a) = λ y w k h. h
 
-pub sub_passed : {B C : Type 0} (f : C → B) (sep : Kind) (S T : Spelling (B ⊎ C)) → Sub S T → Sub (Passed f sep S) (Passed f sep T)
+pub sub_passed : {B C : Type 0} (f : C → B) (sep : TokenKind) (S T : Spelling (B ⊎ C)) → Sub S T → Sub (Passed f sep S) (Passed f sep T)
 sub_passed f sep S T s b w k h =
     (h.0, h.1, sub_either (λ b. S (inl b)) (λ b. T (inl b)) (Made f (λ c. S (inr c))) (Made f (λ c. T (inr c))) (λ b. s (inl b)) (sub_made f (λ c. S (inr c)) (λ c. T (inr c)) (λ c. s (inr c))) h.0 w h.1 h.2, h.3)
 
-pub sub_last : {B C : Type 0} (sep close : Kind) (S T : Spelling (B ⊎ C)) → Sub S T → Sub (Last sep close S) (Last sep close T)
+pub sub_last : {B C : Type 0} (sep close : TokenKind) (S T : Spelling (B ⊎ C)) → Sub S T
+    → Sub (Last sep close S) (Last sep close T)
 sub_last sep close S T s c w k h = (h.0, h.1, s (inr h.0) w h.1 h.2, h.3)
 
 abbrev pub PartsSub : Parts → Parts → Type 1
-PartsSub X Y = (B : Type 0) (part : Part B) → Sub (X B part) (Y B part)
+PartsSub X Y = (B : Type 0) (part : OpenerPart B) → Sub (X B part) (Y B part)
 
 pub subs : {A : Type 0} (X Y : Parts) → PartsSub X Y → (j : ℕ) (r : Rule A) → Sub (Spelled X j r) (Spelled Y j r)
 subs X Y x j (give a) = λ y w k h. h

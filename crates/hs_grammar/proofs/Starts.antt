@@ -3,7 +3,7 @@ use Rattle.std.proofs.Common.{◌≡◌, ℕ, zero, suc, ◌<◌, ◌≤◌, Boo
 use Rattle.rules_tokens.specs.declared.token.Token.{Token}
 use Rattle.rules_grammar.specs.Grammar.{rule_of, SpelledIn}
 use Rattle.rules_grammar.specs.GrammarForms.{Rule, give, one, seq, alt, go_on, many, ended, within, Item, tokens_of, Spelling, Empty, Single, Made, Then, Either, Each, OnLeft, Passed, Last, Spelled}
-use Rattle.rules_grammar.specs.GrammarParts.{Kind, kind_of, Part}
+use Rattle.rules_grammar.specs.GrammarParts.{TokenKind, kind_of, OpenerPart}
 use Rattle.hs_grammar.specs.Parser.{same_kind, either, both, negated, apart, where', may_be_empty, firsts, begins}
 use Rattle.hs_grammar.proofs.KindLists.{both_true, negated_true, clash, either_right, same_of, begins_left, begins_right}
 use Rattle.hs_grammar.proofs.Checks.{after, fine}
@@ -13,10 +13,10 @@ use Rattle.hs_grammar.proofs.Spellings.{Parts}
 abbrev pub Shrinks : {A : Type 0} → Spelling A → Type 0
 Shrinks {A} S = (a : A) (w k : List Item) → S a w k → length k ≤ length w
 
-shrinks_single : (o : Option ℕ) (l : Kind) → Shrinks (Single o l)
+shrinks_single : (o : Option ℕ) (l : TokenKind) → Shrinks (Single o l)
 shrinks_single o l t w k h = omega (arith, ap length h.1)
 
-single_less : (o : Option ℕ) (l : Kind) (t : Token) (w k : List Item) → Single o l t w k → length k < length w
+single_less : (o : Option ℕ) (l : TokenKind) (t : Token) (w k : List Item) → Single o l t w k → length k < length w
 single_less o l t w k h = omega (arith, ap length h.1)
 
 shrinks_then : {A B : Type 0} (S : Spelling B) (T : B → Spelling A) → Shrinks S → ((b : B) → Shrinks (T b)) → Shrinks (Then S T)
@@ -40,13 +40,13 @@ shrinks_on_left : {A B : Type 0} (T : B → Spelling A) → ((b : B) → Shrinks
 shrinks_on_left T t (inl b) = t b
 shrinks_on_left T t (inr a) = shrinks_empty a
 
-shrinks_passed : {B C : Type 0} (f : C → B) (sep : Kind) (S : Spelling (B ⊎ C)) → Shrinks S → Shrinks (Passed f sep S)
+shrinks_passed : {B C : Type 0} (f : C → B) (sep : TokenKind) (S : Spelling (B ⊎ C)) → Shrinks S → Shrinks (Passed f sep S)
 shrinks_passed f sep S s =
     shrinks_then (Either (λ b. S (inl b)) (Made f (λ c. S (inr c)))) (λ b. Then (Single None sep) (λ t. Empty b))
     (shrinks_either (λ b. S (inl b)) (Made f (λ c. S (inr c))) (λ b. s (inl b)) (shrinks_made f (λ c. S (inr c)) (λ c. s (inr c))))
     (λ b. shrinks_then (Single None sep) (λ t. Empty b) (shrinks_single None sep) (λ t. shrinks_empty b))
 
-shrinks_last : {B C : Type 0} (sep close : Kind) (S : Spelling (B ⊎ C)) → Shrinks S → Shrinks (Last sep close S)
+shrinks_last : {B C : Type 0} (sep close : TokenKind) (S : Spelling (B ⊎ C)) → Shrinks S → Shrinks (Last sep close S)
 shrinks_last sep close S s =
     shrinks_then (λ c. S (inr c)) (λ c. Either (Then (Single None close) (λ t. Empty c)) (Then (Single None sep) (λ t. Then (Single None close) (λ u. Empty c))))
     (λ c. s (inr c))
@@ -55,7 +55,7 @@ shrinks_last sep close S s =
     (shrinks_then (Single None sep) (λ t. Then (Single None close) (λ u. Empty c)) (shrinks_single None sep)
     (λ t. shrinks_then (Single None close) (λ u. Empty c) (shrinks_single None close) (λ u. shrinks_empty c))))
 
-module _ (X : Parts) (x : (B : Type 0) (part : Part B) → Shrinks (X B part)) (j : ℕ) where
+module _ (X : Parts) (x : (B : Type 0) (part : OpenerPart B) → Shrinks (X B part)) (j : ℕ) where
   pub shrinks : {A : Type 0} (r : Rule A) → Shrinks (Spelled X j r)
   shrinks (give y) = shrinks_empty y
   shrinks (one l f) = shrinks_made f (Single None l) (shrinks_single None l)
@@ -70,10 +70,10 @@ module _ (X : Parts) (x : (B : Type 0) (part : Part B) → Shrinks (X B part)) (
   shrinks (within {B = B} g l part) = shrinks_then (Single (Some j) l) (λ t. Made (g t.pos) (X B part)) (shrinks_single (Some j) l) (λ t. shrinks_made (g t.pos) (X B part) (x B part))
 
   -- what is spelled is nothing, or it begins so and is something
-  abbrev pub Starts : Bool → List Kind → List Item → List Item → Type 0
+  abbrev pub Starts : Bool → List TokenKind → List Item → List Item → Type 0
   Starts e ks w k = ((e ≡ true) × (w ≡ k)) ⊎ ((begins ks (tokens_of w) ≡ true) × (length k < length w))
 
-  single_starts : (o : Option ℕ) (l : Kind) (t : Token) (w k : List Item) → Single o l t w k → begins (l ∷ []) (tokens_of w) ≡ true
+  single_starts : (o : Option ℕ) (l : TokenKind) (t : Token) (w k : List Item) → Single o l t w k → begins (l ∷ []) (tokens_of w) ≡ true
   single_starts o l t w k h =
       subst (λ z. begins (l ∷ []) (tokens_of z) ≡ true) (sym h.1) (ap (λ b. either b false) (same_of (kind_of t.tok) l h.0))
 
@@ -159,6 +159,6 @@ module _ (X : Parts) (x : (B : Type 0) (part : Part B) → Shrinks (X B part)) (
   starts (within {B = B} g l part) e a w k h =
       inr (single_starts (Some j) l h.0 w h.1 h.2, omega (arith, single_less (Some j) l h.0 w h.1 h.2, x B part h.3.0 h.1 k h.3.2))
 
-pub parts_shrink : (n j : ℕ) (B : Type 0) (part : Part B) → Shrinks (SpelledIn n j B part)
+pub parts_shrink : (n j : ℕ) (B : Type 0) (part : OpenerPart B) → Shrinks (SpelledIn n j B part)
 parts_shrink zero j B part = λ a w k h. absurd h
 parts_shrink (suc n) j B part = shrinks (SpelledIn n (suc j)) (parts_shrink n (suc j)) (suc j) (rule_of part)

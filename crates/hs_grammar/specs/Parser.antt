@@ -5,11 +5,11 @@ use Rattle.hs_base.specs.declared.tree.script.Script.{Script}
 use Rattle.rules_tokens.specs.declared.token.Token.{Token}
 use Rattle.rules_grammar.specs.Grammar.{script, rule_of, SpellsWithin, IsUnexpected, IsTooDeep}
 use Rattle.rules_grammar.specs.GrammarForms.{Rule, give, one, seq, alt, go_on, many, ended, within}
-use Rattle.rules_grammar.specs.GrammarParts.{Kind, name, upper, int, text, word, symbol, kind_of, Part}
+use Rattle.rules_grammar.specs.GrammarParts.{TokenKind, name, upper, int, text, word, symbol, kind_of, OpenerPart}
 
 -- ---- kinds of tokens
 
-abbrev pub same_kind : Kind → Kind → Bool
+abbrev pub same_kind : TokenKind → TokenKind → Bool
 same_kind name name = true
 same_kind upper upper = true
 same_kind int int = true
@@ -31,16 +31,16 @@ abbrev pub negated : Bool → Bool
 negated true = false
 negated false = true
 
-abbrev pub is_in : Kind → List Kind → Bool
+abbrev pub is_in : TokenKind → List TokenKind → Bool
 is_in k [] = false
 is_in k (l ∷ ls) = either (same_kind k l) (is_in k ls)
 
 -- no kind is in both
-abbrev pub apart : List Kind → List Kind → Bool
+abbrev pub apart : List TokenKind → List TokenKind → Bool
 apart [] ls = true
 apart (k ∷ ks) ls = both (negated (is_in k ls)) (apart ks ls)
 
-abbrev pub where' : Bool → List Kind → List Kind
+abbrev pub where' : Bool → List TokenKind → List TokenKind
 where' true ks = ks
 where' false ks = []
 
@@ -57,7 +57,7 @@ may_be_empty (many f p) = true
 may_be_empty (ended f g sep close p) = may_be_empty p
 may_be_empty (within g k part) = false
 
-unfoldable pub firsts : {A : Type 0} → Rule A → List Kind
+unfoldable pub firsts : {A : Type 0} → Rule A → List TokenKind
 unfolding may_be_empty
 firsts (give x) = []
 firsts (one k f) = k ∷ []
@@ -68,7 +68,7 @@ firsts (many f p) = firsts p
 firsts (ended f g sep close p) = firsts p
 firsts (within g k part) = k ∷ []
 
-abbrev pub begins : List Kind → List Token → Bool
+abbrev pub begins : List TokenKind → List Token → Bool
 begins ks [] = false
 begins ks (t ∷ ts) = is_in (kind_of t.tok) ks
 
@@ -103,7 +103,7 @@ take_if true t g ts = g t ts
 take_if false t g ts = Stop unexpected (t ∷ ts)
 
 -- a token of this kind
-abbrev pub take : {A : Type 0} → Kind → (Token → Parser A) → Parser A
+abbrev pub take : {A : Type 0} → TokenKind → (Token → Parser A) → Parser A
 take k g [] = Stop unexpected []
 take k g (t ∷ ts) = take_if (same_kind (kind_of t.tok) k) t g ts
 
@@ -126,25 +126,25 @@ unfoldable pub loop : {B C : Type 0} → Parser (B ⊎ C) → Parser (List B × 
 loop step ts = turns (suc (length ts)) step ts
 
 -- an item where the next token begins one
-abbrev pub another : {A : Type 0} → List Kind → Parser A → Parser (A ⊎ Unit {0})
+abbrev pub another : {A : Type 0} → List TokenKind → Parser A → Parser (A ⊎ Unit {0})
 another ks p ts = choose (begins ks ts) (λ us. bind (p us) (λ a. done (inl a))) (done (inr tt)) ts
 
 -- behind a last item's separator: the closing token, or it was not the last
-abbrev pub after_separator : {B C : Type 0} → (C → B) → Kind → C → Parser (B ⊎ C)
+abbrev pub after_separator : {B C : Type 0} → (C → B) → TokenKind → C → Parser (B ⊎ C)
 after_separator as_item close c ts = choose (begins (close ∷ []) ts) (take close (λ t. done (inr c))) (done (inl (as_item c))) ts
 
 -- behind an item
-abbrev pub behind_item : {B C : Type 0} → (C → B) → Kind → Kind → B ⊎ C → Parser (B ⊎ C)
+abbrev pub behind_item : {B C : Type 0} → (C → B) → TokenKind → TokenKind → B ⊎ C → Parser (B ⊎ C)
 behind_item as_item sep close (inl b) ts = take sep (λ t. done (inl b)) ts
 behind_item as_item sep close (inr c) ts =
     choose (begins (close ∷ []) ts) (take close (λ t. done (inr c))) (take sep (λ t. after_separator as_item close c)) ts
 
-abbrev pub item_step : {B C : Type 0} → (C → B) → Kind → Kind → Parser (B ⊎ C) → Parser (B ⊎ C)
+abbrev pub item_step : {B C : Type 0} → (C → B) → TokenKind → TokenKind → Parser (B ⊎ C) → Parser (B ⊎ C)
 item_step as_item sep close p ts = bind (p ts) (behind_item as_item sep close)
 
 -- What stands in an opener, by its token and what follows
 abbrev pub Inner : Type 1
-Inner = (B : Type 0) → Part B → Token → Parser B
+Inner = (B : Type 0) → OpenerPart B → Token → Parser B
 
 -- A parser for a rule, and then one that depends on the value.
 unfoldable pub read_then : {A R : Type 0} → Inner → Rule A → (A → Parser R) → Parser R

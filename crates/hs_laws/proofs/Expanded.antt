@@ -14,7 +14,7 @@ use Rattle.hs_base.specs.declared.tree.forms.MaskingAction.TheVariants as m
 use Rattle.hs_base.specs.declared.tree.forms.GuardAction.{GuardAction}
 use Rattle.hs_base.specs.declared.tree.forms.GuardAction.TheVariants as g
 use Rattle.rules_trees.specs.Programs as tree
-use Rattle.rules_trees.specs.Programs.{Act, Bl, ActArms, Par, Bd, Fn}
+use Rattle.rules_trees.specs.Programs.{SurfaceAction, Bl, ActArms, Par, Bd, Fn}
 use Rattle.rules_expansion.specs.Names.{Name, Added}
 use Rattle.rules_expansion.specs.declared.hidden.Hidden.TheVariants.{Restorer, Caught, InTime, ActionResult, SideEnding, WasFirst, FirstEnd}
 use Rattle.rules_expansion.specs.Core.{CoreEx, Read, JustRead, Nil, LeftRead, RightRead, RightNil, Core, Return, ThrowIo, Bind, CaseEither, Perform, Catch, MaskWith, Restore, ActionFunction, action_named}
@@ -151,7 +151,7 @@ fine_guard g.Concurrently f h =
 -- ---- actions and blocks
 
 mutual
-  pub fine_core : (a : Act) → Fine (core a)
+  pub fine_core : (a : SurfaceAction) → Fine (core a)
   fine_core (tree.bare w p) = fine_bare w
   fine_core (tree.unary_act w p e) = fine_unary w _
   fine_core (tree.binary_act w p e f) = fine_binary w _ _

@@ -8,19 +8,19 @@ use Rattle.std.proofs.lemmas.Str.{encodes-append}
 use Rattle.std.proofs.lemmas.Bool.{and_parts, and_from, or_from, not_from_false, ne_eqb, false≢true}
 use Rattle.std.proofs.lemmas.List.{map-append}
 use Rattle.std.proofs.lemmas.List.Folds.{list_all-append}
-use Rattle.rules_tokens.specs.Tokens.{quote, backslash, line_feed, Part, Plain, Escape, may_stand, parts_text, meaning, escaped, StandFor, IsOpen}
+use Rattle.rules_tokens.specs.Tokens.{quote, backslash, line_feed, LiteralPart, Plain, Escape, may_stand, parts_text, meaning, escaped, StandFor, IsOpen}
 use Rattle.hs_lex.specs.Fronts.{IsCut, IsBody, IsClosedAt}
 use Rattle.hs_lex.proofs.Cuts.{cut_one, cut_two, cut_head, cut_end}
 use Rattle.hs_lex.proofs.Literals.{IsStuck, open_from_stuck}
 
-pub parts_text-append : (ps qs : List Part) → parts_text (ps ++ qs) ≡ parts_text ps ++ parts_text qs
+pub parts_text-append : (ps qs : List LiteralPart) → parts_text (ps ++ qs) ≡ parts_text ps ++ parts_text qs
 parts_text-append [] qs = refl
 parts_text-append (Plain c ∷ ps) qs = ap (λ z. c ∷ z) (parts_text-append ps qs)
 parts_text-append (Escape c ∷ ps) qs = ap (λ z. backslash ∷ c ∷ z) (parts_text-append ps qs)
 
 -- the first n characters are parts
 pub record IsBodyTo (inside : List ℕ) (n : ℕ) : Type 0 where
-  pub parts : List Part
+  pub parts : List LiteralPart
   pub body : List ℕ
   pub after : List ℕ
   pub cut : IsCut inside n body after
@@ -29,7 +29,7 @@ pub record IsBodyTo (inside : List ℕ) (n : ℕ) : Type 0 where
 pub body_start : (inside : List ℕ) → IsBodyTo inside 0
 body_start inside = record { parts = []; body = []; after = inside; cut = record { whole = refl; len = refl }; whole = (refl, refl) }
 
-body_push : (ps : List Part) (p : Part) (body : List ℕ) → IsBody ps body → may_stand p ≡ true → IsBody (ps ++ p ∷ []) (body ++ parts_text (p ∷ []))
+body_push : (ps : List LiteralPart) (p : LiteralPart) (body : List ℕ) → IsBody ps body → may_stand p ≡ true → IsBody (ps ++ p ∷ []) (body ++ parts_text (p ∷ []))
 body_push ps p body b m = (
   list_all-append may_stand ps (p ∷ []) ∙ and_from (list_all may_stand ps) (may_stand p && true) b.0 (and_from (may_stand p) true m refl),
   parts_text-append ps (p ∷ []) ∙ ap (λ z. z ++ parts_text (p ∷ [])) b.1,
@@ -115,25 +115,25 @@ body_broken inside n b within e f =
 
 -- The first n characters of the body are parts that stand for these characters, and the rest are parts too.
 pub record IsMeantTo (body : List ℕ) (n : ℕ) (meant : List ℕ) : Type 0 where
-  pub good : List Part
-  pub more : List Part
+  pub good : List LiteralPart
+  pub more : List LiteralPart
   pub whole : IsBody (good ++ more) body
   pub right : StandFor good meant
   pub len : length (parts_text good) ≡ n
 
-pub meant_start : (body : List ℕ) → (ps : List Part) × IsBody ps body → IsMeantTo body 0 []
+pub meant_start : (body : List ℕ) → (ps : List LiteralPart) × IsBody ps body → IsMeantTo body 0 []
 meant_start body (ps, b) = record { good = []; more = ps; whole = b; right = refl; len = refl }
 
 meant_cut : (body : List ℕ) (n : ℕ) (meant : List ℕ) (m : IsMeantTo body n meant) → IsCut body n (parts_text m.good) (parts_text m.more)
 meant_cut body n meant m = record { whole = sym (parts_text-append m.good m.more) ∙ m.whole.1; len = m.len }
 
 -- how the parts go on where one is left
-abbrev pub IsNext : List Part → List ℕ → ℕ → Type 0
+abbrev pub IsNext : List LiteralPart → List ℕ → ℕ → Type 0
 IsNext [] body n = ⊥
 IsNext (Plain c ∷ ps) body n = (get_or body n 0 ≡ c) × (c ≢ backslash)
 IsNext (Escape c ∷ ps) body n = (get_or body n 0 ≡ backslash) × (n + 1 < length body) × (get_or body (n + 1) 0 ≡ c)
 
-may_more : (good more : List Part) → list_all may_stand (good ++ more) ≡ true → list_all may_stand more ≡ true
+may_more : (good more : List LiteralPart) → list_all may_stand (good ++ more) ≡ true → list_all may_stand more ≡ true
 may_more good more e = (and_parts (list_all may_stand good) (list_all may_stand more) (sym (list_all-append may_stand good more) ∙ e)).1
 
 plain_no_backslash : (c : ℕ) → may_stand (Plain c) ≡ true → c ≢ backslash
@@ -142,7 +142,7 @@ plain_no_backslash c e h = let P : ℕ → Type 0 = λ n. may_stand (Plain n) �
 no_empty : (c : ℕ) (cs : List ℕ) → [] ≡ c ∷ cs → ⊥
 no_empty c cs e = cc
 
-next_part : (more : List Part) (body : List ℕ) (n : ℕ) (front : List ℕ) → IsCut body n front (parts_text more) → list_all may_stand more ≡ true → n < length body → IsNext more body n
+next_part : (more : List LiteralPart) (body : List ℕ) (n : ℕ) (front : List ℕ) → IsCut body n front (parts_text more) → list_all may_stand more ≡ true → n < length body → IsNext more body n
 next_part [] body n front cut may within = absurd (no_empty (get_or body n 0) (drop (n + 1) body) (cut_head body n front [] cut within))
 next_part (Plain c ∷ ps) body n front cut may within =
     let head : c ∷ parts_text ps ≡ get_or body n 0 ∷ drop (n + 1) body = cut_head body n front (c ∷ parts_text ps) cut within in
@@ -159,11 +159,11 @@ next_part (Escape c ∷ ps) body n front cut may within =
 pub meant_next : (body : List ℕ) (n : ℕ) (meant : List ℕ) (m : IsMeantTo body n meant) → n < length body → IsNext m.more body n
 meant_next body n meant m within = next_part m.more body n (parts_text m.good) (meant_cut body n meant m) (may_more m.good m.more m.whole.0) within
 
-stand_push : (ps : List Part) (p : Part) (cs : List ℕ) (c : ℕ) → StandFor ps cs → meaning p ≡ Some c → StandFor (ps ++ p ∷ []) (cs ++ c ∷ [])
+stand_push : (ps : List LiteralPart) (p : LiteralPart) (cs : List ℕ) (c : ℕ) → StandFor ps cs → meaning p ≡ Some c → StandFor (ps ++ p ∷ []) (cs ++ c ∷ [])
 stand_push ps p cs c h m =
     map-append meaning ps (p ∷ []) ∙ (ap (λ z. z ++ meaning p ∷ []) h ∙ (ap (λ z. map Some cs ++ z ∷ []) m ∙ sym (map-append Some cs (c ∷ []))))
 
-push : (body : List ℕ) (n k : ℕ) (meant : List ℕ) (good : List Part) (p : Part) (more : List Part) (c : ℕ) → IsBody (good ++ p ∷ more) body → StandFor good meant → length (parts_text good) ≡ n
+push : (body : List ℕ) (n k : ℕ) (meant : List ℕ) (good : List LiteralPart) (p : LiteralPart) (more : List LiteralPart) (c : ℕ) → IsBody (good ++ p ∷ more) body → StandFor good meant → length (parts_text good) ≡ n
     → meaning p ≡ Some c → length (parts_text (p ∷ [])) ≡ k → IsMeantTo body (n + k) (meant ++ c ∷ [])
 push body n k meant good p more c whole right len m width = record {
   good = good ++ p ∷ [];
@@ -174,19 +174,19 @@ push body n k meant good p more c whole right len m width = record {
 }
 
 -- the character there is no backslash: it stands for itself
-pub meant_plain : (body : List ℕ) (n : ℕ) (meant : List ℕ) (good more : List Part) → IsBody (good ++ more) body → StandFor good meant → length (parts_text good) ≡ n
+pub meant_plain : (body : List ℕ) (n : ℕ) (meant : List ℕ) (good more : List LiteralPart) → IsBody (good ++ more) body → StandFor good meant → length (parts_text good) ≡ n
     → IsNext more body n → get_or body n 0 ≢ backslash → IsMeantTo body (n + 1) (meant ++ get_or body n 0 ∷ [])
 meant_plain body n meant good [] whole right len next differs = absurd next
 meant_plain body n meant good (Plain c ∷ more) whole right len next differs = push body n 1 meant good (Plain c) more (get_or body n 0) whole right len (ap Some (sym next.0)) refl
 meant_plain body n meant good (Escape c ∷ more) whole right len next differs = absurd (differs next.0)
 
 -- a backslash: the character behind it is there
-pub meant_behind : (body : List ℕ) (n : ℕ) (more : List Part) → IsNext more body n → get_or body n 0 ≡ backslash → n + 1 < length body
+pub meant_behind : (body : List ℕ) (n : ℕ) (more : List LiteralPart) → IsNext more body n → get_or body n 0 ≡ backslash → n + 1 < length body
 meant_behind body n [] next e = absurd next
 meant_behind body n (Plain c ∷ more) next e = absurd (next.1 (sym next.0 ∙ e))
 meant_behind body n (Escape c ∷ more) next e = next.1
 
-pub meant_escape : (body : List ℕ) (n : ℕ) (meant : List ℕ) (good more : List Part) (c d : ℕ) → IsBody (good ++ more) body → StandFor good meant → length (parts_text good) ≡ n
+pub meant_escape : (body : List ℕ) (n : ℕ) (meant : List ℕ) (good more : List LiteralPart) (c d : ℕ) → IsBody (good ++ more) body → StandFor good meant → length (parts_text good) ≡ n
     → IsNext more body n → get_or body n 0 ≡ backslash → get_or body (n + 1) 0 ≡ d → escaped d ≡ Some c → IsMeantTo body (n + 2) (meant ++ c ∷ [])
 meant_escape body n meant good [] c d whole right len next e f m = absurd next
 meant_escape body n meant good (Plain b ∷ more) c d whole right len next e f m = absurd (next.1 (sym next.0 ∙ e))
@@ -195,10 +195,10 @@ meant_escape body n meant good (Escape b ∷ more) c d whole right len next e f 
 
 -- a wrong escape
 abbrev pub IsWrongAt : List ℕ → ℕ → Type 0
-IsWrongAt body n = (good more : List Part) × (wrong : ℕ) × (meant : List ℕ) × IsBody (good ++ Escape wrong ∷ more) body × StandFor good meant
+IsWrongAt body n = (good more : List LiteralPart) × (wrong : ℕ) × (meant : List ℕ) × IsBody (good ++ Escape wrong ∷ more) body × StandFor good meant
     × (escaped wrong ≡ None) × (length (parts_text good) ≡ n)
 
-pub meant_wrong : (body : List ℕ) (n : ℕ) (meant : List ℕ) (good more : List Part) (d : ℕ) → IsBody (good ++ more) body → StandFor good meant → length (parts_text good) ≡ n
+pub meant_wrong : (body : List ℕ) (n : ℕ) (meant : List ℕ) (good more : List LiteralPart) (d : ℕ) → IsBody (good ++ more) body → StandFor good meant → length (parts_text good) ≡ n
     → IsNext more body n → get_or body n 0 ≡ backslash → get_or body (n + 1) 0 ≡ d → escaped d ≡ None → IsWrongAt body n
 meant_wrong body n meant good [] d whole right len next e f m = absurd next
 meant_wrong body n meant good (Plain b ∷ more) d whole right len next e f m = absurd (next.1 (sym next.0 ∙ e))
@@ -206,15 +206,15 @@ meant_wrong body n meant good (Escape b ∷ more) d whole right len next e f m =
     (good, more, b, meant, whole, right, ap escaped (sym next.2 ∙ f) ∙ m, len)
 
 -- the end: all parts are meant
-meant_all : (body : List ℕ) (n : ℕ) (meant : List ℕ) (good more : List Part) → IsBody (good ++ more) body → StandFor good meant → length (parts_text good) ≡ n → length body ≤ n
-    → (ps : List Part) × IsBody ps body × StandFor ps meant
+meant_all : (body : List ℕ) (n : ℕ) (meant : List ℕ) (good more : List LiteralPart) → IsBody (good ++ more) body → StandFor good meant → length (parts_text good) ≡ n → length body ≤ n
+    → (ps : List LiteralPart) × IsBody ps body × StandFor ps meant
 meant_all body n meant good [] whole right len past = (good, subst (λ z. IsBody z body) (append-nil good) whole, right)
 meant_all body n meant good (Plain c ∷ more) whole right len past =
     absurd (omega (arith, ap length (sym (parts_text-append good (Plain c ∷ more)) ∙ whole.1), length-append (parts_text good) (parts_text (Plain c ∷ more)), len))
 meant_all body n meant good (Escape c ∷ more) whole right len past =
     absurd (omega (arith, ap length (sym (parts_text-append good (Escape c ∷ more)) ∙ whole.1), length-append (parts_text good) (parts_text (Escape c ∷ more)), len))
 
-pub meant_end : (body : List ℕ) (n : ℕ) (meant : List ℕ) → IsMeantTo body n meant → length body ≤ n → (ps : List Part) × IsBody ps body × StandFor ps meant
+pub meant_end : (body : List ℕ) (n : ℕ) (meant : List ℕ) → IsMeantTo body n meant → length body ≤ n → (ps : List LiteralPart) × IsBody ps body × StandFor ps meant
 meant_end body n meant m past = meant_all body n meant m.good m.more m.whole m.right m.len past
 
 pub bytes_of_push : (meant : List ℕ) (c : ℕ) (old new : List ℕ) → old ≡ encode_utf8_all meant → new ≡ old ++ encode_utf8 c → new ≡ encode_utf8_all (meant ++ c ∷ [])

@@ -2,7 +2,7 @@
 use Rattle.std.proofs.Common.{◌≡◌, ◌≢◌, ℕ, List, [], ◌∷◌, ◌++◌, true, false, refl, sym, ap, ◌∙◌, subst, arith, ◌⊎◌, inl, inr, append_assoc}
 use Rattle.std.specs.List.{list_all}
 use Rattle.std.proofs.lemmas.Bool.{and_parts, false≢true}
-use Rattle.rules_tokens.specs.Tokens.{quote, backslash, line_feed, IsLiteral, literal_text, parts_text, Part, Plain, Escape, may_stand, IsOpen}
+use Rattle.rules_tokens.specs.Tokens.{quote, backslash, line_feed, IsLiteral, literal_text, parts_text, LiteralPart, Plain, Escape, may_stand, IsOpen}
 
 plain_is_no : (c d : ℕ) → may_stand (Plain c) ≡ true → may_stand (Plain d) ≡ false → c ≡ d → ⊥
 plain_is_no c d h k e = false≢true (sym k ∙ (ap (λ z. may_stand (Plain z)) (sym e) ∙ h))
@@ -14,7 +14,7 @@ quote_is_no_backslash : quote ≡ backslash → ⊥
 quote_is_no_backslash e = omega arith
 
 -- the parts of a closed literal, and what follows it
-pub parts_same : (ps qs : List Part) (x y : List ℕ) → list_all may_stand ps ≡ true → list_all may_stand qs ≡ true
+pub parts_same : (ps qs : List LiteralPart) (x y : List ℕ) → list_all may_stand ps ≡ true → list_all may_stand qs ≡ true
     → parts_text ps ++ quote ∷ x ≡ parts_text qs ++ quote ∷ y → (ps ≡ qs) × (x ≡ y)
 parts_same [] [] x y h k e = (refl, cc)
 parts_same [] (Plain d ∷ qs) x y h k e = let same : d ≡ quote = cc in absurd (plain_is_no d quote ((and_parts _ _ k).0) refl same)
@@ -34,10 +34,10 @@ parts_same (Escape c ∷ ps) (Escape d ∷ qs) x y h k e =
     let parts : ps ≡ qs = rest.0 in
     (cc, rest.1)
 
-literal_shape : (ps : List Part) (x : List ℕ) → literal_text ps ++ x ≡ quote ∷ (parts_text ps ++ quote ∷ x)
+literal_shape : (ps : List LiteralPart) (x : List ℕ) → literal_text ps ++ x ≡ quote ∷ (parts_text ps ++ quote ∷ x)
 literal_shape ps x = ap (λ z. quote ∷ z) (append_assoc (parts_text ps) (quote ∷ []) x)
 
-pub literal_same : (ps qs : List Part) (x y : List ℕ) → list_all may_stand ps ≡ true → list_all may_stand qs ≡ true
+pub literal_same : (ps qs : List LiteralPart) (x y : List ℕ) → list_all may_stand ps ≡ true → list_all may_stand qs ≡ true
     → literal_text ps ++ x ≡ literal_text qs ++ y → (ps ≡ qs) × (x ≡ y)
 literal_same ps qs x y h k e =
     let whole : quote ∷ (parts_text ps ++ quote ∷ x) ≡ quote ∷ (parts_text qs ++ quote ∷ y) = sym (literal_shape ps x) ∙ (e ∙ literal_shape qs y) in
@@ -67,7 +67,7 @@ stuck_escape : (d : ℕ) (cs : List ℕ) → may_stand (Escape d) ≡ true → I
 stuck_escape d cs h (inl e) = omega arith
 stuck_escape d cs h (inr (e, more)) = escape_is_no d line_feed h refl more
 
-pub stuck_parts : (ps qs : List Part) (tail y : List ℕ) → list_all may_stand ps ≡ true → list_all may_stand qs ≡ true → IsStuck tail
+pub stuck_parts : (ps qs : List LiteralPart) (tail y : List ℕ) → list_all may_stand ps ≡ true → list_all may_stand qs ≡ true → IsStuck tail
     → parts_text ps ++ tail ≡ parts_text qs ++ quote ∷ y → ⊥
 stuck_parts [] [] tail y h k s e = stuck_quote y (subst IsStuck e s)
 stuck_parts [] (Plain d ∷ qs) tail y h k s e = stuck_plain d (parts_text qs ++ quote ∷ y) ((and_parts _ _ k).0) (subst IsStuck e s)
@@ -80,7 +80,7 @@ stuck_parts (Escape c ∷ ps) (Plain d ∷ qs) tail y h k s e = let same : d ≡
 stuck_parts (Escape c ∷ ps) (Escape d ∷ qs) tail y h k s e = stuck_parts ps qs tail y ((and_parts _ _ h).1) ((and_parts _ _ k).1) s (cc)
 
 -- a quote, parts, and then neither a part nor a quote: the literal is not closed on its line
-pub open_from_stuck : (ps : List Part) (tail : List ℕ) → list_all may_stand ps ≡ true → IsStuck tail → IsOpen (quote ∷ (parts_text ps ++ tail))
+pub open_from_stuck : (ps : List LiteralPart) (tail : List ℕ) → list_all may_stand ps ≡ true → IsStuck tail → IsOpen (quote ∷ (parts_text ps ++ tail))
 open_from_stuck ps tail h s = (refl, none)
   where
     none : (front after : List ℕ) → IsLiteral front → front ++ after ≢ quote ∷ (parts_text ps ++ tail)

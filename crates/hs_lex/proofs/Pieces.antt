@@ -7,7 +7,7 @@ use Rattle.std.proofs.lemmas.Bool.{and_parts, or_from, eqb-true, not-true, not-f
 use Rattle.unicode_ident.proofs.Computing.{unicode_ident}
 use Rattle.rules_tokens.specs.declared.token.Tok.{Tok}
 use Rattle.rules_tokens.specs.declared.token.Tok.TheVariants as tok
-use Rattle.rules_tokens.specs.Tokens.{quote, dash, is_blank, is_line_feed, starts_word, continues_word, IsWord, IsNumber, IsSymbolNumber, HasForm, IsLongest, BeginsComment, EndsLine, Blank, Comment, Spells, Part, Escape, parts_text, literal_text, symbols, number_of, greatest_number}
+use Rattle.rules_tokens.specs.Tokens.{quote, dash, is_blank, is_line_feed, starts_word, continues_word, IsWord, IsNumber, IsSymbolNumber, HasForm, IsLongest, BeginsComment, EndsLine, Blank, Comment, Spells, LiteralPart, Escape, parts_text, literal_text, symbols, number_of, greatest_number}
 use Rattle.hs_lex.specs.declared.front.Front.TheVariants as front
 use Rattle.hs_lex.specs.declared.front.Flaw.TheVariants as flaw
 use Rattle.hs_lex.specs.declared.literal.Meaning.TheVariants as meaning
@@ -137,7 +137,7 @@ closed_at (c ∷ inside) len b (ps, body, after, cut, whole) = (
   },
 )
 
-literal_is : (ps : List Part) (body : List ℕ) → parts_text ps ≡ body → quote ∷ (body ++ quote ∷ []) ≡ literal_text ps
+literal_is : (ps : List LiteralPart) (body : List ℕ) → parts_text ps ≡ body → quote ∷ (body ++ quote ∷ []) ≡ literal_text ps
 literal_is ps body e = ap (λ z. quote ∷ (z ++ quote ∷ [])) (sym e)
 
 pub literal_front : (rest : List ℕ) (len : ℕ) (text : List ℕ) → Begins (λ c. c == quote) rest → IsClosedAt (drop 1 rest) len → MeansAll (take len (drop 1 rest)) (meaning.Text text)
@@ -159,7 +159,7 @@ pub wrong_front : (rest : List ℕ) (len n : ℕ) → Begins (λ c. c == quote) 
     → StandsAt rest (front.Wrong flaw.BadChar (n + 1))
 wrong_front rest len n b closed (good, more, wrong, meant, whole, stands, none_meant, place) =
     let (body, k) = closed_at rest len b closed in
-    let parts : List Part = good ++ Escape wrong ∷ more in
+    let parts : List LiteralPart = good ++ Escape wrong ∷ more in
     let is : quote ∷ (body ++ quote ∷ []) ≡ literal_text parts = literal_is parts body (whole.1 ∙ k.front) in
     let split : parts_text good ++ parts_text (Escape wrong ∷ more) ≡ body = sym (parts_text-append good (Escape wrong ∷ more)) ∙ (whole.1 ∙ k.front) in (
       quote ∷ parts_text good,

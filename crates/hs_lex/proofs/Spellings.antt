@@ -7,7 +7,7 @@ use Rattle.std.proofs.lemmas.Bool.{and_parts, or_parts, not-true, false≢true}
 use Rattle.std.proofs.lemmas.Slice.Eq.{bytes_eq-Decides}
 use Rattle.rules_tokens.specs.declared.token.Tok.{Tok}
 use Rattle.rules_tokens.specs.declared.token.Tok.TheVariants as tok
-use Rattle.rules_tokens.specs.Tokens.{IsReserved, reserved_words, IsSymbolNumber, symbols, HasForm, Spells, Part, Escape, meaning, escaped, StandFor}
+use Rattle.rules_tokens.specs.Tokens.{IsReserved, reserved_words, IsSymbolNumber, symbols, HasForm, Spells, LiteralPart, Escape, meaning, escaped, StandFor}
 use Rattle.hs_lex.proofs.Forms.{Form, word, number, symbol, literal, HasFormOf, form_not_empty, same_form}
 use Rattle.hs_lex.proofs.Literals.{literal_same}
 
@@ -57,18 +57,18 @@ some_same [] (y ∷ ys) e = absurd (cc)
 some_same (x ∷ xs) [] e = absurd (cc)
 some_same (x ∷ xs) (y ∷ ys) e = let head : x ≡ y = cc in let rest : xs ≡ ys = some_same xs ys (cc) in cc
 
-pub meant_same : (ps : List Part) (cs ds : List ℕ) → StandFor ps cs → StandFor ps ds → cs ≡ ds
+pub meant_same : (ps : List LiteralPart) (cs ds : List ℕ) → StandFor ps cs → StandFor ps ds → cs ≡ ds
 meant_same ps cs ds h k = some_same cs ds (sym h ∙ k)
 
 -- no characters are meant where an escape is wrong
-pub wrong_means_none : (good more : List Part) (wrong : ℕ) (cs : List ℕ) → escaped wrong ≡ None → StandFor (good ++ Escape wrong ∷ more) cs → ⊥
+pub wrong_means_none : (good more : List LiteralPart) (wrong : ℕ) (cs : List ℕ) → escaped wrong ≡ None → StandFor (good ++ Escape wrong ∷ more) cs → ⊥
 wrong_means_none [] more wrong [] n e = cc
 wrong_means_none [] more wrong (c ∷ cs) n e = cc
 wrong_means_none (p ∷ ps) more wrong [] n e = cc
 wrong_means_none (p ∷ ps) more wrong (c ∷ cs) n e = wrong_means_none ps more wrong cs n (cc)
 
 -- the first wrong escape stands at one place
-pub first_wrong_same : (ps qs more rest : List Part) (c d : ℕ) (xs ys : List ℕ) → escaped c ≡ None → escaped d ≡ None → StandFor ps xs → StandFor qs ys
+pub first_wrong_same : (ps qs more rest : List LiteralPart) (c d : ℕ) (xs ys : List ℕ) → escaped c ≡ None → escaped d ≡ None → StandFor ps xs → StandFor qs ys
     → ps ++ Escape c ∷ more ≡ qs ++ Escape d ∷ rest → ps ≡ qs
 first_wrong_same [] [] more rest c d xs ys m n h k e = refl
 first_wrong_same [] (q ∷ qs) more rest c d xs [] m n h k e = absurd (cc)

@@ -4,7 +4,7 @@ use Rattle.std.specs.List.{list_all}
 use denote.Ref.{Bor}
 use Rattle.std.specs.Char.{is_ascii_digit}
 use Rattle.std.specs.Str.{encode_utf8_all}
-use Rattle.rules_tokens.specs.Tokens.{Piece, Blank, Comment, Lexeme, piece_text, Fits, Fault, BadChar, OpenText, BigNumber, IsFaulty, Part, Escape, may_stand, parts_text, StandFor, escaped, position_after, is_blank, quote, starts_word, IsSymbolNumber}
+use Rattle.rules_tokens.specs.Tokens.{Piece, Blank, Comment, Lexeme, piece_text, Fits, Fault, BadChar, OpenText, BigNumber, IsFaulty, LiteralPart, Escape, may_stand, parts_text, StandFor, escaped, position_after, is_blank, quote, starts_word, IsSymbolNumber}
 use Rattle.hs_lex.specs.declared.front.Front.{Front}
 use Rattle.hs_lex.specs.declared.front.Front.TheVariants as front
 use Rattle.hs_lex.specs.declared.front.Flaw.{Flaw}
@@ -56,17 +56,17 @@ abbrev pub NoneBelow : ℕ → List ℕ → Type 0
 NoneBelow n text = (m : ℕ) (cs left : List ℕ) → m < n → IsSymbolNumber m cs → cs ++ left ≢ text
 
 -- these parts, which may stand in a literal, are all of the characters
-abbrev pub IsBody : List Part → List ℕ → Type 0
+abbrev pub IsBody : List LiteralPart → List ℕ → Type 0
 IsBody ps cs = IsTrue (list_all may_stand ps) × (parts_text ps ≡ cs)
 
 -- The first n characters are parts, and then the literal is closed.
 abbrev pub IsClosedAt : List ℕ → ℕ → Type 0
-IsClosedAt inside n = (ps : List Part) × (body after : List ℕ) × IsCut inside n body (quote ∷ after) × IsBody ps body
+IsClosedAt inside n = (ps : List LiteralPart) × (body after : List ℕ) × IsCut inside n body (quote ∷ after) × IsBody ps body
 
 -- what the parts of a body say: a text, or that a wrong escape stands behind so many characters
 abbrev pub MeansAll : List ℕ → Meaning → Type 0
-MeansAll body (meaning.Text text) = (ps : List Part) × (meant : List ℕ) × IsBody ps body × StandFor ps meant × (text ≡ encode_utf8_all meant)
-MeansAll body (meaning.Wrong n) = (good more : List Part) × (wrong : ℕ) × (meant : List ℕ) × IsBody (good ++ Escape wrong ∷ more) body × StandFor good meant
+MeansAll body (meaning.Text text) = (ps : List LiteralPart) × (meant : List ℕ) × IsBody ps body × StandFor ps meant × (text ≡ encode_utf8_all meant)
+MeansAll body (meaning.Wrong n) = (good more : List LiteralPart) × (wrong : ℕ) × (meant : List ℕ) × IsBody (good ++ Escape wrong ∷ more) body × StandFor good meant
     × (escaped wrong ≡ None) × (length (parts_text good) ≡ n)
 
 -- the text stands in the table at this place

@@ -1,5 +1,5 @@
 ghost use Rattle.std.specs.Prelude.{◌≡◌, ◌∷◌, ◌<◌, ◌==◌, List, ℕ, IfOk, MatchOption, length};
-ghost use Rattle.rules_tokens.specs.Tokens.{IsOpen, Part, quote};
+ghost use Rattle.rules_tokens.specs.Tokens.{IsOpen, LiteralPart, quote};
 ghost use Rattle.hs_lex.specs.Fronts.{StandsAt, Begins, IsBody, IsClosedAt, MeansAll};
 
 use crate::characters::escaped;
@@ -39,7 +39,7 @@ fn body_len(inside: &[char]) -> Option<usize>
 
 /// The text that the parts of a literal stand for.
 fn read_body(alloc: Global, body: &[char]) -> Result<Meaning, NoMemory>
-    requires { (ps : List Part) × IsBody ps body.now }
+    requires { (ps : List LiteralPart) × IsBody ps body.now }
     ensures { IfOk result (MeansAll body.now) }
 {
     let mut text = String::new(alloc);

@@ -15,7 +15,7 @@ use Rattle.rules_code.specs.declared.node.ExprId.{ExprId}
 use Rattle.rules_code.specs.declared.node.NodeLink.{NodeLink}
 use Rattle.rules_code.specs.declared.node.Node.{Node}
 use Rattle.rules_code.specs.Slots.{Scope}
-use Rattle.hs_nodes.specs.declared.names.Bound.{Bound}
+use Rattle.hs_nodes.specs.declared.names.ScopedName.{ScopedName}
 use Rattle.hs_nodes.specs.declared.places.Place.{Place}
 use Rattle.hs_nodes.specs.declared.emitter.Emitter.{Emitter}
 use Rattle.hs_nodes.specs.Names.{name_of, scope_of}
@@ -105,8 +105,8 @@ three r a b c d i j xs ys zs k p q h =
 
 -- ---- under a name
 
-pub under : (a b c : Emitter) (id : ExprId) (x : Bound) (ss : List Bound) (ys : Scope → ℕ → List Node) → b.nodes ≡ a.nodes → b.scope ≡ a.scope ++ x ∷ [] → Emitted b c id (ys (scope_of b.scope) (length b.nodes))
-    → ((us : List Bound) (y : Bound) → c.scope ≡ us ++ y ∷ [] → ss ≡ us) → Emitted a (record { nodes = c.nodes; scope = ss }) id (ys (name_of x ∷ scope_of a.scope) (length a.nodes))
+pub under : (a b c : Emitter) (id : ExprId) (x : ScopedName) (ss : List ScopedName) (ys : Scope → ℕ → List Node) → b.nodes ≡ a.nodes → b.scope ≡ a.scope ++ x ∷ [] → Emitted b c id (ys (scope_of b.scope) (length b.nodes))
+    → ((us : List ScopedName) (y : ScopedName) → c.scope ≡ us ++ y ∷ [] → ss ≡ us) → Emitted a (record { nodes = c.nodes; scope = ss }) id (ys (name_of x ∷ scope_of a.scope) (length a.nodes))
 under a b c id x ss ys n s q off =
     let e : ys (scope_of b.scope) (length b.nodes) ≡ ys (name_of x ∷ scope_of a.scope) (length a.nodes) =
     ap (λ z. ys (scope_of z) (length b.nodes)) s ∙ (ap (λ z. ys z (length b.nodes)) (scope-push a.scope x) ∙ ap (λ z. ys (name_of x ∷ scope_of a.scope) (length z)) n) in

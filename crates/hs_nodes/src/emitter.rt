@@ -1,5 +1,5 @@
 //! The nodes so far, and the names of the scope.
-use crate::names::Bound;
+use crate::names::ScopedName;
 use crate::places::Places;
 use hs_base::{NoMemory, Txt};
 use hs_items::Items;
@@ -9,7 +9,7 @@ use rules_expansion::Hidden;
 #[derive(Drop)]
 pub struct Emitter {
     pub nodes: Items<Node>,
-    pub scope: Items<Bound>,
+    pub scope: Items<ScopedName>,
 }
 
 impl Emitter {

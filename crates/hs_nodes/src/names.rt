@@ -10,12 +10,12 @@ use std::alloc::Global;
 
 /// A name of a scope.
 #[derive(Debug, Drop)]
-pub enum Bound {
+pub enum ScopedName {
     Written(Txt),
     Added(Hidden),
 }
 
-impl Bound {
+impl ScopedName {
     ghost use Rattle.std.specs.Prelude.{◌≡◌};
     ghost use Rattle.rules_expansion.specs.Names.{Written, Added, same_name};
     ghost use Rattle.hs_nodes.specs.Names.{name_of};
@@ -25,8 +25,8 @@ impl Bound {
         ensures { result ≡ same_name (Written x.now) (name_of self.now) }
     {
         match self {
-            Bound::Written(y) => is_text(x, y),
-            Bound::Added(_) => false,
+            ScopedName::Written(y) => is_text(x, y),
+            ScopedName::Added(_) => false,
         }
     }
 
@@ -35,8 +35,8 @@ impl Bound {
         ensures { result ≡ same_name (Added h) (name_of self.now) }
     {
         match self {
-            Bound::Written(_) => false,
-            Bound::Added(k) => h.number() == k.number(),
+            ScopedName::Written(_) => false,
+            ScopedName::Added(k) => h.number() == k.number(),
         }
     }
 }
@@ -49,25 +49,25 @@ pub fn is_text(a: &Txt, b: &Txt) -> bool
 }
 
 /// Puts a name of the script on.
-pub fn bind(scope: &mut Items<Bound>, alloc: Global, x: &Txt) -> Result<(), NoMemory>
-    ensures { OnOk result (scope.new ≡ scope.old ++ Bound.Written x.now ∷ []) }
+pub fn bind(scope: &mut Items<ScopedName>, alloc: Global, x: &Txt) -> Result<(), NoMemory>
+    ensures { OnOk result (scope.new ≡ scope.old ++ ScopedName.Written x.now ∷ []) }
 {
-    scope.add(Bound::Written(x.copy(alloc)?))?;
+    scope.add(ScopedName::Written(x.copy(alloc)?))?;
     Ok(())
 }
 
 /// Puts an added name on.
-pub fn bind_added(scope: &mut Items<Bound>, h: Hidden) -> Result<(), NoMemory>
-    ensures { OnOk result (scope.new ≡ scope.old ++ Bound.Added h ∷ []) }
+pub fn bind_added(scope: &mut Items<ScopedName>, h: Hidden) -> Result<(), NoMemory>
+    ensures { OnOk result (scope.new ≡ scope.old ++ ScopedName.Added h ∷ []) }
 {
-    scope.add(Bound::Added(h))?;
+    scope.add(ScopedName::Added(h))?;
     Ok(())
 }
 
 /// Takes the last name off.
 #[tactic(auto, using(crate::proofs::Scopes::name_off))]
-pub fn off(scope: &mut Items<Bound>)
-    ensures { (xs : List Bound) (x : Bound) → scope.old ≡ xs ++ x ∷ [] → scope.new ≡ xs }
+pub fn off(scope: &mut Items<ScopedName>)
+    ensures { (xs : List ScopedName) (x : ScopedName) → scope.old ≡ xs ++ x ∷ [] → scope.new ≡ xs }
 {
     let _ = scope.pop();
 }

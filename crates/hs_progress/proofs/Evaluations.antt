@@ -7,7 +7,7 @@ use Rattle.rules_trees.specs.Programs.{Fn, script_of}
 use Rattle.rules_meaning.specs.Values.{Env, Outcome, Gives, Throws, Stuck}
 use Rattle.rules_meaning.specs.Meaning.{functions_of}
 use Rattle.rules_meaning.specs.CoreMeaning.{code_of, value_of_core}
-use Rattle.rules_sorts.specs.Sorts.{Sort, a_value, Bound}
+use Rattle.rules_sorts.specs.Sorts.{Sort, a_value, SortedName}
 use Rattle.rules_sorts.specs.TypedMeaning.{WellAll, any_cell}
 use Rattle.rules_typing.specs.Typing as typing
 use Rattle.rules_typing.specs.TypingScripts.{Accepted}
@@ -27,15 +27,15 @@ use Rattle.hs_progress.proofs.Moves.{KeepsTyped, locals_go}
 use Rattle.hs_progress.proofs.Entries.{runs_are_typed}
 
 module _ (c : typing.Ctx) where
-  all_have : {g : List Bound} {es : List CoreEx} {ks : List Sort} → CoreAllHave c g es ks → HaveSorts c g es
+  all_have : {g : List SortedName} {es : List CoreEx} {ks : List Sort} → CoreAllHave c g es ks → HaveSorts c g es
   all_have no_more = tt
   all_have (one_more {k} h hs) = ((k, h), all_have hs)
 
-  args_have : (g : List Bound) (es : Exs) (ts : List T) → WellAll es → typing.HaveTypes c (written_in g) es ts → HaveSorts c g (of_script es)
+  args_have : (g : List SortedName) (es : Exs) (ts : List T) → WellAll es → typing.HaveTypes c (written_in g) es ts → HaveSorts c g (of_script es)
   args_have g none ts w h = tt
   args_have g (more e es) ts w h = ((a_value h.0, (h.0, w.0, h.2, refl)), args_have g es h.1 w.1 h.3)
 
-  does_have : {g : List Bound} {a : Core} {k : Sort} → Does c g a k → HaveSorts c g (evaluated a)
+  does_have : {g : List SortedName} {a : Core} {k : Sort} → Does c g a k → HaveSorts c g (evaluated a)
   does_have (does_return {k} h) = ((k, h), tt)
   does_have (does_throw h) = ((_, h), tt)
   does_have (does_let {j} p h d) = ((j, h), tt)
@@ -84,7 +84,7 @@ not_stuck k (Gives v) h e = cc e
 not_stuck k (Throws x) h e = cc e
 not_stuck k Stuck h e = h
 
-all_answer : (script : Script) → Accepted script → (here : ℕ) (g : List Bound) (env : Env) → FitsScope any_cell g env → (es : List CoreEx) → HaveSorts (ctx_of (script_of script) here) g es → AllAnswer (functions_of (script_of script)) env es
+all_answer : (script : Script) → Accepted script → (here : ℕ) (g : List SortedName) (env : Env) → FitsScope any_cell g env → (es : List CoreEx) → HaveSorts (ctx_of (script_of script) here) g es → AllAnswer (functions_of (script_of script)) env es
 all_answer script accepted here g env f [] h = tt
 all_answer script accepted here g env f (e ∷ es) h = (
   not_stuck h.0.0 (value_of_core (functions_of (script_of script)) env e) (accepted_good any_cell script here g env e h.0.0 accepted h.0.1 f),

@@ -8,7 +8,7 @@ use Rattle.hs_base.specs.declared.tree.script.Script.{Script}
 use Rattle.rules_trees.specs.Trees.{T, unit}
 use Rattle.rules_trees.specs.Programs.{bl_of, bd_of, Par, Fn, fn_of, script_of}
 use Rattle.rules_expansion.specs.Names.{Name, Written}
-use Rattle.rules_sorts.specs.Sorts.{a_value, Bound}
+use Rattle.rules_sorts.specs.Sorts.{a_value, SortedName}
 use Rattle.rules_typing.specs.Typing.{Sig}
 use Rattle.rules_typing.specs.Typing as typing
 use Rattle.rules_typing.specs.TypingScripts.{Accepted, sig_of_fn, sigs_from, params_in, param_types, result_of, BodyHas, is_unit, is_none, main_by}
@@ -23,15 +23,16 @@ use Rattle.hs_progress.proofs.Surface.{binds, bl_does, eq_sym}
 
 -- ---- parameters
 
-abbrev scope_with : List Bound → List Par → List Bound
+abbrev scope_with : List SortedName → List Par → List SortedName
 scope_with g [] = g
 scope_with g (p ∷ ps) = scope_with (with_bound (Written p.name.text) (a_value p.ty.ty) g) ps
 
-params_take : (g : List Bound) (ps : List Par) → Takes g (param_names ps) (param_types ps) (scope_with g ps)
+params_take : (g : List SortedName) (ps : List Par) → Takes g (param_names ps) (param_types ps) (scope_with g ps)
 params_take g [] = takes_none
 params_take g (p ∷ ps) = takes_one (params_take (with_bound (Written p.name.text) (a_value p.ty.ty) g) ps)
 
-params_see : (g : List Bound) (s : List typing.Bound) (ps : List Par) → Sees g s → Sees (scope_with g ps) (params_in s ps)
+params_see : (g : List SortedName) (s : List typing.TypedName) (ps : List Par) → Sees g s
+    → Sees (scope_with g ps) (params_in s ps)
 params_see g s [] w = w
 params_see g s (p ∷ ps) w = params_see (with_bound (Written p.name.text) (a_value p.ty.ty) g) (typing.bound p.name p.ty.ty ∷ s) ps (binds p.name p.ty.ty w)
 
@@ -95,7 +96,7 @@ unit_is _ e = absurd (cc e)
 runs_of : (s : Script) (sig : Sig) (d : ActionFunction) (ps : List Name) → d.params ≡ ps → sig.params ≡ [] → KeepsHead (script_of s) sig d → (cells : ℕ → T → Type 0) → Runs cells (script_of s) d.body [] (a_value sig.result)
 runs_of s sig d ps e n h cells = by h.takes h.does n
   where
-    by : {ps : List Name} {ts : List T} {g : List Bound} → Takes [] ps ts g → Does (ctx_of (script_of s) h.here) g d.body (a_value sig.result) → ts ≡ [] → Runs cells (script_of s) d.body [] (a_value sig.result)
+    by : {ps : List Name} {ts : List T} {g : List SortedName} → Takes [] ps ts g → Does (ctx_of (script_of s) h.here) g d.body (a_value sig.result) → ts ≡ [] → Runs cells (script_of s) d.body [] (a_value sig.result)
     by takes_none p e = record { here = h.here; scope = []; does = p; fits = λ y. tt }
     by (takes_one {t} {ts} x) p e = absurd (let z : t ∷ ts ≡ [] = e in cc z)
 

@@ -8,7 +8,7 @@ use Rattle.rules_trees.specs.Programs.{Fn, script_of}
 use Rattle.rules_expansion.specs.Names.{Name, Written, Added, Unread}
 use Rattle.rules_meaning.specs.Values.{V, Truth, Nothing, Just, Left, Right, Pair, Nil, Cons, Exception, Restore, Env, with_name, value_at, Outcome, Gives, Throws, Stuck, Outcomes, AllGive, OneThrows, OneStuck, and_then}
 use Rattle.rules_meaning.specs.Meaning.{functions_of, value_of_ex, values_of_exs}
-use Rattle.rules_sorts.specs.Sorts.{Sort, a_value, a_masking_name, an_instance, a_scope_cell, Bound}
+use Rattle.rules_sorts.specs.Sorts.{Sort, a_value, a_masking_name, an_instance, a_scope_cell, SortedName}
 use Rattle.rules_typing.specs.Typing as typing
 use Rattle.rules_typing.specs.TypingScripts.{Accepted, sigs_from}
 use Rattle.rules_sorts.specs.TypedMeaning.{AllOf, WellAll}
@@ -41,7 +41,7 @@ module _ (cells : ℕ → T → Type 0) where
   binds_fits (Added z) k v b h = h
   binds_fits Unread k v b h = absurd b
 
-  pub more_fits : (g : List Bound) (env : Env) (y : Name) (k : Sort) (v : V) → Binds y k → OfSort cells k v → FitsScope cells g env → FitsScope cells (with_bound y k g) (with_name y v env)
+  pub more_fits : (g : List SortedName) (env : Env) (y : Name) (k : Sort) (v : V) → Binds y k → OfSort cells k v → FitsScope cells g env → FitsScope cells (with_bound y k g) (with_name y v env)
   more_fits g env y k v b h f = scope_with cells g env y k v (binds_read y k b) (binds_fits y k v b h) f
 
   mask_of : (y : Name) (v : V) → FitsAt cells y (Some a_masking_name) (Some v) → of_masking v
@@ -65,13 +65,13 @@ module _ (cells : ℕ → T → Type 0) where
   and_good k P Q Stuck r f h g = absurd h
 
   module _ (script : Script) (accepted : Accepted script) (here : ℕ) where
-    exs_sorts : {g : List Bound} {es : List CoreEx} {ks : List Sort} (env : Env) → FitsScope cells g env → CoreAllHave (ctx_of (script_of script) here) g es ks → AllAre (AllOfSorts cells ks) (values_of_core (functions_of (script_of script)) env es)
+    exs_sorts : {g : List SortedName} {es : List CoreEx} {ks : List Sort} (env : Env) → FitsScope cells g env → CoreAllHave (ctx_of (script_of script) here) g es ks → AllAre (AllOfSorts cells ks) (values_of_core (functions_of (script_of script)) env es)
     exs_sorts env f no_more = no_values
     exs_sorts {g} env f (one_more {e} {k} {es} {ks} h hs) =
         and_good k (AllOfSorts cells ks) (AllOfSorts cells (k ∷ ks)) (value_of_core (functions_of (script_of script)) env e) (values_of_core (functions_of (script_of script)) env es) (λ v vs p q. one_value p q)
         (accepted_good cells script here g env e k accepted h f) (exs_sorts env f hs)
 
-    args_good : (g : List Bound) (env : Env) (es : Exs) (ts : List T) → FitsScope cells g env → WellAll es → typing.HaveTypes (ctx_of (script_of script) here) (written_in g) es ts → AllAre (AllOf cells ts) (values_of_exs (functions_of (script_of script)) env es)
+    args_good : (g : List SortedName) (env : Env) (es : Exs) (ts : List T) → FitsScope cells g env → WellAll es → typing.HaveTypes (ctx_of (script_of script) here) (written_in g) es ts → AllAre (AllOf cells ts) (values_of_exs (functions_of (script_of script)) env es)
     args_good g env none ts f w h = subst (λ z. AllAre (AllOf cells z) (values_of_exs (functions_of (script_of script)) env none)) (sym h) tt
     args_good g env (more e es) ts f w h =
         subst (λ z. AllAre (AllOf cells z) (values_of_exs (functions_of (script_of script)) env (more e es))) (sym h.4)
@@ -80,11 +80,11 @@ module _ (cells : ℕ → T → Type 0) where
 
   -- ---- parameters
 
-  abbrev Entered : List Bound → Option Env → Type 0
+  abbrev Entered : List SortedName → Option Env → Type 0
   Entered g None = ⊥
   Entered g (Some env) = FitsScope cells g env
 
-  takes_fit : {g h : List Bound} {ps : List Name} {ts : List T} → Takes g ps ts h → (env : Env) (us : List V) → FitsScope cells g env → AllOf cells ts us → Entered h (with_params ps us env)
+  takes_fit : {g h : List SortedName} {ps : List Name} {ts : List T} → Takes g ps ts h → (env : Env) (us : List V) → FitsScope cells g env → AllOf cells ts us → Entered h (with_params ps us env)
   takes_fit takes_none env [] f a = f
   takes_fit takes_none env (u ∷ us) f a = absurd a
   takes_fit (takes_one w) env [] f a = absurd a
@@ -140,7 +140,7 @@ module _ (cells : ℕ → T → Type 0) (script : Script) (accepted : Accepted s
     chooses_either p q (Right u) h = goes_on (awaited q u h)
     chooses_either p q _ h = absurd h
 
-    module _ (here : ℕ) (g : List Bound) (x y : Name) (env : Env) (f : FitsScope cells g env) where
+    module _ (here : ℕ) (g : List SortedName) (x y : Name) (env : Env) (f : FitsScope cells g env) where
       -- an action that waits for two values
       two : {i j : Sort} {a : Core} → Binds x i → Binds y j → Does (ctx_of ds here) (with_bound y j (with_bound x i g)) a k → (u w : V) → OfSort cells i u → OfSort cells j w → Runs cells ds a (with_name y w (with_name x u env)) k
       two {i} {j} p q d u w hu hw = record { here = here; scope = with_bound y j (with_bound x i g); does = d; fits = more_fits cells (with_bound x i g) (with_name x u env) y j w q hw (more_fits cells g env x i u p hu f) }
@@ -166,7 +166,7 @@ module _ (cells : ℕ → T → Type 0) (script : Script) (accepted : Accepted s
     restores r {a} {env} p (Some v) h = restores_at a env p v (mask_of cells r v h)
 
     -- ---- a call
-    enters : {g : List Bound} (here : ℕ) (body : Core) (o : Option Env) → Does (ctx_of ds here) g body k → Entered cells g o → Goes (on_top fs (entered body o))
+    enters : {g : List SortedName} (here : ℕ) (body : Core) (o : Option Env) → Does (ctx_of ds here) g body k → Entered cells g o → Goes (on_top fs (entered body o))
     enters here body None w f = absurd f
     enters {g} here body (Some env) w f = goes_on b (record { here = here; scope = g; does = w; fits = f })
 
@@ -180,16 +180,16 @@ module _ (cells : ℕ → T → Type 0) (script : Script) (accepted : Accepted s
 
   -- ---- rules 1 to 11
   module _ (here : ℕ) (s : Mask) where
-    value_good : (g : List Bound) (env : Env) (e : CoreEx) (j : Sort) → FitsScope cells g env → CoreHas (ctx_of ds here) g e j → GoodSort cells j (value_of_core (functions_of ds) env e)
+    value_good : (g : List SortedName) (env : Env) (e : CoreEx) (j : Sort) → FitsScope cells g env → CoreHas (ctx_of ds here) g e j → GoodSort cells j (value_of_core (functions_of ds) env e)
     value_good g env e j f h = accepted_good cells script here g env e j accepted h f
 
-    runs : (g : List Bound) {a : Core} {env : Env} {k : Sort} → FitsScope cells g env → Does (ctx_of ds here) g a k → Runs cells ds a env k
+    runs : (g : List SortedName) {a : Core} {env : Env} {k : Sort} → FitsScope cells g env → Does (ctx_of ds here) g a k → Runs cells ds a env k
     runs g f d = record { here = here; scope = g; does = d; fits = f }
 
-    waits : (g : List Bound) {x : Name} {j : Sort} {a : Core} {env : Env} {k : Sort} → FitsScope cells g env → Binds x j → Does (ctx_of ds here) (with_bound x j g) a k → Awaits cells ds x j a env k
+    waits : (g : List SortedName) {x : Name} {j : Sort} {a : Core} {env : Env} {k : Sort} → FitsScope cells g env → Binds x j → Does (ctx_of ds here) (with_bound x j g) a k → Awaits cells ds x j a env k
     waits g f b d = record { here = here; scope = g; binds = b; does = d; fits = f }
 
-    first_goes : {g : List Bound} {a : Core} {k : Sort} {fs : List Frame} (env : Env) → Does (ctx_of ds here) g a k → FitsScope cells g env → FramesTyped cells ds k fs → Goes (on_top fs (first_step (code_of ds) s a env))
+    first_goes : {g : List SortedName} {a : Core} {k : Sort} {fs : List Frame} (env : Env) → Does (ctx_of ds here) g a k → FitsScope cells g env → FramesTyped cells ds k fs → Goes (on_top fs (first_step (code_of ds) s a env))
     first_goes {g} {k} env (does_return {e} h) f b = value_steps b k (value_of_core (functions_of ds) env e) _ (value_good g env e k f h) (λ v q. record { sort = k; part = ret_typed q; frames = b })
     first_goes {g} env (does_throw {e} h) f b = value_steps b (a_value exn) (value_of_core (functions_of ds) env e) _ (value_good g env e (a_value exn) f h) (throwing b)
     first_goes {g} env (does_let {e} {j} p h d) f b = value_steps b j (value_of_core (functions_of ds) env e) _ (value_good g env e j f h) (λ v q. goes_on b (awaited (waits g f p d) v q))

@@ -5,7 +5,7 @@ use Rattle.rules_trees.specs.Programs.{Fn}
 use Rattle.rules_meaning.specs.Values.{Env, Stuck}
 use Rattle.rules_meaning.specs.Meaning.{Functions}
 use Rattle.rules_meaning.specs.CoreMeaning.{value_of_core}
-use Rattle.rules_sorts.specs.Sorts.{Sort, Bound}
+use Rattle.rules_sorts.specs.Sorts.{Sort, SortedName}
 use Rattle.rules_sorts.specs.TypedMeaning.{any_cell}
 use Rattle.rules_typing.specs.Typing.{Ctx}
 use Rattle.rules_expansion.specs.Core.{CoreEx, OfScript, Core, Return, ThrowIo, Let, Bind, If, CaseMaybe, CaseEither, CaseList, CasePair, Call, Perform, Fork, ForkUnmask, Catch, MaskWith, MaskHard, Restore}
@@ -37,7 +37,7 @@ evaluated (MaskHard r a) = []
 evaluated (Restore r a) = []
 
 -- each of these expressions has a sort in this scope
-abbrev pub HaveSorts : Ctx → List Bound → List CoreEx → Type 0
+abbrev pub HaveSorts : Ctx → List SortedName → List CoreEx → Type 0
 HaveSorts c g [] = Unit {0}
 HaveSorts c g (e ∷ es) = ((k : Sort) × CoreHas c g e k) × HaveSorts c g es
 
@@ -45,7 +45,7 @@ HaveSorts c g (e ∷ es) = ((k : Sort) × CoreHas c g e k) × HaveSorts c g es
 -- definition that `here` others precede, and the environment fits that scope.
 pub record MayEvaluate (ds : List Fn) (a : Core) (env : Env) : Type 0 where
   pub here : ℕ
-  pub scope : List Bound
+  pub scope : List SortedName
   pub sorts : HaveSorts (ctx_of ds here) scope (evaluated a)
   pub fits : FitsScope any_cell scope env
 

@@ -12,7 +12,7 @@ use Rattle.rules_trees.specs.Trees.{T, exn, thread, either, cell, async}
 use Rattle.rules_trees.specs.Programs.{Fn}
 use Rattle.rules_expansion.specs.Names.{Name, Unread}
 use Rattle.rules_meaning.specs.Values.{V, Env}
-use Rattle.rules_sorts.specs.Sorts.{Sort, a_value, a_masking_name, Bound}
+use Rattle.rules_sorts.specs.Sorts.{Sort, a_value, a_masking_name, SortedName}
 use Rattle.rules_typing.specs.Typing as typing
 use Rattle.rules_typing.specs.TypingScripts.{sigs_from}
 use Rattle.rules_sorts.specs.TypedMeaning.{HasV}
@@ -33,7 +33,7 @@ ctx_of ds here = record { sigs = sigs_from 0 ds; here = here }
 -- the action function does what a head says
 pub record KeepsHead (ds : List Fn) (sig : typing.Sig) (d : ActionFunction) : Type 0 where
   pub here : ℕ
-  pub scope : List Bound
+  pub scope : List SortedName
   pub takes : Takes [] d.params sig.params scope
   pub does : Does (ctx_of ds here) scope d.body (a_value sig.result)
 
@@ -72,14 +72,14 @@ module _ (cells : ℕ → T → Type 0) where
     -- an action gives a value of sort k, in an environment that fits its scope
     pub record Runs (a : Core) (env : Env) (k : Sort) : Type 0 where
       pub here : ℕ
-      pub scope : List Bound
+      pub scope : List SortedName
       pub does : Does (ctx_of ds here) scope a k
       pub fits : FitsScope cells scope env
 
     -- the same of an action that waits for a value of sort j, to be bound to x
     pub record Awaits (x : Name) (j : Sort) (a : Core) (env : Env) (k : Sort) : Type 0 where
       pub here : ℕ
-      pub scope : List Bound
+      pub scope : List SortedName
       pub binds : Binds x j
       pub does : Does (ctx_of ds here) (with_bound x j scope) a k
       pub fits : FitsScope cells scope env

@@ -10,7 +10,7 @@ use Rattle.hs_base.specs.declared.tree.forms.BinaryAction.TheVariants.{PutMVar, 
 use Rattle.hs_base.specs.declared.tree.forms.BlockAction.TheVariants.{ForkIo, MaskOnly, UninterruptibleMaskOnly}
 use Rattle.hs_base.specs.declared.tree.forms.GuardAction.TheVariants.{Finally}
 use Rattle.rules_trees.specs.Trees.{lit, unary, nothing_more, exception}
-use Rattle.rules_trees.specs.Programs.{Act, bare, unary_act, binary_act, throw_io, new_empty, scoped, catch, guard, bracket, timeout, case_act, maybe_acts, Bl, last, then, bind}
+use Rattle.rules_trees.specs.Programs.{SurfaceAction, bare, unary_act, binary_act, throw_io, new_empty, scoped, catch, guard, bracket, timeout, case_act, maybe_acts, Bl, last, then, bind}
 use Rattle.hs_rules.specs.State.{State, Mark, AcquiredBy, ReleasedBy, Thread}
 use Rattle.hs_rules.specs.Entries.{uncaught_line}
 use Rattle.hs_rules.specs.Runs.{after}
@@ -95,7 +95,7 @@ thrown_at = refl
 
 -- ---- timeouts
 
-abbrev told : Act → Bl
+abbrev told : SurfaceAction → Bl
 told a = bind (named (codes "y")) a (last (case_act here (var (codes "y")) (maybe_acts (last (say (codes "late"))) (named (codes "z")) (last (say (codes "in time"))))))
 
 late : seen (driven (script (told (timeout here (int 5) (last (nap 90))))) two_threads 300) ≡ Some (record { out = codes "late\n"; err = []; marks = ReleasedBy 0 0 ∷ AcquiredBy 0 0 ∷ []; finished = true ∷ true ∷ [] })

@@ -9,7 +9,7 @@ use Rattle.hs_base.specs.declared.tree.forms.UnaryAction.TheVariants.{Return, Pu
 use Rattle.hs_base.specs.declared.tree.forms.BinaryAction.TheVariants.{PutMVar}
 use Rattle.hs_base.specs.declared.tree.forms.BlockAction.TheVariants.{ForkIo}
 use Rattle.rules_trees.specs.Trees.{unit, Wr, Ex, lit, name, none, unary, number, letters, nothing_more}
-use Rattle.rules_trees.specs.Programs.{Act, unary_act, binary_act, throw_io, new_empty, call, scoped, Bl, bind, io_body, Par, Fn}
+use Rattle.rules_trees.specs.Programs.{SurfaceAction, unary_act, binary_act, throw_io, new_empty, call, scoped, Bl, bind, io_body, Par, Fn}
 use Rattle.hs_rules.specs.State.{State}
 use Rattle.hs_rules.specs.Entries.{next}
 use Rattle.hs_rules.specs.Runs.{first_of}
@@ -35,10 +35,10 @@ var x = name (named x) none
 abbrev pub ty : Wr
 ty = record { ty = unit; pos = here }
 
-abbrev pub say : List ℕ → Act
+abbrev pub say : List ℕ → SurfaceAction
 say x = unary_act PutStrLn here (text x)
 
-abbrev pub say_it : List ℕ → Act
+abbrev pub say_it : List ℕ → SurfaceAction
 say_it x = unary_act PutStrLn here (var x)
 
 -- main :: IO () = this block
@@ -52,13 +52,13 @@ params (x ∷ xs) = record { name = named x; ty = ty } ∷ params xs
 abbrev pub def : List ℕ → List (List ℕ) → Bl → Fn
 def f xs b = record { name = named f; params = params xs; body = io_body ty b }
 
-abbrev pub run_it : List ℕ → Act
+abbrev pub run_it : List ℕ → SurfaceAction
 run_it f = call (named f) none
 
-abbrev pub throwing : List ℕ → Act
+abbrev pub throwing : List ℕ → SurfaceAction
 throwing x = throw_io here ty (unary ErrorCall here (text x))
 
-abbrev pub show_it : List ℕ → Act
+abbrev pub show_it : List ℕ → SurfaceAction
 show_it x = unary_act PutStrLn here (unary Show here (var x))
 
 abbrev pub new : List ℕ → Bl → Bl
@@ -67,22 +67,22 @@ new x b = bind (named x) (new_empty here ty) b
 abbrev pub fork : List ℕ → Bl → Bl → Bl
 fork t a b = bind (named t) (scoped ForkIo here a) b
 
-abbrev pub take : List ℕ → Act
+abbrev pub take : List ℕ → SurfaceAction
 take m = unary_act TakeMVar here (var m)
 
-abbrev pub put : List ℕ → Ex → Act
+abbrev pub put : List ℕ → Ex → SurfaceAction
 put m e = binary_act PutMVar here (var m) e
 
 abbrev pub nothing : Ex
 nothing = lit here nothing_more
 
-abbrev pub return_unit : Act
+abbrev pub return_unit : SurfaceAction
 return_unit = unary_act Return here nothing
 
-abbrev pub kill : List ℕ → Act
+abbrev pub kill : List ℕ → SurfaceAction
 kill t = unary_act KillThread here (var t)
 
-abbrev pub nap : ℕ → Act
+abbrev pub nap : ℕ → SurfaceAction
 nap n = unary_act ThreadDelay here (int n)
 
 -- ---- a scheduler: the first legal entry of a list, and else the clock goes on

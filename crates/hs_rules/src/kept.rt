@@ -1,16 +1,16 @@
 //! What a turn keeps, and what belongs to a code.
 ghost use Rattle.std.specs.Prelude.{◌≡◌, ℕ, List};
-ghost use Rattle.rules_code.specs.declared.code.Body.{Body};
+ghost use Rattle.rules_code.specs.declared.code.CodeBody.{CodeBody};
 ghost use Rattle.hs_rules.specs.declared.entry.Entry.{Entry};
 ghost use Rattle.hs_rules.specs.declared.kept.Plan.{Plan};
 
 use hs_base::{ClockChoice, Limits};
-use rules_code::Body;
+use rules_code::CodeBody;
 
 /// What never changes of a run from its begin on. No value of it is made: contracts alone speak of it.
 pub struct Plan {
     /// The code, and with it the script that it was made of.
-    pub body: Body,
+    pub body: CodeBody,
     pub fuel: u32,
     pub limits: Limits,
     /// How many faults the sink of output had counted.
@@ -34,7 +34,7 @@ pub trait Kept {
 pub trait Ticketed {
     ghost number: { Self → ℕ };
 
-    ghost belongs: { Self → Body };
+    ghost belongs: { Self → CodeBody };
 
     fn ticket(&self) -> u64
         ensures { result ≡ number self.now };

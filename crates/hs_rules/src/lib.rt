@@ -13,5 +13,5 @@ mod kept;
 pub use entry::{Entry, LimitKind};
 pub use history::History;
 pub use kept::{Kept, Plan, Ticketed};
-pub use rules_code::{Act, ActId, Body, Code, ExprId, Fun, Node, NodeLink, Primitive};
+pub use rules_code::{Act, ActId, Code, CodeBody, ExprId, Fun, Node, NodeLink, Primitive};
 pub use rules_typing::Checked;

@@ -5,7 +5,7 @@ use Rattle.hs_base.specs.declared.tree.script.Body.TheVariants as y
 use Rattle.hs_base.specs.declared.tree.script.Def.{Def}
 use Rattle.hs_base.specs.declared.tree.script.Script.{Script}
 use Rattle.rules_trees.specs.Programs.{Bd, pure_body, io_body, Fn, bd_of, fn_of, script_of}
-use Rattle.rules_typing.specs.Typing.{Fault, Need, is, Met, Bound, Ctx, Sig}
+use Rattle.rules_typing.specs.Typing.{Fault, Need, is, Met, TypedName, Ctx, Sig}
 use Rattle.rules_typing.specs.TypingFaults.{In}
 use Rattle.rules_typing.specs.TypingScripts.{result_of, params_in, head_faults, sigs_from, BodyHas, BodyBreaks, DefBreaks, AnyBreaks, Measured, unmeasured, measured_with, Accepted}
 use Rattle.rules_sorts.specs.TypedMeaning.{BodyTyped, PureTyped}
@@ -30,7 +30,7 @@ met_where n h = by (met n) refl
     by true e = met_true n e
     by false e = absurd (h (λ m. let z : true ≡ false = sym (true_met n m) ∙ e in absurd (cc z)))
 
-agree_body : (c : Ctx) (s : List Bound) (d : Bd) → Agrees (judge_body c s d) (BodyHas c s d) (BodyBreaks c s d)
+agree_body : (c : Ctx) (s : List TypedName) (d : Bd) → Agrees (judge_body c s d) (BodyHas c s d) (BodyBreaks c s d)
 agree_body c s (pure_body w e) = agree c s e
 agree_body c s (io_body w a) = agree_bl c s a
 

@@ -11,7 +11,7 @@ use Rattle.rules_meaning.specs.Values.{V, Int, Pair, Just, Left, Right, Exceptio
 use Rattle.rules_meaning.specs.Meaning.{Functions, unary_of, binary_of, functions_of, value_of_ex}
 use Rattle.rules_expansion.specs.Core.{CoreEx, OfScript, Read, JustRead, NoValue, BelowZero, IsZero, SameExn, Killed, Nil, LeftRead, RightRead, RightLeft, RightRight, RightNil, PairRead, FirstOf, SecondOf}
 use Rattle.rules_meaning.specs.CoreMeaning.{read, value_of_core}
-use Rattle.rules_sorts.specs.Sorts.{Sort, a_value, a_masking_name, an_instance, a_scope_cell, Bound, sort_at}
+use Rattle.rules_sorts.specs.Sorts.{Sort, a_value, a_masking_name, an_instance, a_scope_cell, SortedName, sort_at}
 use Rattle.rules_typing.specs.Typing as typing
 use Rattle.rules_typing.specs.TypingScripts.{Accepted, sigs_from}
 use Rattle.rules_sorts.specs.TypedMeaning.{of_int, of_thread, of_exn, of_pair, of_cell, HasSort, Fits, FunctionsGood, Good}
@@ -40,13 +40,14 @@ seen_if false false k o r e h = h
 seen_if true false k o r e h = absurd (cc e)
 seen_if false true k o r e h = absurd (cc e)
 
-seen_with : (g : List Bound) (x : List ℕ) (y : Name) (k : Sort) → typing.look (written_in g) x ≡ seen_at (sort_at (Written x) g)
+seen_with : (g : List SortedName) (x : List ℕ) (y : Name) (k : Sort)
+    → typing.look (written_in g) x ≡ seen_at (sort_at (Written x) g)
     → typing.look (with_written y k (written_in g)) x ≡ seen_at (cond (same_name (Written x) y) (Some k) (sort_at (Written x) g))
 seen_with g x (Written z) k h = seen_if (bytes_eq z x) (bytes_eq x z) k (sort_at (Written x) g) (typing.look (written_in g) x) (bytes_eq_sym z x) h
 seen_with g x (Added z) k h = h
 seen_with g x Unread k h = h
 
-look_is : (g : List Bound) (x : List ℕ) → typing.look (written_in g) x ≡ seen_at (sort_at (Written x) g)
+look_is : (g : List SortedName) (x : List ℕ) → typing.look (written_in g) x ≡ seen_at (sort_at (Written x) g)
 look_is [] x = refl
 look_is (c ∷ g) x = seen_with g x c.name c.sort (look_is g x)
 
@@ -64,7 +65,7 @@ module _ (cells : ℕ → T → Type 0) where
   seen_fits x (Some an_instance) (Some v) h = absurd h
   seen_fits x (Some (a_scope_cell t)) (Some v) h = absurd h
 
-  fits_written : (g : List Bound) (env : Env) → FitsScope cells g env → Fits cells (written_in g) env
+  fits_written : (g : List SortedName) (env : Env) → FitsScope cells g env → Fits cells (written_in g) env
   fits_written g env f x = subst (λ o. HasSort cells o (value_at (Written x) env)) (sym (look_is g x)) (seen_fits x (sort_at (Written x) g) (value_at (Written x) env) (f (Written x)))
 
   -- ---- what is read
@@ -82,7 +83,8 @@ module _ (cells : ℕ → T → Type 0) where
   one_at (Added z) k (Some v) h = h
   one_at Unread k (Some v) h = h
 
-  there : (g : List Bound) (env : Env) (y : Name) (k : Sort) → FitsScope cells g env → IsThere g y k → HasOne k (value_at y env)
+  there : (g : List SortedName) (env : Env) (y : Name) (k : Sort) → FitsScope cells g env → IsThere g y k
+      → HasOne k (value_at y env)
   there g env y k f h = one_at y k (value_at y env) (subst (λ o. FitsAt cells y o (value_at y env)) h.1 (f y))
 
   read_good : (k l : Sort) (r : Option V) (f : V → Outcome) → HasOne k r → ((v : V) → OfSort cells k v → GoodSort cells l (f v)) → GoodSort cells l (read r f)
@@ -116,7 +118,7 @@ module _ (cells : ℕ → T → Type 0) where
   at_sort : (k l : Sort) (o : Outcome) → k ≡ l → GoodSort cells l o → GoodSort cells k o
   at_sort k l o e h = subst (λ z. GoodSort cells z o) (sym e) h
 
-  pub core_good : (c : typing.Ctx) (fs : Functions) → FunctionsGood cells c fs → (g : List Bound) (env : Env) → FitsScope cells g env → (e : CoreEx) (k : Sort) → CoreHas c g e k → GoodSort cells k (value_of_core fs env e)
+  pub core_good : (c : typing.Ctx) (fs : Functions) → FunctionsGood cells c fs → (g : List SortedName) (env : Env) → FitsScope cells g env → (e : CoreEx) (k : Sort) → CoreHas c g e k → GoodSort cells k (value_of_core fs env e)
   core_good c fs fg g env f (OfScript e) k h = at_sort k (a_value h.0) _ h.3 (sort_of_type h.0 (value_of_ex fs env e) (ex_good cells c fs fg e (written_in g) env h.0 h.1 (fits_written g env f) h.2))
   core_good c fs fg g env f (Read y) k h = read_good k k (value_at y env) Gives (there g env y k f h) (λ v q. q)
   core_good c fs fg g env f (JustRead y) k h = at_sort k (a_value (maybe h.0)) _ h.2 (read_good (a_value h.0) (a_value (maybe h.0)) (value_at y env) (λ v. Gives (Just v)) (there g env y (a_value h.0) f h.1) (λ v q. q))
@@ -161,6 +163,6 @@ module _ (cells : ℕ → T → Type 0) where
       at_sort k (a_scope_cell h.0) _ h.2 (read_good (a_value (async h.0)) (a_scope_cell h.0) (value_at y env) (unary_of u.Snd) (there g env y (a_value (async h.0)) f h.1)
       (λ v q. second_good (of_thread (λ m. cells m thread)) (of_cell (λ m. cells m (async h.0))) (a_scope_cell h.0) v q (λ a p. p)))
 
-  pub accepted_good : (s : Script) (here : ℕ) (g : List Bound) (env : Env) (e : CoreEx) (k : Sort) → Accepted s → CoreHas (record { sigs = sigs_from 0 (script_of s); here = here }) g e k → FitsScope cells g env → GoodSort cells k (value_of_core (functions_of (script_of s)) env e)
+  pub accepted_good : (s : Script) (here : ℕ) (g : List SortedName) (env : Env) (e : CoreEx) (k : Sort) → Accepted s → CoreHas (record { sigs = sigs_from 0 (script_of s); here = here }) g e k → FitsScope cells g env → GoodSort cells k (value_of_core (functions_of (script_of s)) env e)
   accepted_good s here g env e k a h f =
       core_good (record { sigs = sigs_from 0 (script_of s); here = here }) (functions_of (script_of s)) (functions_good cells (script_of s) here (pure_typed s a)) g env f e k h

@@ -10,7 +10,7 @@ use Rattle.rules_meaning.specs.Values.{V, Int, Left, Right, Env, value_at, Outco
 use Rattle.rules_meaning.specs.Meaning.{then, unary_of, binary_of, functions_of}
 use Rattle.rules_expansion.specs.Core.{CoreEx, OfScript, Read, JustRead, NoValue, BelowZero, IsZero, SameExn, Killed, Nil, LeftRead, RightRead, RightLeft, RightRight, RightNil, PairRead, FirstOf, SecondOf}
 use Rattle.rules_meaning.specs.CoreMeaning.{read, value_of_core}
-use Rattle.rules_sorts.specs.Sorts.{Sort, Bound}
+use Rattle.rules_sorts.specs.Sorts.{Sort, SortedName}
 use Rattle.rules_typing.specs.Typing as typing
 use Rattle.rules_code.specs.Slots.{Scope, slot_of, roots_of, run, at_slot}
 use Rattle.rules_code.specs.CodeTrees.{is_unread, slot_or_end, slot_read, slotted_core_ex}
@@ -43,15 +43,15 @@ read_twice (Some v) f g = refl
 
 module _ (cells : ℕ → T → Type 0) where
   -- a name that something reads
-  read_is : (g : List Bound) (env : Env) (vs : List V) (y : Name) → is_unread y ≡ false → Matches (names_of g) env vs → run (slot_read (names_of g) y) vs ≡ read (value_at y env) Gives
+  read_is : (g : List SortedName) (env : Env) (vs : List V) (y : Name) → is_unread y ≡ false → Matches (names_of g) env vs → run (slot_read (names_of g) y) vs ≡ read (value_at y env) Gives
   read_is g env vs y h m = slot_is (slot_of (names_of g) y) (value_at y env) (names_of g) vs m.size (m.seen y h)
 
   -- the same with a constructor around the value
-  gives_is : (g : List Bound) (env : Env) (vs : List V) (y : Name) (side : V → V) → is_unread y ≡ false → Matches (names_of g) env vs
+  gives_is : (g : List SortedName) (env : Env) (vs : List V) (y : Name) (side : V → V) → is_unread y ≡ false → Matches (names_of g) env vs
       → then (run (slot_read (names_of g) y) vs) (λ v. Gives (side v)) ≡ read (value_at y env) (λ v. Gives (side v))
   gives_is g env vs y side h m = ap (λ o. then o (λ v. Gives (side v))) (read_is g env vs y h m) ∙ read_then (value_at y env) (λ v. Gives (side v))
 
-  pub core_slots : (script : List Fn) (c : typing.Ctx) (g : List Bound) (env : Env) (vs : List V) (e : CoreEx) (k : Sort) → CoreHas c g e k → SlotsFit cells g env vs → run (slotted_core_ex (roots_of script) (names_of g) e) vs ≡ value_of_core (functions_of script) env e
+  pub core_slots : (script : List Fn) (c : typing.Ctx) (g : List SortedName) (env : Env) (vs : List V) (e : CoreEx) (k : Sort) → CoreHas c g e k → SlotsFit cells g env vs → run (slotted_core_ex (roots_of script) (names_of g) e) vs ≡ value_of_core (functions_of script) env e
   core_slots script c g env vs (OfScript e) k h f = slots_mean script (names_of g) env vs f.slots e
   core_slots script c g env vs (Read y) k h f = read_is g env vs y h.0 f.slots
   core_slots script c g env vs (JustRead y) k h f = ap (λ o. then o (unary_of u.Just)) (read_is g env vs y h.1.0 f.slots) ∙ read_then (value_at y env) (unary_of u.Just)

@@ -3,8 +3,8 @@ use Rattle.std.proofs.Common.{◌≡◌, ◌&&◌, ltb, List, [], ◌∷◌, ◌
 use Rattle.hs_base.specs.declared.pos.Pos.{Pos}
 use Rattle.hs_base.specs.declared.tree.expr.Name.{Name}
 use Rattle.rules_trees.specs.Trees.{T, exn, Wr, Ex, lit, name, unary, binary, chain, conses, choose, items, empty, side, given, case, Exs, none, more, Links, end, link, Arms, maybe_arms, either_arms, list_arms, pair_arms}
-use Rattle.rules_trees.specs.Programs.{Act, bare, unary_act, binary_act, throw_io, new_empty, call, choose_act, case_act, modify, scoped, masking, restore, catch, guard, bracket, timeout, with_async, Bl, last, then, bind, let_in, ActArms, maybe_acts, either_acts, list_acts, pair_acts, Bd, pure_body, io_body}
-use Rattle.rules_typing.specs.Typing.{Fault, scope, wide, nodes, a_cell, Need, of, Row, type_of_lit, row_unary, row_binary, row_empty, row_side, row_choose, row_items, row_arms, form_of_arms, first_of, second_of, inner_of, Ctx, Bound, bound, masked, Meant, wrong, takes, meant, meant_act, no_mask, is_each, count}
+use Rattle.rules_trees.specs.Programs.{SurfaceAction, bare, unary_act, binary_act, throw_io, new_empty, call, choose_act, case_act, modify, scoped, masking, restore, catch, guard, bracket, timeout, with_async, Bl, last, then, bind, let_in, ActArms, maybe_acts, either_acts, list_acts, pair_acts, Bd, pure_body, io_body}
+use Rattle.rules_typing.specs.Typing.{Fault, scope, wide, nodes, a_cell, Need, of, Row, type_of_lit, row_unary, row_binary, row_empty, row_side, row_choose, row_items, row_arms, form_of_arms, first_of, second_of, inner_of, Ctx, TypedName, bound, masked, Meant, wrong, takes, meant, meant_act, no_mask, is_each, count}
 use Rattle.rules_typing.specs.TypingActions.{type_of_bare, row_unary_act, row_binary_act, row_throw, row_new_empty, row_scoped, row_masking, row_modify, row_guard, row_bracket, row_timeout, row_async, form_of_acts}
 use Rattle.typing_judge.specs.Judging.{met, Found, good, bad, after, with1, with2, with3, with_all, needing, made, own, written, full, unless_full, unless, unless_wrong, scope_faults, Founds, joined, called, part, parts2, parts3, parts_all, join, not_full, judge, judges, judge_links, judge_arms}
 use Rattle.typing_judge.specs.JudgingActions.{judge_act, judge_bl, judge_act_arms}
@@ -47,7 +47,7 @@ sure_own p r = sure_needing p r.needs (made p r.makes r.type) (sure_unless (r.ma
 sure_written : (w : Wr) → Sure (written w)
 sure_written w = sure_unless (ltb 64 (nodes w.ty)) (wide w.pos) (good w.ty) (sure_good w.ty)
 
-sure_room : (s : List Bound) (x : Name) (a : Found) → Sure a → Sure (unless_full s x a)
+sure_room : (s : List TypedName) (x : Name) (a : Found) → Sure a → Sure (unless_full s x a)
 sure_room s x a h = sure_unless (full s) (scope x.pos) a h
 
 with1_sure : (o : Option T) (k : T → Found) → (t : T) × (o ≡ Some t) → ((u : T) → Sure (k u)) → Sure (with1 o k)
@@ -92,7 +92,7 @@ sure_joined a b s t h =
     let us = t q.1 in
     (u.0 ∷ us.0, ap (λ z. joined z b.types) u.1 ∙ ap (joined (Some u.0)) us.1)
 
-sure_given : (s : List Bound) (x : Name) (a : Found) (k : T → Found) → Sure a → ((u : T) → Sure (k u)) → Sure (after (scope_faults s x) (part (not_full s a) k))
+sure_given : (s : List TypedName) (x : Name) (a : Found) (k : T → Found) → Sure a → ((u : T) → Sure (k u)) → Sure (after (scope_faults s x) (part (not_full s a) k))
 sure_given s x a k f g = by (full s)
   where
     by : (b : Bool) → Sure (after (cond b (scope x.pos ∷ []) []) (part (record { faults = a.faults; type = unless b a.type }) k))
@@ -105,22 +105,23 @@ sure_restore (Some g) x s h = absurd (cc h)
 
 -- ---- expressions
 
-abbrev SureOperands : Ctx → List Bound → Links → Type 0
+abbrev SureOperands : Ctx → List TypedName → Links → Type 0
 SureOperands c s end = Unit {0}
 SureOperands c s (link o p e ks) = Sure (judge c s e) × SureOperands c s ks
 
-sure_links : (c : Ctx) (s : List Bound) (ks : Links) → SureOperands c s ks → (x : Found) → Sure x → Sure (judge_links c s x ks)
+sure_links : (c : Ctx) (s : List TypedName) (ks : Links) → SureOperands c s ks → (x : Found) → Sure x
+    → Sure (judge_links c s x ks)
 sure_links c s end q x h = h
 sure_links c s (link o p e ks) q x h =
     sure_links c s ks q.1 (parts2 x (judge c s e) (λ u v. own p (row_binary o u v))) (sure_parts2 x (judge c s e) _ h q.0 (λ u v. sure_own p (row_binary o u v)))
 
-sure_conses : (c : Ctx) (s : List Bound) (ks : Links) → SureOperands c s ks → (x : Found) → Sure x → Sure (judge_conses c s x ks)
+sure_conses : (c : Ctx) (s : List TypedName) (ks : Links) → SureOperands c s ks → (x : Found) → Sure x → Sure (judge_conses c s x ks)
 sure_conses c s end q x h = h
 sure_conses c s (link o p e ks) q x h =
     sure_parts2 x (judge_conses c s (judge c s e) ks) _ h (sure_conses c s ks q.1 (judge c s e) q.0) (λ u v. sure_own p (row_binary o u v))
 
 mutual
-  pub sure_ex : (c : Ctx) (s : List Bound) (e : Ex) → Sure (judge c s e)
+  pub sure_ex : (c : Ctx) (s : List TypedName) (e : Ex) → Sure (judge c s e)
   sure_ex c s (lit p l) = sure_good (type_of_lit l)
   sure_ex c s (name x es) = sure_called x.pos (meant c s x (count es)) (judges c s es) (sure_exs c s es)
   sure_ex c s (unary o p a) = sure_part (judge c s a) _ (sure_ex c s a) (λ u. sure_own p (row_unary o u))
@@ -134,15 +135,15 @@ mutual
   sure_ex c s (given x a e) = sure_given s x (judge c s a) _ (sure_ex c s a) (λ u. sure_ex c (bound x u ∷ s) e)
   sure_ex c s (case p e arms) = sure_part (judge c s e) _ (sure_ex c s e) (λ u. sure_needing p (of (form_of_arms arms) u ∷ []) _ (sure_arms c s p u arms))
 
-  sure_exs : (c : Ctx) (s : List Bound) (es : Exs) → SureAll (judges c s es)
+  sure_exs : (c : Ctx) (s : List TypedName) (es : Exs) → SureAll (judges c s es)
   sure_exs c s none = λ h. ([], refl)
   sure_exs c s (more e es) = sure_joined (judge c s e) (judges c s es) (sure_ex c s e) (sure_exs c s es)
 
-  sure_operands : (c : Ctx) (s : List Bound) (ks : Links) → SureOperands c s ks
+  sure_operands : (c : Ctx) (s : List TypedName) (ks : Links) → SureOperands c s ks
   sure_operands c s end = tt
   sure_operands c s (link o p e ks) = (sure_ex c s e, sure_operands c s ks)
 
-  sure_arms : (c : Ctx) (s : List Bound) (p : Pos) (u : T) (arms : Arms) → Sure (judge_arms c s p u arms)
+  sure_arms : (c : Ctx) (s : List TypedName) (p : Pos) (u : T) (arms : Arms) → Sure (judge_arms c s p u arms)
   sure_arms c s p u (maybe_arms a x e) = sure_parts2 (judge c s a) _ _ (sure_ex c s a) (sure_room s x _ (sure_ex c (bound x (inner_of u) ∷ s) e)) (λ v z. sure_own p (row_arms v z))
   sure_arms c s p u (either_arms x a y e) = sure_parts2 _ _ _ (sure_room s x _ (sure_ex c (bound x (first_of u) ∷ s) a)) (sure_room s y _ (sure_ex c (bound y (second_of u) ∷ s) e)) (λ v z. sure_own p (row_arms v z))
   sure_arms c s p u (list_arms a x y e) = sure_parts2 (judge c s a) _ _ (sure_ex c s a) (sure_room s x _ (sure_room (bound x (inner_of u) ∷ s) y _ (sure_ex c (bound y u ∷ bound x (inner_of u) ∷ s) e))) (λ v z. sure_own p (row_arms v z))
@@ -151,7 +152,7 @@ mutual
 -- ---- actions and blocks
 
 mutual
-  sure_act : (c : Ctx) (s : List Bound) (a : Act) → Sure (judge_act c s a)
+  sure_act : (c : Ctx) (s : List TypedName) (a : SurfaceAction) → Sure (judge_act c s a)
   sure_act c s (bare o p) = sure_good (type_of_bare o)
   sure_act c s (unary_act o p a) = sure_part (judge c s a) _ (sure_ex c s a) (λ u. sure_own p (row_unary_act o u))
   sure_act c s (binary_act o p a e) = sure_parts2 (judge c s a) (judge c s e) _ (sure_ex c s a) (sure_ex c s e) (λ u v. sure_own p (row_binary_act o u v))
@@ -170,18 +171,18 @@ mutual
   sure_act c s (timeout p e a) = sure_parts2 (judge c s e) (judge_bl c s a) _ (sure_ex c s e) (sure_bl c s a) (λ u v. sure_own p (row_timeout u v))
   sure_act c s (with_async p a x g) = sure_part (judge_bl c s a) _ (sure_bl c s a) (λ u. sure_part (own p (row_async u)) _ (sure_own p (row_async u)) (λ v. sure_room s x _ (sure_bl c (bound x v ∷ s) g)))
 
-  pub sure_bl : (c : Ctx) (s : List Bound) (a : Bl) → Sure (judge_bl c s a)
+  pub sure_bl : (c : Ctx) (s : List TypedName) (a : Bl) → Sure (judge_bl c s a)
   sure_bl c s (last a) = sure_act c s a
   sure_bl c s (then a g) = sure_part (judge_act c s a) _ (sure_act c s a) (λ u. sure_bl c s g)
   sure_bl c s (bind x a g) = sure_given s x (judge_act c s a) _ (sure_act c s a) (λ u. sure_bl c (bound x u ∷ s) g)
   sure_bl c s (let_in x e g) = sure_given s x (judge c s e) _ (sure_ex c s e) (λ u. sure_bl c (bound x u ∷ s) g)
 
-  sure_act_arms : (c : Ctx) (s : List Bound) (p : Pos) (u : T) (arms : ActArms) → Sure (judge_act_arms c s p u arms)
+  sure_act_arms : (c : Ctx) (s : List TypedName) (p : Pos) (u : T) (arms : ActArms) → Sure (judge_act_arms c s p u arms)
   sure_act_arms c s p u (maybe_acts a x e) = sure_parts2 (judge_bl c s a) _ _ (sure_bl c s a) (sure_room s x _ (sure_bl c (bound x (inner_of u) ∷ s) e)) (λ v z. sure_own p (row_arms v z))
   sure_act_arms c s p u (either_acts x a y e) = sure_parts2 _ _ _ (sure_room s x _ (sure_bl c (bound x (first_of u) ∷ s) a)) (sure_room s y _ (sure_bl c (bound y (second_of u) ∷ s) e)) (λ v z. sure_own p (row_arms v z))
   sure_act_arms c s p u (list_acts a x y e) = sure_parts2 (judge_bl c s a) _ _ (sure_bl c s a) (sure_room s x _ (sure_room (bound x (inner_of u) ∷ s) y _ (sure_bl c (bound y u ∷ bound x (inner_of u) ∷ s) e))) (λ v z. sure_own p (row_arms v z))
   sure_act_arms c s p u (pair_acts x y a) = sure_room s x _ (sure_room (bound x (first_of u) ∷ s) y _ (sure_bl c (bound y (second_of u) ∷ bound x (first_of u) ∷ s) a))
 
-pub sure_body : (c : Ctx) (s : List Bound) (d : Bd) → Sure (judge_body c s d)
+pub sure_body : (c : Ctx) (s : List TypedName) (d : Bd) → Sure (judge_body c s d)
 sure_body c s (pure_body w e) = sure_ex c s e
 sure_body c s (io_body w a) = sure_bl c s a

@@ -6,7 +6,7 @@ use Rattle.rules_trees.specs.Programs.{Par, Bd, pure_body, io_body, Fn}
 use Rattle.rules_meaning.specs.Values.{V, Env, with_name, Outcome, Stuck}
 use Rattle.rules_expansion.specs.Names.{Written}
 use Rattle.rules_meaning.specs.Meaning.{Functions, answer, answer_of, in_env, bound_onto, texts_of, with_body, functions_onto, functions_of, value_of_ex}
-use Rattle.rules_typing.specs.Typing.{Bound, bound, Sig, find, HasType}
+use Rattle.rules_typing.specs.Typing.{TypedName, bound, Sig, find, HasType}
 use Rattle.rules_typing.specs.TypingScripts.{acts, param_types, sig_of_fn, sigs_from, params_in, result_of}
 use Rattle.rules_sorts.specs.TypedMeaning.{Good, AllOf, Fits, FunctionsGood, Well, PureTyped, BodyTyped}
 use Rattle.hs_soundness.proofs.TypesKept.{ex_good, fits_more}
@@ -83,7 +83,7 @@ module _ (cells : ℕ → T → Type 0) where
   Only front fs = (f : List ℕ) → find front f ≡ None → named fs f ≡ false
 
   -- a body in the environment of its parameters
-  params_good : (fs : Functions) (e : Ex) (t : T) (ps : List Par) (s : List Bound) (env : Env) (vs : List V) → Fits cells s env → AllOf cells (param_types ps) vs →
+  params_good : (fs : Functions) (e : Ex) (t : T) (ps : List Par) (s : List TypedName) (env : Env) (vs : List V) → Fits cells s env → AllOf cells (param_types ps) vs →
       ((env' : Env) → Fits cells (params_in s ps) env' → Good cells t (value_of_ex fs env' e)) → Good cells t (in_env fs e (bound_onto env (texts_of ps) vs))
   params_good fs e t [] s env [] f h k = k env f
   params_good fs e t [] s env (v ∷ vs) f h k = absurd h

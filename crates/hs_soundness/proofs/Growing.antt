@@ -5,7 +5,7 @@ use Rattle.rules_trees.specs.Trees.{T, unit, int, bool, text, thread, exn, pair,
 use Rattle.rules_meaning.specs.Values as val
 use Rattle.rules_expansion.specs.Names.{Name, Written, Added, same_name, Unread}
 use Rattle.rules_meaning.specs.Values.{V, Pair, Nothing, Just, Left, Right, Nil, Cons, Env, with_name, value_at}
-use Rattle.rules_sorts.specs.Sorts.{Sort, a_value, a_masking_name, an_instance, a_scope_cell, Bound, sort_at}
+use Rattle.rules_sorts.specs.Sorts.{Sort, a_value, a_masking_name, an_instance, a_scope_cell, SortedName, sort_at}
 use Rattle.rules_sorts.specs.TypedMeaning.{of_pair, of_maybe, of_either, of_list, of_thread, of_cell, HasV, any_cell}
 use Rattle.rules_code.specs.Slots.{Scope, slot_of}
 use Rattle.rules_code.specs.CodeTrees.{is_unread}
@@ -79,11 +79,11 @@ module _ (cells more : ℕ → T → Type 0) (grow : (m : ℕ) (t : T) → cells
   at_more Unread (Some an_instance) (Some v) h = h
   at_more Unread (Some (a_scope_cell t)) (Some v) h = end_more t v h
 
-  pub scope_more : (g : List Bound) (env : Env) → FitsScope cells g env → FitsScope more g env
+  pub scope_more : (g : List SortedName) (env : Env) → FitsScope cells g env → FitsScope more g env
   scope_more g env f y = at_more y (sort_at y g) (value_at y env) (f y)
 
 -- what fits where numbers have types fits where each is of every type
-pub fits_any : (cells : ℕ → T → Type 0) (g : List Bound) (env : Env) (vs : List V) → SlotsFit cells g env vs → SlotsFit any_cell g env vs
+pub fits_any : (cells : ℕ → T → Type 0) (g : List SortedName) (env : Env) (vs : List V) → SlotsFit cells g env vs → SlotsFit any_cell g env vs
 fits_any cells g env vs f = record { slots = f.slots; sorts = scope_more cells any_cell (λ m t q. tt) g env f.sorts }
 
 -- ---- one name more
@@ -137,20 +137,20 @@ module _ (cells : ℕ → T → Type 0) where
   fits_same Unread (Added w) k v e h = absurd (cc e)
   fits_same Unread Unread k v e h = h
 
-  sorts_with : (g : List Bound) (env : Env) (y : Name) (k : Sort) (v : V) → FitsScope cells g env → FitsAt cells y (Some k) (Some v) → FitsScope cells (record { name = y; sort = k } ∷ g) (record { name = y; value = v } ∷ env)
+  sorts_with : (g : List SortedName) (env : Env) (y : Name) (k : Sort) (v : V) → FitsScope cells g env → FitsAt cells y (Some k) (Some v) → FitsScope cells (record { name = y; sort = k } ∷ g) (record { name = y; value = v } ∷ env)
   sorts_with g env y k v f h x = by (same_name x y) refl
     where
       by : (t : Bool) → same_name x y ≡ t → FitsAt cells x (cond t (Some k) (sort_at x g)) (cond t (Some v) (value_at x env))
       by true e = fits_same x y k v e h
       by false e = f x
 
-  pub fits_with : (g : List Bound) (env : Env) (vs : List V) (y : Name) (k : Sort) (v : V) → is_unread y ≡ false → FitsAt cells y (Some k) (Some v) → SlotsFit cells g env vs → SlotsFit cells (record { name = y; sort = k } ∷ g) (with_name y v env) (vs ++ v ∷ [])
+  pub fits_with : (g : List SortedName) (env : Env) (vs : List V) (y : Name) (k : Sort) (v : V) → is_unread y ≡ false → FitsAt cells y (Some k) (Some v) → SlotsFit cells g env vs → SlotsFit cells (record { name = y; sort = k } ∷ g) (with_name y v env) (vs ++ v ∷ [])
   fits_with g env vs y k v u h f =
       subst (λ z. SlotsFit cells (record { name = y; sort = k } ∷ g) z (vs ++ v ∷ [])) (sym (kept y v env u))
       (record { slots = slots_with (names_of g) env vs y v f.slots; sorts = sorts_with g env y k v f.sorts h })
 
   -- the same of an environment alone
-  pub scope_with : (g : List Bound) (env : Env) (y : Name) (k : Sort) (v : V) → is_unread y ≡ false → FitsAt cells y (Some k) (Some v) → FitsScope cells g env → FitsScope cells (record { name = y; sort = k } ∷ g) (with_name y v env)
+  pub scope_with : (g : List SortedName) (env : Env) (y : Name) (k : Sort) (v : V) → is_unread y ≡ false → FitsAt cells y (Some k) (Some v) → FitsScope cells g env → FitsScope cells (record { name = y; sort = k } ∷ g) (with_name y v env)
   scope_with g env y k v u h f = subst (FitsScope cells (record { name = y; sort = k } ∷ g)) (sym (kept y v env u)) (sorts_with g env y k v f h)
 
   pub fits_none : SlotsFit cells [] [] []

@@ -246,7 +246,7 @@ module _ (cells : ℕ → T → Type 0) where
 
   -- ---- scopes and functions
 
-  pub fits_more : (s : List typing.Bound) (env : Env) (x : Name) (t : T) (v : V) → Fits cells s env → HasV cells t v → Fits cells (typing.bound x t ∷ s) (with_name (Written x.text) v env)
+  pub fits_more : (s : List typing.TypedName) (env : Env) (x : Name) (t : T) (v : V) → Fits cells s env → HasV cells t v → Fits cells (typing.bound x t ∷ s) (with_name (Written x.text) v env)
   fits_more s env x t v f h y = by (bytes_eq x.text y) (bytes_eq y x.text) (bytes_eq_sym x.text y)
     where
       by : (p q : Bool) → p ≡ q → HasSort cells (cond p (Some (typing.value t)) (typing.look s y)) (cond q (Some v) (value_at (Written y) env))
@@ -285,7 +285,7 @@ module _ (cells : ℕ → T → Type 0) where
   side_good d.Right s r z t v h g = good_at (either s r) t (Gives (Right v)) g.1.1 (at_type z r v (sym g.0.0) h)
 
   module _ (c : typing.Ctx) (fs : Functions) (fg : FunctionsGood cells c fs) where
-    count_is : (es : Exs) (s : List typing.Bound) (us : List T) → typing.HaveTypes c s es us → typing.count es ≡ length us
+    count_is : (es : Exs) (s : List typing.TypedName) (us : List T) → typing.HaveTypes c s es us → typing.count es ≡ length us
     count_is none s us h = ap length (sym h)
     count_is (more e es) s us h = let k = count_is es s h.1 h.3 in let l : length us ≡ length (h.0 ∷ h.1) = ap length h.4 in omega (arith, k, l)
 
@@ -300,7 +300,7 @@ module _ (cells : ℕ → T → Type 0) where
             let i = meant_args_is x.pos k g.params m.0 g.result t r in
             all_good us t o (answer fs x.text) h (λ vs w. good_at g.result t (answer fs x.text vs) (sym i.2) (fg x.text g e y z vs (each_at g.params us vs (i.0 ∙ l) (subst (λ ps. typing.AllMet (typing.is_each ps us)) (sym i.1) m.2) w)))
 
-    name_good : (s : List typing.Bound) (env : Env) (x : Name) (k : ℕ) (us : List T) (t : T) (o : Outcomes) → Fits cells s env → AllGood cells us o → k ≡ length us → typing.Calls (typing.meant c s x k) us t → Good cells t (or_else (value_at (Written x.text) env) (then_all o (answer fs x.text)))
+    name_good : (s : List typing.TypedName) (env : Env) (x : Name) (k : ℕ) (us : List T) (t : T) (o : Outcomes) → Fits cells s env → AllGood cells us o → k ≡ length us → typing.Calls (typing.meant c s x k) us t → Good cells t (or_else (value_at (Written x.text) env) (then_all o (answer fs x.text)))
     name_good s env x k us t o f h l m = by (typing.look s x.text) (value_at (Written x.text) env) (f x.text) m
       where
         by : (r : Option typing.Sort) (w : Option V) → HasSort cells r w → typing.Calls (typing.meant_sort c x k r) us t → Good cells t (or_else w (then_all o (answer fs x.text)))
@@ -311,17 +311,17 @@ module _ (cells : ℕ → T → Type 0) where
         by (Some (typing.value r)) (Some v) y z = let i = meant_args_is x.pos k [] z.0 r t z.1 in at_type r t v i.2 y
 
     -- each operand of a chain gives a value of its type, or an exception
-    abbrev pub LinksSound : List typing.Bound → Env → Links → Type 0
+    abbrev pub LinksSound : List typing.TypedName → Env → Links → Type 0
     LinksSound s env end = Unit {0}
     LinksSound s env (link x p e ks) = ((t : T) → typing.HasType c s e t → Good cells t (value_of_ex fs env e)) × LinksSound s env ks
 
-    links_good : (ks : Links) (s : List typing.Bound) (env : Env) (H : T → Type 0) (o : Outcome) (t : T) → LinksSound s env ks → ((r : T) → H r → Good cells r o) → typing.LinksHave c s H ks t → Good cells t (left_chain fs env o ks)
+    links_good : (ks : Links) (s : List typing.TypedName) (env : Env) (H : T → Type 0) (o : Outcome) (t : T) → LinksSound s env ks → ((r : T) → H r → Good cells r o) → typing.LinksHave c s H ks t → Good cells t (left_chain fs env o ks)
     links_good end s env H o t w k h = k t h
     links_good (link x p e ks) s env H o t w k h =
         links_good ks s env (λ z. (u v : T) × H u × typing.HasType c s e v × typing.Gives (row_binary x u v) z) (linked x o (value_of_ex fs env e)) t w.1
         (λ r y. linked_good x y.0 y.1 r o (value_of_ex fs env e) (k y.0 y.2) (w.0 y.1 y.3) y.4) h
 
-    conses_good : (ks : Links) (s : List typing.Bound) (env : Env) (H : T → Type 0) (o : Outcome) (t : T) → WellConses ks → LinksSound s env ks → ((r : T) → H r → Good cells r o) → typing.ConsesHave c s H ks t → Good cells t (right_chain fs env o ks)
+    conses_good : (ks : Links) (s : List typing.TypedName) (env : Env) (H : T → Type 0) (o : Outcome) (t : T) → WellConses ks → LinksSound s env ks → ((r : T) → H r → Good cells r o) → typing.ConsesHave c s H ks t → Good cells t (right_chain fs env o ks)
     conses_good end s env H o t z w k h = k t h
     conses_good (link x p e ks) s env H o t z w k h =
         then_good h.0 t o (λ v. then (right_chain fs env (value_of_ex fs env e) ks) (binary_of x v)) (k h.0 h.2)
@@ -330,7 +330,7 @@ module _ (cells : ℕ → T → Type 0) where
         (λ q l. binary_good x h.0 h.1 t v q z.0 y l h.4))
 
     mutual
-      pub ex_good : (e : Ex) (s : List typing.Bound) (env : Env) (t : T) → Well e → Fits cells s env → typing.HasType c s e t → Good cells t (value_of_ex fs env e)
+      pub ex_good : (e : Ex) (s : List typing.TypedName) (env : Env) (t : T) → Well e → Fits cells s env → typing.HasType c s e t → Good cells t (value_of_ex fs env e)
       ex_good (lit p l) s env t w f h = good_at (typing.type_of_lit l) t (literal l) h (literal_good l)
       ex_good (name x es) s env t w f h = name_good s env x (typing.count es) h.0 t (values_of_exs fs env es) f (exs_good es s env h.0 w f h.1) (count_is es s h.0 h.1) h.2
       ex_good (unary o p a) s env t w f h = then_good h.0 t (value_of_ex fs env a) (unary_of o) (ex_good a s env h.0 w f h.1) (λ v y. unary_good o h.0 t v y h.2)
@@ -354,19 +354,20 @@ module _ (cells : ℕ → T → Type 0) where
       ex_good (case p e arms) s env t w f h =
           then_good h.0 t (value_of_ex fs env e) (value_of_arms fs env arms) (ex_good e s env h.0 w.0 f h.1) (λ v y. arms_good arms s env p h.0 t v w.1 f y h.2.0 h.2.1)
 
-      pub exs_good : (es : Exs) (s : List typing.Bound) (env : Env) (us : List T) → WellAll es → Fits cells s env → typing.HaveTypes c s es us → AllGood cells us (values_of_exs fs env es)
+      pub exs_good : (es : Exs) (s : List typing.TypedName) (env : Env) (us : List T) → WellAll es → Fits cells s env → typing.HaveTypes c s es us → AllGood cells us (values_of_exs fs env es)
       exs_good none s env us w f h = subst (λ ts. AllOf cells ts []) (sym h) tt
       exs_good (more e es) s env us w f h = subst (λ ts. AllGood cells ts (values_of_exs fs env (more e es))) (sym h.4) (and_good h.0 h.1 (value_of_ex fs env e) (values_of_exs fs env es) (ex_good e s env h.0 w.0 f h.2) (exs_good es s env h.1 w.1 f h.3))
 
-      pub links_sound : (ks : Links) (s : List typing.Bound) (env : Env) → WellLinks ks → Fits cells s env → LinksSound s env ks
+      pub links_sound : (ks : Links) (s : List typing.TypedName) (env : Env) → WellLinks ks → Fits cells s env
+          → LinksSound s env ks
       links_sound end s env w f = tt
       links_sound (link x p e ks) s env w f = (λ t h. ex_good e s env t w.0 f h, links_sound ks s env w.1 f)
 
-      pub conses_sound : (ks : Links) (s : List typing.Bound) (env : Env) → WellConses ks → Fits cells s env → LinksSound s env ks
+      pub conses_sound : (ks : Links) (s : List typing.TypedName) (env : Env) → WellConses ks → Fits cells s env → LinksSound s env ks
       conses_sound end s env w f = tt
       conses_sound (link x p e ks) s env w f = (λ t h. ex_good e s env t w.1 f h, conses_sound ks s env w.2 f)
 
-      pub arms_good : (arms : Arms) (s : List typing.Bound) (env : Env) (p : Pos) (u t : T) (v : V) → WellArms arms → Fits cells s env → HasV cells u v → Has (typing.form_of_arms arms) u → typing.ArmsHave c s p u arms t → Good cells t (value_of_arms fs env arms v)
+      pub arms_good : (arms : Arms) (s : List typing.TypedName) (env : Env) (p : Pos) (u t : T) (v : V) → WellArms arms → Fits cells s env → HasV cells u v → Has (typing.form_of_arms arms) u → typing.ArmsHave c s p u arms t → Good cells t (value_of_arms fs env arms v)
       arms_good (maybe_arms a x e) s env p u t v w f y q h =
           maybe_good q.0 t (value_of_ex fs env a) (λ z. value_of_ex fs (with_name (Written x.text) z env) e) v (at_type u (maybe q.0) v q.1 y)
           (good_at h.0 t (value_of_ex fs env a) h.4.1.1 (ex_good a s env h.0 w.0 f h.2))

@@ -7,7 +7,7 @@ use Rattle.std.specs.Prelude.{◌≡◌, ◌⊎◌, ℕ, false, List, [], ◌∷
 use Rattle.rules_trees.specs.Trees.{T, unit, int, bool, thread, exn, pair, maybe, either, async}
 use Rattle.rules_expansion.specs.Names.{Name, Written, Added, Unread}
 use Rattle.rules_meaning.specs.Values.{V, Restore, Inst, Env, value_at, Outcome, Gives, Throws, Stuck}
-use Rattle.rules_sorts.specs.Sorts.{Sort, a_value, a_masking_name, an_instance, a_scope_cell, Bound, sort_at}
+use Rattle.rules_sorts.specs.Sorts.{Sort, a_value, a_masking_name, an_instance, a_scope_cell, SortedName, sort_at}
 use Rattle.rules_typing.specs.Typing as typing
 use Rattle.rules_sorts.specs.TypedMeaning.{of_cell, HasV, Well}
 use Rattle.rules_code.specs.Slots.{Scope}
@@ -18,7 +18,7 @@ use Rattle.rules_code.specs.Matching.{Matches}
 -- ---- scopes
 
 -- the names, the last bound first; the slot of one is how many stand before it
-abbrev pub names_of : List Bound → Scope
+abbrev pub names_of : List SortedName → Scope
 names_of g = map (λ b. b.name) g
 
 -- as the typing rules see a name of the script; an instance and the cell of a scope have no written name
@@ -28,24 +28,24 @@ seen_as a_masking_name = typing.masking_name
 seen_as an_instance = typing.masking_name
 seen_as (a_scope_cell t) = typing.masking_name
 
-abbrev pub with_written : Name → Sort → List typing.Bound → List typing.Bound
+abbrev pub with_written : Name → Sort → List typing.TypedName → List typing.TypedName
 with_written (Written x) k s = record { spelling = x; sort = seen_as k } ∷ s
 with_written (Added h) k s = s
 with_written Unread k s = s
 
 -- the names of the script in a scope
-abbrev pub written_in : List Bound → List typing.Bound
+abbrev pub written_in : List SortedName → List typing.TypedName
 written_in [] = []
 written_in (b ∷ g) = with_written b.name b.sort (written_in g)
 
 -- ---- expressions
 
 -- a name of the scope, of that sort, which something may read
-abbrev pub IsThere : List Bound → Name → Sort → Type 0
+abbrev pub IsThere : List SortedName → Name → Sort → Type 0
 IsThere g y k = (is_unread y ≡ false) × (sort_at y g ≡ Some k)
 
 -- an expression of a core action has this sort: one of the script as the typing rules say, one that an expansion writes by the names that it reads
-abbrev pub CoreHas : typing.Ctx → List Bound → CoreEx → Sort → Type 0
+abbrev pub CoreHas : typing.Ctx → List SortedName → CoreEx → Sort → Type 0
 CoreHas c g (OfScript e) k = (t : T) × Well e × typing.HasType c (written_in g) e t × (k ≡ a_value t)
 CoreHas c g (Read y) k = IsThere g y k
 CoreHas c g (JustRead y) k = (t : T) × IsThere g y (a_value t) × (k ≡ a_value (maybe t))
@@ -98,7 +98,7 @@ module _ (cells : ℕ → T → Type 0) where
   FitsAt (Added h) (Some k) (Some v) = OfSort k v
   FitsAt Unread (Some k) (Some v) = OfSort k v
 
-  abbrev pub FitsScope : List Bound → Env → Type 0
+  abbrev pub FitsScope : List SortedName → Env → Type 0
   FitsScope g env = (y : Name) → FitsAt y (sort_at y g) (value_at y env)
 
   -- a value of the sort, or an exception
@@ -108,6 +108,6 @@ module _ (cells : ℕ → T → Type 0) where
   GoodSort k Stuck = ⊥
 
   -- The values of slots are an environment that fits a scope: they are those of its names, and each is of its name's sort.
-  pub record SlotsFit (g : List Bound) (env : Env) (vs : List V) : Type 0 where
+  pub record SlotsFit (g : List SortedName) (env : Env) (vs : List V) : Type 0 where
     pub slots : Matches (names_of g) env vs
     pub sorts : FitsScope g env

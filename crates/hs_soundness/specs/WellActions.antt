@@ -1,9 +1,9 @@
 -- Actions and blocks that a script can have (own): so are all their expressions.
-use Rattle.rules_trees.specs.Programs.{Act, bare, unary_act, binary_act, throw_io, new_empty, call, choose_act, case_act, modify, scoped, masking, restore, catch, guard, bracket, timeout, with_async, Bl, last, then, bind, let_in, ActArms, maybe_acts, either_acts, list_acts, pair_acts}
+use Rattle.rules_trees.specs.Programs.{SurfaceAction, bare, unary_act, binary_act, throw_io, new_empty, call, choose_act, case_act, modify, scoped, masking, restore, catch, guard, bracket, timeout, with_async, Bl, last, then, bind, let_in, ActArms, maybe_acts, either_acts, list_acts, pair_acts}
 use Rattle.rules_sorts.specs.TypedMeaning.{Well, WellAll}
 
 abbrev mutual
-  pub WellAct : Act → Type 0
+  pub WellAct : SurfaceAction → Type 0
   WellAct (bare o p) = Unit {0}
   WellAct (unary_act o p e) = Well e
   WellAct (binary_act o p e f) = Well e × Well f

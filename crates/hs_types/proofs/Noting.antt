@@ -7,7 +7,7 @@ use Rattle.rules_typing.specs.Typing.{Fault, is, refusal}
 use Rattle.typing_judge.specs.Judging.{bad, good, met, with1}
 use Rattle.typing_judge.specs.JudgingScripts.{ends}
 use Rattle.typing_judge.specs.Least.{least}
-use Rattle.typing_table.specs.declared.table.Node.{Node}
+use Rattle.typing_table.specs.declared.table.TypeNode.{TypeNode}
 use Rattle.typing_table.specs.declared.ty.TypeTerm.{TypeTerm}
 use Rattle.typing_table.specs.Meaning.{type_in}
 use Rattle.typing_parts.specs.Judged.{unmet1}
@@ -17,7 +17,7 @@ one_need : (b : Bool) (f : Fault) (u : T) → cond b [] (f ∷ []) ≡ (cond b (
 one_need true f u = refl
 one_need false f u = refl
 
-pub ended : (o : Option Fault) (x : Name) (w : Written) (ms : List Node) (t : Option TypeTerm) (v : TypeTerm) → t ≡ Some v
+pub ended : (o : Option Fault) (x : Name) (w : Written) (ms : List TypeNode) (t : Option TypeTerm) (v : TypeTerm) → t ≡ Some v
     → least o (unmet1 x.pos (is (ty_of w.ty) (type_in ms v))) ≡ least o (with1 (opt_ty ms t) (ends x (wr_of w))).faults
 ended o x w ms t v e =
     let u = type_in ms v in

@@ -3,7 +3,7 @@ use Rattle.std.proofs.Common.{◌≡◌, ℕ, ◌+◌, ◌||◌, List, [], ◌�
 use Rattle.std.proofs.lemmas.List.{append-nil}
 use Rattle.rules_trees.specs.Programs.{Bd, pure_body, io_body, Fn}
 use Rattle.rules_expansion.specs.Sizes.{body_size}
-use Rattle.rules_typing.specs.Typing.{Fault, large, Sig, Ctx, Bound}
+use Rattle.rules_typing.specs.Typing.{Fault, large, Sig, Ctx, TypedName}
 use Rattle.rules_typing.specs.TypingSizes as rule
 use Rattle.rules_typing.specs.TypingSizes.{nil, worst_body, called_extent, param_names}
 use Rattle.rules_typing.specs.TypingScripts.{Measured, measured_with, fn_extent, none_of, head_faults, twice_faults}
@@ -50,7 +50,7 @@ none_right (f ∷ fs) gs h = cc
 head_sound : (c : Ctx) (d : Fn) → def_faults c d ≡ [] → none_of (head_faults d) ≡ true
 head_sound c d h = ap none_of (none_left (head_faults d) (def_found c d).faults (none_right (twice_faults c d.name) (head_faults d ++ (def_found c d).faults) h))
 
-call_counted : (gs : List Sig) (xs : List rule.Extent) (s : List Bound) (b : Bd) (x : rule.Extent) → Same x (worst_body gs xs s b) → Same (of_call b x) (called_extent gs xs s b)
+call_counted : (gs : List Sig) (xs : List rule.Extent) (s : List TypedName) (b : Bd) (x : rule.Extent) → Same x (worst_body gs xs s b) → Same (of_call b x) (called_extent gs xs s b)
 call_counted gs xs s (pure_body w e) x h = h
 call_counted gs xs s (io_body w a) x h = record { size = refl; height = refl }
 

@@ -56,7 +56,7 @@ impl Frame {
 
 /// What follows a step.
 #[derive(Drop)]
-pub enum Next {
+pub enum StepResult {
     To(Active),
     /// No rule applies.
     Stuck,

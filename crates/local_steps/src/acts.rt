@@ -4,11 +4,11 @@ ghost use Rattle.rules_code.specs.Slots.{trees};
 ghost use Rattle.rules_code.specs.CodeTrees.{a_bad, act_decode, act_trees};
 ghost use Rattle.local_steps.specs.Machine.{act_of, below_of};
 
-use rules_code::{Act, ActId, Body};
+use rules_code::{Act, ActId, CodeBody};
 
 /// The node of an action.
 #[tactic(auto, using(slot_laws::proofs::ActNodes::act_rules))]
-pub fn act_at(body: &Body, at: ActId) -> Option<&Act>
+pub fn act_at(body: &CodeBody, at: ActId) -> Option<&Act>
     ensures { MatchOption result (act_of body.now at ≡ a_bad) (λ k. act_of body.now at ≡ act_decode (trees body.now.nodes) (take at.0 (act_trees body.now.nodes body.now.acts)) k.now) }
 {
     body.acts.get(at.0)
@@ -16,7 +16,7 @@ pub fn act_at(body: &Body, at: ActId) -> Option<&Act>
 
 /// A part of the action with the number `above`. One that isn't lower stands for nothing.
 #[tactic(auto, using(slot_laws::proofs::ActNodes::act_rules))]
-pub fn lower(body: &Body, above: usize, part: ActId) -> ActId
+pub fn lower(body: &CodeBody, above: usize, part: ActId) -> ActId
     ensures { act_of body.now result ≡ below_of body.now above part }
 {
     if part.0 < above {

@@ -3,14 +3,14 @@
 //! A contract speaks of every code, since the number of an action stands for whatever its code says.
 ghost use Rattle.std.specs.Prelude.{◌≡◌, ◌++◌, ◌∷◌, [], IfOk, Some, None, List, Option};
 ghost use Rattle.hs_base.specs.declared.value.Value.{Value};
-ghost use Rattle.rules_code.specs.declared.code.Body.{Body};
+ghost use Rattle.rules_code.specs.declared.code.CodeBody.{CodeBody};
 ghost use Rattle.rules_meaning.specs.Values.{value_of, values_of, Truth};
 ghost use Rattle.hs_eval.specs.Founds.{out_of};
 ghost use Rattle.local_steps.specs.Machine.{act_of, alone_of};
 ghost use Rattle.slot_laws.specs.SlotRules as rules;
 ghost use Rattle.slot_laws.specs.SlotRules.{SlotTerm, just_part, ret, doing};
 
-use crate::active::{Active, Next};
+use crate::active::{Active, StepResult};
 use hs_base::{NoMemory, Split, Value};
 use hs_eval::Found;
 use rules_code::ActId;
@@ -18,46 +18,46 @@ use slot_env::Env;
 use std::alloc::Global;
 
 /// `return`
-pub fn returned(found: Found) -> Next
-    ensures { (b : Body) → alone_of b result ≡ rules.on_value (out_of found) (λ u. just_part (ret u)) }
+pub fn returned(found: Found) -> StepResult
+    ensures { (b : CodeBody) → alone_of b result ≡ rules.on_value (out_of found) (λ u. just_part (ret u)) }
 {
     match found {
-        Found::Value(value) => Next::To(Active::Ret(value)),
-        Found::Throws(exn) => Next::To(Active::Throw(exn)),
-        Found::Stuck => Next::Stuck,
+        Found::Value(value) => StepResult::To(Active::Ret(value)),
+        Found::Throws(exn) => StepResult::To(Active::Throw(exn)),
+        Found::Stuck => StepResult::Stuck,
     }
 }
 
 /// An exception that a value is.
 #[tactic(auto, using(crate::proofs::Forms::no_exn, hs_eval::proofs::Cases::value_forms))]
-fn thrown_value(value: Value) -> Next
-    ensures { (b : Body) → alone_of b result ≡ rules.thrown (value_of value) }
+fn thrown_value(value: Value) -> StepResult
+    ensures { (b : CodeBody) → alone_of b result ≡ rules.thrown (value_of value) }
 {
     match value.into_exn() {
-        Some(exn) => Next::To(Active::Throw(exn)),
-        None => Next::Stuck,
+        Some(exn) => StepResult::To(Active::Throw(exn)),
+        None => StepResult::Stuck,
     }
 }
 
 /// `throwIO`
-pub fn thrown(found: Found) -> Next
-    ensures { (b : Body) → alone_of b result ≡ rules.on_value (out_of found) rules.thrown }
+pub fn thrown(found: Found) -> StepResult
+    ensures { (b : CodeBody) → alone_of b result ≡ rules.on_value (out_of found) rules.thrown }
 {
     match found {
         Found::Value(value) => thrown_value(value),
-        Found::Throws(exn) => Next::To(Active::Throw(exn)),
-        Found::Stuck => Next::Stuck,
+        Found::Throws(exn) => StepResult::To(Active::Throw(exn)),
+        Found::Stuck => StepResult::Stuck,
     }
 }
 
 /// An action with one value more.
 #[tactic(auto, using(slot_laws::proofs::ActNodes::values_push))]
-pub fn with_one(alloc: Global, env: Env, value: Value, at: ActId) -> Result<Next, NoMemory>
-    ensures { IfOk result (λ n. (b : Body) → alone_of b n ≡ just_part (doing (act_of b at) (values_of env ++ value_of value ∷ []))) }
+pub fn with_one(alloc: Global, env: Env, value: Value, at: ActId) -> Result<StepResult, NoMemory>
+    ensures { IfOk result (λ n. (b : CodeBody) → alone_of b n ≡ just_part (doing (act_of b at) (values_of env ++ value_of value ∷ []))) }
 {
     let mut env = env;
     env.push(alloc, value)?;
-    Ok(Next::To(Active::Doing(at, env)))
+    Ok(StepResult::To(Active::Doing(at, env)))
 }
 
 /// An action with two values more.
@@ -68,45 +68,45 @@ pub fn with_two(
     first: Value,
     second: Value,
     at: ActId,
-) -> Result<Next, NoMemory>
-    ensures { IfOk result (λ n. (b : Body) → alone_of b n ≡ just_part (doing (act_of b at) ((values_of env ++ value_of first ∷ []) ++ value_of second ∷ []))) }
+) -> Result<StepResult, NoMemory>
+    ensures { IfOk result (λ n. (b : CodeBody) → alone_of b n ≡ just_part (doing (act_of b at) ((values_of env ++ value_of first ∷ []) ++ value_of second ∷ []))) }
 {
     let mut env = env;
     env.push(alloc, first)?;
     env.push(alloc, second)?;
-    Ok(Next::To(Active::Doing(at, env)))
+    Ok(StepResult::To(Active::Doing(at, env)))
 }
 
 /// `let`
-pub fn bound(alloc: Global, found: Found, env: Env, at: ActId) -> Result<Next, NoMemory>
-    ensures { IfOk result (λ n. (b : Body) → alone_of b n ≡ rules.on_value (out_of found) (λ u. just_part (doing (act_of b at) (values_of env ++ u ∷ [])))) }
+pub fn bound(alloc: Global, found: Found, env: Env, at: ActId) -> Result<StepResult, NoMemory>
+    ensures { IfOk result (λ n. (b : CodeBody) → alone_of b n ≡ rules.on_value (out_of found) (λ u. just_part (doing (act_of b at) (values_of env ++ u ∷ [])))) }
 {
     match found {
         Found::Value(value) => with_one(alloc, env, value, at),
-        Found::Throws(exn) => Ok(Next::To(Active::Throw(exn))),
-        Found::Stuck => Ok(Next::Stuck),
+        Found::Throws(exn) => Ok(StepResult::To(Active::Throw(exn))),
+        Found::Stuck => Ok(StepResult::Stuck),
     }
 }
 
 /// One of two actions.
-fn arm(test: bool, env: Env, i: ActId, j: ActId) -> Next
-    ensures { (b : Body) → alone_of b result ≡ rules.chosen (act_of b i) (act_of b j) (values_of env) (Truth test) }
+fn arm(test: bool, env: Env, i: ActId, j: ActId) -> StepResult
+    ensures { (b : CodeBody) → alone_of b result ≡ rules.chosen (act_of b i) (act_of b j) (values_of env) (Truth test) }
 {
     if test {
-        Next::To(Active::Doing(i, env))
+        StepResult::To(Active::Doing(i, env))
     } else {
-        Next::To(Active::Doing(j, env))
+        StepResult::To(Active::Doing(j, env))
     }
 }
 
 /// `if` at the value of its test.
 #[tactic(auto, using(crate::proofs::Forms::no_choice, hs_eval::proofs::Cases::value_forms))]
-pub fn choose(value: Value, env: Env, i: ActId, j: ActId) -> Next
-    ensures { (b : Body) → alone_of b result ≡ rules.chosen (act_of b i) (act_of b j) (values_of env) (value_of value) }
+pub fn choose(value: Value, env: Env, i: ActId, j: ActId) -> StepResult
+    ensures { (b : CodeBody) → alone_of b result ≡ rules.chosen (act_of b i) (act_of b j) (values_of env) (value_of value) }
 {
     match &value {
         Value::Bool(test) => arm(*test, env, i, j),
-        _ => Next::Stuck,
+        _ => StepResult::Stuck,
     }
 }
 
@@ -118,13 +118,13 @@ pub fn choose_maybe(
     env: Env,
     i: ActId,
     j: ActId,
-) -> Result<Next, NoMemory>
-    ensures { IfOk result (λ n. (b : Body) → alone_of b n ≡ rules.chosen_maybe (act_of b i) (act_of b j) (values_of env) (value_of value)) }
+) -> Result<StepResult, NoMemory>
+    ensures { IfOk result (λ n. (b : CodeBody) → alone_of b n ≡ rules.chosen_maybe (act_of b i) (act_of b j) (values_of env) (value_of value)) }
 {
     match &value {
-        Value::Nothing => Ok(Next::To(Active::Doing(i, env))),
+        Value::Nothing => Ok(StepResult::To(Active::Doing(i, env))),
         Value::Just(a) => with_one(alloc, env, a.get().copy(alloc)?, j),
-        _ => Ok(Next::Stuck),
+        _ => Ok(StepResult::Stuck),
     }
 }
 
@@ -136,13 +136,13 @@ pub fn choose_either(
     env: Env,
     i: ActId,
     j: ActId,
-) -> Result<Next, NoMemory>
-    ensures { IfOk result (λ n. (b : Body) → alone_of b n ≡ rules.chosen_either (act_of b i) (act_of b j) (values_of env) (value_of value)) }
+) -> Result<StepResult, NoMemory>
+    ensures { IfOk result (λ n. (b : CodeBody) → alone_of b n ≡ rules.chosen_either (act_of b i) (act_of b j) (values_of env) (value_of value)) }
 {
     match &value {
         Value::Left(a) => with_one(alloc, env, a.get().copy(alloc)?, i),
         Value::Right(a) => with_one(alloc, env, a.get().copy(alloc)?, j),
-        _ => Ok(Next::Stuck),
+        _ => Ok(StepResult::Stuck),
     }
 }
 
@@ -154,28 +154,28 @@ pub fn choose_list(
     env: Env,
     i: ActId,
     j: ActId,
-) -> Result<Next, NoMemory>
-    ensures { IfOk result (λ n. (b : Body) → alone_of b n ≡ rules.chosen_list (act_of b i) (act_of b j) (values_of env) (value_of value)) }
+) -> Result<StepResult, NoMemory>
+    ensures { IfOk result (λ n. (b : CodeBody) → alone_of b n ≡ rules.chosen_list (act_of b i) (act_of b j) (values_of env) (value_of value)) }
 {
     match &value {
         Value::List(items) => match items.split()? {
-            Split::Empty => Ok(Next::To(Active::Doing(i, env))),
+            Split::Empty => Ok(StepResult::To(Active::Doing(i, env))),
             Split::Of(first, rest) => {
                 let first = first.copy(alloc)?;
                 with_two(alloc, env, first, Value::List(rest), j)
             }
         },
-        _ => Ok(Next::Stuck),
+        _ => Ok(StepResult::Stuck),
     }
 }
 
 /// `case` of a pair.
 #[tactic(auto, using(crate::proofs::Forms::no_pair_choice, hs_eval::proofs::Cases::value_forms))]
-pub fn choose_pair(alloc: Global, value: Value, env: Env, i: ActId) -> Result<Next, NoMemory>
-    ensures { IfOk result (λ n. (b : Body) → alone_of b n ≡ rules.chosen_pair (act_of b i) (values_of env) (value_of value)) }
+pub fn choose_pair(alloc: Global, value: Value, env: Env, i: ActId) -> Result<StepResult, NoMemory>
+    ensures { IfOk result (λ n. (b : CodeBody) → alone_of b n ≡ rules.chosen_pair (act_of b i) (values_of env) (value_of value)) }
 {
     match &value {
         Value::Pair(a, b) => with_two(alloc, env, a.get().copy(alloc)?, b.get().copy(alloc)?, i),
-        _ => Ok(Next::Stuck),
+        _ => Ok(StepResult::Stuck),
     }
 }

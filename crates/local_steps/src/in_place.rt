@@ -16,12 +16,12 @@ use crate::parts::eval_all;
 use hs_base::NoMemory;
 use hs_eval::FoundAll;
 use hs_items::Items;
-use rules_code::{Act, ActId, Body, ExprId, Fun};
+use rules_code::{Act, ActId, CodeBody, ExprId, Fun};
 use slot_env::Env;
 use std::alloc::Global;
 
 /// Does the local rule of such an action. Whether it did: else the part is as before.
-pub fn step_in_place(alloc: Global, body: &Body, active: &mut Active) -> Result<bool, NoMemory>
+pub fn step_in_place(alloc: Global, body: &CodeBody, active: &mut Active) -> Result<bool, NoMemory>
     ensures rule { IfOk result (λ done. IsTrue done → (s : Mask) (fs : List SlotFrame) → local (funs_of body.now) s (active_of body.now active.old) fs ≡ Some (at (active_of body.now active.new) fs)) }
     ensures same { IfOk result (λ done. (IsTrue done → ⊥) → active.new ≡ active.old) }
 {
@@ -36,7 +36,7 @@ pub fn step_in_place(alloc: Global, body: &Body, active: &mut Active) -> Result<
 }
 
 /// `if`
-fn branch(body: &Body, at: &mut ActId, e: ExprId, i: ActId, j: ActId, env: &Env) -> bool
+fn branch(body: &CodeBody, at: &mut ActId, e: ExprId, i: ActId, j: ActId, env: &Env) -> bool
     ensures rule { IsTrue result → rules.on_value (run (tree_at body.now.nodes e) (values_of env.now)) (rules.chosen (below_of body.now at.old.0 i) (below_of body.now at.old.0 j) (values_of env.now)) ≡ just_part (doing (act_of body.now at.new) (values_of env.now)) }
     ensures same { (IsTrue result → ⊥) → at.new ≡ at.old }
 {
@@ -51,7 +51,7 @@ fn branch(body: &Body, at: &mut ActId, e: ExprId, i: ActId, j: ActId, env: &Env)
 
 /// The function of a number, where it takes so many arguments.
 #[tactic(auto, using(slot_laws::proofs::ActNodes::fun_some))]
-fn fun_for(body: &Body, f: u32, count: usize) -> Option<Fun>
+fn fun_for(body: &CodeBody, f: u32, count: usize) -> Option<Fun>
     ensures { IfSome result (λ fun. (us : List V) → length us ≡ count → rules.called (slice_get (funs_of body.now) f) us ≡ just_part (doing (act_of body.now fun.body) us)) }
 {
     match body.funs.get(f as usize) {
@@ -64,7 +64,7 @@ fn fun_for(body: &Body, f: u32, count: usize) -> Option<Fun>
 #[tactic(auto, using(slot_laws::proofs::ActNodes::values_count))]
 fn call(
     alloc: Global,
-    body: &Body,
+    body: &CodeBody,
     at: &mut ActId,
     f: u32,
     ids: &Items<ExprId>,

@@ -16,7 +16,7 @@ mod in_place;
 mod parts;
 mod stepping;
 
-pub use active::{Active, Frame, Masking, Next};
+pub use active::{Active, Frame, Masking, StepResult};
 pub use frames::Frames;
 pub use in_place::step_in_place;
 pub use stepping::{meet_exception, meet_value, step};

@@ -1,6 +1,6 @@
 //! The expressions of an action, and what follows what they give.
 ghost use Rattle.std.specs.Prelude.{◌≡◌, ◌==◌, ◌++◌, ◌∷◌, [], length, ◌<◌, cond, Some, None, IfOk, OnOk, slice_get};
-ghost use Rattle.rules_code.specs.declared.code.Body.{Body};
+ghost use Rattle.rules_code.specs.declared.code.CodeBody.{CodeBody};
 ghost use Rattle.rules_meaning.specs.Values.{values_of};
 ghost use Rattle.rules_code.specs.Slots.{run, run_all, trees, tree_at, trees_in};
 ghost use Rattle.hs_eval.specs.Evaluation.{outs_of};
@@ -8,7 +8,7 @@ ghost use Rattle.local_steps.specs.Machine.{act_of, below_of, alone_of, funs_of}
 ghost use Rattle.slot_laws.specs.SlotRules as rules;
 ghost use Rattle.slot_laws.specs.SlotRules.{just_part, ret, doing, performs, calls};
 
-use crate::active::{Active, Next};
+use crate::active::{Active, StepResult};
 use crate::acts::lower;
 use crate::choices::{
     bound, choose, choose_either, choose_list, choose_maybe, choose_pair, returned, thrown,
@@ -16,7 +16,7 @@ use crate::choices::{
 use hs_base::{NoMemory, Values};
 use hs_eval::{Found, FoundAll};
 use hs_items::Items;
-use rules_code::{ActId, Body, ExprId, Fun, Node, Primitive};
+use rules_code::{ActId, CodeBody, ExprId, Fun, Node, Primitive};
 use slot_env::Env;
 use std::alloc::Global;
 
@@ -50,7 +50,12 @@ pub fn eval_all(
 }
 
 /// `return`
-pub fn do_return(alloc: Global, body: &Body, e: ExprId, env: Env) -> Result<Next, NoMemory>
+pub fn do_return(
+    alloc: Global,
+    body: &CodeBody,
+    e: ExprId,
+    env: Env,
+) -> Result<StepResult, NoMemory>
     ensures { IfOk result (λ n. alone_of body.now n ≡ rules.on_value (run (tree_at body.now.nodes e) (values_of env)) (λ u. just_part (ret u))) }
 {
     let mut env = env;
@@ -59,7 +64,7 @@ pub fn do_return(alloc: Global, body: &Body, e: ExprId, env: Env) -> Result<Next
 }
 
 /// `throwIO`
-pub fn do_throw(alloc: Global, body: &Body, e: ExprId, env: Env) -> Result<Next, NoMemory>
+pub fn do_throw(alloc: Global, body: &CodeBody, e: ExprId, env: Env) -> Result<StepResult, NoMemory>
     ensures { IfOk result (λ n. alone_of body.now n ≡ rules.on_value (run (tree_at body.now.nodes e) (values_of env)) rules.thrown) }
 {
     let mut env = env;
@@ -70,12 +75,12 @@ pub fn do_throw(alloc: Global, body: &Body, e: ExprId, env: Env) -> Result<Next,
 /// `let`
 pub fn do_let(
     alloc: Global,
-    body: &Body,
+    body: &CodeBody,
     above: usize,
     e: ExprId,
     i: ActId,
     env: Env,
-) -> Result<Next, NoMemory>
+) -> Result<StepResult, NoMemory>
     ensures { IfOk result (λ n. alone_of body.now n ≡ rules.on_value (run (tree_at body.now.nodes e) (values_of env)) (λ u. just_part (doing (below_of body.now above i) (values_of env ++ u ∷ [])))) }
 {
     let mut env = env;
@@ -87,13 +92,13 @@ pub fn do_let(
 /// `if`
 pub fn do_if(
     alloc: Global,
-    body: &Body,
+    body: &CodeBody,
     above: usize,
     e: ExprId,
     i: ActId,
     j: ActId,
     env: Env,
-) -> Result<Next, NoMemory>
+) -> Result<StepResult, NoMemory>
     ensures { IfOk result (λ n. alone_of body.now n ≡ rules.on_value (run (tree_at body.now.nodes e) (values_of env)) (rules.chosen (below_of body.now above i) (below_of body.now above j) (values_of env))) }
 {
     let mut env = env;
@@ -104,21 +109,21 @@ pub fn do_if(
             let second = lower(body, above, j);
             Ok(choose(value, env, first, second))
         }
-        Found::Throws(exn) => Ok(Next::To(Active::Throw(exn))),
-        Found::Stuck => Ok(Next::Stuck),
+        Found::Throws(exn) => Ok(StepResult::To(Active::Throw(exn))),
+        Found::Stuck => Ok(StepResult::Stuck),
     }
 }
 
 /// `case` of a Maybe.
 pub fn do_maybe(
     alloc: Global,
-    body: &Body,
+    body: &CodeBody,
     above: usize,
     e: ExprId,
     i: ActId,
     j: ActId,
     env: Env,
-) -> Result<Next, NoMemory>
+) -> Result<StepResult, NoMemory>
     ensures { IfOk result (λ n. alone_of body.now n ≡ rules.on_value (run (tree_at body.now.nodes e) (values_of env)) (rules.chosen_maybe (below_of body.now above i) (below_of body.now above j) (values_of env))) }
 {
     let mut env = env;
@@ -129,21 +134,21 @@ pub fn do_maybe(
             let second = lower(body, above, j);
             choose_maybe(alloc, value, env, first, second)
         }
-        Found::Throws(exn) => Ok(Next::To(Active::Throw(exn))),
-        Found::Stuck => Ok(Next::Stuck),
+        Found::Throws(exn) => Ok(StepResult::To(Active::Throw(exn))),
+        Found::Stuck => Ok(StepResult::Stuck),
     }
 }
 
 /// `case` of an Either.
 pub fn do_either(
     alloc: Global,
-    body: &Body,
+    body: &CodeBody,
     above: usize,
     e: ExprId,
     i: ActId,
     j: ActId,
     env: Env,
-) -> Result<Next, NoMemory>
+) -> Result<StepResult, NoMemory>
     ensures { IfOk result (λ n. alone_of body.now n ≡ rules.on_value (run (tree_at body.now.nodes e) (values_of env)) (rules.chosen_either (below_of body.now above i) (below_of body.now above j) (values_of env))) }
 {
     let mut env = env;
@@ -154,21 +159,21 @@ pub fn do_either(
             let second = lower(body, above, j);
             choose_either(alloc, value, env, first, second)
         }
-        Found::Throws(exn) => Ok(Next::To(Active::Throw(exn))),
-        Found::Stuck => Ok(Next::Stuck),
+        Found::Throws(exn) => Ok(StepResult::To(Active::Throw(exn))),
+        Found::Stuck => Ok(StepResult::Stuck),
     }
 }
 
 /// `case` of a list.
 pub fn do_list(
     alloc: Global,
-    body: &Body,
+    body: &CodeBody,
     above: usize,
     e: ExprId,
     i: ActId,
     j: ActId,
     env: Env,
-) -> Result<Next, NoMemory>
+) -> Result<StepResult, NoMemory>
     ensures { IfOk result (λ n. alone_of body.now n ≡ rules.on_value (run (tree_at body.now.nodes e) (values_of env)) (rules.chosen_list (below_of body.now above i) (below_of body.now above j) (values_of env))) }
 {
     let mut env = env;
@@ -179,20 +184,20 @@ pub fn do_list(
             let second = lower(body, above, j);
             choose_list(alloc, value, env, first, second)
         }
-        Found::Throws(exn) => Ok(Next::To(Active::Throw(exn))),
-        Found::Stuck => Ok(Next::Stuck),
+        Found::Throws(exn) => Ok(StepResult::To(Active::Throw(exn))),
+        Found::Stuck => Ok(StepResult::Stuck),
     }
 }
 
 /// `case` of a pair.
 pub fn do_pair(
     alloc: Global,
-    body: &Body,
+    body: &CodeBody,
     above: usize,
     e: ExprId,
     i: ActId,
     env: Env,
-) -> Result<Next, NoMemory>
+) -> Result<StepResult, NoMemory>
     ensures { IfOk result (λ n. alone_of body.now n ≡ rules.on_value (run (tree_at body.now.nodes e) (values_of env)) (rules.chosen_pair (below_of body.now above i) (values_of env))) }
 {
     let mut env = env;
@@ -202,31 +207,31 @@ pub fn do_pair(
             let at = lower(body, above, i);
             choose_pair(alloc, value, env, at)
         }
-        Found::Throws(exn) => Ok(Next::To(Active::Throw(exn))),
-        Found::Stuck => Ok(Next::Stuck),
+        Found::Throws(exn) => Ok(StepResult::To(Active::Throw(exn))),
+        Found::Stuck => Ok(StepResult::Stuck),
     }
 }
 
 /// The same, where the function is there.
 #[tactic(auto, using(slot_laws::proofs::ActNodes::values_count))]
-fn enter(alloc: Global, fun: Fun, args: Values) -> Result<Next, NoMemory>
-    ensures { IfOk result (λ n. (b : Body) → alone_of b n ≡ cond (fun.params == length (values_of args)) (just_part (doing (act_of b fun.body) (values_of args))) None) }
+fn enter(alloc: Global, fun: Fun, args: Values) -> Result<StepResult, NoMemory>
+    ensures { IfOk result (λ n. (b : CodeBody) → alone_of b n ≡ cond (fun.params == length (values_of args)) (just_part (doing (act_of b fun.body) (values_of args))) None) }
 {
     if fun.params as usize == args.len() {
         let env = Env::of(alloc, args)?;
-        Ok(Next::To(Active::Doing(fun.body, env)))
+        Ok(StepResult::To(Active::Doing(fun.body, env)))
     } else {
-        Ok(Next::Stuck)
+        Ok(StepResult::Stuck)
     }
 }
 
 /// The body of a function, in its parameters' values.
 #[tactic(auto, using(slot_laws::proofs::ActNodes::fun_some, slot_laws::proofs::ActNodes::fun_none, slot_laws::proofs::ActNodes::values_count))]
-fn entered(alloc: Global, body: &Body, f: u32, args: Values) -> Result<Next, NoMemory>
+fn entered(alloc: Global, body: &CodeBody, f: u32, args: Values) -> Result<StepResult, NoMemory>
     ensures { IfOk result (λ n. alone_of body.now n ≡ rules.called (slice_get (funs_of body.now) f) (values_of args)) }
 {
     match body.funs.get(f as usize) {
-        None => Ok(Next::Stuck),
+        None => Ok(StepResult::Stuck),
         Some(fun) => enter(alloc, *fun, args),
     }
 }
@@ -234,35 +239,35 @@ fn entered(alloc: Global, body: &Body, f: u32, args: Values) -> Result<Next, NoM
 /// `f e ..`
 pub fn do_call(
     alloc: Global,
-    body: &Body,
+    body: &CodeBody,
     f: u32,
     ids: &Items<ExprId>,
     env: Env,
-) -> Result<Next, NoMemory>
+) -> Result<StepResult, NoMemory>
     ensures { IfOk result (λ n. alone_of body.now n ≡ rules.on_values (run_all (trees_in (trees body.now.nodes) ids.now) (values_of env)) (rules.called (slice_get (funs_of body.now) f))) }
 {
     let mut env = env;
     match eval_all(alloc, &body.nodes, ids, &mut env)? {
         FoundAll::Values(args) => entered(alloc, body, f, args),
-        FoundAll::Throws(exn) => Ok(Next::To(Active::Throw(exn))),
-        FoundAll::Stuck => Ok(Next::Stuck),
+        FoundAll::Throws(exn) => Ok(StepResult::To(Active::Throw(exn))),
+        FoundAll::Stuck => Ok(StepResult::Stuck),
     }
 }
 
 /// A primitive.
 pub fn do_perform(
     alloc: Global,
-    body: &Body,
+    body: &CodeBody,
     primitive: Primitive,
     ids: &Items<ExprId>,
     env: Env,
-) -> Result<Next, NoMemory>
+) -> Result<StepResult, NoMemory>
     ensures { IfOk result (λ n. alone_of body.now n ≡ rules.on_values (run_all (trees_in (trees body.now.nodes) ids.now) (values_of env)) (λ us. just_part (performs (calls primitive us)))) }
 {
     let mut env = env;
     match eval_all(alloc, &body.nodes, ids, &mut env)? {
-        FoundAll::Values(args) => Ok(Next::To(Active::Asks(primitive, args))),
-        FoundAll::Throws(exn) => Ok(Next::To(Active::Throw(exn))),
-        FoundAll::Stuck => Ok(Next::Stuck),
+        FoundAll::Values(args) => Ok(StepResult::To(Active::Asks(primitive, args))),
+        FoundAll::Throws(exn) => Ok(StepResult::To(Active::Throw(exn))),
+        FoundAll::Stuck => Ok(StepResult::Stuck),
     }
 }

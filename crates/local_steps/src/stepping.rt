@@ -4,15 +4,15 @@ ghost use Rattle.hs_base.specs.declared.mask.Mask.TheVariants as mask;
 ghost use Rattle.rules_meaning.specs.Values as val;
 ghost use Rattle.rules_meaning.specs.Values.{V, value_of, values_of};
 ghost use Rattle.rules_code.specs.Slots.{trees};
-ghost use Rattle.rules_code.specs.declared.code.Body.{Body};
+ghost use Rattle.rules_code.specs.declared.code.CodeBody.{CodeBody};
 ghost use Rattle.rules_code.specs.CodeTrees.{Sa, act_decode, act_trees};
 ghost use Rattle.slot_laws.specs.SlotRules as rules;
 ghost use Rattle.slot_laws.specs.SlotRules.{at, just_part, performs, forks, forks_unmask, on_top, first_step, bind_to, then_to, catch_by, mask_in, doing, local};
-ghost use Rattle.local_steps.specs.declared.active.Next.TheVariants as next;
+ghost use Rattle.local_steps.specs.declared.active.StepResult.TheVariants as next;
 ghost use Rattle.local_steps.specs.Frames.{mask_inside};
 ghost use Rattle.local_steps.specs.Machine.{act_of, below_of, active_of, frames_of, next_of, alone_of, funs_of};
 
-use crate::active::{Active, Frame, Next};
+use crate::active::{Active, Frame, StepResult};
 use crate::acts::{act_at, lower};
 use crate::choices::with_one;
 use crate::frames::Frames;
@@ -20,65 +20,65 @@ use crate::parts::{
     do_call, do_either, do_if, do_let, do_list, do_maybe, do_pair, do_perform, do_return, do_throw,
 };
 use hs_base::{Exn, Mask, NoMemory, Value};
-use rules_code::{Act, ActId, Body};
+use rules_code::{Act, ActId, CodeBody};
 use slot_env::Env;
 use std::alloc::Global;
 
 /// `x <- A; B`
 fn bind(
     alloc: Global,
-    body: &Body,
+    body: &CodeBody,
     above: usize,
     i: ActId,
     j: ActId,
     env: Env,
     frames: &mut Frames,
-) -> Result<Next, NoMemory>
+) -> Result<StepResult, NoMemory>
     ensures rule { IfOk result (λ n. next_of body.now n frames.new.list ≡ Some (at (doing (below_of body.now above i) (values_of env)) (bind_to (below_of body.now above j) (values_of env) ∷ frames_of body.now frames.old.list))) }
     ensures below { frames.new.below ≡ frames.old.below }
     ensures err { OnErr result (frames.new ≡ frames.old) }
 {
     let rest = env.waiting(alloc)?;
     frames.add(Frame::Bind(lower(body, above, j), rest))?;
-    Ok(Next::To(Active::Doing(lower(body, above, i), env)))
+    Ok(StepResult::To(Active::Doing(lower(body, above, i), env)))
 }
 
 /// `A; B`
 fn then(
     alloc: Global,
-    body: &Body,
+    body: &CodeBody,
     above: usize,
     i: ActId,
     j: ActId,
     env: Env,
     frames: &mut Frames,
-) -> Result<Next, NoMemory>
+) -> Result<StepResult, NoMemory>
     ensures rule { IfOk result (λ n. next_of body.now n frames.new.list ≡ Some (at (doing (below_of body.now above i) (values_of env)) (then_to (below_of body.now above j) (values_of env) ∷ frames_of body.now frames.old.list))) }
     ensures below { frames.new.below ≡ frames.old.below }
     ensures err { OnErr result (frames.new ≡ frames.old) }
 {
     let rest = env.copy(alloc)?;
     frames.add(Frame::Then(lower(body, above, j), rest))?;
-    Ok(Next::To(Active::Doing(lower(body, above, i), env)))
+    Ok(StepResult::To(Active::Doing(lower(body, above, i), env)))
 }
 
 /// `catch A x B`
 fn catch(
     alloc: Global,
-    body: &Body,
+    body: &CodeBody,
     above: usize,
     i: ActId,
     j: ActId,
     env: Env,
     frames: &mut Frames,
-) -> Result<Next, NoMemory>
+) -> Result<StepResult, NoMemory>
     ensures rule { IfOk result (λ n. next_of body.now n frames.new.list ≡ Some (at (doing (below_of body.now above i) (values_of env)) (catch_by (below_of body.now above j) (values_of env) ∷ frames_of body.now frames.old.list))) }
     ensures below { frames.new.below ≡ frames.old.below }
     ensures err { OnErr result (frames.new ≡ frames.old) }
 {
     let rest = env.waiting(alloc)?;
     frames.add(Frame::Catch(lower(body, above, j), rest))?;
-    Ok(Next::To(Active::Doing(lower(body, above, i), env)))
+    Ok(StepResult::To(Active::Doing(lower(body, above, i), env)))
 }
 
 /// An action in a masking scope with the state `inside`, with the state outside of it in its next slot.
@@ -88,8 +88,8 @@ fn masked(
     env: Env,
     inside: Mask,
     frames: &mut Frames,
-) -> Result<Next, NoMemory>
-    ensures rule { IfOk result (λ n. (b : Body) → next_of b n frames.new.list ≡ Some (at (doing (act_of b act) (values_of env ++ val.Restore (mask_inside frames.old.below frames.old.list) ∷ [])) (mask_in inside ∷ frames_of b frames.old.list))) }
+) -> Result<StepResult, NoMemory>
+    ensures rule { IfOk result (λ n. (b : CodeBody) → next_of b n frames.new.list ≡ Some (at (doing (act_of b act) (values_of env ++ val.Restore (mask_inside frames.old.below frames.old.list) ∷ [])) (mask_in inside ∷ frames_of b frames.old.list))) }
     ensures below { frames.new.below ≡ frames.old.below }
     ensures err { OnErr result (frames.new ≡ frames.old) }
 {
@@ -123,57 +123,57 @@ fn state_at(env: &Env, slot: usize) -> Option<Mask>
 
 /// `restore r A`
 fn restore(
-    body: &Body,
+    body: &CodeBody,
     above: usize,
     slot: usize,
     i: ActId,
     env: Env,
     frames: &mut Frames,
-) -> Result<Next, NoMemory>
+) -> Result<StepResult, NoMemory>
     ensures rule { IfOk result (λ n. next_of body.now n frames.new.list ≡ on_top (frames_of body.now frames.old.list) (rules.restored (below_of body.now above i) (values_of env) (slice_get (values_of env) slot))) }
     ensures below { frames.new.below ≡ frames.old.below }
     ensures stuck { IfOk result (λ n. n ≡ next.Stuck → frames.new ≡ frames.old) }
     ensures err { OnErr result (frames.new ≡ frames.old) }
 {
     match state_at(&env, slot) {
-        None => Ok(Next::Stuck),
+        None => Ok(StepResult::Stuck),
         Some(mask) => {
             frames.enter(mask)?;
-            Ok(Next::To(Active::Doing(lower(body, above, i), env)))
+            Ok(StepResult::To(Active::Doing(lower(body, above, i), env)))
         }
     }
 }
 
 /// A value and the frame directly round it. It takes no memory.
 #[tactic(auto, using(slot_laws::proofs::ActNodes::values_push))]
-pub fn meet_value(value: Value, frames: &mut Frames) -> Next
-    ensures rule { (b : Body) → next_of b result frames.new.list ≡ rules.ret_step (value_of value) (frames_of b frames.old.list) }
+pub fn meet_value(value: Value, frames: &mut Frames) -> StepResult
+    ensures rule { (b : CodeBody) → next_of b result frames.new.list ≡ rules.ret_step (value_of value) (frames_of b frames.old.list) }
     ensures below { frames.new.below ≡ frames.old.below }
     ensures stuck { result ≡ next.Stuck → frames.new ≡ frames.old }
 {
     match frames.pop() {
-        None => Next::Stuck,
-        Some(Frame::Bind(i, env)) => Next::To(Active::Doing(i, env.with(value))),
-        Some(Frame::Then(i, env)) => Next::To(Active::Doing(i, env)),
-        Some(Frame::Catch(_, _)) => Next::To(Active::Ret(value)),
-        Some(Frame::Mask(_)) => Next::To(Active::Ret(value)),
+        None => StepResult::Stuck,
+        Some(Frame::Bind(i, env)) => StepResult::To(Active::Doing(i, env.with(value))),
+        Some(Frame::Then(i, env)) => StepResult::To(Active::Doing(i, env)),
+        Some(Frame::Catch(_, _)) => StepResult::To(Active::Ret(value)),
+        Some(Frame::Mask(_)) => StepResult::To(Active::Ret(value)),
     }
 }
 
 /// An exception and the frame directly round it. It takes no memory.
 #[tactic(auto, using(crate::proofs::Codes::handler_next))]
-pub fn meet_exception(exn: Exn, frames: &mut Frames) -> Next
-    ensures rule { (b : Body) → next_of b result frames.new.list ≡ rules.throw_step frames.old.below exn (frames_of b frames.old.list) }
+pub fn meet_exception(exn: Exn, frames: &mut Frames) -> StepResult
+    ensures rule { (b : CodeBody) → next_of b result frames.new.list ≡ rules.throw_step frames.old.below exn (frames_of b frames.old.list) }
     ensures below { frames.new.below ≡ frames.old.below }
     ensures stuck { result ≡ next.Stuck → frames.new ≡ frames.old }
 {
     if frames.has_handler() {
         let (handler, env) = frames.handle();
-        return Next::To(Active::Doing(handler, env.with(Value::Exn(exn))));
+        return StepResult::To(Active::Doing(handler, env.with(Value::Exn(exn))));
     }
     match frames.pop() {
-        None => Next::Stuck,
-        Some(_) => Next::To(Active::Throw(exn)),
+        None => StepResult::Stuck,
+        Some(_) => StepResult::To(Active::Throw(exn)),
     }
 }
 
@@ -181,12 +181,12 @@ pub fn meet_exception(exn: Exn, frames: &mut Frames) -> Next
 #[tactic(auto, using(crate::proofs::Codes::alone_next))]
 fn act_step(
     alloc: Global,
-    body: &Body,
+    body: &CodeBody,
     above: usize,
     act: &Act,
     env: Env,
     frames: &mut Frames,
-) -> Result<Next, NoMemory>
+) -> Result<StepResult, NoMemory>
     ensures rule { IfOk result (λ n. next_of body.now n frames.new.list ≡ on_top (frames_of body.now frames.old.list) (first_step (funs_of body.now) (mask_inside frames.old.below frames.old.list) (act_decode (trees body.now.nodes) (take above (act_trees body.now.nodes body.now.acts)) act.now) (values_of env))) }
     ensures below { frames.new.below ≡ frames.old.below }
     ensures stuck { IfOk result (λ n. n ≡ next.Stuck → frames.new ≡ frames.old) }
@@ -220,26 +220,26 @@ fn act_step(
     }
 }
 
-fn forked(at: ActId, env: Env) -> Next
-    ensures { (b : Body) → alone_of b result ≡ just_part (performs (forks (act_of b at) (values_of env))) }
+fn forked(at: ActId, env: Env) -> StepResult
+    ensures { (b : CodeBody) → alone_of b result ≡ just_part (performs (forks (act_of b at) (values_of env))) }
 {
-    Next::To(Active::Forks(at, env))
+    StepResult::To(Active::Forks(at, env))
 }
 
-fn forked_unmask(at: ActId, env: Env) -> Next
-    ensures { (b : Body) → alone_of b result ≡ just_part (performs (forks_unmask (act_of b at) (values_of env))) }
+fn forked_unmask(at: ActId, env: Env) -> StepResult
+    ensures { (b : CodeBody) → alone_of b result ≡ just_part (performs (forks_unmask (act_of b at) (values_of env))) }
 {
-    Next::To(Active::ForksUnmask(at, env))
+    StepResult::To(Active::ForksUnmask(at, env))
 }
 
 /// One local rule of a code.
 #[tactic(auto, using(crate::proofs::Codes::masks_inside))]
 pub fn step(
     alloc: Global,
-    body: &Body,
+    body: &CodeBody,
     active: Active,
     frames: &mut Frames,
-) -> Result<Next, NoMemory>
+) -> Result<StepResult, NoMemory>
     ensures rule { IfOk result (λ n. next_of body.now n frames.new.list ≡ local (funs_of body.now) frames.old.below (active_of body.now active) (frames_of body.now frames.old.list)) }
     ensures below { frames.new.below ≡ frames.old.below }
     ensures stuck { IfOk result (λ n. n ≡ next.Stuck → frames.new ≡ frames.old) }
@@ -248,11 +248,11 @@ pub fn step(
     match active {
         Active::Ret(value) => Ok(meet_value(value, frames)),
         Active::Throw(exn) => Ok(meet_exception(exn, frames)),
-        Active::Asks(_, _) => Ok(Next::Stuck),
-        Active::Forks(_, _) => Ok(Next::Stuck),
-        Active::ForksUnmask(_, _) => Ok(Next::Stuck),
+        Active::Asks(_, _) => Ok(StepResult::Stuck),
+        Active::Forks(_, _) => Ok(StepResult::Stuck),
+        Active::ForksUnmask(_, _) => Ok(StepResult::Stuck),
         Active::Doing(i, env) => match act_at(body, i) {
-            None => Ok(Next::Stuck),
+            None => Ok(StepResult::Stuck),
             Some(act) => act_step(alloc, body, i.0, act, env, frames),
         },
     }

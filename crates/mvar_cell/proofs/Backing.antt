@@ -4,7 +4,7 @@ use Rattle.std.proofs.lemmas.Bool.{cases_eq, ne_eqb, eqb-true}
 use Rattle.std.proofs.lemmas.List.{get_or-set_same, get_or-set_other, length-set, get_or-map}
 use Rattle.rules_waiting.specs.OneCell.{stands_in}
 use Rattle.slab.specs.Slab.{Slab, get, Updates}
-use Rattle.mvar_cell.specs.declared.lines.Node.{Node}
+use Rattle.mvar_cell.specs.declared.lines.LineNode.{LineNode}
 use Rattle.mvar_cell.specs.declared.lines.Ends.{Ends}
 use Rattle.mvar_cell.specs.declared.lines.Sought.{Sought}
 use Rattle.mvar_cell.specs.declared.lines.Sought.TheVariants.{Thread}
@@ -34,12 +34,12 @@ pub put_else : (f g : ℕ → Option ℕ) (t : ℕ) (o : Option ℕ) → IsPut f
 put_else f g t o h q ne = h q ∙ ap (λ b. cond b o (f q)) (ne_eqb t q (λ e. ne (sym e)))
 
 -- the same table, read another way
-pub befores_agree : (f g : ℕ → Option ℕ) (s : Slab Node) (n i : ℕ) → ((q : ℕ) → g q ≡ f q) → HasBefores f s n i → HasBefores g s n i
+pub befores_agree : (f g : ℕ → Option ℕ) (s : Slab LineNode) (n i : ℕ) → ((q : ℕ) → g q ≡ f q) → HasBefores f s n i → HasBefores g s n i
 befores_agree f g s zero i h b = tt
 befores_agree f g s (suc n) i h b = (h _ ∙ b.0, befores_agree f g s n (next_of (get s i)) h b.1)
 
 -- nodes of a chain are as they were, and so is what their threads have
-pub befores_kept : (f g : ℕ → Option ℕ) (s u : Slab Node) (k n i z : ℕ) → Keeps s u k n z → ((x j d : ℕ) → suc d ≤ n → IsOn k (get s j) → IsTail s k (suc d) j z → f x ≡ Some j → g x ≡ Some j) → IsOn k (get s i) → IsTail s k n i z → HasBefores f s n i → HasBefores g u n i
+pub befores_kept : (f g : ℕ → Option ℕ) (s u : Slab LineNode) (k n i z : ℕ) → Keeps s u k n z → ((x j d : ℕ) → suc d ≤ n → IsOn k (get s j) → IsTail s k (suc d) j z → f x ≡ Some j → g x ≡ Some j) → IsOn k (get s i) → IsTail s k n i z → HasBefores f s n i → HasBefores g u n i
 befores_kept f g s u k zero i z h had on t b = tt
 befores_kept f g s u k (suc n) i z h had on t b =
     let e : get u i ≡ get s i = h.same i (suc n) (omega arith) on t in
@@ -50,7 +50,7 @@ befores_kept f g s u k (suc n) i z h had on t b =
 
 -- ---- a thread joins
 -- it stands nowhere on this chain
-pub befores_apart : (f g : ℕ → Option ℕ) (s u : Slab Node) (k n i z t : ℕ) → Keeps s u k n z → ((q : ℕ) → q ≢ t → g q ≡ f q) → stands_in t (places s (suc n) i) ≡ false → IsOn k (get s i) → IsTail s k n i z → HasBefores f s n i → HasBefores g u n i
+pub befores_apart : (f g : ℕ → Option ℕ) (s u : Slab LineNode) (k n i z t : ℕ) → Keeps s u k n z → ((q : ℕ) → q ≢ t → g q ≡ f q) → stands_in t (places s (suc n) i) ≡ false → IsOn k (get s i) → IsTail s k n i z → HasBefores f s n i → HasBefores g u n i
 befores_apart f g s u k zero i z t h else absent on tail b = tt
 befores_apart f g s u k (suc n) i z t h else absent on tail b =
     let e : get u i ≡ get s i = h.same i (suc n) (omega arith) on tail in
@@ -62,7 +62,7 @@ befores_apart f g s u k (suc n) i z t h else absent on tail b =
     subst (λ o. (g (thread_of (get u (next_of o))) ≡ Some i) × HasBefores g u n (next_of o)) (sym e) (subst (λ o. g (thread_of o) ≡ Some i) (sym at) head, rest)
 
 -- it stands behind the last
-pub befores_longer : (f g : ℕ → Option ℕ) (s u : Slab Node) (k n i z key : ℕ) (last new : Node) → Extends s u k z key last new → ((q : ℕ) → q ≢ new.thread → g q ≡ f q) → g new.thread ≡ Some z → stands_in new.thread (places s (suc n) i) ≡ false → IsOn k (get s i) → IsTail s k n i z → HasBefores f s n i → HasBefores g u (suc n) i
+pub befores_longer : (f g : ℕ → Option ℕ) (s u : Slab LineNode) (k n i z key : ℕ) (last new : LineNode) → Extends s u k z key last new → ((q : ℕ) → q ≢ new.thread → g q ≡ f q) → g new.thread ≡ Some z → stands_in new.thread (places s (suc n) i) ≡ false → IsOn k (get s i) → IsTail s k n i z → HasBefores f s n i → HasBefores g u (suc n) i
 befores_longer f g s u k zero i z key last new h else here absent on t b =
     let e : get u i ≡ Some (record last { next = key }) = ap (get u) t ∙ h.linked in
     subst (λ o. (g (thread_of (get u (next_of o))) ≡ Some i) × Unit {0}) (sym e) (ap (λ o. g (thread_of o)) h.added ∙ here ∙ ap (λ x. Some x) (sym t), tt)
@@ -82,7 +82,7 @@ befores_longer f g s u k (suc n) i z key last new h else here absent on t b =
 
 -- ---- a node leaves
 -- what the table keeps as the first leaves
-pub befores_shorter : (f g : ℕ → Option ℕ) (s u : Slab Node) (k n i z : ℕ) (node : Node) → get s i ≡ Some node → ((j : ℕ) → j ≢ i → get u j ≡ get s j) → ((x j : ℕ) → f x ≡ Some j → j ≢ i → g x ≡ Some j) → IsChain s k (suc n) i z → HasBefores f s n i → HasBefores g u (n - 1) node.next
+pub befores_shorter : (f g : ℕ → Option ℕ) (s u : Slab LineNode) (k n i z : ℕ) (node : LineNode) → get s i ≡ Some node → ((j : ℕ) → j ≢ i → get u j ≡ get s j) → ((x j : ℕ) → f x ≡ Some j → j ≢ i → g x ≡ Some j) → IsChain s k (suc n) i z → HasBefores f s n i → HasBefores g u (n - 1) node.next
 befores_shorter f g s u k zero i z node was others had c b = tt
 befores_shorter f g s u k (suc n) i z node was others had c b =
     let t : IsTail s k (suc n) i z = c.1 in
@@ -96,11 +96,11 @@ befores_shorter f g s u k (suc n) i z node was others had c b =
     subst (λ x. HasBefores g u x node.next) (one_less n) all
 
 -- what the table keeps as node j leaves from behind node p, z being the last
-pub record Closing (f g : ℕ → Option ℕ) (u : Slab Node) (p j z : ℕ) (gone : Node) : Type 0 where
+pub record Closing (f g : ℕ → Option ℕ) (u : Slab LineNode) (p j z : ℕ) (gone : LineNode) : Type 0 where
   pub kept : (x y : ℕ) → f x ≡ Some y → y ≢ p → y ≢ j → g x ≡ Some y
   pub moved : j ≢ z → g (thread_of (get u gone.next)) ≡ Some p
 
-pub befores_without : (f g : ℕ → Option ℕ) (s u : Slab Node) (k a m i z p j : ℕ) (before gone : Node) → Unlinks s u p j before gone → Closing f g u p j z gone → p ≡ walk s a i → a ≤ m → IsOn k (get s i) → IsTail s k (suc m) i z → HasBefores f s (suc m) i → HasBefores g u m i
+pub befores_without : (f g : ℕ → Option ℕ) (s u : Slab LineNode) (k a m i z p j : ℕ) (before gone : LineNode) → Unlinks s u p j before gone → Closing f g u p j z gone → p ≡ walk s a i → a ≤ m → IsOn k (get s i) → IsTail s k (suc m) i z → HasBefores f s (suc m) i → HasBefores g u m i
 befores_without f g s u k zero zero i z p j before gone h c e le on t b = tt
 befores_without f g s u k zero (suc m) i z p j before gone h c e le on t b =
     let was : get s i ≡ Some before = ap (get s) (sym e) ∙ h.was in
@@ -140,21 +140,21 @@ befores_without f g s u k (suc a) (suc m) i z p j before gone h c e le on t b =
 
 -- ---- all lines
 -- another line, whose nodes and whose links back are as they were
-pub backed_other : (f g : ℕ → Option ℕ) (s u : Slab Node) (k n i z : ℕ) → ((j : ℕ) → IsOn k (get s j) → get u j ≡ get s j) → ((x j : ℕ) → IsOn k (get s j) → f x ≡ Some j → g x ≡ Some j) → IsChain s k n i z → HasBefores f s (n - 1) i → HasBefores g u (n - 1) i
+pub backed_other : (f g : ℕ → Option ℕ) (s u : Slab LineNode) (k n i z : ℕ) → ((j : ℕ) → IsOn k (get s j) → get u j ≡ get s j) → ((x j : ℕ) → IsOn k (get s j) → f x ≡ Some j → g x ≡ Some j) → IsChain s k n i z → HasBefores f s (n - 1) i → HasBefores g u (n - 1) i
 backed_other f g s u k zero i z h had c b = tt
 backed_other f g s u k (suc n) i z h had c b =
     let all : HasBefores g u n i = befores_kept f g s u k n i z (record { same = λ j d le on t. h j on }) (λ x j d le on t. had x j on) c.0 c.1 (subst (λ x. HasBefores f s x i) (sym (one_less n)) b) in
     subst (λ x. HasBefores g u x i) (one_less n) all
 
 -- another line than the one that a thread joins
-pub backed_apart : (f g : ℕ → Option ℕ) (s u : Slab Node) (k n i z t : ℕ) → ((j : ℕ) → IsOn k (get s j) → get u j ≡ get s j) → ((q : ℕ) → q ≢ t → g q ≡ f q) → stands_in t (places s n i) ≡ false → IsChain s k n i z → HasBefores f s (n - 1) i → HasBefores g u (n - 1) i
+pub backed_apart : (f g : ℕ → Option ℕ) (s u : Slab LineNode) (k n i z t : ℕ) → ((j : ℕ) → IsOn k (get s j) → get u j ≡ get s j) → ((q : ℕ) → q ≢ t → g q ≡ f q) → stands_in t (places s n i) ≡ false → IsChain s k n i z → HasBefores f s (n - 1) i → HasBefores g u (n - 1) i
 backed_apart f g s u k zero i z t h else absent c b = tt
 backed_apart f g s u k (suc n) i z t h else absent c b =
     let all : HasBefores g u n i = befores_apart f g s u k n i z t (record { same = λ j d le on r. h j on }) else absent c.0 c.1 (subst (λ x. HasBefores f s x i) (sym (one_less n)) b) in
     subst (λ x. HasBefores g u x i) (one_less n) all
 
 -- one line is written
-pub backed_write : (f g : ℕ → Option ℕ) (es : List Ends) (s u : Slab Node) (m : ℕ) (e : Ends) → m < length es → ((k : ℕ) (d : Ends) → k ≢ m → k < length es → IsBacked g u (get_or es k d)) → IsBacked g u e → AreBacked g (set es m e) u
+pub backed_write : (f g : ℕ → Option ℕ) (es : List Ends) (s u : Slab LineNode) (m : ℕ) (e : Ends) → m < length es → ((k : ℕ) (d : Ends) → k ≢ m → k < length es → IsBacked g u (get_or es k d)) → IsBacked g u e → AreBacked g (set es m e) u
 backed_write f g es s u m e lt others here k d kt =
     elim (cases_eq k m) [
       | inl same ↦ subst (λ x. IsBacked g u (get_or (set es m e) x d)) (sym same) (subst (IsBacked g u) (sym (get_or-set_same es m e d lt)) here)
@@ -162,14 +162,14 @@ backed_write f g es s u m e lt others here k d kt =
     ]
 
 -- ---- the node before a thread's
-pub record Found (f : ℕ → Option ℕ) (s : Slab Node) (n i t : ℕ) : Type 0 where
+pub record Found (f : ℕ → Option ℕ) (s : Slab LineNode) (n i t : ℕ) : Type 0 where
   pub steps : ℕ
   pub within : steps < n
   pub had : f t ≡ Some (walk s steps i)
   pub found : is_sought (Thread t) (place_of (get s (next_of (get s (walk s steps i))))) ≡ true
   pub clear : any_sought (Thread t) (places s (suc steps) i) ≡ false
 
-pub finds : (f : ℕ → Option ℕ) (s : Slab Node) (n i t : ℕ) → HasBefores f s n i → is_sought (Thread t) (place_of (get s i)) ≡ false → any_sought (Thread t) (places s n (next_of (get s i))) ≡ true → Found f s n i t
+pub finds : (f : ℕ → Option ℕ) (s : Slab LineNode) (n i t : ℕ) → HasBefores f s n i → is_sought (Thread t) (place_of (get s i)) ≡ false → any_sought (Thread t) (places s n (next_of (get s i))) ≡ true → Found f s n i t
 finds f s zero i t b first stands = let no : ⊥ = cc in absurd no
 finds f s (suc n) i t b first stands =
     elim (thread_of (get s (next_of (get s i))) == t) as (λ x. thread_of (get s (next_of (get s i))) == t ≡ x → cond x true (any_sought (Thread t) (places s n (next_of (get s (next_of (get s i)))))) ≡ true → Found f s (suc n) i t) [
@@ -192,7 +192,7 @@ finds f s (suc n) i t b first stands =
           })
     ] refl stands
 
-pub finds_before : (f : ℕ → Option ℕ) (s : Slab Node) (e : Ends) (t p : ℕ) → IsBacked f s e → 0 < e.len → is_sought (Thread t) (place_of (get s e.first)) ≡ false → any_sought (Thread t) (behind s e) ≡ true → f t ≡ Some p → StandsBefore s e (Thread t) p
+pub finds_before : (f : ℕ → Option ℕ) (s : Slab LineNode) (e : Ends) (t p : ℕ) → IsBacked f s e → 0 < e.len → is_sought (Thread t) (place_of (get s e.first)) ≡ false → any_sought (Thread t) (behind s e) ≡ true → f t ≡ Some p → StandsBefore s e (Thread t) p
 finds_before f s e t p b some first stands had =
     let r = finds f s (e.len - 1) e.first t b first stands in
     let is : p ≡ walk s r.steps e.first = some_once p (walk s r.steps e.first) (f t) had r.had in
@@ -204,7 +204,7 @@ finds_before f s e t p b some first stands had =
       clear = r.clear;
     }
 
-pub finds_some : (f : ℕ → Option ℕ) (s : Slab Node) (e : Ends) (t : ℕ) → IsBacked f s e → is_sought (Thread t) (place_of (get s e.first)) ≡ false → any_sought (Thread t) (behind s e) ≡ true → f t ≡ None → ⊥
+pub finds_some : (f : ℕ → Option ℕ) (s : Slab LineNode) (e : Ends) (t : ℕ) → IsBacked f s e → is_sought (Thread t) (place_of (get s e.first)) ≡ false → any_sought (Thread t) (behind s e) ≡ true → f t ≡ None → ⊥
 finds_some f s e t b first stands none =
     let r = finds f s (e.len - 1) e.first t b first stands in
     let q : None ≡ Some (walk s r.steps e.first) = sym none ∙ r.had in
@@ -212,20 +212,20 @@ finds_some f s e t b first stands none =
 
 -- ---- the calls
 -- the first place of a line
-pub joins_first : (f : ℕ → Option ℕ) (es : List Ends) (s u : Slab Node) (m key : ℕ) (new : Node) → IsSound es s → AreBacked f es s → m < length es → get s key ≡ None → Updates s u key (Some new) → AreBacked f (set es m (record { first = key; last = key; len = 1; cursor = None })) u
+pub joins_first : (f : ℕ → Option ℕ) (es : List Ends) (s u : Slab LineNode) (m key : ℕ) (new : LineNode) → IsSound es s → AreBacked f es s → m < length es → get s key ≡ None → Updates s u key (Some new) → AreBacked f (set es m (record { first = key; last = key; len = 1; cursor = None })) u
 joins_first f es s u m key new h b lt vacant updates =
     backed_write f f es s u m (record { first = key; last = key; len = 1; cursor = None }) lt
     (λ k d differs kt. backed_other f f s u k _ _ _ (λ j there. updates.others j (λ q. vacant_is_not_on k _ (ap (get s) q ∙ vacant) there)) (λ x j there had. had) (h.chains k d kt) (b k d kt))
     tt
 
-module _ (f g : ℕ → Option ℕ) (es : List Ends) (s : Slab Node) (m : ℕ) (e : Ends) (h : IsSound es s) (b : AreBacked f es s) (lt : m < length es) (is : e ≡ get_or es m e) where
+module _ (f g : ℕ → Option ℕ) (es : List Ends) (s : Slab LineNode) (m : ℕ) (e : Ends) (h : IsSound es s) (b : AreBacked f es s) (lt : m < length es) (is : e ≡ get_or es m e) where
   backed_long : (n : ℕ) → e.len ≡ suc n → HasBefores f s n e.first
   backed_long n q =
       let here : IsBacked f s e = subst (IsBacked f s) (sym is) (b m e lt) in
       let less : e.len - 1 ≡ n = omega (arith, q) in
       subst (λ x. HasBefores f s x e.first) less here
 
-  pub joins_later : (s1 u : Slab Node) (n key : ℕ) (new : Node) → e.len ≡ suc n → get s key ≡ None → Updates s s1 key (Some new) → ((x : Node) → get s1 e.last ≡ Some x → Updates s1 u e.last (Some (record x { next = key }))) → new.line ≡ m
+  pub joins_later : (s1 u : Slab LineNode) (n key : ℕ) (new : LineNode) → e.len ≡ suc n → get s key ≡ None → Updates s s1 key (Some new) → ((x : LineNode) → get s1 e.last ≡ Some x → Updates s1 u e.last (Some (record x { next = key }))) → new.line ≡ m
       → IsPut f g new.thread (Some e.last) → ((k : ℕ) → stands_in new.thread (get_or (map (line_at s) es) k []) ≡ false) → AreBacked g (set es m (record { first = e.first; last = key; len = e.len + 1; cursor = e.cursor })) u
   joins_later s1 u n key new q vacant first linked on puts alone =
       let c = long_chain_of es s m e h lt is n q in
@@ -253,7 +253,7 @@ module _ (f g : ℕ → Option ℕ) (es : List Ends) (s : Slab Node) (m : ℕ) (
       (subst (λ x. HasBefores g u x e.first) more here)
 
 -- all links but that of the thread that is first now
-served_kept : (f g : ℕ → Option ℕ) (s u : Slab Node) (k n i z : ℕ) (node : Node) → get s i ≡ Some node → ((j : ℕ) → j ≢ i → get u j ≡ get s j) → IsChain s k (suc n) i z → HasBefores f s n i → IsFirstNow f g u n node.next → (x j : ℕ) → f x ≡ Some j → j ≢ i → g x ≡ Some j
+served_kept : (f g : ℕ → Option ℕ) (s u : Slab LineNode) (k n i z : ℕ) (node : LineNode) → get s i ≡ Some node → ((j : ℕ) → j ≢ i → get u j ≡ get s j) → IsChain s k (suc n) i z → HasBefores f s n i → IsFirstNow f g u n node.next → (x j : ℕ) → f x ≡ Some j → j ≢ i → g x ≡ Some j
 served_kept f g s u k zero i z node was others c b first x j had ne = first x ∙ had
 served_kept f g s u k (suc n) i z node was others c b first x j had ne =
     let t : IsTail s k (suc n) i z = c.1 in
@@ -262,15 +262,15 @@ served_kept f g s u k (suc n) i z node was others c b first x j had ne =
     let at : thread_of (get u node.next) ≡ thread_of (get s (next_of (get s i))) = ap (λ y. thread_of (get u y)) (sym next_is) ∙ ap thread_of (others (next_of (get s i)) apart) in
     put_else f g (thread_of (get u node.next)) None first x (λ q. ne (some_once j i (f x) had (ap f (q ∙ at) ∙ b.0))) ∙ had
 
-module _ (f g : ℕ → Option ℕ) (es : List Ends) (s : Slab Node) (m : ℕ) (e : Ends) (h : IsSound es s) (b : AreBacked f es s) (lt : m < length es) (is : e ≡ get_or es m e) where
+module _ (f g : ℕ → Option ℕ) (es : List Ends) (s : Slab LineNode) (m : ℕ) (e : Ends) (h : IsSound es s) (b : AreBacked f es s) (lt : m < length es) (is : e ≡ get_or es m e) where
   -- who is first now
-  pub served_next : (u : Slab Node) (n : ℕ) (node : Node) → e.len ≡ suc n → get s e.first ≡ Some node → Updates s u e.first None → n ≢ 0 → IsSome (get u node.next)
+  pub served_next : (u : Slab LineNode) (n : ℕ) (node : LineNode) → e.len ≡ suc n → get s e.first ≡ Some node → Updates s u e.first None → n ≢ 0 → IsSome (get u node.next)
   served_next u n node q was updates some =
       let short = chain_shorter s u m n e.first e.last node was updates.others (long_chain_of es s m e h lt is n q) in
       let long : n ≡ suc (n - 1) = omega (arith, some) in
       is_there m _ (subst (λ x. IsChain u m x node.next e.last) long short.chain).0
 
-  pub serves_backed : (u : Slab Node) (cursor : Option ℕ) (n : ℕ) (node : Node) → e.len ≡ suc n → get s e.first ≡ Some node → Updates s u e.first None → IsFirstNow f g u n node.next → AreBacked g (set es m (record { first = node.next; last = e.last; len = n; cursor = cursor })) u
+  pub serves_backed : (u : Slab LineNode) (cursor : Option ℕ) (n : ℕ) (node : LineNode) → e.len ≡ suc n → get s e.first ≡ Some node → Updates s u e.first None → IsFirstNow f g u n node.next → AreBacked g (set es m (record { first = node.next; last = e.last; len = n; cursor = cursor })) u
   serves_backed u cursor n node q was updates first =
       let c = long_chain_of es s m e h lt is n q in
       let own = backed_long f g es s m e h b lt is n q in
@@ -281,17 +281,17 @@ module _ (f g : ℕ → Option ℕ) (es : List Ends) (s : Slab Node) (m : ℕ) (
       (befores_shorter f g s u m n e.first e.last node was updates.others kept c own)
 
 -- a walk comes to a node that stands before others
-at_walk : (f : ℕ → Option ℕ) (s : Slab Node) (k a m i z : ℕ) → a ≤ m → IsTail s k (suc m) i z → HasBefores f s (suc m) i → (d : ℕ) × (IsTail s k (suc d) (walk s a i) z × HasBefores f s (suc d) (walk s a i))
+at_walk : (f : ℕ → Option ℕ) (s : Slab LineNode) (k a m i z : ℕ) → a ≤ m → IsTail s k (suc m) i z → HasBefores f s (suc m) i → (d : ℕ) × (IsTail s k (suc d) (walk s a i) z × HasBefores f s (suc d) (walk s a i))
 at_walk f s k zero m i z le t b = (m, (t, b))
 at_walk f s k (suc a) zero i z le t b = let no : ⊥ = omega arith in absurd no
 at_walk f s k (suc a) (suc m) i z le t b = at_walk f s k a m (next_of (get s i)) z (omega arith) t.2 b.1
 
 -- who stood behind node j, which left
-record Next (f : ℕ → Option ℕ) (u : Slab Node) (k j : ℕ) (gone : Node) : Type 0 where
+record Successor (f : ℕ → Option ℕ) (u : Slab LineNode) (k j : ℕ) (gone : LineNode) : Type 0 where
   on : IsOn k (get u gone.next)
   had : f (thread_of (get u gone.next)) ≡ Some j
 
-next_stands : (f : ℕ → Option ℕ) (s u : Slab Node) (k d p j z : ℕ) (before gone : Node) → Unlinks s u p j before gone → IsTail s k d j z → IsTail s k (suc d) p z → HasBefores f s d j → j ≢ z → Next f u k j gone
+next_stands : (f : ℕ → Option ℕ) (s u : Slab LineNode) (k d p j z : ℕ) (before gone : LineNode) → Unlinks s u p j before gone → IsTail s k d j z → IsTail s k (suc d) p z → HasBefores f s d j → j ≢ z → Successor f u k j gone
 next_stands f s u k zero p j z before gone h t tp b ne = absurd (ne t)
 next_stands f s u k (suc d) p j z before gone h t tp b ne =
     let far : next_of (get s j) ≡ gone.next = ap next_of h.left in
@@ -303,7 +303,7 @@ next_stands f s u k (suc d) p j z before gone h t tp b ne =
       had = ap (λ x. f (thread_of (get u x))) (sym far) ∙ ap (λ o. f (thread_of o)) same ∙ b.0;
     }
 
-module _ (f g : ℕ → Option ℕ) (es : List Ends) (s : Slab Node) (m : ℕ) (e : Ends) (h : IsSound es s) (b : AreBacked f es s) (lt : m < length es) (is : e ≡ get_or es m e) (u : Slab Node) (sought : Sought) (p : ℕ) (gone : Node) (w : StandsBefore s e sought p) (left : Unlinked s u p gone) where
+module _ (f g : ℕ → Option ℕ) (es : List Ends) (s : Slab LineNode) (m : ℕ) (e : Ends) (h : IsSound es s) (b : AreBacked f es s) (lt : m < length es) (is : e ≡ get_or es m e) (u : Slab LineNode) (sought : Sought) (p : ℕ) (gone : LineNode) (w : StandsBefore s e sought p) (left : Unlinked s u p gone) where
   -- the line around the node that left
   record Around : Type 0 where
     count : ℕ
@@ -315,7 +315,7 @@ module _ (f g : ℕ → Option ℕ) (es : List Ends) (s : Slab Node) (m : ℕ) (
     not_last : p ≢ e.last
     apart : next_of (get s p) ≢ p
     had : f gone.thread ≡ Some p
-    next : next_of (get s p) ≢ e.last → Next f u m (next_of (get s p)) gone
+    next : next_of (get s p) ≢ e.last → Successor f u m (next_of (get s p)) gone
 
   around : Around
   around =

@@ -4,29 +4,29 @@ use Rattle.std.proofs.lemmas.Bool.{cases_eq, ne_eqb}
 use Rattle.hs_base.specs.declared.value.Value.{Value}
 use Rattle.rules_waiting.specs.OneCell.{Place}
 use Rattle.slab.specs.Slab.{Slab, get}
-use Rattle.mvar_cell.specs.declared.lines.Node.{Node}
+use Rattle.mvar_cell.specs.declared.lines.LineNode.{LineNode}
 use Rattle.mvar_cell.specs.declared.lines.Sought.{Sought}
 use Rattle.mvar_cell.specs.Nodes.{place, place_of, next_of, places, IsOn, IsTail, IsChain, is_sought, any_sought, walk, last_after_leaving, Unlinks}
 
 -- from a node there is one way to the last
-pub tail_once : (s : Slab Node) (k a b i z : ℕ) → IsTail s k a i z → IsTail s k b i z → a ≡ b
+pub tail_once : (s : Slab LineNode) (k a b i z : ℕ) → IsTail s k a i z → IsTail s k b i z → a ≡ b
 tail_once s k zero zero i z p q = refl
 tail_once s k zero (suc b) i z p q = absurd (q.0 p)
 tail_once s k (suc a) zero i z p q = absurd (p.0 q)
 tail_once s k (suc a) (suc b) i z p q = ap suc (tail_once s k a b (next_of (get s i)) z p.2 q.2)
 
 -- the nodes of a chain are as they were
-pub record Keeps (s u : Slab Node) (k n z : ℕ) : Type 0 where
+pub record Keeps (s u : Slab LineNode) (k n z : ℕ) : Type 0 where
   pub same : (j d : ℕ) → d ≤ n → IsOn k (get s j) → IsTail s k d j z → get u j ≡ get s j
 
-pub shorter : {s u : Slab Node} {k n z : ℕ} → Keeps s u k (suc n) z → Keeps s u k n z
+pub shorter : {s u : Slab LineNode} {k n z : ℕ} → Keeps s u k (suc n) z → Keeps s u k n z
 shorter h = record { same = λ j d le. h.same j d (omega arith) }
 
-pub record Kept (s u : Slab Node) (k n i z : ℕ) : Type 0 where
+pub record Kept (s u : Slab LineNode) (k n i z : ℕ) : Type 0 where
   pub tail : IsTail u k n i z
   pub places : places u (suc n) i ≡ places s (suc n) i
 
-pub tail_kept : (s u : Slab Node) (k n i z : ℕ) → Keeps s u k n z → IsOn k (get s i) → IsTail s k n i z → Kept s u k n i z
+pub tail_kept : (s u : Slab LineNode) (k n i z : ℕ) → Keeps s u k n z → IsOn k (get s i) → IsTail s k n i z → Kept s u k n i z
 tail_kept s u k zero i z h on t =
     record { tail = t; places = ap (λ o. place_of o ∷ []) (h.same i 0 (omega arith) on t) }
 tail_kept s u k (suc n) i z h on t =
@@ -39,7 +39,7 @@ tail_kept s u k (suc n) i z h on t =
     }
 
 -- a node is added behind the last one
-pub record Extends (s u : Slab Node) (k z key : ℕ) (last new : Node) : Type 0 where
+pub record Extends (s u : Slab LineNode) (k z key : ℕ) (last new : LineNode) : Type 0 where
   pub was : get s z ≡ Some last
   pub linked : get u z ≡ Some (record last { next = key })
   pub vacant : get s key ≡ None
@@ -47,15 +47,15 @@ pub record Extends (s u : Slab Node) (k z key : ℕ) (last new : Node) : Type 0 
   pub on : new.line ≡ k
   pub others : (j : ℕ) → j ≢ z → j ≢ key → get u j ≡ get s j
 
-pub record Longer (s u : Slab Node) (k n i key : ℕ) (new : Node) : Type 0 where
+pub record Longer (s u : Slab LineNode) (k n i key : ℕ) (new : LineNode) : Type 0 where
   pub on : IsOn k (get u i)
   pub tail : IsTail u k (suc n) i key
   pub places : places u (suc (suc n)) i ≡ places s (suc n) i ++ place new.thread new.want ∷ []
 
-pub vacant_is_not_on : (k : ℕ) (o : Option Node) → o ≡ None → IsOn k o → ⊥
+pub vacant_is_not_on : (k : ℕ) (o : Option LineNode) → o ≡ None → IsOn k o → ⊥
 vacant_is_not_on k o e on = subst (IsOn k) e on
 
-pub tail_longer : (s u : Slab Node) (k n i z key : ℕ) (last new : Node) → Extends s u k z key last new → IsOn k (get s i) → IsTail s k n i z → Longer s u k n i key new
+pub tail_longer : (s u : Slab LineNode) (k n i z key : ℕ) (last new : LineNode) → Extends s u k z key last new → IsOn k (get s i) → IsTail s k n i z → Longer s u k n i key new
 tail_longer s u k zero i z key last new h on t =
     let away : i ≢ key = λ e. vacant_is_not_on k _ (ap (get s) e ∙ h.vacant) on in
     let e : get u i ≡ Some (record last { next = key }) = ap (get u) t ∙ h.linked in
@@ -77,25 +77,25 @@ tail_longer s u k (suc n) i z key last new h on t =
     }
 
 -- a node is of one line
-pub on_one : (k m : ℕ) (o : Option Node) → IsOn k o → IsOn m o → k ≡ m
+pub on_one : (k m : ℕ) (o : Option LineNode) → IsOn k o → IsOn m o → k ≡ m
 on_one k m None p q = absurd p
 on_one k m (Some n) p q = sym p ∙ q
 
 -- the last node is of the line too
-pub last_is_on : (s : Slab Node) (k n i z : ℕ) → IsOn k (get s i) → IsTail s k n i z → IsOn k (get s z)
+pub last_is_on : (s : Slab LineNode) (k n i z : ℕ) → IsOn k (get s i) → IsTail s k n i z → IsOn k (get s z)
 last_is_on s k zero i z on t = subst (λ j. IsOn k (get s j)) t on
 last_is_on s k (suc n) i z on t = last_is_on s k n (next_of (get s i)) z t.1 t.2
 
-pub on_is_there : (k : ℕ) (o : Option Node) → IsOn k o → (n : Node) × (o ≡ Some n)
+pub on_is_there : (k : ℕ) (o : Option LineNode) → IsOn k o → (n : LineNode) × (o ≡ Some n)
 on_is_there k None on = absurd on
 on_is_there k (Some n) on = (n, refl)
 
 -- the first node leaves
-pub record Shorter (s u : Slab Node) (k n i z : ℕ) (node : Node) : Type 0 where
+pub record Shorter (s u : Slab LineNode) (k n i z : ℕ) (node : LineNode) : Type 0 where
   pub chain : IsChain u k n node.next z
   pub places : places s (suc n) i ≡ place node.thread node.want ∷ places u n node.next
 
-pub chain_shorter : (s u : Slab Node) (k n i z : ℕ) (node : Node) → get s i ≡ Some node → ((j : ℕ) → j ≢ i → get u j ≡ get s j) → IsChain s k (suc n) i z → Shorter s u k n i z node
+pub chain_shorter : (s u : Slab LineNode) (k n i z : ℕ) (node : LineNode) → get s i ≡ Some node → ((j : ℕ) → j ≢ i → get u j ≡ get s j) → IsChain s k (suc n) i z → Shorter s u k n i z node
 chain_shorter s u k zero i z node was others c =
     record { chain = tt; places = ap (λ o. place_of o ∷ []) was }
 chain_shorter s u k (suc n) i z node was others c =
@@ -111,18 +111,18 @@ chain_shorter s u k (suc n) i z node was others c =
     }
 
 -- a chain whose nodes are as they were is that chain, with the same places
-pub record Same (s u : Slab Node) (k n i z : ℕ) : Type 0 where
+pub record Same (s u : Slab LineNode) (k n i z : ℕ) : Type 0 where
   pub chain : IsChain u k n i z
   pub places : places u n i ≡ places s n i
 
-pub chain_same : (s u : Slab Node) (k n i z : ℕ) → ((j : ℕ) → IsOn k (get s j) → get u j ≡ get s j) → IsChain s k n i z → Same s u k n i z
+pub chain_same : (s u : Slab LineNode) (k n i z : ℕ) → ((j : ℕ) → IsOn k (get s j) → get u j ≡ get s j) → IsChain s k n i z → Same s u k n i z
 chain_same s u k zero i z h c = record { chain = tt; places = refl }
 chain_same s u k (suc n) i z h c =
     let r = tail_kept s u k n i z (record { same = λ j d le on t. h j on }) c.0 c.1 in
     record { chain = (subst (IsOn k) (sym (h i c.0)) c.0, r.tail); places = r.places }
 
 -- ---- a node in the middle leaves
-pub record Without (s u : Slab Node) (k a n i z p j : ℕ) (gone : Node) : Type 0 where
+pub record Without (s u : Slab LineNode) (k a n i z p j : ℕ) (gone : LineNode) : Type 0 where
   pub on : IsOn k (get u i)
   pub tail : IsTail u k n i (last_after_leaving p j z)
   pub back : List (Place Value)
@@ -130,7 +130,7 @@ pub record Without (s u : Slab Node) (k a n i z p j : ℕ) (gone : Node) : Type 
   pub now : places u (suc n) i ≡ places s (suc a) i ++ back
 
 -- a walk of no more than m of m + 1 nodes ends before the last
-pub walk_far : (s : Slab Node) (k a m i z : ℕ) → a ≤ m → IsTail s k (suc m) i z → (d : ℕ) × (d ≤ m) × IsTail s k (suc d) (walk s a i) z
+pub walk_far : (s : Slab LineNode) (k a m i z : ℕ) → a ≤ m → IsTail s k (suc m) i z → (d : ℕ) × (d ≤ m) × IsTail s k (suc d) (walk s a i) z
 walk_far s k zero m i z le t = (m, omega arith, t)
 walk_far s k (suc a) zero i z le t = let no : ⊥ = omega arith in absurd no
 walk_far s k (suc a) (suc m) i z le t =
@@ -147,7 +147,7 @@ not_last p j z ne = ap (λ b. cond b p z) (ne_eqb j z ne)
 is_neither : (i p j z : ℕ) → i ≢ z → i ≢ p → i ≢ last_after_leaving p j z
 is_neither i p j z a b = elim (cases_eq j z) [ inl e ↦ λ q. b (q ∙ at_last p j z e) | inr ne ↦ λ q. a (q ∙ not_last p j z ne) ]
 
-pub tail_without : (s u : Slab Node) (k a m i z p j : ℕ) (before gone : Node) → Unlinks s u p j before gone → p ≡ walk s a i → a ≤ m → IsOn k (get s i) → IsTail s k (suc m) i z → Without s u k a m i z p j gone
+pub tail_without : (s u : Slab LineNode) (k a m i z p j : ℕ) (before gone : LineNode) → Unlinks s u p j before gone → p ≡ walk s a i → a ≤ m → IsOn k (get s i) → IsTail s k (suc m) i z → Without s u k a m i z p j gone
 tail_without s u k zero zero i z p j before gone h e le on t =
     let was : get s i ≡ Some before = ap (get s) (sym e) ∙ h.was in
     let linked : get u i ≡ Some (record before { next = gone.next }) = ap (get u) (sym e) ∙ h.linked in
@@ -202,16 +202,16 @@ tail_without s u k (suc a) (suc m) i z p j before gone h e le on t =
     }
 
 -- ---- a walk
-pub walk_next : (s : Slab Node) (a i : ℕ) → walk s (suc a) i ≡ next_of (get s (walk s a i))
+pub walk_next : (s : Slab LineNode) (a i : ℕ) → walk s (suc a) i ≡ next_of (get s (walk s a i))
 walk_next s zero i = refl
 walk_next s (suc a) i = walk_next s a (next_of (get s i))
 
-pub walk_on : (s : Slab Node) (k a m i z : ℕ) → a ≤ m → IsOn k (get s i) → IsTail s k m i z → IsOn k (get s (walk s a i))
+pub walk_on : (s : Slab LineNode) (k a m i z : ℕ) → a ≤ m → IsOn k (get s i) → IsTail s k m i z → IsOn k (get s (walk s a i))
 walk_on s k zero m i z le on t = on
 walk_on s k (suc a) zero i z le on t = let no : ⊥ = omega arith in absurd no
 walk_on s k (suc a) (suc m) i z le on t = walk_on s k a m (next_of (get s i)) z (omega arith) t.1 t.2
 
-pub places_more : (s : Slab Node) (n i : ℕ) → places s (suc n) i ≡ places s n i ++ place_of (get s (walk s n i)) ∷ []
+pub places_more : (s : Slab LineNode) (n i : ℕ) → places s (suc n) i ≡ places s n i ++ place_of (get s (walk s n i)) ∷ []
 places_more s zero i = refl
 places_more s (suc n) i = ap (λ ps. place_of (get s i) ∷ ps) (places_more s n (next_of (get s i)))
 
@@ -232,6 +232,6 @@ pub found_later : (b c : Bool) → cond b true c ≡ true → b ≡ false → c 
 found_later true c h e = let no : ⊥ = cc in absurd no
 found_later false c h e = h
 
-pub is_there : (k : ℕ) (o : Option Node) → IsOn k o → IsSome o
+pub is_there : (k : ℕ) (o : Option LineNode) → IsOn k o → IsSome o
 is_there k None on = absurd on
 is_there k (Some n) on = refl

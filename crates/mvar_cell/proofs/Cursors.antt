@@ -3,7 +3,7 @@ use Rattle.std.proofs.Common.{◌≡◌, ◌≢◌, ℕ, zero, suc, ◌<◌, ◌
 use Rattle.std.proofs.lemmas.Bool.{cases_eq, ne_eqb}
 use Rattle.std.proofs.lemmas.List.{get_or-set_same, get_or-set_other, length-set}
 use Rattle.slab.specs.Slab.{Slab, get, Updates}
-use Rattle.mvar_cell.specs.declared.lines.Node.{Node}
+use Rattle.mvar_cell.specs.declared.lines.LineNode.{LineNode}
 use Rattle.mvar_cell.specs.declared.lines.Ends.{Ends}
 use Rattle.mvar_cell.specs.declared.lines.Sought.{Sought}
 use Rattle.mvar_cell.specs.declared.lines.Sought.TheVariants.{Thread, Reader}
@@ -14,12 +14,12 @@ use Rattle.mvar_cell.proofs.Writes.{long_chain_of, last_of, last_after}
 
 -- ---- the search
 -- where all places up to a node are no readers' and one behind the first is, the node is not the last
-reads_behind : (s : Slab Node) (n i a : ℕ) → any_sought Reader (places s (suc a) i) ≡ false → is_sought Reader (place_of (get s i)) ≡ false → any_sought Reader (places s n (next_of (get s i))) ≡ true → suc a ≡ suc n → ⊥
+reads_behind : (s : Slab LineNode) (n i a : ℕ) → any_sought Reader (places s (suc a) i) ≡ false → is_sought Reader (place_of (get s i)) ≡ false → any_sought Reader (places s n (next_of (get s i))) ≡ true → suc a ≡ suc n → ⊥
 reads_behind s n i a clear first stands e =
     let none : any_sought Reader (places s n (next_of (get s i))) ≡ false = (none_later (is_sought Reader (place_of (get s i))) (any_sought Reader (places s n (next_of (get s i)))) (subst (λ x. any_sought Reader (places s x i) ≡ false) e clear)).1 in
     let no : ⊥ = cc in no
 
-module _ (s : Slab Node) (e : Ends) (some : 0 < e.len) (first : is_sought Reader (place_of (get s e.first)) ≡ false) (stands : any_sought Reader (behind s e) ≡ true) where
+module _ (s : Slab LineNode) (e : Ends) (some : 0 < e.len) (first : is_sought Reader (place_of (get s e.first)) ≡ false) (stands : any_sought Reader (behind s e) ≡ true) where
   -- the node is not the last
   pub not_done : (at : ℕ) (p : IsPassed s e.len e.first at) → suc p.steps < e.len
   not_done at p =
@@ -68,7 +68,7 @@ module _ (s : Slab Node) (e : Ends) (some : 0 < e.len) (first : is_sought Reader
       )
 
 -- ---- walks
-walk_tail : (s : Slab Node) (k a n i z : ℕ) → a ≤ n → IsTail s k n i z → (d : ℕ) × (a + d ≡ n) × IsTail s k d (walk s a i) z
+walk_tail : (s : Slab LineNode) (k a n i z : ℕ) → a ≤ n → IsTail s k n i z → (d : ℕ) × (a + d ≡ n) × IsTail s k d (walk s a i) z
 walk_tail s k zero n i z le t = (n, omega arith, t)
 walk_tail s k (suc a) zero i z le t = let no : ⊥ = omega arith in absurd no
 walk_tail s k (suc a) (suc n) i z le t =
@@ -76,24 +76,24 @@ walk_tail s k (suc a) (suc n) i z le t =
     (r.0, omega (arith, r.1), r.2)
 
 -- walks of several lengths end at several nodes
-walk_once : (s : Slab Node) (k a b n i z : ℕ) → a ≤ n → b ≤ n → IsTail s k n i z → walk s a i ≡ walk s b i → a ≡ b
+walk_once : (s : Slab LineNode) (k a b n i z : ℕ) → a ≤ n → b ≤ n → IsTail s k n i z → walk s a i ≡ walk s b i → a ≡ b
 walk_once s k a b n i z la lb t e =
     let p = walk_tail s k a n i z la t in
     let q = walk_tail s k b n i z lb t in
     let w = tail_once s k p.0 q.0 (walk s a i) z p.2 (subst (λ x. IsTail s k q.0 x z) (sym e) q.2) in
     omega (arith, w, p.1, q.1)
 
-not_end : (s : Slab Node) (k b n i z : ℕ) → b < n → IsTail s k n i z → walk s b i ≢ z
+not_end : (s : Slab LineNode) (k b n i z : ℕ) → b < n → IsTail s k n i z → walk s b i ≢ z
 not_end s k b zero i z lt t = let no : ⊥ = omega arith in absurd no
 not_end s k zero (suc n) i z lt t = t.0
 not_end s k (suc b) (suc n) i z lt t = not_end s k b n (next_of (get s i)) z (omega arith) t.2
 
 -- a walk, and its places, are as they were
-record Same (s u : Slab Node) (a i : ℕ) : Type 0 where
+record Same (s u : Slab LineNode) (a i : ℕ) : Type 0 where
   walk : walk u a i ≡ walk s a i
   places : places u (suc a) i ≡ places s (suc a) i
 
-same_walk : (s u : Slab Node) (a i : ℕ) → ((b : ℕ) → b < a → get u (walk s b i) ≡ get s (walk s b i)) → place_of (get u (walk s a i)) ≡ place_of (get s (walk s a i)) → Same s u a i
+same_walk : (s u : Slab LineNode) (a i : ℕ) → ((b : ℕ) → b < a → get u (walk s b i) ≡ get s (walk s b i)) → place_of (get u (walk s a i)) ≡ place_of (get s (walk s a i)) → Same s u a i
 same_walk s u zero i h last = record { walk = refl; places = ap (λ p. p ∷ []) last }
 same_walk s u (suc a) i h last =
     let e : get u i ≡ get s i = h 0 (omega arith) in
@@ -103,14 +103,15 @@ same_walk s u (suc a) i h last =
       places = ap (λ o. place_of o ∷ places u (suc a) (next_of o)) e ∙ ap (λ ps. place_of (get s i) ∷ ps) r.places;
     }
 
-passed_same : (s u : Slab Node) (n m i key : ℕ) (p : IsPassed s n i key) → p.steps < m → Same s u p.steps i → IsPassed u m i key
+passed_same : (s u : Slab LineNode) (n m i key : ℕ) (p : IsPassed s n i key) → p.steps < m → Same s u p.steps i
+    → IsPassed u m i key
 passed_same s u n m i key p lt same =
     record { steps = p.steps; within = lt; is = p.is ∙ sym same.walk; clear = ap (any_sought Reader) same.places ∙ p.clear }
 
-passed_here : (u : Slab Node) (n i : ℕ) → is_sought Reader (place_of (get u i)) ≡ false → IsPassed u (suc n) i i
+passed_here : (u : Slab LineNode) (n i : ℕ) → is_sought Reader (place_of (get u i)) ≡ false → IsPassed u (suc n) i i
 passed_here u n i first = record { steps = 0; within = omega arith; is = refl; clear = none_alone Reader (place_of (get u i)) first }
 
-passed_more : (u : Slab Node) (n i key : ℕ) → is_sought Reader (place_of (get u i)) ≡ false → IsPassed u n (next_of (get u i)) key → IsPassed u (suc n) i key
+passed_more : (u : Slab LineNode) (n i key : ℕ) → is_sought Reader (place_of (get u i)) ≡ false → IsPassed u n (next_of (get u i)) key → IsPassed u (suc n) i key
 passed_more u n i key first p =
     record {
       steps = suc p.steps;
@@ -121,18 +122,18 @@ passed_more u n i key first p =
 
 -- ---- one cursor
 -- nodes of the line are as they were
-passed_kept : (s u : Slab Node) (k n i z key : ℕ) → Keeps s u k n z → IsOn k (get s i) → IsTail s k n i z → IsPassed s (suc n) i key → IsPassed u (suc n) i key
+passed_kept : (s u : Slab LineNode) (k n i z key : ℕ) → Keeps s u k n z → IsOn k (get s i) → IsTail s k n i z → IsPassed s (suc n) i key → IsPassed u (suc n) i key
 passed_kept s u k n i z key h on t p =
     let at : (b : ℕ) → b ≤ n → get u (walk s b i) ≡ get s (walk s b i) = λ b le. (let r = walk_tail s k b n i z le t in h.same (walk s b i) r.0 (omega (arith, r.1)) (walk_on s k b n i z le on t) r.2) in
     passed_same s u (suc n) (suc n) i key p p.within (same_walk s u p.steps i (λ b lt. at b (omega (arith, lt, p.within))) (ap place_of (at p.steps (omega (arith, p.within)))))
 
 -- another line
-passed_other : (s u : Slab Node) (k n i z key : ℕ) → ((j : ℕ) → IsOn k (get s j) → get u j ≡ get s j) → IsChain s k n i z → IsPassed s n i key → IsPassed u n i key
+passed_other : (s u : Slab LineNode) (k n i z key : ℕ) → ((j : ℕ) → IsOn k (get s j) → get u j ≡ get s j) → IsChain s k n i z → IsPassed s n i key → IsPassed u n i key
 passed_other s u k zero i z key h c p = let no : ⊥ = omega (arith, p.within) in absurd no
 passed_other s u k (suc n) i z key h c p = passed_kept s u k n i z key (record { same = λ j d le on t. h j on }) c.0 c.1 p
 
 -- a node is added behind the last
-passed_longer : (s u : Slab Node) (k n i z key at : ℕ) (last new : Node) → Extends s u k z key last new → IsOn k (get s i) → IsTail s k n i z → IsPassed s (suc n) i at → IsPassed u (suc (suc n)) i at
+passed_longer : (s u : Slab LineNode) (k n i z key at : ℕ) (last new : LineNode) → Extends s u k z key last new → IsOn k (get s i) → IsTail s k n i z → IsPassed s (suc n) i at → IsPassed u (suc (suc n)) i at
 passed_longer s u k n i z key at last new h on t p =
     let away : (b : ℕ) → b ≤ n → walk s b i ≢ key = λ b le q. vacant_is_not_on k _ (ap (get s) q ∙ h.vacant) (walk_on s k b n i z le on t) in
     let own : place_of (get u (walk s p.steps i)) ≡ place_of (get s (walk s p.steps i)) =
@@ -143,7 +144,7 @@ passed_longer s u k n i z key at last new h on t p =
     passed_same s u (suc n) (suc (suc n)) i at p (omega (arith, p.within)) (same_walk s u p.steps i (λ b lt. h.others (walk s b i) (not_end s k b n i z (omega (arith, lt, p.within)) t) (away b (omega (arith, lt, p.within)))) own)
 
 -- the first leaves, and the cursor stands behind it
-passed_tail : (s u : Slab Node) (k n i z key a : ℕ) → ((j : ℕ) → j ≢ i → get u j ≡ get s j) → IsChain s k (suc n) i z → key ≢ i → a < suc n → key ≡ walk s a i → any_sought Reader (places s (suc a) i) ≡ false → IsPassed u n (next_of (get s i)) key
+passed_tail : (s u : Slab LineNode) (k n i z key a : ℕ) → ((j : ℕ) → j ≢ i → get u j ≡ get s j) → IsChain s k (suc n) i z → key ≢ i → a < suc n → key ≡ walk s a i → any_sought Reader (places s (suc a) i) ≡ false → IsPassed u n (next_of (get s i)) key
 passed_tail s u k n i z key zero others c ne lt is clear = absurd (ne is)
 passed_tail s u k zero i z key (suc a) others c ne lt is clear = let no : ⊥ = omega (arith, lt) in absurd no
 passed_tail s u k (suc n) i z key (suc a) others c ne lt is clear =
@@ -151,7 +152,7 @@ passed_tail s u k (suc n) i z key (suc a) others c ne lt is clear =
     passed_kept s u k n (next_of (get s i)) z key (record { same = λ j d le on r. others j (apart j d le r) }) c.1.1 c.1.2
     (record { steps = a; within = omega (arith, lt); is = is; clear = (none_later _ _ clear).1 })
 
-pub marked_shorter : (s u : Slab Node) (k n i z : ℕ) (node : Node) (cursor : Option ℕ) → get s i ≡ Some node → ((j : ℕ) → j ≢ i → get u j ≡ get s j) → IsChain s k (suc n) i z → HasPassed s (suc n) i cursor → HasPassed u n node.next (moved_cursor cursor i None)
+pub marked_shorter : (s u : Slab LineNode) (k n i z : ℕ) (node : LineNode) (cursor : Option ℕ) → get s i ≡ Some node → ((j : ℕ) → j ≢ i → get u j ≡ get s j) → IsChain s k (suc n) i z → HasPassed s (suc n) i cursor → HasPassed u n node.next (moved_cursor cursor i None)
 marked_shorter s u k n i z node None was others c h = tt
 marked_shorter s u k n i z node (Some key) was others c p =
     elim (cases_eq key i) [
@@ -160,7 +161,7 @@ marked_shorter s u k n i z node (Some key) was others c p =
     ]
 
 -- the first stays as it is where node j leaves from behind another
-first_stays : (s u : Slab Node) (k w m i z p j : ℕ) (before gone : Node) → Unlinks s u p j before gone → p ≡ walk s (suc w) i → suc w ≤ suc m → IsTail s k (suc (suc m)) i z → get u i ≡ get s i
+first_stays : (s u : Slab LineNode) (k w m i z p j : ℕ) (before gone : LineNode) → Unlinks s u p j before gone → p ≡ walk s (suc w) i → suc w ≤ suc m → IsTail s k (suc (suc m)) i z → get u i ≡ get s i
 first_stays s u k w m i z p j before gone h e le t =
     let next : walk s (suc (suc w)) i ≡ j = walk_next s (suc w) i ∙ ap (λ x. next_of (get s x)) (sym e) ∙ ap next_of h.was ∙ h.follows in
     let not_p : i ≢ p = λ q. (let v = walk_once s k 0 (suc w) (suc (suc m)) i z (omega arith) (omega (arith, le)) t (q ∙ e) in let no : ⊥ = omega (arith, v) in no) in
@@ -168,7 +169,7 @@ first_stays s u k w m i z p j before gone h e le t =
     h.others i not_p not_j
 
 -- node j leaves from behind node p, and the cursor stands at another
-passed_without : (s u : Slab Node) (k a w m i z p j key : ℕ) (before gone : Node) → Unlinks s u p j before gone → p ≡ walk s w i → w ≤ m → IsOn k (get s i) → IsTail s k (suc m) i z → a < suc (suc m) → key ≡ walk s a i → key ≢ j → any_sought Reader (places s (suc a) i) ≡ false → IsPassed u (suc m) i key
+passed_without : (s u : Slab LineNode) (k a w m i z p j key : ℕ) (before gone : LineNode) → Unlinks s u p j before gone → p ≡ walk s w i → w ≤ m → IsOn k (get s i) → IsTail s k (suc m) i z → a < suc (suc m) → key ≡ walk s a i → key ≢ j → any_sought Reader (places s (suc a) i) ≡ false → IsPassed u (suc m) i key
 passed_without s u k zero zero m i z p j key before gone h e le on t lt is ne clear =
     let same : place_of (get u i) ≡ place_of (get s i) = ap (λ x. place_of (get u x)) (sym e) ∙ ap place_of h.linked ∙ ap place_of (sym h.was) ∙ ap (λ x. place_of (get s x)) e in
     subst (IsPassed u (suc m) i) (sym is) (passed_here u m i (ap (is_sought Reader) same ∙ (none_later _ _ clear).0))
@@ -197,7 +198,7 @@ passed_without s u k (suc a) (suc w) (suc m) i z p j key before gone h e le on t
     passed_more u (suc m) i key (ap (λ o. is_sought Reader (place_of o)) same ∙ (none_later _ _ clear).0) (subst (λ o. IsPassed u (suc m) (next_of o) key) (sym same) rest)
 
 -- fewer places
-passed_prefix : (s : Slab Node) (n i : ℕ) → any_sought Reader (places s (suc n) i) ≡ false → any_sought Reader (places s n i) ≡ false
+passed_prefix : (s : Slab LineNode) (n i : ℕ) → any_sought Reader (places s (suc n) i) ≡ false → any_sought Reader (places s n i) ≡ false
 passed_prefix s zero i h = refl
 passed_prefix s (suc n) i h =
     let r = none_later _ _ h in
@@ -205,16 +206,16 @@ passed_prefix s (suc n) i h =
 
 -- ---- all lines
 -- a cursor is kept where each node that was passed still is
-marked_by : (s u : Slab Node) (n m i j : ℕ) (cursor : Option ℕ) → ((key : ℕ) → IsPassed s n i key → IsPassed u m j key) → HasPassed s n i cursor → HasPassed u m j cursor
+marked_by : (s u : Slab LineNode) (n m i j : ℕ) (cursor : Option ℕ) → ((key : ℕ) → IsPassed s n i key → IsPassed u m j key) → HasPassed s n i cursor → HasPassed u m j cursor
 marked_by s u n m i j None f h = tt
 marked_by s u n m i j (Some key) f h = f key h
 
 -- all nodes are as they were
-pub marked_agree : (es : List Ends) (s u : Slab Node) → ((j : ℕ) → get u j ≡ get s j) → IsSound es s → AreMarked es s → AreMarked es u
+pub marked_agree : (es : List Ends) (s u : Slab LineNode) → ((j : ℕ) → get u j ≡ get s j) → IsSound es s → AreMarked es s → AreMarked es u
 marked_agree es s u same h b k d kt = marked_by s u _ _ _ _ (get_or es k d).cursor (λ key. passed_other s u k _ _ _ key (λ j on. same j) (h.chains k d kt)) (b k d kt)
 
 -- one line is written
-marked_write : (es : List Ends) (s u : Slab Node) (m : ℕ) (e : Ends) → IsSound es s → AreMarked es s → m < length es → ((j k : ℕ) → k ≢ m → IsOn k (get s j) → get u j ≡ get s j) → IsMarked u e → AreMarked (set es m e) u
+marked_write : (es : List Ends) (s u : Slab LineNode) (m : ℕ) (e : Ends) → IsSound es s → AreMarked es s → m < length es → ((j k : ℕ) → k ≢ m → IsOn k (get s j) → get u j ≡ get s j) → IsMarked u e → AreMarked (set es m e) u
 marked_write es s u m e h b lt others here k d kt =
     elim (cases_eq k m) [
       | inl same ↦ subst (λ x. IsMarked u (get_or (set es m e) x d)) (sym same) (subst (IsMarked u) (sym (get_or-set_same es m e d lt)) here)
@@ -224,18 +225,18 @@ marked_write es s u m e h b lt others here k d kt =
 
 -- ---- the calls
 -- the first place of a line
-pub joins_first_marked : (es : List Ends) (s u : Slab Node) (m key : ℕ) (new : Node) → IsSound es s → AreMarked es s → m < length es → get s key ≡ None → Updates s u key (Some new) → AreMarked (set es m (record { first = key; last = key; len = 1; cursor = None })) u
+pub joins_first_marked : (es : List Ends) (s u : Slab LineNode) (m key : ℕ) (new : LineNode) → IsSound es s → AreMarked es s → m < length es → get s key ≡ None → Updates s u key (Some new) → AreMarked (set es m (record { first = key; last = key; len = 1; cursor = None })) u
 joins_first_marked es s u m key new h b lt vacant updates =
     marked_write es s u m (record { first = key; last = key; len = 1; cursor = None }) h b lt (λ j k differs there. updates.others j (λ q. vacant_is_not_on k _ (ap (get s) q ∙ vacant) there)) tt
 
-module _ (es : List Ends) (s : Slab Node) (m : ℕ) (e : Ends) (h : IsSound es s) (b : AreMarked es s) (lt : m < length es) (is : e ≡ get_or es m e) where
+module _ (es : List Ends) (s : Slab LineNode) (m : ℕ) (e : Ends) (h : IsSound es s) (b : AreMarked es s) (lt : m < length es) (is : e ≡ get_or es m e) where
   pub marked_of : IsMarked s e
   marked_of = subst (IsMarked s) (sym is) (b m e lt)
 
   marked_long : (n : ℕ) → e.len ≡ suc n → HasPassed s (suc n) e.first e.cursor
   marked_long n q = subst (λ x. HasPassed s x e.first e.cursor) q marked_of
 
-  pub joins_later_marked : (s1 u : Slab Node) (n key : ℕ) (new : Node) → e.len ≡ suc n → get s key ≡ None → Updates s s1 key (Some new) → ((x : Node) → get s1 e.last ≡ Some x → Updates s1 u e.last (Some (record x { next = key }))) → new.line ≡ m
+  pub joins_later_marked : (s1 u : Slab LineNode) (n key : ℕ) (new : LineNode) → e.len ≡ suc n → get s key ≡ None → Updates s s1 key (Some new) → ((x : LineNode) → get s1 e.last ≡ Some x → Updates s1 u e.last (Some (record x { next = key }))) → new.line ≡ m
       → AreMarked (set es m (record { first = e.first; last = key; len = e.len + 1; cursor = e.cursor })) u
   joins_later_marked s1 u n key new q vacant first linked on =
       let c = long_chain_of es s m e h lt is n q in
@@ -257,7 +258,7 @@ module _ (es : List Ends) (s : Slab Node) (m : ℕ) (e : Ends) (h : IsSound es s
       (λ j k differs there. extends.others j (λ z. differs (on_one k m _ (subst (λ x. IsOn k (get s x)) z there) last_on)) (λ z. vacant_is_not_on k _ (ap (get s) z ∙ vacant) there))
       (subst (λ x. HasPassed u x e.first e.cursor) more here)
 
-  pub serves_marked : (u : Slab Node) (n : ℕ) (node : Node) → e.len ≡ suc n → get s e.first ≡ Some node → Updates s u e.first None → AreMarked (set es m (record { first = node.next; last = e.last; len = n; cursor = moved_cursor e.cursor e.first None })) u
+  pub serves_marked : (u : Slab LineNode) (n : ℕ) (node : LineNode) → e.len ≡ suc n → get s e.first ≡ Some node → Updates s u e.first None → AreMarked (set es m (record { first = node.next; last = e.last; len = n; cursor = moved_cursor e.cursor e.first None })) u
   serves_marked u n node q was updates =
       let c = long_chain_of es s m e h lt is n q in
       marked_write es s u m (record { first = node.next; last = e.last; len = n; cursor = moved_cursor e.cursor e.first None }) h b lt
@@ -265,7 +266,7 @@ module _ (es : List Ends) (s : Slab Node) (m : ℕ) (e : Ends) (h : IsSound es s
       (marked_shorter s u m n e.first e.last node e.cursor was updates.others c (marked_long n q))
 
   -- the cursor of a line from whose middle a node left
-  cursor_without : (u : Slab Node) (sought : Sought) (p : ℕ) (gone : Node) (w : StandsBefore s e sought p) → Unlinked s u p gone → (count : ℕ) → e.len ≡ suc (suc count) → (o : Option ℕ) → HasPassed s (suc (suc count)) e.first o → HasPassed u (suc count) e.first (cursor_after_leaving s sought p o)
+  cursor_without : (u : Slab LineNode) (sought : Sought) (p : ℕ) (gone : LineNode) (w : StandsBefore s e sought p) → Unlinked s u p gone → (count : ℕ) → e.len ≡ suc (suc count) → (o : Option ℕ) → HasPassed s (suc (suc count)) e.first o → HasPassed u (suc count) e.first (cursor_after_leaving s sought p o)
   cursor_without u sought p gone w left count q o has = by sought w.clear
     where
       c : IsChain s m (suc (suc count)) e.first e.last
@@ -296,7 +297,7 @@ module _ (es : List Ends) (s : Slab Node) (m : ℕ) (e : Ends) (h : IsSound es s
       by (Thread t) clear = moves o has
       by Reader clear = before_passed clear
 
-  pub leaves_marked : (u : Slab Node) (sought : Sought) (p : ℕ) (gone : Node) (w : StandsBefore s e sought p) → Unlinked s u p gone → AreMarked (set es m (ends_after_leaving s p (cursor_after_leaving s sought p e.cursor) e)) u
+  pub leaves_marked : (u : Slab LineNode) (sought : Sought) (p : ℕ) (gone : LineNode) (w : StandsBefore s e sought p) → Unlinked s u p gone → AreMarked (set es m (ends_after_leaving s p (cursor_after_leaving s sought p e.cursor) e)) u
   leaves_marked u sought p gone w left =
       let count = e.len - 2 in
       let q : e.len ≡ suc (suc count) = omega (arith, w.within) in

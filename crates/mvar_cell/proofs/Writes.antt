@@ -8,22 +8,22 @@ use Rattle.rules_waiting.specs.OneCell.{Place}
 use Rattle.slab.specs.Slab.{Slab, get, slab_len, Updates}
 use Rattle.mvar_cell.specs.declared.lines.Want.{Want}
 use Rattle.mvar_cell.specs.declared.lines.Sought.{Sought}
-use Rattle.mvar_cell.specs.declared.lines.Node.{Node}
+use Rattle.mvar_cell.specs.declared.lines.LineNode.{LineNode}
 use Rattle.mvar_cell.specs.declared.lines.Ends.{Ends}
 use Rattle.mvar_cell.specs.Lined.{Lined, line_of}
 use Rattle.mvar_cell.specs.Nodes.{lined, place, place_of, next_of, places, line_at, IsOn, IsTail, IsChain, IsLine, IsSound, is_sought, any_sought, last_after_leaving, ends_after_leaving, behind, StandsBefore, IsFollowed, Unlinked, LeavesFirst}
 use Rattle.mvar_cell.proofs.Lists.{map-set_agree}
 use Rattle.mvar_cell.proofs.Chains.{vacant_is_not_on, on_one, last_is_on, on_is_there, chain_same, chain_shorter, tail_longer, Extends, tail_without, walk_on, walk_far, tail_once, found_later}
 
-pub record After (es : List Ends) (s u : Slab Node) (m : ℕ) (e : Ends) : Type 0 where
+pub record After (es : List Ends) (s u : Slab LineNode) (m : ℕ) (e : Ends) : Type 0 where
   pub sound : IsSound (set es m e) u
   pub lines : map (line_at u) (set es m e) ≡ set (map (line_at s) es) m (line_at u e)
 
 -- nodes of other lines are as they were
-abbrev pub OthersStay : Slab Node → Slab Node → ℕ → Type 0
+abbrev pub OthersStay : Slab LineNode → Slab LineNode → ℕ → Type 0
 OthersStay s u m = (j k : ℕ) → k ≢ m → IsOn k (get s j) → get u j ≡ get s j
 
-pub after_write : (es : List Ends) (s u : Slab Node) (m : ℕ) (d e : Ends) → IsSound es s → m < length es → OthersStay s u m → IsLine u m e → e.len + slab_len s ≤ (get_or es m d).len + slab_len u → After es s u m e
+pub after_write : (es : List Ends) (s u : Slab LineNode) (m : ℕ) (d e : Ends) → IsSound es s → m < length es → OthersStay s u m → IsLine u m e → e.len + slab_len s ≤ (get_or es m d).len + slab_len u → After es s u m e
 after_write es s u m d e h lt others line fits =
     let len : Ends → ℕ = λ x. x.len in
     let counted = sum_by-set len es m e d lt in
@@ -40,26 +40,26 @@ after_write es s u m d e h lt others line fits =
     }
 
 -- a line is no longer than there are nodes
-pub len_within : (es : List Ends) (s : Slab Node) (m : ℕ) (d : Ends) → IsSound es s → m < length es → (get_or es m d).len ≤ slab_len s
+pub len_within : (es : List Ends) (s : Slab LineNode) (m : ℕ) (d : Ends) → IsSound es s → m < length es → (get_or es m d).len ≤ slab_len s
 len_within es s m d h lt =
     let len : Ends → ℕ = λ x. x.len in
     omega (arith, h.fits, sum_by-set len es m (record { first = 0; last = 0; len = 0; cursor = None }) d lt)
 
 -- where the place of this line is known, the line of all lines is
-pub line_is : (es : List Ends) (s : Slab Node) (m : ℕ) (e : Ends) → m < length es → e ≡ get_or es m e → get_or (map (line_at s) es) m [] ≡ line_at s e
+pub line_is : (es : List Ends) (s : Slab LineNode) (m : ℕ) (e : Ends) → m < length es → e ≡ get_or es m e → get_or (map (line_at s) es) m [] ≡ line_at s e
 line_is es s m e lt is = get_or-map (line_at s) es m e [] lt ∙ ap (line_at s) (sym is)
 
-places_length : (s : Slab Node) (n i : ℕ) → length (places s n i) ≡ n
+places_length : (s : Slab LineNode) (n i : ℕ) → length (places s n i) ≡ n
 places_length s zero i = refl
 places_length s (suc n) i = ap suc (places_length s n (next_of (get s i)))
 
 -- a line is as long as its ends say
-pub line_length : (es : List Ends) (s : Slab Node) (capacity more m : ℕ) (e : Ends) (now : Lined) → lined es s capacity more ≡ now → m < length es → e ≡ get_or es m e → length (line_of now m) ≡ e.len
+pub line_length : (es : List Ends) (s : Slab LineNode) (capacity more m : ℕ) (e : Ends) (now : Lined) → lined es s capacity more ≡ now → m < length es → e ≡ get_or es m e → length (line_of now m) ≡ e.len
 line_length es s capacity more m e now view lt is =
     ap (λ (x : Lined). length (line_of x m)) (sym view) ∙ ap (λ (ps : List (Place Value)). length ps) (line_is es s m e lt is) ∙ places_length s e.len e.first
 
 -- the first place of a line
-pub first_joins : (es : List Ends) (s u : Slab Node) (m : ℕ) (e : Ends) (key : ℕ) (new : Node) → IsSound es s → m < length es → e ≡ get_or es m e → e.len ≡ 0 → get s key ≡ None → Updates s u key (Some new) → new.line ≡ m → slab_len u ≡ slab_len s + 1
+pub first_joins : (es : List Ends) (s u : Slab LineNode) (m : ℕ) (e : Ends) (key : ℕ) (new : LineNode) → IsSound es s → m < length es → e ≡ get_or es m e → e.len ≡ 0 → get s key ≡ None → Updates s u key (Some new) → new.line ≡ m → slab_len u ≡ slab_len s + 1
     → After es s u m (record { first = key; last = key; len = 1; cursor = None })
 first_joins es s u m e key new h lt is empty vacant updates on counted =
     let none : (get_or es m e).len ≡ 0 = ap (λ (x : Ends). x.len) (sym is) ∙ empty in
@@ -68,11 +68,11 @@ first_joins es s u m e key new h lt is empty vacant updates on counted =
     (subst (IsOn m) (sym updates.changed) on, refl)
     (omega (arith, counted, none))
 
-pub record Joins (es : List Ends) (s u : Slab Node) (m : ℕ) (e : Ends) (key : ℕ) (new : Node) : Type 0 where
+pub record Joins (es : List Ends) (s u : Slab LineNode) (m : ℕ) (e : Ends) (key : ℕ) (new : LineNode) : Type 0 where
   pub after : After es s u m (record { first = e.first; last = key; len = e.len + 1; cursor = e.cursor })
   pub line : places u (e.len + 1) e.first ≡ line_at s e ++ place new.thread new.want ∷ []
 
-module _ (es : List Ends) (s : Slab Node) (m : ℕ) (e : Ends) (h : IsSound es s) (lt : m < length es) (is : e ≡ get_or es m e) where
+module _ (es : List Ends) (s : Slab LineNode) (m : ℕ) (e : Ends) (h : IsSound es s) (lt : m < length es) (is : e ≡ get_or es m e) where
   pub chain_of : IsChain s m e.len e.first e.last
   chain_of = subst (λ (x : Ends). IsChain s m x.len x.first x.last) (sym is) (h.chains m e lt)
 
@@ -84,13 +84,13 @@ module _ (es : List Ends) (s : Slab Node) (m : ℕ) (e : Ends) (h : IsSound es s
   last_of n q = let c = long_chain_of n q in last_is_on s m n e.first e.last c.0 c.1
 
   -- the nodes of a longer pool have the last place too
-  pub last_after : (n key : ℕ) (u : Slab Node) (new : Node) → e.len ≡ suc n → get s key ≡ None → Updates s u key (Some new) → (last : Node) × (get s e.last ≡ Some last) × (get u e.last ≡ Some last)
+  pub last_after : (n key : ℕ) (u : Slab LineNode) (new : LineNode) → e.len ≡ suc n → get s key ≡ None → Updates s u key (Some new) → (last : LineNode) × (get s e.last ≡ Some last) × (get u e.last ≡ Some last)
   last_after n key u new q vacant updates =
       let on = last_of n q in
       let there = on_is_there m _ on in
       (there.0, there.1, updates.others e.last (λ z. vacant_is_not_on m _ (ap (get s) z ∙ vacant) on) ∙ there.1)
 
-  pub later_joins : (s1 u : Slab Node) (n key : ℕ) (new : Node) → e.len ≡ suc n → get s key ≡ None → Updates s s1 key (Some new) → ((x : Node) → get s1 e.last ≡ Some x → Updates s1 u e.last (Some (record x { next = key })))
+  pub later_joins : (s1 u : Slab LineNode) (n key : ℕ) (new : LineNode) → e.len ≡ suc n → get s key ≡ None → Updates s s1 key (Some new) → ((x : LineNode) → get s1 e.last ≡ Some x → Updates s1 u e.last (Some (record x { next = key })))
       → new.line ≡ m → slab_len u ≡ slab_len s + 1 → Joins es s u m e key new
   later_joins s1 u n key new q vacant first linked on counted =
       let c = long_chain_of n q in
@@ -118,7 +118,7 @@ module _ (es : List Ends) (s : Slab Node) (m : ℕ) (e : Ends) (h : IsSound es s
       }
 
   -- the first place of a line leaves it
-  pub first_leaves : (u : Slab Node) (cursor : Option ℕ) (n : ℕ) (node : Node) → e.len ≡ suc n → get s e.first ≡ Some node → Updates s u e.first None → slab_len u + 1 ≡ slab_len s
+  pub first_leaves : (u : Slab LineNode) (cursor : Option ℕ) (n : ℕ) (node : LineNode) → e.len ≡ suc n → get s e.first ≡ Some node → Updates s u e.first None → slab_len u + 1 ≡ slab_len s
       → After es s u m (record { first = node.next; last = e.last; len = n; cursor = cursor }) × (line_at s e ≡ place node.thread node.want ∷ places u n node.next)
   first_leaves u cursor n node q was updates counted =
       let c = long_chain_of n q in
@@ -131,29 +131,29 @@ module _ (es : List Ends) (s : Slab Node) (m : ℕ) (e : Ends) (h : IsSound es s
       )
 
 -- the lines of a pool are those that callers see
-pub within_lines : (es : List Ends) (s : Slab Node) (capacity more m : ℕ) (now : Lined) → lined es s capacity more ≡ now → m < length now.lines → m < length es
+pub within_lines : (es : List Ends) (s : Slab LineNode) (capacity more m : ℕ) (now : Lined) → lined es s capacity more ≡ now → m < length now.lines → m < length es
 within_lines es s capacity more m now view lt =
     let x : m < length (map (line_at s) es) = subst (λ (n : Lined). m < length n.lines) (sym view) lt in
     omega (arith, length-map es (line_at s), x)
 
 -- the written line, as callers see it
-pub written_line : (es : List Ends) (u : Slab Node) (m : ℕ) (e : Ends) → m < length es → get_or (map (line_at u) (set es m e)) m [] ≡ line_at u e
+pub written_line : (es : List Ends) (u : Slab LineNode) (m : ℕ) (e : Ends) → m < length es → get_or (map (line_at u) (set es m e)) m [] ≡ line_at u e
 written_line es u m e lt =
     get_or-map (line_at u) (set es m e) m e [] (omega (arith, length-set es m e, lt)) ∙ ap (line_at u) (get_or-set_same es m e e lt)
 
-pub After-lines : (es : List Ends) (s u : Slab Node) (m : ℕ) (e : Ends) → m < length es → After es s u m e → map (line_at u) (set es m e) ≡ set (map (line_at s) es) m (get_or (map (line_at u) (set es m e)) m [])
+pub After-lines : (es : List Ends) (s u : Slab LineNode) (m : ℕ) (e : Ends) → m < length es → After es s u m e → map (line_at u) (set es m e) ≡ set (map (line_at s) es) m (get_or (map (line_at u) (set es m e)) m [])
 After-lines es s u m e lt a = a.lines ∙ ap (set (map (line_at s) es) m) (sym (written_line es u m e lt))
 
-pub joined_lines : (es : List Ends) (s u : Slab Node) (m : ℕ) (old e : Ends) (p : Place Value) → m < length es → old ≡ get_or es m old → After es s u m e → line_at u e ≡ line_at s old ++ p ∷ []
+pub joined_lines : (es : List Ends) (s u : Slab LineNode) (m : ℕ) (old e : Ends) (p : Place Value) → m < length es → old ≡ get_or es m old → After es s u m e → line_at u e ≡ line_at s old ++ p ∷ []
     → map (line_at u) (set es m e) ≡ set (map (line_at s) es) m (get_or (map (line_at s) es) m [] ++ p ∷ [])
 joined_lines es s u m old e p lt is a line =
     a.lines ∙ ap (set (map (line_at s) es) m) (line ∙ ap (λ ps. ps ++ p ∷ []) (sym (line_is es s m old lt is)))
 
-pub served_line : (es : List Ends) (s u : Slab Node) (m : ℕ) (old e : Ends) (p : Place Value) → m < length es → old ≡ get_or es m old → line_at s old ≡ p ∷ line_at u e
+pub served_line : (es : List Ends) (s u : Slab LineNode) (m : ℕ) (old e : Ends) (p : Place Value) → m < length es → old ≡ get_or es m old → line_at s old ≡ p ∷ line_at u e
     → get_or (map (line_at s) es) m [] ≡ p ∷ get_or (map (line_at u) (set es m e)) m []
 served_line es s u m old e p lt is line = line_is es s m old lt is ∙ line ∙ ap (λ ps. p ∷ ps) (sym (written_line es u m e lt))
 
-module _ (es : List Ends) (s : Slab Node) (m : ℕ) (e : Ends) (h : IsSound es s) (lt : m < length es) (is : e ≡ get_or es m e) where
+module _ (es : List Ends) (s : Slab LineNode) (m : ℕ) (e : Ends) (h : IsSound es s) (lt : m < length es) (is : e ≡ get_or es m e) where
   -- a node that stands before another of its line
   record Middle (p : ℕ) : Type 0 where
     count : ℕ
@@ -182,7 +182,7 @@ module _ (es : List Ends) (s : Slab Node) (m : ℕ) (e : Ends) (h : IsSound es s
       let mid = middle_of sought p w in
       record { line = m; long = omega (arith, w.within); before_on = mid.before_on; gone_on = mid.gone_on; apart = mid.apart }
 
-  pub record Leaves (u : Slab Node) (cursor : Option ℕ) (sought : Sought) (p : ℕ) (gone : Node) : Type 0 where
+  pub record Leaves (u : Slab LineNode) (cursor : Option ℕ) (sought : Sought) (p : ℕ) (gone : LineNode) : Type 0 where
     pub after : After es s u m (ends_after_leaving s p cursor e)
     pub front : List (Place Value)
     pub back : List (Place Value)
@@ -191,7 +191,7 @@ module _ (es : List Ends) (s : Slab Node) (m : ℕ) (e : Ends) (h : IsSound es s
     pub was : line_at s e ≡ front ++ place gone.thread gone.want ∷ back
     pub now : places u (e.len - 1) e.first ≡ front ++ back
 
-  pub middle_leaves : (u : Slab Node) (cursor : Option ℕ) (sought : Sought) (p : ℕ) (gone : Node) → StandsBefore s e sought p → Unlinked s u p gone → slab_len u + 1 ≡ slab_len s → Leaves u cursor sought p gone
+  pub middle_leaves : (u : Slab LineNode) (cursor : Option ℕ) (sought : Sought) (p : ℕ) (gone : LineNode) → StandsBefore s e sought p → Unlinked s u p gone → slab_len u + 1 ≡ slab_len s → Leaves u cursor sought p gone
   middle_leaves u cursor sought p gone w unlinked counted =
       let j = next_of (get s p) in
       let mid = middle_of sought p w in
@@ -216,7 +216,7 @@ module _ (es : List Ends) (s : Slab Node) (m : ℕ) (e : Ends) (h : IsSound es s
       }
 
 -- the same, as callers see it
-pub leaves_first : (es : List Ends) (s u : Slab Node) (capacity more m p : ℕ) (cursor : Option ℕ) (old : Ends) (sought : Sought) (gone : Node) (now new : Lined) (h : IsSound es s) (lt : m < length es) (is : old ≡ get_or es m old) → lined es s capacity more ≡ now → new.lines ≡ map (line_at u) (set es m (ends_after_leaving s p cursor old)) → Leaves es s m old h lt is u cursor sought p gone
+pub leaves_first : (es : List Ends) (s u : Slab LineNode) (capacity more m p : ℕ) (cursor : Option ℕ) (old : Ends) (sought : Sought) (gone : LineNode) (now new : Lined) (h : IsSound es s) (lt : m < length es) (is : old ≡ get_or es m old) → lined es s capacity more ≡ now → new.lines ≡ map (line_at u) (set es m (ends_after_leaving s p cursor old)) → Leaves es s m old h lt is u cursor sought p gone
     → LeavesFirst sought m gone.thread gone.want now new
 leaves_first es s u capacity more m p cursor old sought gone now new h lt is view seen l =
     record {
@@ -241,7 +241,7 @@ sought_some : (sought : Sought) (ps : List (Place Value)) → any_sought sought 
 sought_some sought [] h e = let no : ⊥ = cc in no
 sought_some sought (p ∷ ps) h e = let no : ⊥ = cc in no
 
-module _ (es : List Ends) (s : Slab Node) (capacity more m : ℕ) (e : Ends) (now : Lined) (h : IsSound es s) (lt : m < length es) (is : e ≡ get_or es m e) (view : lined es s capacity more ≡ now) where
+module _ (es : List Ends) (s : Slab LineNode) (capacity more m : ℕ) (e : Ends) (now : Lined) (h : IsSound es s) (lt : m < length es) (is : e ≡ get_or es m e) (view : lined es s capacity more ≡ now) where
   pub line_seen : line_of now m ≡ line_at s e
   line_seen = ap (λ (x : Lined). line_of x m) (sym view) ∙ line_is es s m e lt is
 
@@ -260,7 +260,7 @@ module _ (es : List Ends) (s : Slab Node) (capacity more m : ℕ) (e : Ends) (no
       found_later _ _ (ap (any_sought sought) (sym line) ∙ there) other
 
   -- the place that is served is that of the first node
-  pub served_first : (sought : Sought) (node : Node) (t : ℕ) (want : Want) (rest : List (Place Value)) → any_sought sought (line_of now m) ≡ true → get s e.first ≡ Some node → is_sought sought (place_of (Some node)) ≡ true → line_of now m ≡ place t want ∷ rest → is_sought sought (place t want) ≡ true
+  pub served_first : (sought : Sought) (node : LineNode) (t : ℕ) (want : Want) (rest : List (Place Value)) → any_sought sought (line_of now m) ≡ true → get s e.first ≡ Some node → is_sought sought (place_of (Some node)) ≡ true → line_of now m ≡ place t want ∷ rest → is_sought sought (place t want) ≡ true
   served_first sought node t want rest there at found served =
       let q = sought_long sought there in
       let line : line_of now m ≡ places s (suc (e.len - 1)) e.first = line_seen ∙ ap (λ n. places s n e.first) q in

@@ -6,7 +6,7 @@ ghost use Rattle.mvar_cell.specs.Nodes.{place, place_of, want_of, is_sought, any
 ghost use Rattle.mvar_cell.specs.Cursors.{moved_cursor, cursor_after_leaving, IsMarked};
 ghost use Rattle.mvar_cell.specs.Befores.{IsBacked, IsFirstNow, StoodBehind, IsClosed};
 ghost use Rattle.rules_waiting.specs.OneCell.{reads_it, stands_in};
-ghost use Rattle.mvar_cell.specs.declared.lines.Node.{Node};
+ghost use Rattle.mvar_cell.specs.declared.lines.LineNode.{LineNode};
 ghost use Rattle.mvar_cell.specs.declared.lines.Sought.TheVariants.{Reader};
 
 use crate::befores::{Befores, before_of, clear, put, replace};
@@ -40,7 +40,7 @@ pub enum Sought {
 }
 
 impl Sought {
-    fn is_at(self, node: &Node) -> bool
+    fn is_at(self, node: &LineNode) -> bool
         ensures { result ≡ is_sought self (place_of (Some node.now)) }
     {
         match self {
@@ -52,7 +52,7 @@ impl Sought {
 
 /// A place in a line, and the key of the place behind it.
 #[derive(Drop)]
-struct Node {
+struct LineNode {
     line: usize,
     thread: u32,
     want: Want,
@@ -73,7 +73,7 @@ struct Ends {
 /// only, so that it alone is the key to the node before its own.
 pub struct Lines {
     ends: Vec<Ends>,
-    nodes: Slab<Node>,
+    nodes: Slab<LineNode>,
     befores: Befores,
 }
 
@@ -108,9 +108,9 @@ impl Model for Lines {
 }
 
 /// The place with this key is followed by that one.
-fn link(nodes: &mut Slab<Node>, key: usize, next: usize)
+fn link(nodes: &mut Slab<LineNode>, key: usize, next: usize)
     requires { ContainsKey nodes.old key }
-    ensures linked { (n : Node) → get nodes.old key ≡ Some n → Updates nodes.old nodes.new key (Some (record n { next = next })) }
+    ensures linked { (n : LineNode) → get nodes.old key ≡ Some n → Updates nodes.old nodes.new key (Some (record n { next = next })) }
     ensures len { slab_len nodes.new ≡ slab_len nodes.old }
     ensures capacity { nodes.new.capacity ≡ nodes.old.capacity }
 {
@@ -122,7 +122,7 @@ fn link(nodes: &mut Slab<Node>, key: usize, next: usize)
 
 /// Looks from the cursor on for the node before the first reader's, where the first of all isn't one. That node is the next
 /// cursor, so that each place of a line is passed at most once: the time is constant when spread over all calls.
-fn search(nodes: &Slab<Node>, ends: Ends) -> usize
+fn search(nodes: &Slab<LineNode>, ends: Ends) -> usize
     requires chain { (k : ℕ) × IsLine nodes.now k ends }
     requires marked { IsMarked nodes.now ends }
     requires some { 0 < ends.len }
@@ -142,7 +142,7 @@ fn search(nodes: &Slab<Node>, ends: Ends) -> usize
 }
 
 /// The node before the first that is sought, where the first of all isn't. The table has it for a thread.
-fn before(nodes: &Slab<Node>, befores: &Befores, ends: Ends, sought: Sought) -> usize
+fn before(nodes: &Slab<LineNode>, befores: &Befores, ends: Ends, sought: Sought) -> usize
     requires chain { (k : ℕ) × IsLine nodes.now k ends }
     requires backed { IsBacked (table.get nat_eq befores.now) nodes.now ends }
     requires marked { IsMarked nodes.now ends }
@@ -171,7 +171,12 @@ fn moved(cursor: Option<usize>, gone: usize, before: Option<usize>) -> Option<us
 }
 
 /// The cursor of a line that the node behind this one leaves. Where the first reader was sought, none stands up to this one.
-fn cursor_without(nodes: &Slab<Node>, ends: Ends, sought: Sought, before: usize) -> Option<usize>
+fn cursor_without(
+    nodes: &Slab<LineNode>,
+    ends: Ends,
+    sought: Sought,
+    before: usize,
+) -> Option<usize>
     requires { IsFollowed nodes.now ends.len before }
     ensures { result ≡ cursor_after_leaving nodes.now sought before ends.cursor }
 {
@@ -182,7 +187,7 @@ fn cursor_without(nodes: &Slab<Node>, ends: Ends, sought: Sought, before: usize)
 }
 
 /// Takes the node behind this one out of its line; answers it, and the ends of the line.
-fn unlink(nodes: &mut Slab<Node>, ends: Ends, before: usize) -> (Node, Ends)
+fn unlink(nodes: &mut Slab<LineNode>, ends: Ends, before: usize) -> (LineNode, Ends)
     requires { IsFollowed nodes.old ends.len before }
     ensures unlinked { Unlinked nodes.old nodes.new before result.0 }
     ensures ends { result.1 ≡ ends_after_leaving nodes.old before ends.cursor ends }
@@ -201,7 +206,7 @@ fn unlink(nodes: &mut Slab<Node>, ends: Ends, before: usize) -> (Node, Ends)
 }
 
 /// The thread at the front of a line, where anybody is left, has nobody before it now.
-fn begin(befores: &mut Befores, nodes: &Slab<Node>, ends: Ends)
+fn begin(befores: &mut Befores, nodes: &Slab<LineNode>, ends: Ends)
     requires { ends.len ≢ 0 → IsSome (get nodes.now ends.first) }
     ensures first { IsFirstNow (table.get nat_eq befores.old) (table.get nat_eq befores.new) nodes.now ends.len ends.first }
     ensures spare { table.spare befores.old ≤ table.spare befores.new }
@@ -212,7 +217,7 @@ fn begin(befores: &mut Befores, nodes: &Slab<Node>, ends: Ends)
 }
 
 /// Closes the gap that this node left behind that of `before`: who stood behind it, if anybody, has that one before it now.
-fn close(befores: &mut Befores, nodes: &Slab<Node>, gone: &Node, last: usize, before: usize)
+fn close(befores: &mut Befores, nodes: &Slab<LineNode>, gone: &LineNode, last: usize, before: usize)
     requires { last ≢ before → StoodBehind (table.get nat_eq befores.old) nodes.now gone.now }
     ensures closed { IsClosed (table.get nat_eq befores.old) (table.get nat_eq befores.new) nodes.now gone.now last before }
     ensures spare { table.spare befores.old ≤ table.spare befores.new }
@@ -282,7 +287,7 @@ impl Lines {
         ensures short { length (line_of self.old line) + 1 < 2 ^ 64 }
         ensures spare { self.old.spare ≤ self.new.spare + 1 }
     {
-        let key = self.nodes.insert_reserved(Node {
+        let key = self.nodes.insert_reserved(LineNode {
             line,
             thread,
             want,
@@ -321,7 +326,7 @@ impl Lines {
         if ends.len == 0 {
             return None;
         }
-        let Node {
+        let LineNode {
             line: _,
             thread,
             want,

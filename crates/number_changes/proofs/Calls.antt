@@ -5,7 +5,7 @@ use Rattle.std.proofs.lemmas.List.{drop_all, map-set, map-append, length-map}
 use Rattle.std.proofs.lemmas.Option.{slice_get_within}
 use Rattle.rules_meaning.specs.Values.{V}
 use Rattle.rules_meaning.specs.Values as val
-use Rattle.rules_code.specs.declared.code.Body.{Body}
+use Rattle.rules_code.specs.declared.code.CodeBody.{CodeBody}
 use Rattle.slot_states.specs.SlotStates.{SlotThread, SlotState, answer, answered, replied, told_all, cell_at, called, makes}
 use Rattle.hs_laws.specs.CellLaw.{told}
 use Rattle.rules_waiting.specs.OneCell.{Want, To_take, To_read, To_put, Place, Cell, Call, Take, Read, Put, Try_take, Try_put, Answer, Made, Took, Saw, Gave, Tried_take, Tried_put, Reply, cell_of, After, reply_of, made, call}
@@ -140,7 +140,7 @@ answer_on g h grown (Tried_take (Some v)) w = ap (λ z. Tried_take (Some z)) (va
 answer_on g h grown (Tried_put b) w = refl
 
 -- these threads get these replies of cell m
-abbrev pub replies_make : ℕ → List (Reply V) → Body → SlotState → SlotState
+abbrev pub replies_make : ℕ → List (Reply V) → CodeBody → SlotState → SlotState
 replies_make m rs b s = record s { threads = replied m rs s.threads }
 
 module _ (m : ℕ) (g : Stock) (x : NumberState) (rs : List places.Reply) (h : Stock) (y : NumberState) where

@@ -4,7 +4,7 @@ use Rattle.std.proofs.lemmas.Option.{slice_get_within}
 use Rattle.hs_base.specs.declared.exn.Exn.{Exn}
 use Rattle.hs_laws.proofs.Lists.{equal_or, cond_true, cond_false}
 use Rattle.rules_meaning.specs.Values.{UnitValue}
-use Rattle.rules_code.specs.declared.code.Body.{Body}
+use Rattle.rules_code.specs.declared.code.CodeBody.{CodeBody}
 use Rattle.rules_waiting.specs.Waiting.{Flying}
 use Rattle.slot_states.specs.SlotStates.{SlotState, answer, blocked_at, throws, throws_at}
 use Rattle.slot_entries.specs.Operating.{thrown_at, thrown}
@@ -58,7 +58,7 @@ module _ (g h : Stock) (grown : HasGrown g h) (x : NumberState) (all : AreIn g x
 pub unequal : (u t : ℕ) → u ≢ t → (u == t) ≡ false
 unequal u t n = ⊎_elim (λ k. absurd (n k.1)) (λ k. k.0) (equal_or u t)
 
-module _ (t u : ℕ) (e : Exn) (other : u ≢ t) (g : Stock) (b : Body) (x : NumberState) (th : NumberThread) (there : slice_get x.threads.items u ≡ Some th) where
+module _ (t u : ℕ) (e : Exn) (other : u ≢ t) (g : Stock) (b : CodeBody) (x : NumberState) (th : NumberThread) (there : slice_get x.threads.items u ≡ Some th) where
   at_other : thrown t u e (slots g b x) ≡ thrown_at t u e (Some (thread_of g b th)) (slots g b x)
   at_other =
       let s = slots g b x in

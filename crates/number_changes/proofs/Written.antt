@@ -3,7 +3,7 @@ use Rattle.std.proofs.Common.{◌≡◌, ℕ, zero, suc, ◌+◌, ◌<◌, List,
 use Rattle.std.proofs.lemmas.Option.{slice_get_within}
 use Rattle.std.proofs.lemmas.List.{append-nil}
 use Rattle.rules_meaning.specs.Values.{V, UnitValue}
-use Rattle.rules_code.specs.declared.code.Body.{Body}
+use Rattle.rules_code.specs.declared.code.CodeBody.{CodeBody}
 use Rattle.hs_rules.specs.Primitives.{line_feed}
 use Rattle.slot_states.specs.SlotStates.{SlotState, answer, prints}
 use Rattle.number_states.specs.declared.state.NumberState.{NumberState}
@@ -42,10 +42,10 @@ module _ (g h : Stock) (grown : HasGrown g h) (x : NumberState) (all : AreIn g x
         errors = slice_get_within h.texts r _ err;
       }
 
-  written_slots : (b : Body) (n : ℕ) → slots_of h b (written n o r (contents x)) ≡ record (slots g b x) { printed = n }
+  written_slots : (b : CodeBody) (n : ℕ) → slots_of h b (written n o r (contents x)) ≡ record (slots g b x) { printed = n }
   written_slots b n = ap (λ (s : SlotState). record s { printed = n }) (slots_of_on g h grown b (contents x) all)
 
-  pub prints_made : (i : Stock) (u y : NumberState) (t n : ℕ) (v : V) → v ≡ UnitValue → HasGrown h i → contents u ≡ written (x.printed + n) o r (contents x) → Becomes (λ b. answer t v) h u i y → (b : Body) → Makes (λ s. Some (prints t n s)) b g x more_out more_err i y
+  pub prints_made : (i : Stock) (u y : NumberState) (t n : ℕ) (v : V) → v ≡ UnitValue → HasGrown h i → contents u ≡ written (x.printed + n) o r (contents x) → Becomes (λ b. answer t v) h u i y → (b : CodeBody) → Makes (λ s. Some (prints t n s)) b g x more_out more_err i y
   prints_made i u y t n v unit later same p b =
       let all_h = written_in (x.printed + n) in
       record {

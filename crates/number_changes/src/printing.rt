@@ -1,6 +1,6 @@
 ghost use Rattle.std.specs.Prelude.{◌≡◌, ◌++◌, ◌+◌, [], IfOk, OnOk, Some, length};
 ghost use Rattle.hs_rules.specs.Primitives.{line_feed};
-ghost use Rattle.rules_code.specs.declared.code.Body.{Body};
+ghost use Rattle.rules_code.specs.declared.code.CodeBody.{CodeBody};
 ghost use Rattle.slot_states.specs.SlotStates.{prints};
 ghost use Rattle.number_states.specs.Stocks.{HasGrown};
 ghost use Rattle.number_states.specs.States.{AreIn};
@@ -29,7 +29,7 @@ pub fn print(
     text: &str,
 ) -> Result<(), NoMemory>
     requires { AreIn numbers.old state.old }
-    ensures is { OnOk result ((b : Body) → Makes (λ x. Some (prints thread (length text.now) x)) b numbers.old state.old text.now [] numbers.new state.new) }
+    ensures is { OnOk result ((b : CodeBody) → Makes (λ x. Some (prints thread (length text.now) x)) b numbers.old state.old text.now [] numbers.new state.new) }
     ensures grows { HasGrown numbers.old numbers.new }
 {
     state.printed = count(state.printed, text)?;
@@ -46,7 +46,7 @@ pub fn print_line(
     text: &str,
 ) -> Result<(), NoMemory>
     requires { AreIn numbers.old state.old }
-    ensures is { OnOk result ((b : Body) → Makes (λ x. Some (prints thread (length text.now + 1) x)) b numbers.old state.old (text.now ++ line_feed) [] numbers.new state.new) }
+    ensures is { OnOk result ((b : CodeBody) → Makes (λ x. Some (prints thread (length text.now + 1) x)) b numbers.old state.old (text.now ++ line_feed) [] numbers.new state.new) }
     ensures grows { HasGrown numbers.old numbers.new }
 {
     let line = format!(in alloc; "{text}\n")?;
@@ -62,7 +62,7 @@ pub fn print_error(
     text: &str,
 ) -> Result<(), NoMemory>
     requires { AreIn numbers.old state.old }
-    ensures is { OnOk result ((b : Body) → Makes (λ x. Some (prints thread (length text.now + 1) x)) b numbers.old state.old [] (text.now ++ line_feed) numbers.new state.new) }
+    ensures is { OnOk result ((b : CodeBody) → Makes (λ x. Some (prints thread (length text.now + 1) x)) b numbers.old state.old [] (text.now ++ line_feed) numbers.new state.new) }
     ensures grows { HasGrown numbers.old numbers.new }
 {
     let line = format!(in alloc; "{text}\n")?;

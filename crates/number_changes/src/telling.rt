@@ -3,7 +3,7 @@ ghost use Rattle.std.specs.Prelude.{◌≡◌, ◌++◌, ◌∷◌, [], suc, pos
 ghost use Rattle.hs_base.specs.declared.mask.Mask.TheVariants.{Unmasked};
 ghost use Rattle.hs_base.specs.declared.exn.Exn.TheVariants.{Timeout};
 ghost use Rattle.rules_meaning.specs.Values.{values_of, Int, Text, Exception, Inst, Restore};
-ghost use Rattle.rules_code.specs.declared.code.Body.{Body};
+ghost use Rattle.rules_code.specs.declared.code.CodeBody.{CodeBody};
 ghost use Rattle.hs_rules.specs.Primitives.{masking_text};
 ghost use Rattle.slot_laws.specs.SlotRules.{SlotTerm, at, doing, mask_in, mask_from};
 ghost use Rattle.slot_states.specs.SlotStates.{SlotState, answer, forks_to};

@@ -1,5 +1,5 @@
 ghost use Rattle.std.specs.Prelude.{◌≡◌, MatchOption, Option, slice_get, None};
-ghost use Rattle.rules_code.specs.declared.code.Body.{Body};
+ghost use Rattle.rules_code.specs.declared.code.CodeBody.{CodeBody};
 ghost use Rattle.slot_states.specs.SlotStates.{SlotThread, SlotState};
 ghost use Rattle.slot_entries.specs.Entering.{on_thread};
 ghost use Rattle.number_states.specs.Stocks.{Stock};
@@ -10,7 +10,7 @@ use number_states::{NumberState, NumberThread};
 
 /// The thread of a number, where it is there and has not finished.
 pub fn acting(state: &NumberState, t: u32) -> Option<NumberThread>
-    ensures { MatchOption result ((g : Stock) (b : Body) (k : SlotThread → Option SlotState) → on_thread (slice_get (slots g b state.now).threads t) k ≡ None) (λ th. IsActing state.now t th) }
+    ensures { MatchOption result ((g : Stock) (b : CodeBody) (k : SlotThread → Option SlotState) → on_thread (slice_get (slots g b state.now).threads t) k ≡ None) (λ th. IsActing state.now t th) }
 {
     match state.threads.get(t as usize) {
         None => None,

@@ -1,5 +1,5 @@
 ghost use Rattle.std.specs.Prelude.{◌<◌, [], OnOk, length};
-ghost use Rattle.rules_code.specs.declared.code.Body.{Body};
+ghost use Rattle.rules_code.specs.declared.code.CodeBody.{CodeBody};
 ghost use Rattle.slot_states.specs.SlotStates.{throws_at};
 ghost use Rattle.slot_entries.specs.Operating.{thrown};
 ghost use Rattle.number_states.specs.Stocks.{HasGrown};
@@ -47,7 +47,7 @@ pub fn throw(
 ) -> Result<(), NoMemory>
     requires state { AreIn numbers.old state.old }
     requires there { target < length state.old.threads.items }
-    ensures is { OnOk result ((b : Body) → Makes (thrown thread target exn) b numbers.old state.old [] [] numbers.new state.new) }
+    ensures is { OnOk result ((b : CodeBody) → Makes (thrown thread target exn) b numbers.old state.old [] [] numbers.new state.new) }
     ensures grows { HasGrown numbers.old numbers.new }
 {
     if target == thread {

@@ -8,7 +8,7 @@ use Rattle.hs_rules.specs.declared.entry.Entry.TheVariants as entry
 use Rattle.hs_rules.specs.Entries.{throwers}
 use Rattle.rules_meaning.specs.Values.{UnitValue}
 use Rattle.rules_waiting.specs.Waiting.{flying_to}
-use Rattle.rules_code.specs.declared.code.Body.{Body}
+use Rattle.rules_code.specs.declared.code.CodeBody.{CodeBody}
 use Rattle.slot_laws.specs.SlotRules.{SlotPart, SlotFrame, ret}
 use Rattle.local_steps.specs.declared.active.Active.{Active}
 use Rattle.local_steps.specs.declared.active.Active.TheVariants as a
@@ -29,19 +29,19 @@ use Rattle.number_changes.specs.Moves.{Makes, IsActing}
 use Rattle.number_changes.proofs.Made.{on_acting}
 
 -- each of these throwers is answered, and its throw is over
-abbrev pub throwers_end : List ℕ → Body → SlotState → SlotState
+abbrev pub throwers_end : List ℕ → CodeBody → SlotState → SlotState
 throwers_end ts b s = record s { threads = all_resumed ts (ret UnitValue) s.threads; flight = all_withdrawn ts s.flight }
 
 pub throwers_are : (f : ℕ → Exn) (t : ℕ) (xs : List Thrown) → throwers_of (thrown_to t xs) ≡ throwers (flying_to t (map_flight f xs))
 throwers_are f t xs = flight_throwers f (thrown_to t xs) ∙ ap throwers (flight_to f t xs)
 
-pub finishes_so : (t : ℕ) (b : Body) (s : SlotState) (us : List ℕ) → us ≡ throwers (flying_to t s.flight) → throwers_end us b (record s { threads = finished_at t s.threads }) ≡ finishes t 0 s
+pub finishes_so : (t : ℕ) (b : CodeBody) (s : SlotState) (us : List ℕ) → us ≡ throwers (flying_to t s.flight) → throwers_end us b (record s { threads = finished_at t s.threads }) ≡ finishes t 0 s
 finishes_so t b s us e =
     ap (λ vs. record s { threads = all_resumed vs (ret UnitValue) (finished_at t s.threads); flight = all_withdrawn vs s.flight }) e
     ∙ ap (λ n. let z = finishes t 0 s in record z { printed = n }) (sym (add-zero s.printed))
 
 -- a line is printed
-pub line_makes : (b : Body) (g h i : Stock) (x fin y : NumberState) (t : ℕ) (line : List ℕ) (m n : ℕ) → AreIn g x → HasGrown g h → HasGrown h i → Becomes (λ b. finishes t 0) g x h fin
+pub line_makes : (b : CodeBody) (g h i : Stock) (x fin y : NumberState) (t : ℕ) (line : List ℕ) (m n : ℕ) → AreIn g x → HasGrown g h → HasGrown h i → Becomes (λ b. finishes t 0) g x h fin
     → contents y ≡ (let c = contents fin in record c { printed = m; errors = n }) → m ≡ fin.printed + length line → slice_get i.texts n ≡ Some (text_at h fin.errors ++ line)
     → Makes (λ s. Some (finishes t (length line) s)) b g x [] line i y
 line_makes b g h i x fin y t line m n all grown more p e count text =
@@ -76,7 +76,7 @@ none_long (f ∷ fs) e = absurd (omega (arith, e))
 pub bare_frames : (fs : List SlotFrame) (n : ℕ) → n ≡ length fs → n ≡ 0 → fs ≡ []
 bare_frames fs n e z = none_long fs (sym z ∙ e)
 
-ended_not : (b : Body) (p : Active) (t : ℕ) (x : SlotState) → ((v : Value) → p ≡ a.Ret v → ⊥) → ((e : Exn) → p ≡ a.Throw e → ⊥) → ended t [] (active_of b p) x ≡ None
+ended_not : (b : CodeBody) (p : Active) (t : ℕ) (x : SlotState) → ((v : Value) → p ≡ a.Ret v → ⊥) → ((e : Exn) → p ≡ a.Throw e → ⊥) → ended t [] (active_of b p) x ≡ None
 ended_not b (a.Ret v) t x r h = absurd (r v refl)
 ended_not b (a.Throw e) t x r h = absurd (h e refl)
 ended_not b (a.Doing i vs) t x r h = refl
@@ -84,7 +84,7 @@ ended_not b (a.Asks q vs) t x r h = refl
 ended_not b (a.Forks i vs) t x r h = refl
 ended_not b (a.ForksUnmask i vs) t x r h = refl
 
-module _ (b : Body) (g : Stock) (x : NumberState) (t : ℕ) (th : NumberThread) (acts : IsActing x t th) (free : th.blocked ≡ false) (bare : (term_at g b th.term).frames ≡ []) where
+module _ (b : CodeBody) (g : Stock) (x : NumberState) (t : ℕ) (th : NumberThread) (acts : IsActing x t th) (free : th.blocked ≡ false) (bare : (term_at g b th.term).frames ≡ []) where
   entry_is : (p : SlotPart) → (term_at g b th.term).part ≡ p → entered (funs_of b) (slots g b x) (entry.Finish t) ≡ ended t [] p (slots g b x)
   entry_is p e =
       on_acting g b x t th (λ u. finish_entry t u (slots g b x)) acts

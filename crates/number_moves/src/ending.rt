@@ -1,7 +1,7 @@
 //! A Finish.
 ghost use Rattle.std.specs.Prelude.{[], IfOk, OnOk, Some, length};
 ghost use Rattle.rules_meaning.specs.Values.{UnitValue};
-ghost use Rattle.rules_code.specs.declared.code.Body.{Body};
+ghost use Rattle.rules_code.specs.declared.code.CodeBody.{CodeBody};
 ghost use Rattle.hs_rules.specs.declared.entry.Entry.TheVariants as entry;
 ghost use Rattle.slot_laws.specs.SlotRules.{ret};
 ghost use Rattle.slot_states.specs.SlotStates.{all_resumed, all_withdrawn, finishes};
@@ -63,7 +63,7 @@ fn finished_with(
     line: &str,
 ) -> Result<NumberState, NoMemory>
     requires { AreIn numbers.old state.now }
-    ensures is { IfOk result (λ y. (b : Body) → Makes (λ x. Some (finishes t (length line.now) x)) b numbers.old state.now [] line.now numbers.new y) }
+    ensures is { IfOk result (λ y. (b : CodeBody) → Makes (λ x. Some (finishes t (length line.now) x)) b numbers.old state.now [] line.now numbers.new y) }
     ensures grows { HasGrown numbers.old numbers.new }
 {
     let mut next = finished(alloc, numbers, state, t)?;
@@ -83,7 +83,7 @@ pub fn finish(
     t: u32,
 ) -> Result<Option<NumberState>, NoMemory>
     requires { AreIn numbers.old state.now }
-    ensures is { IfOk result (λ found. (b : Body) → Enters (entry.Finish t) b numbers.old state.now numbers.new found) }
+    ensures is { IfOk result (λ found. (b : CodeBody) → Enters (entry.Finish t) b numbers.old state.now numbers.new found) }
     ensures grows { HasGrown numbers.old numbers.new }
 {
     let Some(thread) = acting(state, t) else {

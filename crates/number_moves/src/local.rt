@@ -11,13 +11,13 @@ ghost use Rattle.number_changes.specs.Moves.{Enters};
 use hs_base::NoMemory;
 use number_changes::acting;
 use number_states::{NumberState, Numbers};
-use rules_code::Body;
+use rules_code::CodeBody;
 use std::alloc::Global;
 
 /// The number of the term after so many local rules, or none where they do not apply.
 fn steps(
     alloc: Global,
-    body: &Body,
+    body: &CodeBody,
     numbers: &mut Numbers,
     term: u32,
     k: u32,
@@ -42,7 +42,7 @@ fn steps(
 /// So many local rules of a thread, at least one.
 pub fn local(
     alloc: Global,
-    body: &Body,
+    body: &CodeBody,
     numbers: &mut Numbers,
     state: &NumberState,
     t: u32,

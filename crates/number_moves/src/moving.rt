@@ -16,14 +16,14 @@ use hs_rules::Entry;
 use number_changes::acting;
 use number_operations::operate;
 use number_states::{NumberState, Numbers};
-use rules_code::Body;
+use rules_code::CodeBody;
 use std::alloc::Global;
 
 /// The state that an entry leaves of a state, or none where there is none. Where memory runs out, or a number would be too
 /// large, the tables may have more numbers than before.
 pub fn next(
     alloc: Global,
-    body: &Body,
+    body: &CodeBody,
     numbers: &mut Numbers,
     state: &NumberState,
     entry: Entry,
@@ -44,7 +44,7 @@ pub fn next(
 /// The state that an entry leaves, where the main thread hasn't finished.
 fn enter(
     alloc: Global,
-    body: &Body,
+    body: &CodeBody,
     numbers: &mut Numbers,
     state: &NumberState,
     entry: Entry,

@@ -1,6 +1,6 @@
 //! A Receive and a Wake.
 ghost use Rattle.std.specs.Prelude.{◌≡◌, ◌<◌, IfOk, length};
-ghost use Rattle.rules_code.specs.declared.code.Body.{Body};
+ghost use Rattle.rules_code.specs.declared.code.CodeBody.{CodeBody};
 ghost use Rattle.hs_rules.specs.declared.entry.Entry.TheVariants as entry;
 ghost use Rattle.hs_rules.specs.Entries as entries;
 ghost use Rattle.local_steps.specs.Machine.{active_of};
@@ -31,7 +31,7 @@ fn is_open(blocked: bool, mask: Mask) -> bool
 
 /// Whether a part is an exception.
 fn is_throw(part: &Active) -> bool
-    ensures { (b : Body) → result ≡ resting.is_throw (active_of b part.now) }
+    ensures { (b : CodeBody) → result ≡ resting.is_throw (active_of b part.now) }
 {
     matches!(part, Active::Throw(_))
 }
@@ -39,7 +39,7 @@ fn is_throw(part: &Active) -> bool
 /// Whether a thread that has not finished can receive an exception.
 pub fn is_receptive(numbers: &Numbers, thread: NumberThread) -> bool
     requires { IsTerm numbers.now thread.term }
-    ensures { (b : Body) → result ≡ resting.is_receptive (thread_of numbers.now b thread) }
+    ensures { (b : CodeBody) → result ≡ resting.is_receptive (thread_of numbers.now b thread) }
 {
     let throws = is_throw(numbers.part(thread.term));
     let open = is_open(thread.blocked, numbers.mask(thread.term));
@@ -89,7 +89,7 @@ pub fn receive(
     t: u32,
 ) -> Result<Option<NumberState>, NoMemory>
     requires { AreIn numbers.old state.now }
-    ensures is { IfOk result (λ found. (b : Body) → Enters (entry.Receive t) b numbers.old state.now numbers.new found) }
+    ensures is { IfOk result (λ found. (b : CodeBody) → Enters (entry.Receive t) b numbers.old state.now numbers.new found) }
     ensures grows { HasGrown numbers.old numbers.new }
 {
     let Some(thread) = acting(state, t) else {
@@ -130,7 +130,7 @@ pub fn wake(
     t: u32,
 ) -> Result<Option<NumberState>, NoMemory>
     requires { AreIn numbers.old state.now }
-    ensures is { IfOk result (λ found. (b : Body) → Enters (entry.Wake t) b numbers.old state.now numbers.new found) }
+    ensures is { IfOk result (λ found. (b : CodeBody) → Enters (entry.Wake t) b numbers.old state.now numbers.new found) }
     ensures grows { HasGrown numbers.old numbers.new }
 {
     let Some(due) = due_of(state.sleepers.as_slice(), t) else {

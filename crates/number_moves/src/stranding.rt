@@ -2,7 +2,7 @@
 ghost use Rattle.std.specs.Prelude.{◌≡◌, IfOk, OnOk};
 ghost use Rattle.rules_meaning.specs.Values.{values_of};
 ghost use Rattle.rules_expansion.specs.declared.primitive.Primitive.TheVariants.{TakeMVar, PutMVar, ReadMVar};
-ghost use Rattle.rules_code.specs.declared.code.Body.{Body};
+ghost use Rattle.rules_code.specs.declared.code.CodeBody.{CodeBody};
 ghost use Rattle.hs_rules.specs.declared.entry.Entry.TheVariants as entry;
 ghost use Rattle.hs_rules.specs.Entries as entries;
 ghost use Rattle.local_steps.specs.Machine.{active_of};
@@ -26,7 +26,7 @@ use std::alloc::Global;
 /// Whether a thread has finished, or is blocked and can receive nothing that is in flight to it.
 fn rests(numbers: &Numbers, state: &NumberState, t: u32, thread: NumberThread) -> bool
     requires { IsTerm numbers.now thread.term }
-    ensures { (b : Body) → result ≡ entering.rests (slots numbers.now b state.now).flight t (thread_of numbers.now b thread) }
+    ensures { (b : CodeBody) → result ≡ entering.rests (slots numbers.now b state.now).flight t (thread_of numbers.now b thread) }
 {
     if thread.finished {
         return true;
@@ -46,7 +46,7 @@ fn rests(numbers: &Numbers, state: &NumberState, t: u32, thread: NumberThread) -
 /// Whether all threads rest.
 fn all_rest(numbers: &Numbers, state: &NumberState) -> Result<bool, NoMemory>
     requires { AreIn numbers.now state.now }
-    ensures { IfOk result (λ r. (b : Body) → r ≡ rest_from (slots numbers.now b state.now).flight 0 (slots numbers.now b state.now).threads) }
+    ensures { IfOk result (λ r. (b : CodeBody) → r ≡ rest_from (slots numbers.now b state.now).flight 0 (slots numbers.now b state.now).threads) }
 {
     let mut t: u32 = 0;
     for thread in &state.threads {
@@ -106,7 +106,7 @@ fn waits_to(primitive: Primitive, values: &[Value]) -> bool
 
 /// Whether a blocked thread with this part waits at a cell.
 fn waits_at_cell(part: &Active) -> bool
-    ensures { (b : Body) → result ≡ entering.waits_at_cell (active_of b part.now) }
+    ensures { (b : CodeBody) → result ≡ entering.waits_at_cell (active_of b part.now) }
 {
     match part {
         Active::Asks(primitive, values) => waits_to(*primitive, values.as_slice()),
@@ -124,7 +124,7 @@ fn is_interruptible(mask: Mask) -> bool
 /// Whether a thread is blocked at a cell and can be interrupted.
 fn waits_open(numbers: &Numbers, thread: NumberThread) -> bool
     requires { IsTerm numbers.now thread.term }
-    ensures { (b : Body) → result ≡ entering.waits_open (thread_of numbers.now b thread) }
+    ensures { (b : CodeBody) → result ≡ entering.waits_open (thread_of numbers.now b thread) }
 {
     if !thread.blocked {
         return false;
@@ -137,7 +137,7 @@ fn waits_open(numbers: &Numbers, thread: NumberThread) -> bool
 /// The threads that are blocked at a cell and can be interrupted, in order.
 fn waiting(alloc: Global, numbers: &Numbers, state: &NumberState) -> Result<Vec<u32>, NoMemory>
     requires { AreIn numbers.now state.now }
-    ensures { IfOk result (λ ts. (b : Body) → ts.items ≡ waiting_from 0 (slots numbers.now b state.now).threads) }
+    ensures { IfOk result (λ ts. (b : CodeBody) → ts.items ≡ waiting_from 0 (slots numbers.now b state.now).threads) }
 {
     let mut waiting = Vec::new(alloc);
     let mut t: u32 = 0;
@@ -184,7 +184,7 @@ pub fn strand(
     state: &NumberState,
 ) -> Result<Option<NumberState>, NoMemory>
     requires { AreIn numbers.old state.now }
-    ensures is { IfOk result (λ found. (b : Body) → Enters entry.Stranded b numbers.old state.now numbers.new found) }
+    ensures is { IfOk result (λ found. (b : CodeBody) → Enters entry.Stranded b numbers.old state.now numbers.new found) }
     ensures grows { HasGrown numbers.old numbers.new }
 {
     if state.sleepers.len() != 0 {

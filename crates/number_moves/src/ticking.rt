@@ -1,5 +1,5 @@
 ghost use Rattle.std.specs.Prelude.{◌≡◌, IfOk};
-ghost use Rattle.rules_code.specs.declared.code.Body.{Body};
+ghost use Rattle.rules_code.specs.declared.code.CodeBody.{CodeBody};
 ghost use Rattle.hs_rules.specs.declared.entry.Entry.TheVariants as entry;
 ghost use Rattle.number_states.specs.States.{AreIn};
 ghost use Rattle.number_changes.specs.Moves.{Enters};
@@ -16,7 +16,7 @@ pub fn tick(
     at: u64,
 ) -> Result<Option<NumberState>, NoMemory>
     requires { AreIn numbers.now state.now }
-    ensures { IfOk result (λ found. (b : Body) → Enters (entry.Tick at) b numbers.now state.now numbers.now found) }
+    ensures { IfOk result (λ found. (b : CodeBody) → Enters (entry.Tick at) b numbers.now state.now numbers.now found) }
 {
     let _ = numbers;
     if at < state.clock {

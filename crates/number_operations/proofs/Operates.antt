@@ -11,7 +11,7 @@ use Rattle.hs_rules.specs.declared.entry.Entry.TheVariants as entry
 use Rattle.hs_laws.proofs.Lists.{cond_false}
 use Rattle.rules_meaning.specs.Values.{values_of}
 use Rattle.rules_expansion.specs.declared.primitive.Primitive.{Primitive}
-use Rattle.rules_code.specs.declared.code.Body.{Body}
+use Rattle.rules_code.specs.declared.code.CodeBody.{CodeBody}
 use Rattle.slot_laws.specs.SlotRules.{SlotPart, calls, performs, mask_from}
 use Rattle.slot_states.specs.SlotStates.{SlotThread, SlotState, throws}
 use Rattle.slot_states.specs.Printing.{output_of, errors_of, part_output, part_errors, op_output, op_errors, output_by, errors_by}
@@ -37,7 +37,7 @@ use Rattle.number_changes.proofs.Thrown.{unequal}
 
 -- ---- the operation of a part
 
-pub asked_performs : (b : Body) (part : Active) (q : Primitive) (vs us : List Value) (found : Option Operation) → part ≡ a.Asks q vs → us ≡ vs → MatchOption found (IsRefused q (values_of us)) (λ o. (b' : Body) → op_of b' o ≡ calls q (values_of us))
+pub asked_performs : (b : CodeBody) (part : Active) (q : Primitive) (vs us : List Value) (found : Option Operation) → part ≡ a.Asks q vs → us ≡ vs → MatchOption found (IsRefused q (values_of us)) (λ o. (b' : CodeBody) → op_of b' o ≡ calls q (values_of us))
     → MatchOption found (IsIdle (active_of b part)) (λ o. active_of b part ≡ performs (op_of b o))
 asked_performs b part q vs us None e k h = subst (λ z. IsIdle (active_of b z)) (sym e) (λ t fs x. subst (λ ws. IsRefused q (values_of ws)) k h t (mask_from Unmasked fs) x)
 asked_performs b part q vs us (Some o) e k h = ap (active_of b) e ∙ ap (λ ws. performs (calls q (values_of ws))) (sym k) ∙ ap performs (sym (h b))
@@ -47,11 +47,11 @@ asked_performs b part q vs us (Some o) e k h = ap (active_of b) e ∙ ap (λ ws.
 free_entry : (t : ℕ) (th : SlotThread) (x : SlotState) → th.blocked ≡ false → op_entry t th x ≡ operates t th.term.frames th.term.part x
 free_entry t th x free = cond_false th.blocked None (operates t th.term.frames th.term.part x) free
 
-pub entry_is : (g : Stock) (b : Body) (x : NumberState) (t : ℕ) (th : NumberThread) → IsActing x t th → th.blocked ≡ false → let st = term_at g b th.term in entered (funs_of b) (slots g b x) (entry.Op t) ≡ operates t st.frames st.part (slots g b x)
+pub entry_is : (g : Stock) (b : CodeBody) (x : NumberState) (t : ℕ) (th : NumberThread) → IsActing x t th → th.blocked ≡ false → let st = term_at g b th.term in entered (funs_of b) (slots g b x) (entry.Op t) ≡ operates t st.frames st.part (slots g b x)
 entry_is g b x t th acts free =
     on_acting g b x t th (λ u. op_entry t u (slots g b x)) acts ∙ free_entry t (thread_of g b th) (slots g b x) free
 
-pub idle_enters : (g : Stock) (b : Body) (x : NumberState) (t : ℕ) (th : NumberThread) (part : SlotPart) → IsActing x t th → th.blocked ≡ false → part ≡ (term_at g b th.term).part → IsIdle part → entered (funs_of b) (slots g b x) (entry.Op t) ≡ None
+pub idle_enters : (g : Stock) (b : CodeBody) (x : NumberState) (t : ℕ) (th : NumberThread) (part : SlotPart) → IsActing x t th → th.blocked ≡ false → part ≡ (term_at g b th.term).part → IsIdle part → entered (funs_of b) (slots g b x) (entry.Op t) ≡ None
 idle_enters g b x t th part acts free e idle =
     let st = term_at g b th.term in
     entry_is g b x t th acts free ∙ ap (λ z. operates t st.frames z (slots g b x)) (sym e) ∙ idle t st.frames (slots g b x)
@@ -62,7 +62,7 @@ free_acting x t th acts free = record {
   unfinished = refl;
 }
 
-pub stands_at : (g : Stock) (x : NumberState) (t : ℕ) (th : NumberThread) (o : Operation) → AreIn g x → IsActing x t th → th.blocked ≡ false → ((b : Body) → (term_at g b th.term).part ≡ performs (op_of b o))
+pub stands_at : (g : Stock) (x : NumberState) (t : ℕ) (th : NumberThread) (o : Operation) → AreIn g x → IsActing x t th → th.blocked ≡ false → ((b : CodeBody) → (term_at g b th.term).part ≡ performs (op_of b o))
     → Stands g x t (record { term = th.term; operation = o })
 stands_at g x t th o all acts free part = record {
   term = acting_term g x t th all acts;
@@ -72,7 +72,7 @@ stands_at g x t th o all acts free part = record {
 
 -- ---- what the operation does
 
-module _ (g : Stock) (x : NumberState) (t : ℕ) (s : Standing) (h : Stands g x t s) (b : Body) where
+module _ (g : Stock) (x : NumberState) (t : ℕ) (s : Standing) (h : Stands g x t s) (b : CodeBody) where
   pub stands_enters : entered (funs_of b) (slots g b x) (entry.Op t) ≡ operated t (mask_from Unmasked (term_at g b s.term).frames) (op_of b s.operation) (slots g b x)
   stands_enters =
       let st = term_at g b s.term in
@@ -109,11 +109,11 @@ nobody_there t u e x acts n =
     cond_false (u == t) (Some (throws t e x)) (thrown_at t u e (slice_get x.threads u) x) (unequal u t (λ same. n (subst (λ k. k < length x.threads) (sym same) acts)))
     ∙ ap (λ o. thrown_at t u e o x) (past x.threads u n)
 
-no_target : (b : Body) (t : ℕ) (m : Mask) (o : Operation) (x : SlotState) (count : ℕ) → length x.threads ≡ count → t < count → (HasTarget count o → ⊥) → operated t m (op_of b o) x ≡ None
+no_target : (b : CodeBody) (t : ℕ) (m : Mask) (o : Operation) (x : SlotState) (count : ℕ) → length x.threads ≡ count → t < count → (HasTarget count o → ⊥) → operated t m (op_of b o) x ≡ None
 no_target b t m (p.ThrowTo u e) x count long acts n = nobody_there t u e x (subst (λ k. t < k) (sym long) acts) (λ l. n (subst (λ k. u < k) long l))
 no_target b t m _ x count long acts n = absurd (n tt)
 
-pub targets_nobody : (g : Stock) (x : NumberState) (t : ℕ) (s : Standing) → Stands g x t s → (b : Body) (count : ℕ) → count ≡ length x.threads.items → (HasTarget count s.operation → ⊥) → entered (funs_of b) (slots g b x) (entry.Op t) ≡ None
+pub targets_nobody : (g : Stock) (x : NumberState) (t : ℕ) (s : Standing) → Stands g x t s → (b : CodeBody) (count : ℕ) → count ≡ length x.threads.items → (HasTarget count s.operation → ⊥) → entered (funs_of b) (slots g b x) (entry.Op t) ≡ None
 targets_nobody g x t s h b count long n =
     stands_enters g x t s h b
     ∙ no_target b t (mask_from Unmasked (term_at g b s.term).frames) s.operation (slots g b x) count (length-map x.threads.items (thread_of g b) ∙ sym long)
@@ -123,15 +123,15 @@ targets_nobody g x t s h b count long n =
 
 -- a thread with the term of this number performed an operation
 abbrev pub Does : Stock → NumberState → ℕ → ℕ → Stock → NumberState → Operation → Type 0
-Does g x t term h y o = (b : Body) → Makes (operated t (mask_from Unmasked (term_at g b term).frames) (op_of b o)) b g x (op_output (op_of b o)) (op_errors (op_of b o)) h y
+Does g x t term h y o = (b : CodeBody) → Makes (operated t (mask_from Unmasked (term_at g b term).frames) (op_of b o)) b g x (op_output (op_of b o)) (op_errors (op_of b o)) h y
 
 module _ {A B : Type 0} (g h : Stock) (x y : NumberState) (t term : ℕ) (o one : Operation) (same : o ≡ one) (r : Result A B) where
   pub performed_so : OnOk r (Does g x t term h y one) → OnOk r (Does g x t term h y o)
   performed_so = on_ok (Does g x t term h y one) (Does g x t term h y o) (subst (Does g x t term h y) (sym same)) r
 
   -- nothing is printed
-  pub quietly : (f : Body → SlotState → SlotState) → AreIn g x → HasGrown g h → OnOk r (Becomes f g x h y) → ((b : Body) → operated t (mask_from Unmasked (term_at g b term).frames) (op_of b one) (slots g b x) ≡ Some (f b (slots g b x)))
-      → ((b : Body) → op_output (op_of b one) ≡ []) → ((b : Body) → op_errors (op_of b one) ≡ []) → OnOk r (Does g x t term h y o)
+  pub quietly : (f : CodeBody → SlotState → SlotState) → AreIn g x → HasGrown g h → OnOk r (Becomes f g x h y) → ((b : CodeBody) → operated t (mask_from Unmasked (term_at g b term).frames) (op_of b one) (slots g b x) ≡ Some (f b (slots g b x)))
+      → ((b : CodeBody) → op_output (op_of b one) ≡ []) → ((b : CodeBody) → op_errors (op_of b one) ≡ []) → OnOk r (Does g x t term h y o)
   quietly f all grown p is out err =
       performed_so (on_ok (Becomes f g x h y) (Does g x t term h y one)
       (λ k b. let made = makes f (operated t (mask_from Unmasked (term_at g b term).frames) (op_of b one)) b g h x y all grown k (is b) in

@@ -3,7 +3,7 @@ use Rattle.std.specs.Prelude.{◌≡◌, ℕ, ◌<◌, false, List, None}
 use Rattle.hs_base.specs.declared.mask.Mask.{Mask}
 use Rattle.rules_meaning.specs.Values.{V}
 use Rattle.rules_expansion.specs.declared.primitive.Primitive.{Primitive}
-use Rattle.rules_code.specs.declared.code.Body.{Body}
+use Rattle.rules_code.specs.declared.code.CodeBody.{CodeBody}
 use Rattle.slot_laws.specs.SlotRules.{SlotPart, performs, SlotFrame}
 use Rattle.slot_states.specs.SlotStates.{SlotState}
 use Rattle.slot_entries.specs.Operating.{performed}
@@ -28,7 +28,7 @@ IsIdle part = (t : ℕ) (fs : List SlotFrame) (x : SlotState) → operates t fs 
 pub record Stands (g : Stock) (x : NumberState) (t : ℕ) (s : Standing) : Type 0 where
   pub term : IsTerm g s.term
   pub thread : IsActing x t (record { term = s.term; blocked = false; finished = false })
-  pub part : (b : Body) → (term_at g b s.term).part ≡ performs (op_of b s.operation)
+  pub part : (b : CodeBody) → (term_at g b s.term).part ≡ performs (op_of b s.operation)
 
 -- a throw is at one of so many threads
 abbrev pub HasTarget : ℕ → Operation → Type 0

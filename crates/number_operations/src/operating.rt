@@ -2,7 +2,7 @@
 ghost use Rattle.std.specs.Prelude.{◌≡◌, ◌<◌, IfOk, OnOk, MatchOption, MatchBool, None, length};
 ghost use Rattle.hs_base.specs.declared.mask.Mask.TheVariants.{Unmasked};
 ghost use Rattle.hs_rules.specs.declared.entry.Entry.TheVariants as entry;
-ghost use Rattle.rules_code.specs.declared.code.Body.{Body};
+ghost use Rattle.rules_code.specs.declared.code.CodeBody.{CodeBody};
 ghost use Rattle.slot_laws.specs.SlotRules.{mask_from, performs};
 ghost use Rattle.slot_states.specs.Printing.{op_output, op_errors};
 ghost use Rattle.slot_entries.specs.Entering.{entered};
@@ -45,7 +45,7 @@ fn copy_values(alloc: Global, values: &[Value]) -> Result<Values, NoMemory>
 
 /// The operation that a part is; none where its thread can't perform it.
 fn operation_of(alloc: Global, part: &Active) -> Result<Option<Prim>, NoMemory>
-    ensures { IfOk result (λ found. (b : Body) → MatchOption found (IsIdle (active_of b part.now)) (λ p. active_of b part.now ≡ performs (op_of b p))) }
+    ensures { IfOk result (λ found. (b : CodeBody) → MatchOption found (IsIdle (active_of b part.now)) (λ p. active_of b part.now ≡ performs (op_of b p))) }
 {
     match part {
         Active::Asks(primitive, values) => Ok(asked(
@@ -70,7 +70,7 @@ fn standing_at(
     thread: u32,
 ) -> Result<Option<Standing>, NoMemory>
     requires { AreIn numbers.now state.now }
-    ensures { IfOk result (λ found. MatchOption found ((b : Body) → entered (funs_of b) (slots numbers.now b state.now) (entry.Op thread) ≡ None) (Stands numbers.now state.now thread)) }
+    ensures { IfOk result (λ found. MatchOption found ((b : CodeBody) → entered (funs_of b) (slots numbers.now b state.now) (entry.Op thread) ≡ None) (Stands numbers.now state.now thread)) }
 {
     let Some(one) = acting(state, thread) else {
         return Ok(None);
@@ -109,7 +109,7 @@ fn perform(
     requires state { AreIn numbers.old next.old }
     requires term { IsTerm numbers.old term }
     requires target { HasTarget (length next.old.threads.items) operation }
-    ensures is { OnOk result ((b : Body) → Makes (operated thread (mask_from Unmasked (term_at numbers.old b term).frames) (op_of b operation)) b numbers.old next.old (op_output (op_of b operation)) (op_errors (op_of b operation)) numbers.new next.new) }
+    ensures is { OnOk result ((b : CodeBody) → Makes (operated thread (mask_from Unmasked (term_at numbers.old b term).frames) (op_of b operation)) b numbers.old next.old (op_output (op_of b operation)) (op_errors (op_of b operation)) numbers.new next.new) }
     ensures grows { HasGrown numbers.old numbers.new }
 {
     match operation {
@@ -146,7 +146,7 @@ pub fn operate(
     thread: u32,
 ) -> Result<Option<NumberState>, NoMemory>
     requires { AreIn numbers.old state.now }
-    ensures is { IfOk result (λ found. (b : Body) → Enters (entry.Op thread) b numbers.old state.now numbers.new found) }
+    ensures is { IfOk result (λ found. (b : CodeBody) → Enters (entry.Op thread) b numbers.old state.now numbers.new found) }
     ensures grows { HasGrown numbers.old numbers.new }
 {
     let Some(found) = standing_at(alloc, numbers, state, thread)? else {

@@ -5,7 +5,7 @@ use Rattle.hs_rules.specs.declared.entry.Entry.TheVariants as entry
 use Rattle.hs_rules.specs.declared.entry.LimitKind.TheVariants as limit
 use Rattle.rules_code.specs.CodeTrees.{SlottedFunction}
 use Rattle.hs_base.specs.declared.mask.Mask.TheVariants.{Unmasked}
-use Rattle.rules_code.specs.declared.code.Body.{Body}
+use Rattle.rules_code.specs.declared.code.CodeBody.{CodeBody}
 use Rattle.slot_laws.specs.SlotRules.{SlotTerm, local}
 use Rattle.term_graph.specs.Eager.{is_eager}
 use Rattle.local_steps.specs.Machine.{funs_of}
@@ -48,7 +48,7 @@ read_is n t free th e =
     let same : th ≡ free.thread = cc k in ap (λ (z : NumberThread). z.term) same
 
 -- what the thread that goes has in numbers
-pub moved_eagerly : (b : Body) (g h : Stock) (n m : NumberState) (t most term new : ℕ) (free : IsFree n t) → term ≡ free.thread.term → HasGrown g h → IsTerm g term → LeadsEagerly b h term new → slots h b m ≡ moves t (term_at h b new) (slots h b n) → slots h b n ≡ slots g b n
+pub moved_eagerly : (b : CodeBody) (g h : Stock) (n m : NumberState) (t most term new : ℕ) (free : IsFree n t) → term ≡ free.thread.term → HasGrown g h → IsTerm g term → LeadsEagerly b h term new → slots h b m ≡ moves t (term_at h b new) (slots h b n) → slots h b n ≡ slots g b n
     → used limit.Frames (slots h b m) ≤ most → MovesOn (funs_of b) most t (slots g b n) (slots h b m) true
 moved_eagerly b g h n m t most term new free is grown there rule made same few =
     let of_thread : term_at h b term ≡ term_at g b free.thread.term = term_at_on g h grown b term there ∙ ap (term_at g b) is in (
@@ -100,7 +100,7 @@ moves_back x t th st e =
     ∙ (set_twice x.threads t (moving st th) th ∙ set_same x.threads t th e)) in
     ap (λ ths. record x { threads = ths }) second
 
-pub moved_back : (b : Body) (g h : Stock) (n m k : NumberState) (t term new : ℕ) (free : IsFree n t) → term ≡ free.thread.term → slots h b m ≡ moves t (term_at h b new) (slots h b n) → slots h b k ≡ moves t (term_at h b term) (slots h b m) → slots h b n ≡ slots g b n →
+pub moved_back : (b : CodeBody) (g h : Stock) (n m k : NumberState) (t term new : ℕ) (free : IsFree n t) → term ≡ free.thread.term → slots h b m ≡ moves t (term_at h b new) (slots h b n) → slots h b k ≡ moves t (term_at h b term) (slots h b m) → slots h b n ≡ slots g b n →
     slots h b k ≡ slots g b n
 moved_back b g h n m k t term new free is made undone same =
     let at = got_mapped (thread_of h b) n.threads.items t free.thread free.is in

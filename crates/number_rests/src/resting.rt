@@ -9,7 +9,7 @@ use crate::rules::EagerRules;
 use hs_base::NoMemory;
 use hs_rules::{Entry, LimitKind};
 use number_states::{NumberState, Numbers, used};
-use rules_code::Body;
+use rules_code::CodeBody;
 use std::alloc::Global;
 
 /// How many eager local rules are taken at once at most.
@@ -33,7 +33,7 @@ fn is_free(state: &NumberState, thread: u32) -> bool
 /// did. Where memory runs out nothing is said of the state.
 fn move_on(
     alloc: Global,
-    body: &Body,
+    body: &CodeBody,
     numbers: &mut Numbers,
     rules: &mut EagerRules,
     state: &mut NumberState,
@@ -68,7 +68,7 @@ fn move_on(
 /// of the list. Where memory runs out nothing is said of the state, and the list may have some of them.
 pub fn rest(
     alloc: Global,
-    body: &Body,
+    body: &CodeBody,
     numbers: &mut Numbers,
     rules: &mut EagerRules,
     state: &mut NumberState,

@@ -1,12 +1,12 @@
 //! What is known of eager local rules.
 ghost use Rattle.std.specs.Prelude.{◌≡◌, ◌<◌, ◌^◌, ℕ, length, IfOk, IfSome, OnOk};
-ghost use Rattle.rules_code.specs.declared.code.Body as code;
+ghost use Rattle.rules_code.specs.declared.code.CodeBody as code;
 ghost use Rattle.number_states.specs.Stocks.{Stock, HasGrown, IsTerm};
 ghost use Rattle.number_rests.specs.Rules.{rule_at, IsRule, LeadsEagerly, AreRules};
 
 use hs_base::NoMemory;
 use number_states::Numbers;
-use rules_code::Body;
+use rules_code::CodeBody;
 use std::alloc::Global;
 
 /// What is known of the local rule of a term.
@@ -26,7 +26,7 @@ pub struct EagerRules {
 }
 
 /// Finds out the local rule of the term of a number.
-fn find(alloc: Global, body: &Body, numbers: &mut Numbers, term: u32) -> Result<Rule, NoMemory>
+fn find(alloc: Global, body: &CodeBody, numbers: &mut Numbers, term: u32) -> Result<Rule, NoMemory>
     requires { IsTerm numbers.old term }
     ensures is { IfOk result (λ rule. IsRule body.now numbers.new term rule) }
     ensures grows { HasGrown numbers.old numbers.new }
@@ -44,7 +44,7 @@ fn find(alloc: Global, body: &Body, numbers: &mut Numbers, term: u32) -> Result<
 impl EagerRules {
     /// Nothing is known yet.
     pub fn new(alloc: Global) -> EagerRules
-        ensures { (b : code.Body) (g : Stock) → AreRules b g result }
+        ensures { (b : code.CodeBody) (g : Stock) → AreRules b g result }
     {
         EagerRules {
             known: Vec::new(alloc),
@@ -76,7 +76,7 @@ impl EagerRules {
 
     /// Keeps what was found out of the term of a number.
     fn keep(&mut self, term: u32, rule: Rule) -> Result<(), NoMemory>
-        ensures { OnOk result ((b : code.Body) (g : Stock) → IsRule b g term rule → AreRules b g self.old → AreRules b g self.new) }
+        ensures { OnOk result ((b : code.CodeBody) (g : Stock) → IsRule b g term rule → AreRules b g self.old → AreRules b g self.new) }
     {
         let place = term as usize;
         self.reach(place)?;
@@ -89,7 +89,7 @@ impl EagerRules {
     pub(crate) fn eager(
         &mut self,
         alloc: Global,
-        body: &Body,
+        body: &CodeBody,
         numbers: &mut Numbers,
         term: u32,
     ) -> Result<Option<u32>, NoMemory>

@@ -3,7 +3,7 @@ use Rattle.std.proofs.Common.{◌≡◌, ℕ, zero, suc, ◌<◌, false, List, [
 use Rattle.std.specs.List.{AllByRecursion}
 use Rattle.std.proofs.lemmas.List.{map-append, map-set}
 use Rattle.std.proofs.lemmas.Option.{slice_get_read}
-use Rattle.rules_code.specs.declared.code.Body.{Body}
+use Rattle.rules_code.specs.declared.code.CodeBody.{CodeBody}
 use Rattle.slot_states.specs.SlotStates.{SlotThread, SlotState, changed, set_thread, spawned}
 use Rattle.number_states.specs.declared.state.NumberThread.{NumberThread}
 use Rattle.number_states.specs.declared.state.NumberState.{NumberState}
@@ -13,7 +13,7 @@ use Rattle.number_states.proofs.Growth.{threads_on, all_in_on, slots_of_on}
 
 -- ---- changes in turn
 
-pub becomes_then : (e f : Body → SlotState → SlotState) (g h i : Stock) (x y z : NumberState) → Becomes e g x h y → Becomes f h y i z → Becomes (λ b s. f b (e b s)) g x i z
+pub becomes_then : (e f : CodeBody → SlotState → SlotState) (g h i : Stock) (x y z : NumberState) → Becomes e g x h y → Becomes f h y i z → Becomes (λ b s. f b (e b s)) g x i z
 becomes_then e f g h i x y z p q = record {
   is = λ b. q.is b ∙ ap (f b) (p.is b);
   there = q.there;
@@ -22,7 +22,7 @@ becomes_then e f g h i x y z p q = record {
 }
 
 -- the tables grow
-pub becomes_later : (f : Body → SlotState → SlotState) (g h i : Stock) (x y : NumberState) → Becomes f g x h y → HasGrown h i → Becomes f g x i y
+pub becomes_later : (f : CodeBody → SlotState → SlotState) (g h i : Stock) (x y : NumberState) → Becomes f g x h y → HasGrown h i → Becomes f g x i y
 becomes_later f g h i x y p k = record {
   is = λ b. slots_of_on h i k b (contents y) p.there ∙ p.is b;
   there = all_in_on h i k (contents y) p.there;
@@ -70,11 +70,11 @@ got_read xs n x small is = slice_get_read xs (length xs) n x refl small is
 -- ---- one thread
 
 -- where it isn't there
-pub nobody_changes : (f : SlotThread → SlotThread) (g : Stock) (b : Body) (ths : List NumberThread) (t : ℕ) → slice_get ths t ≡ None → changed t f (map (thread_of g b) ths) ≡ map (thread_of g b) ths
+pub nobody_changes : (f : SlotThread → SlotThread) (g : Stock) (b : CodeBody) (ths : List NumberThread) (t : ℕ) → slice_get ths t ≡ None → changed t f (map (thread_of g b) ths) ≡ map (thread_of g b) ths
 nobody_changes f g b ths t e = ap (λ o. set_thread t f o (map (thread_of g b) ths)) (none_mapped (thread_of g b) ths t e)
 
 module _ (g h : Stock) (grown : HasGrown g h) (t : ℕ) (th new : NumberThread) where
-  pub one_changes : (f : SlotThread → SlotThread) (b : Body) (ths : List NumberThread) → AllByRecursion (λ (u : NumberThread). IsTerm g u.term) ths → slice_get ths t ≡ Some th
+  pub one_changes : (f : SlotThread → SlotThread) (b : CodeBody) (ths : List NumberThread) → AllByRecursion (λ (u : NumberThread). IsTerm g u.term) ths → slice_get ths t ≡ Some th
       → thread_of h b new ≡ f (thread_of g b th) → map (thread_of h b) (slice_set ths t new) ≡ changed t f (map (thread_of g b) ths)
   one_changes f b ths all e is =
       map-set (thread_of h b) ths t new
@@ -82,8 +82,8 @@ module _ (g h : Stock) (grown : HasGrown g h) (t : ℕ) (th new : NumberThread) 
       ∙ sym (ap (λ o. set_thread t f o (map (thread_of g b) ths)) (got_mapped (thread_of g b) ths t th e))
 
   -- only it changes in a state
-  pub thread_becomes : (f : Body → SlotThread → SlotThread) (x y : NumberState) → AreIn g x → slice_get x.threads.items t ≡ Some th
-      → contents y ≡ (let c = contents x in record c { threads = slice_set x.threads.items t new }) → ((b : Body) → thread_of h b new ≡ f b (thread_of g b th)) → IsTerm h new.term
+  pub thread_becomes : (f : CodeBody → SlotThread → SlotThread) (x y : NumberState) → AreIn g x → slice_get x.threads.items t ≡ Some th
+      → contents y ≡ (let c = contents x in record c { threads = slice_set x.threads.items t new }) → ((b : CodeBody) → thread_of h b new ≡ f b (thread_of g b th)) → IsTerm h new.term
       → Becomes (λ b s. record s { threads = changed t (f b) s.threads }) g x h y
   thread_becomes f x y all e same is term =
       let c = contents x in
@@ -96,7 +96,7 @@ module _ (g h : Stock) (grown : HasGrown g h) (t : ℕ) (th new : NumberThread) 
         output = in_h.output;
         errors = in_h.errors;
       } in
-      let threads : (b : Body) → map (thread_of h b) (slice_set x.threads.items t new) ≡ changed t (f b) (map (thread_of g b) x.threads.items) =
+      let threads : (b : CodeBody) → map (thread_of h b) (slice_set x.threads.items t new) ≡ changed t (f b) (map (thread_of g b) x.threads.items) =
       λ b. one_changes (f b) b x.threads.items all.threads e (is b) in
       record {
         is = λ b. ap (slots_of h b) same ∙ (ap (λ (s : SlotState). record s { threads = map (thread_of h b) (slice_set x.threads.items t new) }) (slots_of_on g h grown b c all)
@@ -107,7 +107,7 @@ module _ (g h : Stock) (grown : HasGrown g h) (t : ℕ) (th new : NumberThread) 
       }
 
 -- nobody changes
-pub nobody_becomes : (f : Body → SlotThread → SlotThread) (g h : Stock) (x : NumberState) (t : ℕ) → AreIn g x → HasGrown g h → slice_get x.threads.items t ≡ None
+pub nobody_becomes : (f : CodeBody → SlotThread → SlotThread) (g h : Stock) (x : NumberState) (t : ℕ) → AreIn g x → HasGrown g h → slice_get x.threads.items t ≡ None
     → Becomes (λ b s. record s { threads = changed t (f b) s.threads }) g x h x
 nobody_becomes f g h x t all grown e = record {
   is = λ b. slots_of_on g h grown b (contents x) all ∙ ap (λ ths. let s = slots g b x in record s { threads = ths }) (sym (nobody_changes (f b) g b x.threads.items t e));
@@ -117,7 +117,7 @@ nobody_becomes f g h x t all grown e = record {
 }
 
 -- one more, the last by number
-pub spawned_becomes : (g : Stock) (x y : NumberState) (term : ℕ) (new : NumberThread) → AreIn g x → IsTerm g new.term → ((b : Body) → thread_of g b new ≡ record { term = term_at g b term; blocked = false; finished = false })
+pub spawned_becomes : (g : Stock) (x y : NumberState) (term : ℕ) (new : NumberThread) → AreIn g x → IsTerm g new.term → ((b : CodeBody) → thread_of g b new ≡ record { term = term_at g b term; blocked = false; finished = false })
     → contents y ≡ (let c = contents x in record c { threads = x.threads.items ++ new ∷ [] })
     → Becomes (λ b s. record s { threads = spawned (term_at g b term) s.threads }) g x g y
 spawned_becomes g x y term new all is_term is same =

@@ -3,7 +3,7 @@ use Rattle.std.proofs.Common.{◌≡◌, ℕ, zero, suc, ◌<◌, List, [], ◌�
 use Rattle.std.specs.List.{AllByRecursion}
 use Rattle.std.proofs.lemmas.List.{map-append}
 use Rattle.rules_meaning.specs.Values.{V}
-use Rattle.rules_code.specs.declared.code.Body.{Body}
+use Rattle.rules_code.specs.declared.code.CodeBody.{CodeBody}
 use Rattle.rules_waiting.specs.OneCell.{Want, To_take, To_read, To_put, Place, Cell}
 use Rattle.cell_laws.specs.Mapped.{map_some, map_want, map_line, map_cell}
 use Rattle.slot_laws.specs.SlotRules.{SlotPart, SlotTerm}
@@ -75,16 +75,16 @@ stock_on f g h a b = record {
 
 -- ---- terms
 
-stack_from : (b : Body) (p : SlotPart) (ss zs : List (List Frame)) (n : ℕ) (st : SlotTerm) (o : Option (List Frame)) → slice_get ss n ≡ o → Grows ss zs → over_stack b p o ≡ Some st → over_stack b p (slice_get zs n) ≡ Some st
+stack_from : (b : CodeBody) (p : SlotPart) (ss zs : List (List Frame)) (n : ℕ) (st : SlotTerm) (o : Option (List Frame)) → slice_get ss n ≡ o → Grows ss zs → over_stack b p o ≡ Some st → over_stack b p (slice_get zs n) ≡ Some st
 stack_from b p ss zs n st None e g h = absurd (cc h)
 stack_from b p ss zs n st (Some fs) e g h = ap (over_stack b p) (got_on ss zs n fs g e) ∙ h
 
-term_from : (b : Body) (ss zs : List (List Frame)) (ts us : List Term) (n : ℕ) (st : SlotTerm) (o : Option Term) → slice_get ts n ≡ o → Grows ss zs → Grows ts us → of_term b ss o ≡ Some st → of_term b zs (slice_get us n) ≡ Some st
+term_from : (b : CodeBody) (ss zs : List (List Frame)) (ts us : List Term) (n : ℕ) (st : SlotTerm) (o : Option Term) → slice_get ts n ≡ o → Grows ss zs → Grows ts us → of_term b ss o ≡ Some st → of_term b zs (slice_get us n) ≡ Some st
 term_from b ss zs ts us n st None e g k h = absurd (cc h)
 term_from b ss zs ts us n st (Some t) e g k h =
     ap (of_term b zs) (got_on ts us n t k e) ∙ stack_from b (active_of b t.part) ss zs t.stack st (slice_get ss t.stack) refl g h
 
-pub term_on : (g h : Numbered) (b : Body) (n : ℕ) (st : SlotTerm) → terms.HasGrown g h → term_in g b n ≡ Some st → term_in h b n ≡ Some st
+pub term_on : (g h : Numbered) (b : CodeBody) (n : ℕ) (st : SlotTerm) → terms.HasGrown g h → term_in g b n ≡ Some st → term_in h b n ≡ Some st
 term_on g h b n st k e = term_from b g.stacks h.stacks g.terms h.terms n st (slice_get g.terms n) refl k.stacks k.terms e
 
 -- ---- what numbers stand for
@@ -96,7 +96,7 @@ module _ (g h : Stock) (grown : HasGrown g h) where
     term = λ b. ((t.term b).0, term_on g.terms h.terms b n (t.term b).0 grown.terms (t.term b).1);
   }
 
-  pub term_at_on : (b : Body) (n : ℕ) → IsTerm g n → term_at h b n ≡ term_at g b n
+  pub term_at_on : (b : CodeBody) (n : ℕ) → IsTerm g n → term_at h b n ≡ term_at g b n
   term_at_on b n t = let e = (t.term b).1 in ap or_bare (term_on g.terms h.terms b n (t.term b).0 grown.terms e) ∙ ap or_bare (sym e)
 
   pub value_at_on : (n : ℕ) → n < length g.values → value_at h n ≡ value_at g n
@@ -126,10 +126,10 @@ module _ (g h : Stock) (grown : HasGrown g h) where
   cell_on : (c : Cell ℕ) → CellIsWithin (length g.values) c → map_cell (value_at h) c ≡ map_cell (value_at g) c
   cell_on c t = ap₂ (λ o ps. record { content = o; line = ps }) (some_on c.content t.content) (line_on c.line t.line)
 
-  thread_on : (b : Body) (th : NumberThread) → IsTerm g th.term → thread_of h b th ≡ thread_of g b th
+  thread_on : (b : CodeBody) (th : NumberThread) → IsTerm g th.term → thread_of h b th ≡ thread_of g b th
   thread_on b th t = ap (λ st. record { term = st; blocked = th.blocked; finished = th.finished }) (term_at_on b th.term t)
 
-  pub threads_on : (b : Body) (ths : List NumberThread) → AllByRecursion (λ (th : NumberThread). IsTerm g th.term) ths → map (thread_of h b) ths ≡ map (thread_of g b) ths
+  pub threads_on : (b : CodeBody) (ths : List NumberThread) → AllByRecursion (λ (th : NumberThread). IsTerm g th.term) ths → map (thread_of h b) ths ≡ map (thread_of g b) ths
   threads_on b ths t = same_map (λ (th : NumberThread). IsTerm g th.term) (thread_of h b) (thread_of g b) (thread_on b) ths t
 
   pub cells_on : (cs : List (Cell ℕ)) → AllByRecursion (CellIsWithin (length g.values)) cs → map (map_cell (value_at h)) cs ≡ map (map_cell (value_at g)) cs
@@ -164,6 +164,6 @@ module _ (g h : Stock) (grown : HasGrown g h) where
     errors = within_on g.texts h.texts x.errors grown.texts t.errors;
   }
 
-  pub slots_of_on : (b : Body) (x : Contents) → AllIn g x → slots_of h b x ≡ slots_of g b x
+  pub slots_of_on : (b : CodeBody) (x : Contents) → AllIn g x → slots_of h b x ≡ slots_of g b x
   slots_of_on b x t =
       ap₂ (λ (z : List SlotThread × List (Cell V)) fs. let y = slots_of g b x in record y { threads = z.0; cells = z.1; flight = fs }) (ap₂ (λ ths cs. (ths, cs)) (threads_on b x.threads t.threads) (cells_on x.cells t.cells)) (flight_on x.flight t.flight)

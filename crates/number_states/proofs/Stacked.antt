@@ -4,7 +4,7 @@ use Rattle.std.proofs.lemmas.Option.{slice_get_within, slice_get-get_or}
 use Rattle.hs_base.specs.declared.mask.Mask.TheVariants.{Unmasked}
 use Rattle.hs_base.specs.declared.exn.Exn.{Exn}
 use Rattle.hs_base.specs.declared.value.Value.{Value}
-use Rattle.rules_code.specs.declared.code.Body.{Body}
+use Rattle.rules_code.specs.declared.code.CodeBody.{CodeBody}
 use Rattle.slot_laws.specs.SlotRules.{SlotTerm, at, local}
 use Rattle.local_steps.specs.declared.active.Frame.{Frame}
 use Rattle.local_steps.specs.Machine.{active_of, frames_of, funs_of}
@@ -26,17 +26,17 @@ pub grown_terms : (t u : Numbered) (vs : List Value) (es : List Exn) (ts : List 
 grown_terms t u vs es ts g = record { terms = g; values = grows_same vs; exceptions = grows_same es; texts = grows_same ts }
 
 -- the term of a number is the one that is there
-pub term_is : (g : Stock) (b : Body) (n : ℕ) (st : SlotTerm) → term_in g.terms b n ≡ Some st → term_at g b n ≡ st
+pub term_is : (g : Stock) (b : CodeBody) (n : ℕ) (st : SlotTerm) → term_in g.terms b n ≡ Some st → term_at g b n ≡ st
 term_is g b n st e = ap or_bare e
 
-pub term_there : (g : Stock) (b : Body) (n : ℕ) → IsTerm g n → term_in g.terms b n ≡ Some (term_at g b n)
+pub term_there : (g : Stock) (b : CodeBody) (n : ℕ) → IsTerm g n → term_in g.terms b n ≡ Some (term_at g b n)
 term_there g b n t = let k = t.term b in k.1 ∙ ap (λ st. Some st) (sym (term_is g b n k.0 k.1))
 
-pub stack_at : (g : Stock) (b : Body) (n : ℕ) (t : Term) → slice_get g.terms.terms n ≡ Some t → IsTerm g n
+pub stack_at : (g : Stock) (b : CodeBody) (n : ℕ) (t : Term) → slice_get g.terms.terms n ≡ Some t → IsTerm g n
     → (fs : List Frame) × (slice_get g.terms.stacks t.stack ≡ Some fs) × (at (active_of b t.part) (frames_of b fs) ≡ term_at g b n)
 stack_at g b n t e is = parts_of g.terms b t n (term_at g b n) e (term_there g b n is)
 
-pub long : (b : Body) (fs : List Frame) → length (frames_of b fs) ≡ length fs
+pub long : (b : CodeBody) (fs : List Frame) → length (frames_of b fs) ≡ length fs
 long b [] = refl
 long b (f ∷ fs) = ap suc (long b fs)
 
@@ -48,5 +48,5 @@ stands_there g n t e small = record {
 }
 
 -- a step of a term
-pub stepped : (g : Stock) (b : Body) (st : SlotTerm) (s : LocalStep) → Steps g.terms b st s → (local (funs_of b) Unmasked st.part st.frames ≡ Some (term_at g b s.term)) × (s.eager ≡ is_eager (funs_of b) st)
+pub stepped : (g : Stock) (b : CodeBody) (st : SlotTerm) (s : LocalStep) → Steps g.terms b st s → (local (funs_of b) Unmasked st.part st.frames ≡ Some (term_at g b s.term)) × (s.eager ≡ is_eager (funs_of b) st)
 stepped g b st s h = (h.rule ∙ ap (λ t. Some t) (sym (term_is g b s.term h.next h.is)), h.eager)

@@ -1,7 +1,7 @@
 -- States in numbers (own): what they stand for, which is a state with slots.
 use Rattle.std.specs.Prelude.{◌≡◌, ℕ, ◌<◌, false, Option, Some, None, List, [], ◌∷◌, map, length}
 use Rattle.std.specs.List.{AllByRecursion}
-use Rattle.rules_code.specs.declared.code.Body.{Body}
+use Rattle.rules_code.specs.declared.code.CodeBody.{CodeBody}
 use Rattle.rules_waiting.specs.OneCell.{Want, To_take, To_read, To_put, Place, Cell}
 use Rattle.rules_waiting.specs.Waiting.{sorted_sleepers}
 use Rattle.cell_laws.specs.Mapped.{map_cell}
@@ -45,10 +45,10 @@ contents x = record {
 
 -- ---- what it stands for
 
-abbrev pub thread_of : Stock → Body → NumberThread → SlotThread
+abbrev pub thread_of : Stock → CodeBody → NumberThread → SlotThread
 thread_of g b th = record { term = term_at g b th.term; blocked = th.blocked; finished = th.finished }
 
-abbrev pub slots_of : Stock → Body → Contents → SlotState
+abbrev pub slots_of : Stock → CodeBody → Contents → SlotState
 slots_of g b x = record {
   threads = map (thread_of g b) x.threads;
   cells = map (map_cell (value_at g)) x.cells;
@@ -61,7 +61,7 @@ slots_of g b x = record {
 }
 
 -- the state with slots that a state in numbers stands for, where the tables have this stock and the actions are of this code
-abbrev pub slots : Stock → Body → NumberState → SlotState
+abbrev pub slots : Stock → CodeBody → NumberState → SlotState
 slots g b x = slots_of g b (contents x)
 
 -- ---- all its numbers are those of something
@@ -98,8 +98,8 @@ AreIn g x = AllIn g (contents x)
 
 -- The state y in a stock h stands for what f, by the code, makes of what x in g stands for. Its numbers are those of something,
 -- and the texts that were printed have the same numbers.
-pub record Becomes (f : Body → SlotState → SlotState) (g : Stock) (x : NumberState) (h : Stock) (y : NumberState) : Type 0 where
-  pub is : (b : Body) → slots h b y ≡ f b (slots g b x)
+pub record Becomes (f : CodeBody → SlotState → SlotState) (g : Stock) (x : NumberState) (h : Stock) (y : NumberState) : Type 0 where
+  pub is : (b : CodeBody) → slots h b y ≡ f b (slots g b x)
   pub there : AreIn h y
   pub output : y.output ≡ x.output
   pub errors : y.errors ≡ x.errors

@@ -4,7 +4,7 @@ use Rattle.hs_base.specs.declared.exn.Exn.{Exn}
 use Rattle.hs_base.specs.declared.exn.Exn.TheVariants.{ThreadKilled}
 use Rattle.hs_base.specs.declared.value.Value.{Value}
 use Rattle.rules_meaning.specs.Values.{V, UnitValue, value_of}
-use Rattle.rules_code.specs.declared.code.Body.{Body}
+use Rattle.rules_code.specs.declared.code.CodeBody.{CodeBody}
 use Rattle.slot_laws.specs.SlotRules.{SlotTerm, ret, at}
 use Rattle.number_tables.specs.Tables.{Grows}
 use Rattle.term_tables.specs.Numbered.{Numbered, term_in}
@@ -54,7 +54,7 @@ abbrev pub or_bare : Option SlotTerm → SlotTerm
 or_bare None = at (ret UnitValue) []
 or_bare (Some st) = st
 
-abbrev pub term_at : Stock → Body → ℕ → SlotTerm
+abbrev pub term_at : Stock → CodeBody → ℕ → SlotTerm
 term_at g b n = or_bare (term_in g.terms b n)
 
 -- ---- numbers of something
@@ -66,4 +66,4 @@ IsValue g n v = (one : Value) × (slice_get g.values n ≡ Some one) × (value_o
 -- the term of a number is there, with its stack
 pub record IsTerm (g : Stock) (n : ℕ) : Type 0 where
   pub there : n < length g.terms.terms
-  pub term : (b : Body) → (st : SlotTerm) × (term_in g.terms b n ≡ Some st)
+  pub term : (b : CodeBody) → (st : SlotTerm) × (term_in g.terms b n ≡ Some st)

@@ -1,5 +1,5 @@
 ghost use Rattle.std.specs.Prelude.{◌≡◌, [], IfOk};
-ghost use Rattle.rules_code.specs.declared.code.Body.{Body};
+ghost use Rattle.rules_code.specs.declared.code.CodeBody.{CodeBody};
 ghost use Rattle.local_steps.specs.Machine.{act_of};
 ghost use Rattle.number_states.specs.Stocks.{HasGrown, text_at};
 ghost use Rattle.number_states.specs.States.{AreIn, slots, first_slots};
@@ -12,7 +12,7 @@ use std::alloc::Global;
 
 /// The state that a run begins with: the main thread alone is to do this action.
 pub fn first(alloc: Global, numbers: &mut Numbers, main: ActId) -> Result<NumberState, NoMemory>
-    ensures is { IfOk result (λ x. (b : Body) → slots numbers.new b x ≡ first_slots (act_of b main)) }
+    ensures is { IfOk result (λ x. (b : CodeBody) → slots numbers.new b x ≡ first_slots (act_of b main)) }
     ensures there { IfOk result (λ x. AreIn numbers.new x) }
     ensures output { IfOk result (λ x. text_at numbers.new x.output ≡ []) }
     ensures errors { IfOk result (λ x. text_at numbers.new x.errors ≡ []) }

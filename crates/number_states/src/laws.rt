@@ -1,7 +1,7 @@
 //! States in numbers at later times, and with one key.
 
 ghost use Rattle.std.specs.Prelude.{◌≡◌};
-ghost use Rattle.rules_code.specs.declared.code.Body.{Body};
+ghost use Rattle.rules_code.specs.declared.code.CodeBody.{CodeBody};
 ghost use Rattle.number_states.specs.declared.state.NumberState.{NumberState};
 ghost use Rattle.number_states.specs.Stocks.{Stock, HasGrown, text_at};
 ghost use Rattle.number_states.specs.States.{AreIn, contents, slots};
@@ -10,7 +10,7 @@ ghost use Rattle.number_states.specs.Keys.{state_key};
 /// Where the tables have grown a state stands for the same, its numbers are still those of something, and its texts are the
 /// same. Growth goes on.
 pub fn growth_keeps_states()
-    ensures slots { (g h : Stock) (x : NumberState) → AreIn g x → HasGrown g h → (b : Body) → slots h b x ≡ slots g b x }
+    ensures slots { (g h : Stock) (x : NumberState) → AreIn g x → HasGrown g h → (b : CodeBody) → slots h b x ≡ slots g b x }
     ensures there { (g h : Stock) (x : NumberState) → AreIn g x → HasGrown g h → AreIn h x }
     ensures output { (g h : Stock) (x : NumberState) → AreIn g x → HasGrown g h → text_at h x.output ≡ text_at g x.output }
     ensures errors { (g h : Stock) (x : NumberState) → AreIn g x → HasGrown g h → text_at h x.errors ≡ text_at g x.errors }

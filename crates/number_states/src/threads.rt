@@ -1,7 +1,7 @@
 //! Changes of one thread of a state. Where memory runs out nothing is said of the state: whoever changes a copy drops it.
 ghost use Rattle.std.specs.Prelude.{◌≡◌, ◌<◌, OnOk, length};
 ghost use Rattle.rules_meaning.specs.Values.{value_of};
-ghost use Rattle.rules_code.specs.declared.code.Body.{Body};
+ghost use Rattle.rules_code.specs.declared.code.CodeBody.{CodeBody};
 ghost use Rattle.slot_laws.specs.SlotRules.{ret};
 ghost use Rattle.slot_states.specs.SlotStates.{SlotState, answer, blocked_at, finished_at, moves, spawned};
 ghost use Rattle.local_steps.specs.Machine.{active_of};

@@ -1,6 +1,6 @@
 ghost use Rattle.std.specs.Prelude.{◌+◌, ◌<◌, length, OnOk};
 ghost use Rattle.rules_grammar.specs.Grammar as g;
-ghost use Rattle.rules_grammar.specs.GrammarParts.{Kind};
+ghost use Rattle.rules_grammar.specs.GrammarParts.{TokenKind};
 ghost use Rattle.hs_grammar.specs.Parser as parser;
 ghost use Rattle.parse_leaves.specs.Readers.{ReadsBelow};
 ghost use Rattle.parse_leaves.specs.Reads.{Reads};
@@ -32,7 +32,7 @@ pub fn bare_arm<'a, B: Branch, F: Fn(&mut Cursor<'a>, u32) -> Result<B, Halt>>(
     word: u8,
 ) -> Result<B, Halt>
     requires { ReadsBelow F.Fn inner.now B.rule (depth + 1) }
-    ensures reads { Reads (parser.read (parser.enter depth) (g.bare_arm (Kind.word word) B.rule) cursor.old) result cursor.new }
+    ensures reads { Reads (parser.read (parser.enter depth) (g.bare_arm (TokenKind.word word) B.rule) cursor.old) result cursor.new }
     ensures shorter { OnOk result (length cursor.new < length cursor.old) }
 {
     cursor.word(word)?;
@@ -48,7 +48,7 @@ pub fn named_arm<'a, B: Branch, F: Fn(&mut Cursor<'a>, u32) -> Result<B, Halt>>(
     word: u8,
 ) -> Result<(Name, B), Halt>
     requires { ReadsBelow F.Fn inner.now B.rule (depth + 1) }
-    ensures reads { Reads (parser.read (parser.enter depth) (g.named_arm (Kind.word word) B.rule) cursor.old) result cursor.new }
+    ensures reads { Reads (parser.read (parser.enter depth) (g.named_arm (TokenKind.word word) B.rule) cursor.old) result cursor.new }
     ensures shorter { OnOk result (length cursor.new < length cursor.old) }
 {
     cursor.word(word)?;
@@ -99,7 +99,7 @@ pub fn next_named_arm<'a, B: Branch, F: Fn(&mut Cursor<'a>, u32) -> Result<B, Ha
     word: u8,
 ) -> Result<(Name, B), Halt>
     requires { ReadsBelow F.Fn inner.now B.rule (depth + 1) }
-    ensures reads { Reads (parser.read (parser.enter depth) (next_arm (g.named_arm (Kind.word word) B.rule)) cursor.old) result cursor.new }
+    ensures reads { Reads (parser.read (parser.enter depth) (next_arm (g.named_arm (TokenKind.word word) B.rule)) cursor.old) result cursor.new }
     ensures shorter { OnOk result (length cursor.new < length cursor.old) }
 {
     cursor.symbol(symbol::SEMICOLON)?;

@@ -2,7 +2,7 @@ ghost use Rattle.std.specs.Prelude.{◌≡◌, ◌+◌, ◌<◌, ◌≤◌, leng
 ghost use Rattle.rules_grammar.specs.Grammar as g;
 ghost use Rattle.rules_grammar.specs.GrammarForms.{Rule};
 ghost use Rattle.rules_grammar.specs.GrammarKinds as k;
-ghost use Rattle.rules_grammar.specs.GrammarParts.{Part};
+ghost use Rattle.rules_grammar.specs.GrammarParts.{OpenerPart};
 ghost use Rattle.hs_grammar.specs.Parser as parser;
 ghost use Rattle.parse_leaves.specs.Readers.{ReadsBelow};
 ghost use Rattle.parse_leaves.specs.Reads.{Reads};
@@ -24,7 +24,7 @@ pub fn action_if<'a, F: Fn(&mut Cursor<'a>, u32) -> Result<Block, Halt>>(
     inner: &F,
 ) -> Result<Action, Halt>
     requires { ReadsBelow F.Fn inner.now g.block depth }
-    ensures reads { Reads (parser.read (parser.enter depth) (Rule.within (λ p x. Action.If p x.0 x.1 x.2) k.if' Part.block_if) cursor.old) result cursor.new }
+    ensures reads { Reads (parser.read (parser.enter depth) (Rule.within (λ p x. Action.If p x.0 x.1 x.2) k.if' OpenerPart.block_if) cursor.old) result cursor.new }
     ensures shorter { OnOk result (length cursor.new < length cursor.old) }
 {
     let pos = cursor.open_word(word::IF, depth)?;
@@ -39,7 +39,7 @@ fn behind_action_if<'a, F: Fn(&mut Cursor<'a>, u32) -> Result<Block, Halt>>(
     inner: &F,
 ) -> Result<(Expr, Block, Block), Halt>
     requires { ReadsBelow F.Fn inner.now g.block (depth + 1) }
-    ensures reads { Reads (parser.read (parser.enter depth) (g.rule_of Part.block_if) cursor.old) result cursor.new }
+    ensures reads { Reads (parser.read (parser.enter depth) (g.rule_of OpenerPart.block_if) cursor.old) result cursor.new }
     ensures shorter { OnOk result (length cursor.new < length cursor.old) }
 {
     let test = expr(cursor, alloc, depth)?;
@@ -71,7 +71,7 @@ pub fn action_case<'a, F: Fn(&mut Cursor<'a>, u32) -> Result<Block, Halt>>(
     inner: &F,
 ) -> Result<Action, Halt>
     requires { ReadsBelow F.Fn inner.now g.block depth }
-    ensures reads { Reads (parser.read (parser.enter depth) (Rule.within (λ p x. Action.Case p x.0 x.1) k.case' Part.block_case) cursor.old) result cursor.new }
+    ensures reads { Reads (parser.read (parser.enter depth) (Rule.within (λ p x. Action.Case p x.0 x.1) k.case' OpenerPart.block_case) cursor.old) result cursor.new }
     ensures shorter { OnOk result (length cursor.new < length cursor.old) }
 {
     let pos = cursor.open_word(word::CASE, depth)?;
@@ -86,7 +86,7 @@ fn behind_action_case<'a, F: Fn(&mut Cursor<'a>, u32) -> Result<Block, Halt>>(
     inner: &F,
 ) -> Result<(Expr, Boxed<BlockArms>), Halt>
     requires { ReadsBelow F.Fn inner.now g.block (depth + 1) }
-    ensures reads { Reads (parser.read (parser.enter depth) (g.rule_of Part.block_case) cursor.old) result cursor.new }
+    ensures reads { Reads (parser.read (parser.enter depth) (g.rule_of OpenerPart.block_case) cursor.old) result cursor.new }
     ensures shorter { OnOk result (length cursor.new < length cursor.old) }
 {
     let subject = expr(cursor, alloc, depth)?;

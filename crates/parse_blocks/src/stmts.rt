@@ -2,7 +2,7 @@ ghost use Rattle.std.specs.Prelude.{◌≡◌, ◌+◌, ◌<◌, ◌≤◌, leng
 ghost use Rattle.rules_grammar.specs.Grammar as g;
 ghost use Rattle.rules_grammar.specs.GrammarForms.{Rule};
 ghost use Rattle.rules_grammar.specs.GrammarKinds as k;
-ghost use Rattle.rules_grammar.specs.GrammarParts.{Part};
+ghost use Rattle.rules_grammar.specs.GrammarParts.{OpenerPart};
 ghost use Rattle.hs_grammar.specs.Parser as parser;
 ghost use Rattle.parse_leaves.specs.Readers.{ReadsBelow};
 ghost use Rattle.parse_leaves.specs.Reads.{Reads};
@@ -76,7 +76,7 @@ fn after_name<'a, F: Fn(&mut Cursor<'a>, u32) -> Result<Block, Halt>>(
 }
 
 fn let_stmt(cursor: &mut Cursor, alloc: Global, depth: u32) -> Result<(Name, Expr), Halt>
-    ensures reads { Reads (parser.read (parser.enter depth) (Rule.within (λ p x. x) k.let' Part.let_stmt) cursor.old) result cursor.new }
+    ensures reads { Reads (parser.read (parser.enter depth) (Rule.within (λ p x. x) k.let' OpenerPart.let_stmt) cursor.old) result cursor.new }
     ensures shorter { OnOk result (length cursor.new < length cursor.old) }
 {
     cursor.open_word(word::LET, depth)?;
@@ -84,7 +84,7 @@ fn let_stmt(cursor: &mut Cursor, alloc: Global, depth: u32) -> Result<(Name, Exp
 }
 
 fn behind_stmt_let(cursor: &mut Cursor, alloc: Global, depth: u32) -> Result<(Name, Expr), Halt>
-    ensures reads { Reads (parser.read (parser.enter depth) (g.rule_of Part.let_stmt) cursor.old) result cursor.new }
+    ensures reads { Reads (parser.read (parser.enter depth) (g.rule_of OpenerPart.let_stmt) cursor.old) result cursor.new }
     ensures shorter { OnOk result (length cursor.new < length cursor.old) }
 {
     let name = cursor.name(alloc)?;
@@ -158,7 +158,7 @@ pub fn block_in_braces<'a, F: Fn(&mut Cursor<'a>, u32) -> Result<Block, Halt>>(
     inner: &F,
 ) -> Result<Block, Halt>
     requires { ReadsBelow F.Fn inner.now g.block (depth + 1) }
-    ensures reads { Reads (parser.read (parser.enter depth) (g.rule_of Part.block_in_braces) cursor.old) result cursor.new }
+    ensures reads { Reads (parser.read (parser.enter depth) (g.rule_of OpenerPart.block_in_braces) cursor.old) result cursor.new }
     ensures shorter { OnOk result (length cursor.new < length cursor.old) }
 {
     let mut stmts = Items::new(alloc);

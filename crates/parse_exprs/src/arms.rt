@@ -2,7 +2,7 @@ ghost use Rattle.std.specs.Prelude.{◌+◌, ◌<◌, length, OnOk};
 ghost use Rattle.rules_grammar.specs.Grammar as g;
 ghost use Rattle.rules_grammar.specs.GrammarForms.{Rule};
 ghost use Rattle.rules_grammar.specs.GrammarKinds as k;
-ghost use Rattle.rules_grammar.specs.GrammarParts.{Part};
+ghost use Rattle.rules_grammar.specs.GrammarParts.{OpenerPart};
 ghost use Rattle.hs_grammar.specs.Parser as parser;
 ghost use Rattle.parse_leaves.specs.Readers.{ReadsBelow};
 ghost use Rattle.parse_leaves.specs.Reads.{Reads};
@@ -21,7 +21,7 @@ pub fn boxed_arms<'a, F: Fn(&mut Cursor<'a>, u32) -> Result<Expr, Halt>>(
     inner: &F,
 ) -> Result<Boxed<ExprArms>, Halt>
     requires { ReadsBelow F.Fn inner.now g.expr depth }
-    ensures reads { Reads (parser.read (parser.enter depth) (Rule.within (λ p arms. arms) k.open_brace Part.expr_arms) cursor.old) result cursor.new }
+    ensures reads { Reads (parser.read (parser.enter depth) (Rule.within (λ p arms. arms) k.open_brace OpenerPart.expr_arms) cursor.old) result cursor.new }
     ensures shorter { OnOk result (length cursor.new < length cursor.old) }
 {
     let arms = expr_arms(cursor, alloc, depth, inner)?;
@@ -35,7 +35,7 @@ fn expr_arms<'a, F: Fn(&mut Cursor<'a>, u32) -> Result<Expr, Halt>>(
     inner: &F,
 ) -> Result<ExprArms, Halt>
     requires { ReadsBelow F.Fn inner.now g.expr depth }
-    ensures reads { Reads (parser.read (parser.enter depth) (Rule.within (λ p arms. arms) k.open_brace Part.expr_arms) cursor.old) result cursor.new }
+    ensures reads { Reads (parser.read (parser.enter depth) (Rule.within (λ p arms. arms) k.open_brace OpenerPart.expr_arms) cursor.old) result cursor.new }
     ensures shorter { OnOk result (length cursor.new < length cursor.old) }
 {
     cursor.open_symbol(symbol::OPEN_BRACE, depth)?;
@@ -49,7 +49,7 @@ fn arms_in_braces<'a, F: Fn(&mut Cursor<'a>, u32) -> Result<Expr, Halt>>(
     inner: &F,
 ) -> Result<ExprArms, Halt>
     requires { ReadsBelow F.Fn inner.now g.expr (depth + 1) }
-    ensures reads { Reads (parser.read (parser.enter depth) (g.rule_of Part.expr_arms) cursor.old) result cursor.new }
+    ensures reads { Reads (parser.read (parser.enter depth) (g.rule_of OpenerPart.expr_arms) cursor.old) result cursor.new }
     ensures shorter { OnOk result (length cursor.new < length cursor.old) }
 {
     let arms = arms(cursor, alloc, depth, inner)?;

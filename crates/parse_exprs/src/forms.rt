@@ -2,7 +2,7 @@ ghost use Rattle.std.specs.Prelude.{◌≡◌, ◌+◌, ◌<◌, ◌≤◌, leng
 ghost use Rattle.rules_grammar.specs.Grammar as g;
 ghost use Rattle.rules_grammar.specs.GrammarForms.{Rule};
 ghost use Rattle.rules_grammar.specs.GrammarKinds as k;
-ghost use Rattle.rules_grammar.specs.GrammarParts.{Part};
+ghost use Rattle.rules_grammar.specs.GrammarParts.{OpenerPart};
 ghost use Rattle.hs_grammar.specs.Parser as parser;
 ghost use Rattle.parse_leaves.specs.Readers.{ReadsBelow};
 ghost use Rattle.parse_leaves.specs.Reads.{Reads};
@@ -47,7 +47,7 @@ fn expr_if<'a, F: Fn(&mut Cursor<'a>, u32) -> Result<Expr, Halt>>(
     inner: &F,
 ) -> Result<Expr, Halt>
     requires { ReadsBelow F.Fn inner.now g.expr depth }
-    ensures reads { Reads (parser.read (parser.enter depth) (Rule.within (λ p x. Expr.If p x.0 x.1 x.2) k.if' Part.expr_if) cursor.old) result cursor.new }
+    ensures reads { Reads (parser.read (parser.enter depth) (Rule.within (λ p x. Expr.If p x.0 x.1 x.2) k.if' OpenerPart.expr_if) cursor.old) result cursor.new }
     ensures shorter { OnOk result (length cursor.new < length cursor.old) }
 {
     let pos = cursor.open_word(word::IF, depth)?;
@@ -62,7 +62,7 @@ fn behind_if<'a, F: Fn(&mut Cursor<'a>, u32) -> Result<Expr, Halt>>(
     pos: Pos,
 ) -> Result<Expr, Halt>
     requires { ReadsBelow F.Fn inner.now g.expr (depth + 1) }
-    ensures reads { Reads (parser.read_then (parser.enter depth) (g.rule_of Part.expr_if) (λ x. parser.done (Expr.If pos x.0 x.1 x.2)) cursor.old) result cursor.new }
+    ensures reads { Reads (parser.read_then (parser.enter depth) (g.rule_of OpenerPart.expr_if) (λ x. parser.done (Expr.If pos x.0 x.1 x.2)) cursor.old) result cursor.new }
     ensures shorter { OnOk result (length cursor.new < length cursor.old) }
 {
     let test = boxed_expr(cursor, alloc, depth, inner)?;
@@ -110,7 +110,7 @@ fn expr_let<'a, F: Fn(&mut Cursor<'a>, u32) -> Result<Expr, Halt>>(
     inner: &F,
 ) -> Result<Expr, Halt>
     requires { ReadsBelow F.Fn inner.now g.expr depth }
-    ensures reads { Reads (parser.read (parser.enter depth) (Rule.within (λ p x. Expr.Let p x.0 x.1 x.2) k.let' Part.expr_let) cursor.old) result cursor.new }
+    ensures reads { Reads (parser.read (parser.enter depth) (Rule.within (λ p x. Expr.Let p x.0 x.1 x.2) k.let' OpenerPart.expr_let) cursor.old) result cursor.new }
     ensures shorter { OnOk result (length cursor.new < length cursor.old) }
 {
     let pos = cursor.open_word(word::LET, depth)?;
@@ -125,7 +125,7 @@ fn behind_let<'a, F: Fn(&mut Cursor<'a>, u32) -> Result<Expr, Halt>>(
     inner: &F,
 ) -> Result<(Name, Boxed<Expr>, Boxed<Expr>), Halt>
     requires { ReadsBelow F.Fn inner.now g.expr (depth + 1) }
-    ensures reads { Reads (parser.read (parser.enter depth) (g.rule_of Part.expr_let) cursor.old) result cursor.new }
+    ensures reads { Reads (parser.read (parser.enter depth) (g.rule_of OpenerPart.expr_let) cursor.old) result cursor.new }
     ensures shorter { OnOk result (length cursor.new < length cursor.old) }
 {
     let name = cursor.name(alloc)?;
@@ -143,7 +143,7 @@ fn expr_case<'a, F: Fn(&mut Cursor<'a>, u32) -> Result<Expr, Halt>>(
     inner: &F,
 ) -> Result<Expr, Halt>
     requires { ReadsBelow F.Fn inner.now g.expr depth }
-    ensures reads { Reads (parser.read (parser.enter depth) (Rule.within (λ p x. Expr.Case p x.0 x.1) k.case' Part.expr_case) cursor.old) result cursor.new }
+    ensures reads { Reads (parser.read (parser.enter depth) (Rule.within (λ p x. Expr.Case p x.0 x.1) k.case' OpenerPart.expr_case) cursor.old) result cursor.new }
     ensures shorter { OnOk result (length cursor.new < length cursor.old) }
 {
     let pos = cursor.open_word(word::CASE, depth)?;
@@ -158,7 +158,7 @@ fn behind_case<'a, F: Fn(&mut Cursor<'a>, u32) -> Result<Expr, Halt>>(
     inner: &F,
 ) -> Result<(Boxed<Expr>, Boxed<ExprArms>), Halt>
     requires { ReadsBelow F.Fn inner.now g.expr (depth + 1) }
-    ensures reads { Reads (parser.read (parser.enter depth) (g.rule_of Part.expr_case) cursor.old) result cursor.new }
+    ensures reads { Reads (parser.read (parser.enter depth) (g.rule_of OpenerPart.expr_case) cursor.old) result cursor.new }
     ensures shorter { OnOk result (length cursor.new < length cursor.old) }
 {
     let subject = boxed_expr(cursor, alloc, depth, inner)?;

@@ -4,7 +4,7 @@ use Rattle.rules_tokens.specs.declared.token.Token.{Token}
 use Rattle.rules_grammar.specs.Grammar as g
 use Rattle.rules_grammar.specs.GrammarForms.{Rule, within}
 use Rattle.rules_grammar.specs.GrammarKinds as k
-use Rattle.rules_grammar.specs.GrammarParts.{Kind, Part}
+use Rattle.rules_grammar.specs.GrammarParts.{TokenKind, OpenerPart}
 use Rattle.hs_grammar.specs.Parser.{firsts, may_be_empty, begins, Parser, bind, done, choose, take, loop, another, read_then, read, enter}
 use Rattle.parse_leaves.specs.declared.halt.Halt.{Halt}
 use Rattle.parse_leaves.specs.Reads.{Reads, many_of}
@@ -20,11 +20,11 @@ unfolding read_then
 many_err n p κ ts mid new e h = call_err (enter n) (g.many p) κ ts mid new e h
 
 -- what stands in an opener, handed on as it is
-pub opener_ok : {B R : Type 0} (n : ℕ) (k : Kind) (part : Part B) (κ : B → Parser R) (ts mid new : List Token) (a : B) (r : Result R Halt) → Reads (read (enter n) (within (λ p b. b) k part) ts) (Ok a) mid → Reads (κ a mid) r new → Reads (take k (λ t us. bind (enter n B part t us) κ) ts) r new
+pub opener_ok : {B R : Type 0} (n : ℕ) (k : TokenKind) (part : OpenerPart B) (κ : B → Parser R) (ts mid new : List Token) (a : B) (r : Result R Halt) → Reads (read (enter n) (within (λ p b. b) k part) ts) (Ok a) mid → Reads (κ a mid) r new → Reads (take k (λ t us. bind (enter n B part t us) κ) ts) r new
 unfolding read_then
 opener_ok n k part κ ts mid new a r h i = call_ok (enter n) (within (λ p b. b) k part) κ ts mid new a r h i
 
-pub opener_err : {B R : Type 0} (n : ℕ) (k : Kind) (part : Part B) (κ : B → Parser R) (ts mid new : List Token) (e : Halt) → Reads (read (enter n) (within (λ p b. b) k part) ts) (Err e) mid → Reads (take k (λ t us. bind (enter n B part t us) κ) ts) (Err e) new
+pub opener_err : {B R : Type 0} (n : ℕ) (k : TokenKind) (part : OpenerPart B) (κ : B → Parser R) (ts mid new : List Token) (e : Halt) → Reads (read (enter n) (within (λ p b. b) k part) ts) (Err e) mid → Reads (take k (λ t us. bind (enter n B part t us) κ) ts) (Err e) new
 unfolding read_then
 opener_err n k part κ ts mid new e h = call_err (enter n) (within (λ p b. b) k part) κ ts mid new e h
 

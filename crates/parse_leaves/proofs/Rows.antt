@@ -4,7 +4,7 @@ use Rattle.std.proofs.lemmas.List.{at_drop_more, at_drop_all}
 use Rattle.hs_base.specs.declared.pos.Pos.{Pos}
 use Rattle.rules_tokens.specs.declared.token.Token.{Token}
 use Rattle.rules_grammar.specs.GrammarForms.{Rule, alt, stands_for, one_of}
-use Rattle.rules_grammar.specs.GrammarParts.{Kind, word}
+use Rattle.rules_grammar.specs.GrammarParts.{TokenKind, word}
 use Rattle.hs_grammar.specs.Parser.{either, may_be_empty, firsts, begins, done, choose, take, read, read_then, enter}
 use Rattle.parse_leaves.specs.declared.halt.Halt.{Halt}
 use Rattle.parse_leaves.specs.Reads.{Reads}

@@ -8,7 +8,7 @@ use Rattle.rules_grammar.specs.GrammarKinds.{at_sign}
 use Rattle.rules_tokens.specs.declared.token.Token.{Token}
 use Rattle.rules_grammar.specs.Grammar.{rule_of}
 use Rattle.rules_grammar.specs.GrammarForms.{Rule, one, within}
-use Rattle.rules_grammar.specs.GrammarParts.{Kind, name, upper, int, text, word, symbol, kind_of, Part}
+use Rattle.rules_grammar.specs.GrammarParts.{TokenKind, name, upper, int, text, word, symbol, kind_of, OpenerPart}
 use Rattle.hs_grammar.specs.Parser.{same_kind, either, both, is_in, where', may_be_empty, firsts, begins, Why, unexpected, too_deep, Out, Done, Stop, Parser, bind, done, choose, take_if, take, on_left, turn, loop, another, Inner, read_then, read, enter}
 use Rattle.hs_grammar.proofs.Checks.{plain, fine, opened}
 use Rattle.hs_grammar.proofs.Loops.{TakesLeft, loop_eq, another_takes}
@@ -58,25 +58,25 @@ pub call_err : {A R : Type 0} (inner : Inner) (p : Rule A) (κ : A → Parser R)
 call_err inner p κ ts mid new e h = subst (λ o. Reads o (Err e) new) (sym (split inner p κ ts)) (reads_bind (read inner p ts) κ e mid new h)
 
 -- ---- tokens
-pub take_ok : {R : Type 0} (k : Kind) (κ : Pos → Parser R) (ts mid new : List Token) (a : Pos) (r : Result R Halt) → Reads (take k (λ t. done t.pos) ts) (Ok a) mid → Reads (κ a mid) r new → Reads (take k (λ t. κ t.pos) ts) r new
+pub take_ok : {R : Type 0} (k : TokenKind) (κ : Pos → Parser R) (ts mid new : List Token) (a : Pos) (r : Result R Halt) → Reads (take k (λ t. done t.pos) ts) (Ok a) mid → Reads (κ a mid) r new → Reads (take k (λ t. κ t.pos) ts) r new
 unfolding read_then
 take_ok k κ ts mid new a r h j = call_ok (λ B part t us. Stop unexpected us) (one k (λ t. t.pos)) κ ts mid new a r h j
 
-pub take_err : {R : Type 0} (k : Kind) (κ : Pos → Parser R) (ts mid new : List Token) (e : Halt) → Reads (take k (λ t. done t.pos) ts) (Err e) mid → Reads (take k (λ t. κ t.pos) ts) (Err e) new
+pub take_err : {R : Type 0} (k : TokenKind) (κ : Pos → Parser R) (ts mid new : List Token) (e : Halt) → Reads (take k (λ t. done t.pos) ts) (Err e) mid → Reads (take k (λ t. κ t.pos) ts) (Err e) new
 unfolding read_then
 take_err k κ ts mid new e h = call_err (λ B part t us. Stop unexpected us) (one k (λ t. t.pos)) κ ts mid new e h
 
 -- ---- openers
-inside : {B : Type 0} → ℕ → Part B → Parser B
+inside : {B : Type 0} → ℕ → OpenerPart B → Parser B
 inside zero part us = Stop too_deep us
 inside (suc n) part us = read (enter n) (rule_of part) us
 
-inside_is : {B : Type 0} (n : ℕ) (part : Part B) (us : List Token) → 0 < n → inside n part us ≡ read (enter (n - 1)) (rule_of part) us
+inside_is : {B : Type 0} (n : ℕ) (part : OpenerPart B) (us : List Token) → 0 < n → inside n part us ≡ read (enter (n - 1)) (rule_of part) us
 unfolding inside
 inside_is zero part us h = absurd (omega arith)
 inside_is (suc n) part us h = let e : n ≡ suc n - 1 = omega arith in ap (λ m. read (enter m) (rule_of part) us) e
 
-within_eq : {A B R : Type 0} (n : ℕ) (g : Pos → B → A) (k : Kind) (part : Part B) (κ : A → Parser R) (ts : List Token) → read_then (enter n) (within g k part) κ ts ≡ bind (open_at n k ts) (λ p us. bind (inside n part us) (λ b. κ (g p b)))
+within_eq : {A B R : Type 0} (n : ℕ) (g : Pos → B → A) (k : TokenKind) (part : OpenerPart B) (κ : A → Parser R) (ts : List Token) → read_then (enter n) (within g k part) κ ts ≡ bind (open_at n k ts) (λ p us. bind (inside n part us) (λ b. κ (g p b)))
 unfolding read_then enter inside
 within_eq n g k part κ [] = refl
 within_eq {A} {B} {R} n g k part κ (t ∷ ts) = by (same_kind (kind_of t.tok) k) n
@@ -86,31 +86,31 @@ within_eq {A} {B} {R} n g k part κ (t ∷ ts) = by (same_kind (kind_of t.tok) k
     by true zero = refl
     by true (suc n) = refl
 
-pub within_ok : {A B R : Type 0} (n : ℕ) (g : Pos → B → A) (k : Kind) (part : Part B) (κ : A → Parser R) (ts mid last new : List Token) (p : Pos) (b : B) (r : Result R Halt) → 0 < n → Reads (open_at n k ts) (Ok p) mid → Reads (read (enter (n - 1)) (rule_of part) mid) (Ok b) last → Reads (κ (g p b) last) r new → Reads (read_then (enter n) (within g k part) κ ts) r new
+pub within_ok : {A B R : Type 0} (n : ℕ) (g : Pos → B → A) (k : TokenKind) (part : OpenerPart B) (κ : A → Parser R) (ts mid last new : List Token) (p : Pos) (b : B) (r : Result R Halt) → 0 < n → Reads (open_at n k ts) (Ok p) mid → Reads (read (enter (n - 1)) (rule_of part) mid) (Ok b) last → Reads (κ (g p b) last) r new → Reads (read_then (enter n) (within g k part) κ ts) r new
 within_ok n g k part κ ts mid last new p b r l h i j =
     subst (λ o. Reads o r new) (sym (within_eq n g k part κ ts))
     (reads_next (open_at n k ts) (λ p us. bind (inside n part us) (λ b. κ (g p b))) p mid new r h
     (reads_next (inside n part mid) (λ b. κ (g p b)) b last new r (subst (λ o. Reads o (Ok b) last) (sym (inside_is n part mid l)) i) j))
 
-pub open_err : {A B R : Type 0} (n : ℕ) (g : Pos → B → A) (k : Kind) (part : Part B) (κ : A → Parser R) (ts mid new : List Token) (e : Halt) → Reads (open_at n k ts) (Err e) mid → Reads (read_then (enter n) (within g k part) κ ts) (Err e) new
+pub open_err : {A B R : Type 0} (n : ℕ) (g : Pos → B → A) (k : TokenKind) (part : OpenerPart B) (κ : A → Parser R) (ts mid new : List Token) (e : Halt) → Reads (open_at n k ts) (Err e) mid → Reads (read_then (enter n) (within g k part) κ ts) (Err e) new
 open_err n g k part κ ts mid new e h =
     subst (λ o. Reads o (Err e) new) (sym (within_eq n g k part κ ts)) (reads_bind (open_at n k ts) (λ p us. bind (inside n part us) (λ b. κ (g p b))) e mid new h)
 
-pub within_err : {A B R : Type 0} (n : ℕ) (g : Pos → B → A) (k : Kind) (part : Part B) (κ : A → Parser R) (ts mid last new : List Token) (p : Pos) (e : Halt) → 0 < n → Reads (open_at n k ts) (Ok p) mid → Reads (read (enter (n - 1)) (rule_of part) mid) (Err e) last → Reads (read_then (enter n) (within g k part) κ ts) (Err e) new
+pub within_err : {A B R : Type 0} (n : ℕ) (g : Pos → B → A) (k : TokenKind) (part : OpenerPart B) (κ : A → Parser R) (ts mid last new : List Token) (p : Pos) (e : Halt) → 0 < n → Reads (open_at n k ts) (Ok p) mid → Reads (read (enter (n - 1)) (rule_of part) mid) (Err e) last → Reads (read_then (enter n) (within g k part) κ ts) (Err e) new
 within_err n g k part κ ts mid last new p e l h i =
     subst (λ o. Reads o (Err e) new) (sym (within_eq n g k part κ ts))
     (reads_next (open_at n k ts) (λ p us. bind (inside n part us) (λ b. κ (g p b))) p mid new (Err e) h
     (reads_bind (inside n part mid) (λ b. κ (g p b)) e last new (subst (λ o. Reads o (Err e) last) (sym (inside_is n part mid l)) i)))
 
 -- ---- the alternative that the next token decides
-pub choose_yes : {A : Type 0} (ks : List Kind) (p q : Parser A) (ts new : List Token) (b : Bool) (r : Result A Halt) → b ≡ begins ks ts → b ≡ true → Reads (p ts) r new → Reads (choose (begins ks ts) p q ts) r new
+pub choose_yes : {A : Type 0} (ks : List TokenKind) (p q : Parser A) (ts new : List Token) (b : Bool) (r : Result A Halt) → b ≡ begins ks ts → b ≡ true → Reads (p ts) r new → Reads (choose (begins ks ts) p q ts) r new
 choose_yes ks p q ts new b r e h k = subst (λ z. Reads (choose z p q ts) r new) (sym h ∙ e) k
 
-pub choose_no : {A : Type 0} (ks : List Kind) (p q : Parser A) (ts new : List Token) (b : Bool) (r : Result A Halt) → b ≡ begins ks ts → b ≡ false → Reads (q ts) r new → Reads (choose (begins ks ts) p q ts) r new
+pub choose_no : {A : Type 0} (ks : List TokenKind) (p q : Parser A) (ts new : List Token) (b : Bool) (r : Result A Halt) → b ≡ begins ks ts → b ≡ false → Reads (q ts) r new → Reads (choose (begins ks ts) p q ts) r new
 choose_no ks p q ts new b r e h k = subst (λ z. Reads (choose z p q ts) r new) (sym h ∙ e) k
 
 -- what stands in an opener, as the last call
-pub within_then : {A B R : Type 0} (n : ℕ) (g : Pos → B → A) (k : Kind) (part : Part B) (κ : A → Parser R) (ts mid new : List Token) (p : Pos) (r : Result R Halt) → 0 < n → Reads (open_at n k ts) (Ok p) mid → Reads (read_then (enter (n - 1)) (rule_of part) (λ b. κ (g p b)) mid) r new → Reads (read_then (enter n) (within g k part) κ ts) r new
+pub within_then : {A B R : Type 0} (n : ℕ) (g : Pos → B → A) (k : TokenKind) (part : OpenerPart B) (κ : A → Parser R) (ts mid new : List Token) (p : Pos) (r : Result R Halt) → 0 < n → Reads (open_at n k ts) (Ok p) mid → Reads (read_then (enter (n - 1)) (rule_of part) (λ b. κ (g p b)) mid) r new → Reads (read_then (enter n) (within g k part) κ ts) r new
 within_then n g k part κ ts mid new p r l h i =
     subst (λ o. Reads o r new) (sym (within_eq n g k part κ ts))
     (reads_next (open_at n k ts) (λ p us. bind (inside n part us) (λ b. κ (g p b))) p mid new r h
@@ -223,13 +223,13 @@ name_err κ ts mid new e h = call_err {A = Name} (λ B part t us. Stop unexpecte
 pub ruleset steps = (choose_yes, choose_no, call_ok, call_err, name_ok, name_err, take_ok, take_err, within_ok, within_err, open_err, within_then, reads_done)
 
 -- ---- looks at the next token
-pub begins_both : (ks ls : List Kind) (ts : List Token) → begins (ks ++ ls) ts ≡ either (begins ks ts) (begins ls ts)
+pub begins_both : (ks ls : List TokenKind) (ts : List Token) → begins (ks ++ ls) ts ≡ either (begins ks ts) (begins ls ts)
 begins_both ks ls [] = refl
 begins_both ks ls (t ∷ ts) = is_in_append (kind_of t.tok) ks ls
 
 -- one of the first list, or none of it
-pub or_yes : (ks ls : List Kind) (ts : List Token) (b : Bool) → b ≡ begins ks ts → b ≡ true → true ≡ begins (ks ++ ls) ts
+pub or_yes : (ks ls : List TokenKind) (ts : List Token) (b : Bool) → b ≡ begins ks ts → b ≡ true → true ≡ begins (ks ++ ls) ts
 or_yes ks ls ts b h e = sym (begins_both ks ls ts ∙ ap (λ z. either z (begins ls ts)) (sym h ∙ e))
 
-pub or_no : (ks ls : List Kind) (ts : List Token) (b c : Bool) → b ≡ begins ks ts → b ≡ false → c ≡ begins ls ts → c ≡ begins (ks ++ ls) ts
+pub or_no : (ks ls : List TokenKind) (ts : List Token) (b c : Bool) → b ≡ begins ks ts → b ≡ false → c ≡ begins ls ts → c ≡ begins (ks ++ ls) ts
 or_no ks ls ts b c h e i = i ∙ sym (begins_both ks ls ts ∙ ap (λ z. either z (begins ls ts)) (sym h ∙ e))

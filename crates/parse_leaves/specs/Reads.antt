@@ -2,7 +2,7 @@
 use Rattle.std.specs.Prelude.{◌≡◌, ℕ, zero, suc, List, [], ◌∷◌, ◌++◌, ◌⊎◌, length, Option, Some, None, Result, Ok, Err}
 use Rattle.hs_base.specs.declared.pos.Pos.{Pos}
 use Rattle.rules_tokens.specs.declared.token.Token.{Token}
-use Rattle.rules_grammar.specs.GrammarParts.{Kind}
+use Rattle.rules_grammar.specs.GrammarParts.{TokenKind}
 use mathlib.Core.Logic.{inl, inr}
 use Rattle.rules_grammar.specs.Grammar.{many}
 use Rattle.rules_grammar.specs.GrammarForms.{Rule}
@@ -35,7 +35,7 @@ enter_if zero t ts = Stop too_deep (t ∷ ts)
 enter_if (suc n) t ts = Done t.pos ts
 
 -- an opener of this kind, with so many levels left
-abbrev pub open_at : ℕ → Kind → Parser Pos
+abbrev pub open_at : ℕ → TokenKind → Parser Pos
 open_at n k = Rattle.hs_grammar.specs.Parser.take k (enter_if n)
 
 -- what is one thing or nothing

@@ -1,5 +1,5 @@
 ghost use Rattle.std.specs.Prelude.{◌≡◌, ◌<◌, ◌≤◌, length, drop, ◌∷◌, [], OnOk, option_copied};
-ghost use Rattle.rules_grammar.specs.GrammarParts.{Kind};
+ghost use Rattle.rules_grammar.specs.GrammarParts.{TokenKind};
 ghost use Rattle.hs_grammar.specs.Parser as parser;
 ghost use Rattle.rules_grammar.specs.Grammar as grammar;
 ghost use Rattle.parse_leaves.specs.Reads.{Reads, head_of, open_at};
@@ -59,21 +59,21 @@ impl<'a> Cursor<'a> {
 
     /// Whether the next token is this symbol.
     pub fn at_symbol(&self, symbol: u8) -> bool
-        ensures { result ≡ parser.begins (Kind.symbol symbol ∷ []) self.now }
+        ensures { result ≡ parser.begins (TokenKind.symbol symbol ∷ []) self.now }
     {
         matches!(self.peek(), Some(Token { tok: Tok::Sym(s), .. }) if *s == symbol)
     }
 
     /// Whether the next token is this reserved word.
     pub fn at_word(&self, word: u8) -> bool
-        ensures { result ≡ parser.begins (Kind.word word ∷ []) self.now }
+        ensures { result ≡ parser.begins (TokenKind.word word ∷ []) self.now }
     {
         matches!(self.peek(), Some(Token { tok: Tok::Word(w), .. }) if *w == word)
     }
 
     /// Whether the next token is a name.
     pub fn at_name(&self) -> bool
-        ensures { result ≡ parser.begins (Kind.name ∷ []) self.now }
+        ensures { result ≡ parser.begins (TokenKind.name ∷ []) self.now }
     {
         matches!(
             self.peek(),
@@ -86,7 +86,7 @@ impl<'a> Cursor<'a> {
 
     /// A symbol, for its position.
     pub fn symbol(&mut self, symbol: u8) -> Result<Pos, Halt>
-        ensures reads { Reads (parser.take (Kind.symbol symbol) (λ t. parser.done t.pos) self.old) result self.new }
+        ensures reads { Reads (parser.take (TokenKind.symbol symbol) (λ t. parser.done t.pos) self.old) result self.new }
         ensures shorter { OnOk result (length self.new < length self.old) }
     {
         if let Some(token) = self.peek() {
@@ -102,7 +102,7 @@ impl<'a> Cursor<'a> {
 
     /// A reserved word, for its position.
     pub fn word(&mut self, word: u8) -> Result<Pos, Halt>
-        ensures reads { Reads (parser.take (Kind.word word) (λ t. parser.done t.pos) self.old) result self.new }
+        ensures reads { Reads (parser.take (TokenKind.word word) (λ t. parser.done t.pos) self.old) result self.new }
         ensures shorter { OnOk result (length self.new < length self.old) }
     {
         if let Some(token) = self.peek() {
@@ -118,7 +118,7 @@ impl<'a> Cursor<'a> {
 
     /// A symbol that opens, where a level is left for it.
     pub fn open_symbol(&mut self, symbol: u8, depth: u32) -> Result<Pos, Halt>
-        ensures reads { Reads (open_at depth (Kind.symbol symbol) self.old) result self.new }
+        ensures reads { Reads (open_at depth (TokenKind.symbol symbol) self.old) result self.new }
         ensures shorter { OnOk result (length self.new < length self.old) }
         ensures level { OnOk result (0 < depth) }
     {
@@ -138,7 +138,7 @@ impl<'a> Cursor<'a> {
 
     /// A word that opens, where a level is left for it.
     pub fn open_word(&mut self, word: u8, depth: u32) -> Result<Pos, Halt>
-        ensures reads { Reads (open_at depth (Kind.word word) self.old) result self.new }
+        ensures reads { Reads (open_at depth (TokenKind.word word) self.old) result self.new }
         ensures shorter { OnOk result (length self.new < length self.old) }
         ensures level { OnOk result (0 < depth) }
     {
@@ -158,7 +158,7 @@ impl<'a> Cursor<'a> {
 
     /// A name.
     pub fn name(&mut self, alloc: Global) -> Result<Name, Halt>
-        ensures reads { Reads (parser.take Kind.name (λ t. parser.done (record { text = grammar.text_of t.tok; pos = t.pos })) self.old) result self.new }
+        ensures reads { Reads (parser.take TokenKind.name (λ t. parser.done (record { text = grammar.text_of t.tok; pos = t.pos })) self.old) result self.new }
         ensures shorter { OnOk result (length self.new < length self.old) }
     {
         if let Some(token) = self.peek() {
@@ -176,7 +176,7 @@ impl<'a> Cursor<'a> {
 
     /// Whether the next token is so.
     pub fn at_int(&self) -> bool
-        ensures { result ≡ parser.begins (Kind.int ∷ []) self.now }
+        ensures { result ≡ parser.begins (TokenKind.int ∷ []) self.now }
     {
         matches!(
             self.peek(),
@@ -189,7 +189,7 @@ impl<'a> Cursor<'a> {
 
     /// Whether the next token is so.
     pub fn at_text(&self) -> bool
-        ensures { result ≡ parser.begins (Kind.text ∷ []) self.now }
+        ensures { result ≡ parser.begins (TokenKind.text ∷ []) self.now }
     {
         matches!(
             self.peek(),

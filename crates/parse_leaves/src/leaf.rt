@@ -2,7 +2,7 @@ ghost use Rattle.std.specs.Prelude.{◌≡◌, ◌<◌, ◌≤◌, length, OnOk,
 ghost use Rattle.rules_grammar.specs.Grammar as g;
 ghost use Rattle.rules_grammar.specs.GrammarForms.{Rule};
 ghost use Rattle.rules_grammar.specs.GrammarKinds as k;
-ghost use Rattle.rules_grammar.specs.GrammarParts.{Kind, Part};
+ghost use Rattle.rules_grammar.specs.GrammarParts.{TokenKind, OpenerPart};
 ghost use Rattle.hs_grammar.specs.Parser as parser;
 ghost use Rattle.parse_leaves.specs.Reads.{Reads};
 
@@ -14,7 +14,7 @@ use std::alloc::Global;
 
 impl<'a> Cursor<'a> {
     pub fn int(&mut self) -> Result<Expr, Halt>
-        ensures reads { Reads (parser.take Kind.int (λ t. parser.done (Expr.Int t.pos (g.number_of t.tok))) self.old) result self.new }
+        ensures reads { Reads (parser.take TokenKind.int (λ t. parser.done (Expr.Int t.pos (g.number_of t.tok))) self.old) result self.new }
         ensures shorter { OnOk result (length self.new < length self.old) }
     {
         if let Some(token) = self.peek() {
@@ -27,7 +27,7 @@ impl<'a> Cursor<'a> {
     }
 
     pub fn text(&mut self, alloc: Global) -> Result<Expr, Halt>
-        ensures reads { Reads (parser.take Kind.text (λ t. parser.done (Expr.Text t.pos (g.text_of t.tok))) self.old) result self.new }
+        ensures reads { Reads (parser.take TokenKind.text (λ t. parser.done (Expr.Text t.pos (g.text_of t.tok))) self.old) result self.new }
         ensures shorter { OnOk result (length self.new < length self.old) }
     {
         if let Some(token) = self.peek() {
@@ -78,7 +78,7 @@ impl<'a> Cursor<'a> {
 
     /// Whether the next token is one of these symbols.
     pub fn at_any_symbol(&self, symbols: &[u8]) -> bool
-        ensures { result ≡ parser.begins (list_map Kind.symbol symbols.now) self.now }
+        ensures { result ≡ parser.begins (list_map TokenKind.symbol symbols.now) self.now }
     {
         'symbols: for symbol in symbols {
             if self.at_symbol(*symbol) {
@@ -157,7 +157,7 @@ impl<'a> Cursor<'a> {
 
     /// This symbol, as this operator.
     fn operator<T: Copy>(&mut self, symbol: u8, operator: T) -> Result<(T, Pos), Halt>
-        ensures reads { Reads (parser.take (Kind.symbol symbol) (λ t. parser.done (operator, t.pos)) self.old) result self.new }
+        ensures reads { Reads (parser.take (TokenKind.symbol symbol) (λ t. parser.done (operator, t.pos)) self.old) result self.new }
         ensures shorter { OnOk result (length self.new < length self.old) }
     {
         let pos = self.symbol(symbol)?;
@@ -178,7 +178,7 @@ impl<'a> Cursor<'a> {
 
     /// The pattern `[]`.
     pub fn empty_brackets(&mut self, depth: u32) -> Result<(), Halt>
-        ensures reads { Reads (parser.read (parser.enter depth) (Rule.within (λ p u. u) k.open_bracket Part.no_items) self.old) result self.new }
+        ensures reads { Reads (parser.read (parser.enter depth) (Rule.within (λ p u. u) k.open_bracket OpenerPart.no_items) self.old) result self.new }
         ensures shorter { OnOk result (length self.new < length self.old) }
     {
         self.open_symbol(symbol::OPEN_BRACKET, depth)?;
@@ -186,7 +186,7 @@ impl<'a> Cursor<'a> {
     }
 
     fn close_bracket(&mut self, depth: u32) -> Result<(), Halt>
-        ensures reads { Reads (parser.read (parser.enter depth) (g.rule_of Part.no_items) self.old) result self.new }
+        ensures reads { Reads (parser.read (parser.enter depth) (g.rule_of OpenerPart.no_items) self.old) result self.new }
         ensures shorter { OnOk result (length self.new < length self.old) }
     {
         self.symbol(symbol::CLOSE_BRACKET)?;
@@ -195,7 +195,7 @@ impl<'a> Cursor<'a> {
 
     /// The pattern `(x, y)`.
     pub fn name_pair(&mut self, alloc: Global, depth: u32) -> Result<(Name, Name), Halt>
-        ensures reads { Reads (parser.read (parser.enter depth) (Rule.within (λ p names. names) k.open_paren Part.two_names) self.old) result self.new }
+        ensures reads { Reads (parser.read (parser.enter depth) (Rule.within (λ p names. names) k.open_paren OpenerPart.two_names) self.old) result self.new }
         ensures shorter { OnOk result (length self.new < length self.old) }
     {
         self.open_symbol(symbol::OPEN_PAREN, depth)?;
@@ -203,7 +203,7 @@ impl<'a> Cursor<'a> {
     }
 
     fn two_names(&mut self, alloc: Global, depth: u32) -> Result<(Name, Name), Halt>
-        ensures reads { Reads (parser.read (parser.enter depth) (g.rule_of Part.two_names) self.old) result self.new }
+        ensures reads { Reads (parser.read (parser.enter depth) (g.rule_of OpenerPart.two_names) self.old) result self.new }
         ensures shorter { OnOk result (length self.new < length self.old) }
     {
         let first = self.name(alloc)?;

@@ -1,6 +1,6 @@
 ghost use Rattle.std.specs.Prelude.{◌≡◌, ◌<◌, ◌≤◌, length, OnOk};
 ghost use Rattle.rules_grammar.specs.Grammar as g;
-ghost use Rattle.rules_grammar.specs.GrammarParts.{Part};
+ghost use Rattle.rules_grammar.specs.GrammarParts.{OpenerPart};
 ghost use Rattle.hs_grammar.specs.Parser as parser;
 ghost use Rattle.parse_leaves.specs.Reads.{Reads};
 
@@ -21,7 +21,7 @@ impl<'a> Cursor<'a> {
     }
 
     fn param_in_parens(&mut self, alloc: Global, depth: u32) -> Result<Param, Halt>
-        ensures reads { Reads (parser.read (parser.enter depth) (g.rule_of Part.param_in_parens) self.old) result self.new }
+        ensures reads { Reads (parser.read (parser.enter depth) (g.rule_of OpenerPart.param_in_parens) self.old) result self.new }
         ensures shorter { OnOk result (length self.new < length self.old) }
     {
         let name = self.name(alloc)?;

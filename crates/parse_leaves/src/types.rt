@@ -2,7 +2,7 @@ ghost use Rattle.std.specs.Prelude.{◌≡◌, ◌<◌, ◌≤◌, length, OnOk}
 ghost use Rattle.rules_grammar.specs.Grammar as g;
 ghost use Rattle.rules_grammar.specs.GrammarForms.{Rule};
 ghost use Rattle.rules_grammar.specs.GrammarKinds as k;
-ghost use Rattle.rules_grammar.specs.GrammarParts.{Kind, Part};
+ghost use Rattle.rules_grammar.specs.GrammarParts.{TokenKind, OpenerPart};
 ghost use Rattle.hs_grammar.specs.Parser as parser;
 ghost use Rattle.parse_leaves.specs.Reads.{Reads};
 
@@ -43,7 +43,7 @@ impl<'a> Cursor<'a> {
 
     #[cycle(types)]
     fn list_type(&mut self, alloc: Global, depth: u32) -> Result<Written, Halt>
-        ensures reads { Reads (parser.read (parser.enter depth) (Rule.within (λ p t. g.written t p) k.open_bracket Part.type_in_brackets) self.old) result self.new }
+        ensures reads { Reads (parser.read (parser.enter depth) (Rule.within (λ p t. g.written t p) k.open_bracket OpenerPart.type_in_brackets) self.old) result self.new }
         ensures shorter { OnOk result (length self.new < length self.old) }
     {
         let pos = self.open_symbol(symbol::OPEN_BRACKET, depth)?;
@@ -53,7 +53,7 @@ impl<'a> Cursor<'a> {
 
     #[cycle(types)]
     fn type_in_brackets(&mut self, alloc: Global, depth: u32) -> Result<Ty, Halt>
-        ensures reads { Reads (parser.read (parser.enter depth) (g.rule_of Part.type_in_brackets) self.old) result self.new }
+        ensures reads { Reads (parser.read (parser.enter depth) (g.rule_of OpenerPart.type_in_brackets) self.old) result self.new }
         ensures shorter { OnOk result (length self.new < length self.old) }
     {
         let item = self.ty(alloc, depth)?;
@@ -62,7 +62,7 @@ impl<'a> Cursor<'a> {
     }
 
     fn type_word(&mut self, word: u8, ty: Ty) -> Result<Written, Halt>
-        ensures reads { Reads (parser.take (Kind.word word) (λ t. parser.done (g.written ty t.pos)) self.old) result self.new }
+        ensures reads { Reads (parser.take (TokenKind.word word) (λ t. parser.done (g.written ty t.pos)) self.old) result self.new }
         ensures shorter { OnOk result (length self.new < length self.old) }
     {
         let pos = self.word(word)?;
@@ -71,7 +71,7 @@ impl<'a> Cursor<'a> {
 
     #[cycle(types)]
     fn type_in_parens(&mut self, alloc: Global, depth: u32) -> Result<Written, Halt>
-        ensures reads { Reads (parser.read (parser.enter depth) (Rule.within (λ p t. g.written t p) k.open_paren Part.type_in_parens) self.old) result self.new }
+        ensures reads { Reads (parser.read (parser.enter depth) (Rule.within (λ p t. g.written t p) k.open_paren OpenerPart.type_in_parens) self.old) result self.new }
         ensures shorter { OnOk result (length self.new < length self.old) }
     {
         let pos = self.open_symbol(symbol::OPEN_PAREN, depth)?;
@@ -81,7 +81,7 @@ impl<'a> Cursor<'a> {
 
     #[cycle(types)]
     fn types_in_parens(&mut self, alloc: Global, depth: u32) -> Result<Ty, Halt>
-        ensures reads { Reads (parser.read (parser.enter depth) (g.rule_of Part.type_in_parens) self.old) result self.new }
+        ensures reads { Reads (parser.read (parser.enter depth) (g.rule_of OpenerPart.type_in_parens) self.old) result self.new }
         ensures shorter { OnOk result (length self.new < length self.old) }
     {
         if self.at_symbol(symbol::CLOSE_PAREN) {

@@ -2,7 +2,7 @@ ghost use Rattle.std.specs.Prelude.{◌≡◌, ◌+◌, ◌<◌, ◌≤◌, leng
 ghost use Rattle.rules_grammar.specs.Grammar as g;
 ghost use Rattle.rules_grammar.specs.GrammarForms.{Rule};
 ghost use Rattle.rules_grammar.specs.GrammarKinds as k;
-ghost use Rattle.rules_grammar.specs.GrammarParts.{Part};
+ghost use Rattle.rules_grammar.specs.GrammarParts.{OpenerPart};
 ghost use Rattle.hs_grammar.specs.Parser as parser;
 ghost use Rattle.parse_leaves.specs.Readers.{ReadsBelow};
 ghost use Rattle.parse_leaves.specs.Reads.{Reads};
@@ -23,7 +23,7 @@ pub fn parens<'a, F: Fn(&mut Cursor<'a>, u32) -> Result<Expr, Halt>>(
     inner: &F,
 ) -> Result<Expr, Halt>
     requires { ReadsBelow F.Fn inner.now g.expr depth }
-    ensures reads { Reads (parser.read (parser.enter depth) (Rule.within (λ p f. f p) k.open_paren Part.expr_in_parens) cursor.old) result cursor.new }
+    ensures reads { Reads (parser.read (parser.enter depth) (Rule.within (λ p f. f p) k.open_paren OpenerPart.expr_in_parens) cursor.old) result cursor.new }
     ensures shorter { OnOk result (length cursor.new < length cursor.old) }
 {
     let pos = cursor.open_symbol(symbol::OPEN_PAREN, depth)?;
@@ -38,7 +38,7 @@ fn in_parens<'a, F: Fn(&mut Cursor<'a>, u32) -> Result<Expr, Halt>>(
     pos: Pos,
 ) -> Result<Expr, Halt>
     requires { ReadsBelow F.Fn inner.now g.expr (depth + 1) }
-    ensures reads { Reads (parser.read_then (parser.enter depth) (g.rule_of Part.expr_in_parens) (λ f. parser.done (f pos)) cursor.old) result cursor.new }
+    ensures reads { Reads (parser.read_then (parser.enter depth) (g.rule_of OpenerPart.expr_in_parens) (λ f. parser.done (f pos)) cursor.old) result cursor.new }
     ensures shorter { OnOk result (length cursor.new < length cursor.old) }
 {
     if cursor.at_symbol(symbol::CLOSE_PAREN) {
@@ -78,7 +78,7 @@ pub fn list<'a, F: Fn(&mut Cursor<'a>, u32) -> Result<Expr, Halt>>(
     inner: &F,
 ) -> Result<Expr, Halt>
     requires { ReadsBelow F.Fn inner.now g.expr depth }
-    ensures reads { Reads (parser.read (parser.enter depth) (Rule.within Expr.List k.open_bracket Part.items_in_brackets) cursor.old) result cursor.new }
+    ensures reads { Reads (parser.read (parser.enter depth) (Rule.within Expr.List k.open_bracket OpenerPart.items_in_brackets) cursor.old) result cursor.new }
     ensures shorter { OnOk result (length cursor.new < length cursor.old) }
 {
     let pos = cursor.open_symbol(symbol::OPEN_BRACKET, depth)?;

@@ -17,7 +17,7 @@ pub enum Letter {
 
 /// Letters that stand so many times.
 #[derive(Drop)]
-struct Piece {
+struct TextPiece {
     times: usize,
     letters: Vec<Letter>,
 }
@@ -26,7 +26,7 @@ struct Piece {
 #[derive(Drop)]
 pub struct Text {
     alloc: Global,
-    pieces: Vec<Piece>,
+    pieces: Vec<TextPiece>,
 }
 
 impl Text {
@@ -40,7 +40,7 @@ impl Text {
     /// These letters, once.
     fn once(alloc: Global, letters: Vec<Letter>) -> Result<Text, AllocError> {
         let mut text = Text::new(alloc);
-        text.pieces.push(Piece { times: 1, letters })?;
+        text.pieces.push(TextPiece { times: 1, letters })?;
         Ok(text)
     }
 
@@ -54,14 +54,14 @@ impl Text {
         for byte in bytes {
             letters.push(Letter::Byte(*byte))?;
         }
-        self.pieces.push(Piece { times: 1, letters })?;
+        self.pieces.push(TextPiece { times: 1, letters })?;
         Ok(())
     }
 
     /// Adds what a text in quotes says, so many times.
     pub fn add_quoted(&mut self, times: usize, quoted: &str) -> Result<(), Flaw> {
         let letters = letters_of(self.alloc, quoted)?;
-        self.pieces.push(Piece { times, letters })?;
+        self.pieces.push(TextPiece { times, letters })?;
         Ok(())
     }
 

@@ -215,19 +215,19 @@ empty_matches : Matches [] [] []
 empty_matches = record { size = refl; seen = λ y h. tt }
 
 -- the environment of parameters has the values of the arguments in the first slots
-abbrev Bound : Scope → Option Env → List V → List (List ℕ) → List V → Type 0
-Bound s None us ys vs = (length ys == length vs) ≡ false
-Bound s (Some env) us ys vs = ((length ys == length vs) ≡ true) × Matches s env us
+abbrev ParamsMatch : Scope → Option Env → List V → List (List ℕ) → List V → Type 0
+ParamsMatch s None us ys vs = (length ys == length vs) ≡ false
+ParamsMatch s (Some env) us ys vs = ((length ys == length vs) ≡ true) × Matches s env us
 
 same_suc : (m n : ℕ) (t : Bool) → (m == n) ≡ t → (suc m == suc n) ≡ t
 same_suc m n true h = grind (arith, h)
 same_suc m n false h = grind (arith, h)
 
-bound_step : (s : Scope) (o : Option Env) (us : List V) (y : List ℕ) (ys : List (List ℕ)) (v : V) (vs : List V) → Bound s o ((us ++ v ∷ []) ++ vs) ys vs → Bound s o (us ++ v ∷ vs) (y ∷ ys) (v ∷ vs)
+bound_step : (s : Scope) (o : Option Env) (us : List V) (y : List ℕ) (ys : List (List ℕ)) (v : V) (vs : List V) → ParamsMatch s o ((us ++ v ∷ []) ++ vs) ys vs → ParamsMatch s o (us ++ v ∷ vs) (y ∷ ys) (v ∷ vs)
 bound_step s None us y ys v vs h = same_suc (length ys) (length vs) false h
 bound_step s (Some env) us y ys v vs h = (same_suc (length ys) (length vs) true h.0, subst (Matches s env) (append_assoc us (v ∷ []) vs) h.1)
 
-bound_matches : (s : Scope) (env : Env) (us : List V) (ys : List (List ℕ)) (vs : List V) → Matches s env us → Bound (scope_onto s ys) (bound_onto env ys vs) (us ++ vs) ys vs
+bound_matches : (s : Scope) (env : Env) (us : List V) (ys : List (List ℕ)) (vs : List V) → Matches s env us → ParamsMatch (scope_onto s ys) (bound_onto env ys vs) (us ++ vs) ys vs
 bound_matches s env us [] [] m = (refl, subst (Matches s env) (sym (append-nil us)) m)
 bound_matches s env us [] (v ∷ vs) m = grind arith
 bound_matches s env us (y ∷ ys) [] m = grind arith
@@ -236,7 +236,7 @@ bound_matches s env us (y ∷ ys) (v ∷ vs) m =
     (bound_matches (Written y ∷ s) (with_name (Written y) v env) (us ++ v ∷ []) ys vs (matches_more s env us y v m))
 
 module _ (fs : Functions) (rs : List Root) (p : Parallel fs rs) where
-  body_in : (s : Scope) (e : Ex) (o : Option Env) (ys : List (List ℕ)) (vs : List V) → Bound s o vs ys vs → run (cond (length ys == length vs) (slotted rs s e) s_bad) vs ≡ in_env fs e o
+  body_in : (s : Scope) (e : Ex) (o : Option Env) (ys : List (List ℕ)) (vs : List V) → ParamsMatch s o vs ys vs → run (cond (length ys == length vs) (slotted rs s e) s_bad) vs ≡ in_env fs e o
   body_in s e None ys vs h = ap (λ t. run (cond t (slotted rs s e) s_bad) vs) h
   body_in s e (Some env) ys vs h = ap (λ t. run (cond t (slotted rs s e) s_bad) vs) h.0 ∙ slots_agree fs rs p s env vs h.1 e
 

@@ -18,7 +18,7 @@ pub struct Fun {
 }
 
 /// What a code is: the expanded definitions of an accepted script, with slots in place of names.
-pub struct Body {
+pub struct CodeBody {
     pub nodes: Items<Node>,
     pub acts: Items<Act>,
     /// The action functions in the order of the script.
@@ -30,9 +30,9 @@ pub struct Body {
 }
 
 // Written out, so that it is proved once, here, and not in each function above that lets one go.
-impl Drop for Body {
+impl Drop for CodeBody {
     fn drop(self) {
-        let Body {
+        let CodeBody {
             nodes: _,
             acts: _,
             funs: _,
@@ -44,7 +44,7 @@ impl Drop for Body {
 
 /// A handle on it, which can be sent to and shared between threads.
 pub struct Code {
-    pub body: Arc<Body, Global>,
+    pub body: Arc<CodeBody, Global>,
 }
 
 // Written out, so that it is proved once, here, and not in each function above that lets one go.
@@ -58,7 +58,7 @@ impl Code {
     ghost use Rattle.std.specs.Prelude.{◌≡◌, ◌<◌, IfOk, length, slice_get, Some};
     ghost use Rattle.rules_code.specs.Codes.{body_of};
 
-    pub fn new(alloc: Global, body: Body) -> Result<Code, NoMemory>
+    pub fn new(alloc: Global, body: CodeBody) -> Result<Code, NoMemory>
         ensures { IfOk result (λ code. body_of code ≡ body) }
     {
         let body = Arc::new(alloc, body).map_err(AllocError::from)?;

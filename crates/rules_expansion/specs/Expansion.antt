@@ -14,7 +14,7 @@ use Rattle.hs_base.specs.declared.tree.forms.MaskingAction.TheVariants as m
 use Rattle.hs_base.specs.declared.tree.forms.GuardAction.{GuardAction}
 use Rattle.hs_base.specs.declared.tree.forms.GuardAction.TheVariants as g
 use Rattle.rules_trees.specs.Programs as tree
-use Rattle.rules_trees.specs.Programs.{Act, Bl, ActArms, Par, Bd, Fn}
+use Rattle.rules_trees.specs.Programs.{SurfaceAction, Bl, ActArms, Par, Bd, Fn}
 use Rattle.rules_expansion.specs.declared.hidden.Hidden.TheVariants.{Restorer, Caught, Instance, BracketResult, BracketFault, ScopeCell, Child, ChildEnding, ScopeResult, Awaited, ActionResult}
 use Rattle.rules_expansion.specs.declared.primitive.Primitive.{Primitive}
 use Rattle.rules_expansion.specs.declared.primitive.Primitive.TheVariants.{PutStr, PutStrLn, HPutStrLn, NewMVar, NewEmptyMVar, TakeMVar, PutMVar, ReadMVar, TryTakeMVar, TryPutMVar, MyThreadId, GetMaskingState, ClockMicros, ThreadDelay, ThrowTo, Acquired, Release}
@@ -24,8 +24,8 @@ use Rattle.rules_expansion.specs.declared.template.UnaryRow.{UnaryRow}
 use Rattle.rules_expansion.specs.declared.template.UnaryRow.TheVariants as unary
 use Rattle.rules_expansion.specs.declared.template.BlockRow.{BlockRow}
 use Rattle.rules_expansion.specs.declared.template.BlockRow.TheVariants as scoped
-use Rattle.rules_expansion.specs.declared.template.Part.{Part}
-use Rattle.rules_expansion.specs.declared.template.Part.TheVariants as part
+use Rattle.rules_expansion.specs.declared.template.FormBlock.{FormBlock}
+use Rattle.rules_expansion.specs.declared.template.FormBlock.TheVariants as part
 use Rattle.rules_expansion.specs.Names.{Name, Written, Added, Unread}
 use Rattle.rules_expansion.specs.Core.{CoreEx, OfScript, Read, NoValue, Killed, Nil, LeftRead, RightRead, PairRead, Core, Return, ThrowIo, Let, Bind, If, CaseMaybe, CaseEither, CaseList, CasePair, Call, Perform, Fork, ForkUnmask, Catch, MaskWith, MaskHard, Restore, ActionFunction, action_named}
 use Rattle.rules_expansion.specs.Templates.{Filling, template, fill}
@@ -33,14 +33,14 @@ use Rattle.rules_expansion.specs.Templates.{Filling, template, fill}
 -- ---- forms by their templates
 
 -- three blocks, in the order in which they are written
-abbrev pub of_three : {A : Type 0} → A → A → A → Part → A
+abbrev pub of_three : {A : Type 0} → A → A → A → FormBlock → A
 of_three a c e part.First = a
 of_three a c e part.Second = c
 of_three a c e part.Third = e
 
 -- What a form puts into its template. A form with fewer than three blocks has its last one in their places, and a form
 -- without a name or an expression of its own an empty one: they stand nowhere in its template.
-abbrev pub filling : CoreEx → List ℕ → (Part → Core) → Filling
+abbrev pub filling : CoreEx → List ℕ → (FormBlock → Core) → Filling
 filling e x b = record { subject = e; given = x; block = b }
 
 abbrev pub on_block : Core → Filling
@@ -251,7 +251,7 @@ guard_core w a c = derived (guard_row w) (on_two a c)
 -- ---- actions and blocks
 
 abbrev mutual
-  pub core : Act → Core
+  pub core : SurfaceAction → Core
   core (tree.bare w p) = bare_core w
   core (tree.unary_act w p e) = unary_core w (OfScript e)
   core (tree.binary_act w p e f) = binary_core w (OfScript e) (OfScript f)

@@ -7,7 +7,7 @@ use Rattle.rules_expansion.specs.Core.{CoreEx, OfScript, Read, JustRead, NoValue
 use Rattle.rules_trees.specs.Programs.{Bd, pure_body, io_body}
 use Rattle.rules_expansion.specs.declared.template.Operand.{Operand}
 use Rattle.rules_expansion.specs.declared.template.Operand.TheVariants as x
-use Rattle.rules_expansion.specs.declared.template.Part.{Part}
+use Rattle.rules_expansion.specs.declared.template.FormBlock.{FormBlock}
 use Rattle.rules_expansion.specs.declared.template.Step.{Step}
 use Rattle.rules_expansion.specs.declared.template.Step.TheVariants as s
 use Rattle.rules_expansion.specs.Expansion.{block_core}
@@ -113,7 +113,7 @@ operand_size m (x.FirstOf y) = 2
 operand_size m (x.SecondOf y) = 2
 
 -- what a step puts on: a name that enters the scope or leaves it is no node
-abbrev pub step_size : ℕ → (Part → ℕ) → Step → ℕ
+abbrev pub step_size : ℕ → (FormBlock → ℕ) → Step → ℕ
 step_size m n (s.Hole i) = n i
 step_size m n (s.Under y) = 0
 step_size m n s.Off = 0
@@ -135,6 +135,6 @@ step_size m n s.Mask = 1
 step_size m n s.MaskHard = 1
 step_size m n (s.Restore y) = 1
 
-abbrev pub steps_size : ℕ → (Part → ℕ) → List Step → ℕ
+abbrev pub steps_size : ℕ → (FormBlock → ℕ) → List Step → ℕ
 steps_size m n [] = 0
 steps_size m n (k ∷ ks) = step_size m n k + steps_size m n ks

@@ -14,8 +14,8 @@ use Rattle.rules_expansion.specs.declared.template.Derived.{Derived}
 use Rattle.rules_expansion.specs.declared.template.Derived.TheVariants as d
 use Rattle.rules_expansion.specs.declared.template.Operand.{Operand}
 use Rattle.rules_expansion.specs.declared.template.Operand.TheVariants as x
-use Rattle.rules_expansion.specs.declared.template.Part.{Part}
-use Rattle.rules_expansion.specs.declared.template.Part.TheVariants as part
+use Rattle.rules_expansion.specs.declared.template.FormBlock.{FormBlock}
+use Rattle.rules_expansion.specs.declared.template.FormBlock.TheVariants as part
 use Rattle.rules_expansion.specs.declared.template.Step.{Step}
 use Rattle.rules_expansion.specs.declared.template.Step.TheVariants as s
 use Rattle.rules_expansion.specs.Names.{Name, Written, Added, Unread}
@@ -24,7 +24,7 @@ use Rattle.rules_expansion.specs.Core.{CoreEx, Core}
 
 pub data Template : Type 0 where
   -- a block of the form
-  hole : Part → Template
+  hole : FormBlock → Template
   -- return e
   give : Operand → Template
   -- throwIO e
@@ -260,7 +260,7 @@ template d.Concurrently = running_both (hole part.First) (hole part.Second)
 pub record Filling : Type 0 where
   pub subject : CoreEx
   pub given : List ℕ
-  pub block : Part → Core
+  pub block : FormBlock → Core
 
 abbrev pub named : List ℕ → Binder → Name
 named y (b.Own h) = Added h

@@ -16,4 +16,4 @@ mod template;
 pub use hidden::Hidden;
 pub use primitive::Primitive;
 pub use table::{bare_row, binary_row, block_row, guard_row, steps, unary_row};
-pub use template::{Binder, BlockRow, Derived, Operand, Part, Step, UnaryRow};
+pub use template::{Binder, BlockRow, Derived, FormBlock, Operand, Step, UnaryRow};

@@ -2,14 +2,14 @@
 
 use crate::hidden::Hidden;
 use crate::primitive::Primitive;
-use crate::template::{Binder, Operand, Part, Step};
+use crate::template::{Binder, FormBlock, Operand, Step};
 
 /// `withAsync A a B`
 pub const WITH_ASYNC: [Step; 75] = [
     Step::Perform(Primitive::NewEmptyMVar),
     Step::Under(Binder::Own(Hidden::ScopeCell)),
     Step::Under(Binder::Own(Hidden::Restorer)),
-    Step::Hole(Part::First),
+    Step::Hole(FormBlock::First),
     Step::Restore(Binder::Own(Hidden::Restorer)),
     Step::Under(Binder::Own(Hidden::ActionResult)),
     Step::Push(Operand::RightRead(Binder::Own(Hidden::ActionResult))),
@@ -31,7 +31,7 @@ pub const WITH_ASYNC: [Step; 75] = [
     Step::Under(Binder::Own(Hidden::Child)),
     Step::Push(Operand::PairRead(Binder::Own(Hidden::Child), Binder::Own(Hidden::ScopeCell))),
     Step::Under(Binder::Given),
-    Step::Hole(Part::Second),
+    Step::Hole(FormBlock::Second),
     Step::Restore(Binder::Own(Hidden::Restorer)),
     Step::Under(Binder::Own(Hidden::Caught)),
     Step::Under(Binder::Own(Hidden::Restorer)),
@@ -133,7 +133,7 @@ pub const RACE: [Step; 217] = [
     Step::Under(Binder::Own(Hidden::ScopeCell)),
     Step::Under(Binder::Own(Hidden::Restorer)),
     Step::Under(Binder::Own(Hidden::Restorer)),
-    Step::Hole(Part::First),
+    Step::Hole(FormBlock::First),
     Step::Restore(Binder::Own(Hidden::Restorer)),
     Step::Under(Binder::Own(Hidden::ActionResult)),
     Step::Push(Operand::RightLeft(Binder::Own(Hidden::ActionResult))),
@@ -183,7 +183,7 @@ pub const RACE: [Step; 217] = [
     Step::Under(Binder::Own(Hidden::ScopeCell)),
     Step::Under(Binder::Own(Hidden::Restorer)),
     Step::Under(Binder::Own(Hidden::Restorer)),
-    Step::Hole(Part::Second),
+    Step::Hole(FormBlock::Second),
     Step::Restore(Binder::Own(Hidden::Restorer)),
     Step::Under(Binder::Own(Hidden::ActionResult)),
     Step::Push(Operand::RightRight(Binder::Own(Hidden::ActionResult))),
@@ -354,7 +354,7 @@ pub const CONCURRENTLY: [Step; 289] = [
     Step::Under(Binder::Own(Hidden::ScopeCell)),
     Step::Under(Binder::Own(Hidden::Restorer)),
     Step::Under(Binder::Own(Hidden::Restorer)),
-    Step::Hole(Part::First),
+    Step::Hole(FormBlock::First),
     Step::Restore(Binder::Own(Hidden::Restorer)),
     Step::Under(Binder::Own(Hidden::ActionResult)),
     Step::Push(Operand::RightRead(Binder::Own(Hidden::ActionResult))),
@@ -418,7 +418,7 @@ pub const CONCURRENTLY: [Step; 289] = [
     Step::Under(Binder::Own(Hidden::ScopeCell)),
     Step::Under(Binder::Own(Hidden::Restorer)),
     Step::Under(Binder::Own(Hidden::Restorer)),
-    Step::Hole(Part::Second),
+    Step::Hole(FormBlock::Second),
     Step::Restore(Binder::Own(Hidden::Restorer)),
     Step::Under(Binder::Own(Hidden::ActionResult)),
     Step::Push(Operand::RightRead(Binder::Own(Hidden::ActionResult))),

@@ -7,13 +7,13 @@ ghost use Rattle.rules_expansion.specs.Expansion.{bare_row, unary_row, binary_ro
 use crate::hidden::Hidden;
 use crate::primitive::Primitive;
 use crate::scopes::{CANCEL, CONCURRENTLY, RACE, WAIT, WITH_ASYNC};
-use crate::template::{Binder, BlockRow, Derived, Operand, Part, Step, UnaryRow};
+use crate::template::{Binder, BlockRow, Derived, FormBlock, Operand, Step, UnaryRow};
 use hs_base::tree::forms::{BareAction, BinaryAction, BlockAction, GuardAction, UnaryAction};
 
 /// `mask_ A`
 const MASK_ONLY: [Step; 4] = [
     Step::Under(Binder::Own(Hidden::Restorer)),
-    Step::Hole(Part::First),
+    Step::Hole(FormBlock::First),
     Step::Off,
     Step::Mask,
 ];
@@ -21,16 +21,16 @@ const MASK_ONLY: [Step; 4] = [
 /// `uninterruptibleMask_ A`
 const UNINTERRUPTIBLE_MASK_ONLY: [Step; 4] = [
     Step::Under(Binder::Own(Hidden::Restorer)),
-    Step::Hole(Part::First),
+    Step::Hole(FormBlock::First),
     Step::Off,
     Step::MaskHard,
 ];
 
 /// `onException A B`
 const ON_EXCEPTION: [Step; 8] = [
-    Step::Hole(Part::First),
+    Step::Hole(FormBlock::First),
     Step::Under(Binder::Own(Hidden::Caught)),
-    Step::Hole(Part::Second),
+    Step::Hole(FormBlock::Second),
     Step::Push(Operand::Read(Binder::Own(Hidden::Caught))),
     Step::Throw,
     Step::Then,
@@ -41,17 +41,17 @@ const ON_EXCEPTION: [Step; 8] = [
 /// `finally A B`
 const FINALLY: [Step; 19] = [
     Step::Under(Binder::Own(Hidden::Restorer)),
-    Step::Hole(Part::First),
+    Step::Hole(FormBlock::First),
     Step::Restore(Binder::Own(Hidden::Restorer)),
     Step::Under(Binder::Own(Hidden::Caught)),
-    Step::Hole(Part::Second),
+    Step::Hole(FormBlock::Second),
     Step::Push(Operand::Read(Binder::Own(Hidden::Caught))),
     Step::Throw,
     Step::Then,
     Step::Off,
     Step::Catch,
     Step::Under(Binder::Own(Hidden::Given)),
-    Step::Hole(Part::Second),
+    Step::Hole(FormBlock::Second),
     Step::Push(Operand::Read(Binder::Own(Hidden::Given))),
     Step::Return,
     Step::Then,
@@ -64,16 +64,16 @@ const FINALLY: [Step; 19] = [
 /// `bracket A x B C`
 const BRACKET: [Step; 33] = [
     Step::Under(Binder::Own(Hidden::Restorer)),
-    Step::Hole(Part::First),
+    Step::Hole(FormBlock::First),
     Step::Under(Binder::Given),
     Step::Perform(Primitive::Acquired),
     Step::Under(Binder::Own(Hidden::Instance)),
-    Step::Hole(Part::Third),
+    Step::Hole(FormBlock::Third),
     Step::Restore(Binder::Own(Hidden::Restorer)),
     Step::Under(Binder::Own(Hidden::BracketFault)),
     Step::Push(Operand::Read(Binder::Own(Hidden::Instance))),
     Step::PerformOne(Primitive::Release),
-    Step::Hole(Part::Second),
+    Step::Hole(FormBlock::Second),
     Step::Push(Operand::Read(Binder::Own(Hidden::BracketFault))),
     Step::Throw,
     Step::Then,
@@ -83,7 +83,7 @@ const BRACKET: [Step; 33] = [
     Step::Under(Binder::Own(Hidden::BracketResult)),
     Step::Push(Operand::Read(Binder::Own(Hidden::Instance))),
     Step::PerformOne(Primitive::Release),
-    Step::Hole(Part::Second),
+    Step::Hole(FormBlock::Second),
     Step::Push(Operand::Read(Binder::Own(Hidden::BracketResult))),
     Step::Return,
     Step::Then,
@@ -106,7 +106,7 @@ const MODIFY_MVAR: [Step; 29] = [
     Step::Push(Operand::Read(Binder::Own(Hidden::TheCell))),
     Step::PerformOne(Primitive::TakeMVar),
     Step::Under(Binder::Given),
-    Step::Hole(Part::First),
+    Step::Hole(FormBlock::First),
     Step::Restore(Binder::Own(Hidden::Restorer)),
     Step::Under(Binder::Own(Hidden::Caught)),
     Step::Push(Operand::Read(Binder::Own(Hidden::TheCell))),
@@ -136,7 +136,7 @@ const TIMEOUT: [Step; 90] = [
     Step::Push(Operand::Subject),
     Step::Under(Binder::Own(Hidden::Allowed)),
     Step::Push(Operand::BelowZero(Binder::Own(Hidden::Allowed))),
-    Step::Hole(Part::First),
+    Step::Hole(FormBlock::First),
     Step::Under(Binder::Own(Hidden::InTime)),
     Step::Push(Operand::JustRead(Binder::Own(Hidden::InTime))),
     Step::Return,
@@ -163,7 +163,7 @@ const TIMEOUT: [Step; 90] = [
     Step::Under(Binder::Own(Hidden::Helper)),
     Step::Perform(Primitive::Acquired),
     Step::Under(Binder::Own(Hidden::Instance)),
-    Step::Hole(Part::First),
+    Step::Hole(FormBlock::First),
     Step::Under(Binder::Own(Hidden::InTime)),
     Step::Push(Operand::JustRead(Binder::Own(Hidden::InTime))),
     Step::Return,

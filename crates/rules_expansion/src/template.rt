@@ -44,7 +44,7 @@ pub enum BlockRow {
 
 /// A block of a form, in the order in which they are written.
 #[derive(Clone, Copy)]
-pub enum Part {
+pub enum FormBlock {
     First,
     Second,
     Third,
@@ -104,7 +104,7 @@ pub enum Operand {
 #[derive(Clone, Copy)]
 pub enum Step {
     /// the nodes of a block of the form
-    Hole(Part),
+    Hole(FormBlock),
     /// a name enters the scope
     Under(Binder),
     /// the last name leaves it

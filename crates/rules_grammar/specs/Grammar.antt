@@ -62,7 +62,7 @@ use Rattle.rules_tokens.specs.declared.token.Token.{Token}
 use Rattle.rules_tokens.specs.declared.word.TheConstants as w
 use Rattle.rules_grammar.specs.GrammarForms.{one_of, Rule, give, one, alt, go_on, many as repeat, ended, within, ◌⊛◌, ◌◁◌, at, map, optional, Item, tokens_of, Spelling, Spelled}
 use Rattle.rules_grammar.specs.GrammarKinds as k
-use Rattle.rules_grammar.specs.GrammarParts.{Kind, name as name_kind, int as int_kind, text as text_kind, Part, type_in_parens, type_in_brackets, param_in_parens, block_in_braces, block_if, block_case, block_arms, let_stmt, no_items, two_names, expr_if, expr_case, expr_arms, expr_let, expr_in_parens, items_in_brackets, items_or_none}
+use Rattle.rules_grammar.specs.GrammarParts.{TokenKind, name as name_kind, int as int_kind, text as text_kind, OpenerPart, type_in_parens, type_in_brackets, param_in_parens, block_in_braces, block_if, block_case, block_arms, let_stmt, no_items, two_names, expr_if, expr_case, expr_arms, expr_let, expr_in_parens, items_in_brackets, items_or_none}
 
 abbrev pub many : {A : Type 0} → Rule A → Rule (List A)
 many p = repeat (λ as'. as') p
@@ -85,7 +85,7 @@ name = one name_kind (λ t. record { text = text_of t.tok; pos = t.pos })
 abbrev pub written : Ty → Pos → Written
 written t p = record { ty = t; pos = p }
 
-abbrev pub type_word : Kind → Ty → Rule Written
+abbrev pub type_word : TokenKind → Ty → Rule Written
 type_word w t = map (written t) (at w)
 
 unfoldable pub atype : Rule Written
@@ -218,7 +218,7 @@ compare_tree x None = x
 compare_tree x (Some c) = e.Compare x c.0 c.1 c.2
 
 -- an operator and what stands behind it
-abbrev pub link : Kind → Rule Expr → Rule Link
+abbrev pub link : TokenKind → Rule Expr → Rule Link
 link op p = give (λ at' x. record { pos = at'; operand = x }) ⊛ at op ⊛ p
 
 unfoldable pub product_link : Rule Link
@@ -299,10 +299,10 @@ items = give (λ x xs. x ∷ xs) ⊛ expr ⊛ many next_item ◁ k.close_bracket
 -- ---- alts(X) = ( "Nothing" "->" X ";" "Just" NAME "->" X | "Left" NAME "->" X ";" "Right" NAME "->" X
 -- ----           | "[" "]" "->" X ";" NAME ":" NAME "->" X | "(" NAME "," NAME ")" "->" X ) [ ";" ]
 -- `w -> x`, `w NAME -> x`, `[ ] -> x` and `NAME : NAME -> x`
-unfoldable pub bare_arm : {X : Type 0} → Kind → Rule X → Rule X
+unfoldable pub bare_arm : {X : Type 0} → TokenKind → Rule X → Rule X
 bare_arm w x = give (λ y. y) ◁ w ◁ k.arrow ⊛ x
 
-unfoldable pub named_arm : {X : Type 0} → Kind → Rule X → Rule (Name × X)
+unfoldable pub named_arm : {X : Type 0} → TokenKind → Rule X → Rule (Name × X)
 named_arm w x = give (λ y z. (y, z)) ◁ w ⊛ name ◁ k.arrow ⊛ x
 
 unfoldable pub empty_arm : {X : Type 0} → Rule X → Rule X
@@ -494,7 +494,7 @@ unfoldable pub script : Rule Script
 script = map (λ ds. record { defs = ds }) (many def)
 
 -- ---- what stands in each opener, behind it
-unfoldable pub rule_of : {A : Type 0} → Part A → Rule A
+unfoldable pub rule_of : {A : Type 0} → OpenerPart A → Rule A
 rule_of type_in_parens = alt (map (λ p. ty.Unit) (at k.close_paren)) (give (λ t f. f t.ty) ⊛ type ⊛ type_end)
 rule_of type_in_brackets = give (λ t. ty.List t.ty) ⊛ type ◁ k.close_bracket
 rule_of param_in_parens = give (λ x t. record { name = x; ty = t }) ⊛ name ◁ k.double_colon ⊛ type ◁ k.close_paren
@@ -516,7 +516,7 @@ rule_of items_or_none = alt (map (λ p. inl (tt {0})) (at k.close_bracket)) (map
 -- ---- scripts and lists of tokens
 
 -- What a part spells whose opener stands in j openers, where at most n openers nest, that one counted.
-abbrev pub SpelledIn : ℕ → ℕ → (A : Type 0) → Part A → Spelling A
+abbrev pub SpelledIn : ℕ → ℕ → (A : Type 0) → OpenerPart A → Spelling A
 SpelledIn zero j A part x from to = ⊥
 SpelledIn (suc n) j A part x from to = Spelled (SpelledIn n (suc j)) (suc j) (rule_of part) x from to
 

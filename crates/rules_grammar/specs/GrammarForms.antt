@@ -3,7 +3,7 @@ use Rattle.std.specs.Prelude.{◌≡◌, ◌⊎◌, ℕ, List, [], ◌∷◌, Op
 use mathlib.Core.Logic.{inl, inr}
 use Rattle.hs_base.specs.declared.pos.Pos.{Pos}
 use Rattle.rules_tokens.specs.declared.token.Token.{Token}
-use Rattle.rules_grammar.specs.GrammarParts.{Kind, word, kind_of, Part}
+use Rattle.rules_grammar.specs.GrammarParts.{TokenKind, word, kind_of, OpenerPart}
 
 infixl 20 ◌⊛◌
 infixl 20 ◌◁◌
@@ -12,7 +12,7 @@ pub data Rule : Type 0 → Type 1 where
   -- no token
   give : {A : Type 0} → A → Rule A
   -- one token of this kind
-  one : {A : Type 0} → Kind → (Token → A) → Rule A
+  one : {A : Type 0} → TokenKind → (Token → A) → Rule A
   -- the first, and then the second
   seq : {A B C : Type 0} → (B → C → A) → Rule B → Rule C → Rule A
   -- the first or the second
@@ -22,9 +22,9 @@ pub data Rule : Type 0 → Type 1 where
   -- any number of times
   many : {A B : Type 0} → (List B → A) → Rule B → Rule A
   -- `{ item sep } last [ sep ] close`: an item is what gives any value, and last is what gives a right value
-  ended : {A B C : Type 0} → (List B → C → A) → (C → B) → Kind → Kind → Rule (B ⊎ C) → Rule A
+  ended : {A B C : Type 0} → (List B → C → A) → (C → B) → TokenKind → TokenKind → Rule (B ⊎ C) → Rule A
   -- an opener of this kind, and the part that stands in it
-  within : {A B : Type 0} → (Pos → B → A) → Kind → Part B → Rule A
+  within : {A B : Type 0} → (Pos → B → A) → TokenKind → OpenerPart B → Rule A
 
 -- ---- ways to write rules
 
@@ -32,11 +32,11 @@ pub data Rule : Type 0 → Type 1 where
 abbrev pub ◌⊛◌ : {A B : Type 0} → Rule (B → A) → Rule B → Rule A
 p ⊛ q = seq (λ f b. f b) p q
 
-abbrev pub ◌◁◌ : {A : Type 0} → Rule A → Kind → Rule A
+abbrev pub ◌◁◌ : {A : Type 0} → Rule A → TokenKind → Rule A
 p ◁ k = seq (λ a t. a) p (one k (λ t. t))
 
 -- a token for its position
-abbrev pub at : Kind → Rule Pos
+abbrev pub at : TokenKind → Rule Pos
 at k = one k (λ t. t.pos)
 
 -- a rule's value made into another
@@ -76,7 +76,7 @@ abbrev pub Empty : {A : Type 0} → A → Spelling A
 Empty x a from to = (x ≡ a) × (from ≡ to)
 
 -- one item, of this kind and standing in so many openers if it is an opener
-abbrev pub Single : Option ℕ → Kind → Spelling Token
+abbrev pub Single : Option ℕ → TokenKind → Spelling Token
 Single opener k t from to = (kind_of t.tok ≡ k) × (from ≡ record { token = t; opener = opener } ∷ to)
 
 -- a value made of one that is spelled
@@ -102,17 +102,17 @@ OnLeft T (inl b) = T b
 OnLeft T (inr a) = Empty a
 
 -- `item sep`
-abbrev pub Passed : {B C : Type 0} → (C → B) → Kind → Spelling (B ⊎ C) → Spelling B
+abbrev pub Passed : {B C : Type 0} → (C → B) → TokenKind → Spelling (B ⊎ C) → Spelling B
 Passed {B = B} {C = C} as_item sep S =
     Then (Either (λ b. S (inl b)) (Made as_item (λ c. S (inr c)))) (λ b. Then (Single None sep) (λ t. Empty b))
 
 -- `last [ sep ] close`
-abbrev pub Last : {B C : Type 0} → Kind → Kind → Spelling (B ⊎ C) → Spelling C
+abbrev pub Last : {B C : Type 0} → TokenKind → TokenKind → Spelling (B ⊎ C) → Spelling C
 Last sep close S =
     Then (λ c. S (inr c)) (λ c. Either (Then (Single None close) (λ t. Empty c)) (Then (Single None sep) (λ t. Then (Single None close) (λ u. Empty c))))
 
 -- What a rule spells in j openers, by what is spelled by the parts that stand in an opener.
-abbrev pub Spelled : {A : Type 0} → ((B : Type 0) → Part B → Spelling B) → ℕ → Rule A → Spelling A
+abbrev pub Spelled : {A : Type 0} → ((B : Type 0) → OpenerPart B → Spelling B) → ℕ → Rule A → Spelling A
 Spelled inner j (give x) = Empty x
 Spelled inner j (one k f) = Made f (Single None k)
 Spelled inner j (seq f p q) = Then (Spelled inner j p) (λ b. Made (f b) (Spelled inner j q))

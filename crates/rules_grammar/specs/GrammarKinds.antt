@@ -1,225 +1,225 @@
 -- The kinds of the symbols, and of the reserved words that stand in no table of the grammar or that others name too (own).
 use Rattle.rules_tokens.specs.declared.symbol.TheConstants as symbols
 use Rattle.rules_tokens.specs.declared.word.TheConstants as words
-use Rattle.rules_grammar.specs.GrammarParts.{Kind, word, symbol}
+use Rattle.rules_grammar.specs.GrammarParts.{TokenKind, word, symbol}
 
-abbrev pub True : Kind
+abbrev pub True : TokenKind
 True = word words.TRUE
 
-abbrev pub False : Kind
+abbrev pub False : TokenKind
 False = word words.FALSE
 
-abbrev pub Nothing : Kind
+abbrev pub Nothing : TokenKind
 Nothing = word words.NOTHING
 
-abbrev pub Just : Kind
+abbrev pub Just : TokenKind
 Just = word words.JUST
 
-abbrev pub Left : Kind
+abbrev pub Left : TokenKind
 Left = word words.LEFT
 
-abbrev pub Right : Kind
+abbrev pub Right : TokenKind
 Right = word words.RIGHT
 
-abbrev pub ThreadKilled : Kind
+abbrev pub ThreadKilled : TokenKind
 ThreadKilled = word words.THREAD_KILLED
 
-abbrev pub UserInterrupt : Kind
+abbrev pub UserInterrupt : TokenKind
 UserInterrupt = word words.USER_INTERRUPT
 
-abbrev pub DivideByZero : Kind
+abbrev pub DivideByZero : TokenKind
 DivideByZero = word words.DIVIDE_BY_ZERO
 
-abbrev pub Overflow : Kind
+abbrev pub Overflow : TokenKind
 Overflow = word words.OVERFLOW
 
-abbrev pub Int : Kind
+abbrev pub Int : TokenKind
 Int = word words.INT
 
-abbrev pub Bool : Kind
+abbrev pub Bool : TokenKind
 Bool = word words.BOOL
 
-abbrev pub Text : Kind
+abbrev pub Text : TokenKind
 Text = word words.TEXT
 
-abbrev pub ThreadId : Kind
+abbrev pub ThreadId : TokenKind
 ThreadId = word words.THREAD_ID
 
-abbrev pub SomeException : Kind
+abbrev pub SomeException : TokenKind
 SomeException = word words.SOME_EXCEPTION
 
-abbrev pub Maybe : Kind
+abbrev pub Maybe : TokenKind
 Maybe = word words.MAYBE
 
-abbrev pub Either : Kind
+abbrev pub Either : TokenKind
 Either = word words.EITHER
 
-abbrev pub MVar : Kind
+abbrev pub MVar : TokenKind
 MVar = word words.MVAR
 
-abbrev pub IO : Kind
+abbrev pub IO : TokenKind
 IO = word words.IO
 
-abbrev pub if' : Kind
+abbrev pub if' : TokenKind
 if' = word words.IF
 
-abbrev pub then' : Kind
+abbrev pub then' : TokenKind
 then' = word words.THEN
 
-abbrev pub else' : Kind
+abbrev pub else' : TokenKind
 else' = word words.ELSE
 
-abbrev pub case' : Kind
+abbrev pub case' : TokenKind
 case' = word words.CASE
 
-abbrev pub of' : Kind
+abbrev pub of' : TokenKind
 of' = word words.OF
 
-abbrev pub let' : Kind
+abbrev pub let' : TokenKind
 let' = word words.LET
 
-abbrev pub in' : Kind
+abbrev pub in' : TokenKind
 in' = word words.IN
 
-abbrev pub div : Kind
+abbrev pub div : TokenKind
 div = word words.DIV
 
-abbrev pub mod' : Kind
+abbrev pub mod' : TokenKind
 mod' = word words.MOD
 
-abbrev pub throwIO : Kind
+abbrev pub throwIO : TokenKind
 throwIO = word words.THROW_IO
 
-abbrev pub hPutStrLn : Kind
+abbrev pub hPutStrLn : TokenKind
 hPutStrLn = word words.H_PUT_STR_LN
 
-abbrev pub stderr : Kind
+abbrev pub stderr : TokenKind
 stderr = word words.STDERR
 
-abbrev pub newEmptyMVar : Kind
+abbrev pub newEmptyMVar : TokenKind
 newEmptyMVar = word words.NEW_EMPTY_MVAR
 
-abbrev pub modifyMVar_ : Kind
+abbrev pub modifyMVar_ : TokenKind
 modifyMVar_ = word words.MODIFY_MVAR
 
-abbrev pub catch' : Kind
+abbrev pub catch' : TokenKind
 catch' = word words.CATCH
 
-abbrev pub restore : Kind
+abbrev pub restore : TokenKind
 restore = word words.RESTORE
 
-abbrev pub bracket : Kind
+abbrev pub bracket : TokenKind
 bracket = word words.BRACKET
 
-abbrev pub timeout : Kind
+abbrev pub timeout : TokenKind
 timeout = word words.TIMEOUT
 
-abbrev pub Async : Kind
+abbrev pub Async : TokenKind
 Async = word words.ASYNC
 
-abbrev pub withAsync : Kind
+abbrev pub withAsync : TokenKind
 withAsync = word words.WITH_ASYNC
 
 -- ::
-abbrev pub double_colon : Kind
+abbrev pub double_colon : TokenKind
 double_colon = symbol symbols.DOUBLE_COLON
 
 -- ->
-abbrev pub arrow : Kind
+abbrev pub arrow : TokenKind
 arrow = symbol symbols.ARROW
 
 -- <-
-abbrev pub left_arrow : Kind
+abbrev pub left_arrow : TokenKind
 left_arrow = symbol symbols.LEFT_ARROW
 
 -- ==
-abbrev pub equal_equal : Kind
+abbrev pub equal_equal : TokenKind
 equal_equal = symbol symbols.EQUAL_EQUAL
 
 -- /=
-abbrev pub slash_equal : Kind
+abbrev pub slash_equal : TokenKind
 slash_equal = symbol symbols.SLASH_EQUAL
 
 -- <=
-abbrev pub less_equal : Kind
+abbrev pub less_equal : TokenKind
 less_equal = symbol symbols.LESS_EQUAL
 
 -- >=
-abbrev pub greater_equal : Kind
+abbrev pub greater_equal : TokenKind
 greater_equal = symbol symbols.GREATER_EQUAL
 
 -- &&
-abbrev pub and_and : Kind
+abbrev pub and_and : TokenKind
 and_and = symbol symbols.AND
 
 -- ||
-abbrev pub or_or : Kind
+abbrev pub or_or : TokenKind
 or_or = symbol symbols.OR
 
 -- ++
-abbrev pub plus_plus : Kind
+abbrev pub plus_plus : TokenKind
 plus_plus = symbol symbols.PLUS_PLUS
 
 -- =
-abbrev pub equal : Kind
+abbrev pub equal : TokenKind
 equal = symbol symbols.EQUAL
 
 -- <
-abbrev pub less : Kind
+abbrev pub less : TokenKind
 less = symbol symbols.LESS
 
 -- >
-abbrev pub greater : Kind
+abbrev pub greater : TokenKind
 greater = symbol symbols.GREATER
 
 -- +
-abbrev pub plus : Kind
+abbrev pub plus : TokenKind
 plus = symbol symbols.PLUS
 
 -- -
-abbrev pub minus : Kind
+abbrev pub minus : TokenKind
 minus = symbol symbols.MINUS
 
 -- *
-abbrev pub star : Kind
+abbrev pub star : TokenKind
 star = symbol symbols.STAR
 
 -- :
-abbrev pub colon : Kind
+abbrev pub colon : TokenKind
 colon = symbol symbols.COLON
 
 -- ;
-abbrev pub semicolon : Kind
+abbrev pub semicolon : TokenKind
 semicolon = symbol symbols.SEMICOLON
 
 -- ,
-abbrev pub comma : Kind
+abbrev pub comma : TokenKind
 comma = symbol symbols.COMMA
 
 -- @
-abbrev pub at_sign : Kind
+abbrev pub at_sign : TokenKind
 at_sign = symbol symbols.AT
 
 -- (
-abbrev pub open_paren : Kind
+abbrev pub open_paren : TokenKind
 open_paren = symbol symbols.OPEN_PAREN
 
 -- )
-abbrev pub close_paren : Kind
+abbrev pub close_paren : TokenKind
 close_paren = symbol symbols.CLOSE_PAREN
 
 -- [
-abbrev pub open_bracket : Kind
+abbrev pub open_bracket : TokenKind
 open_bracket = symbol symbols.OPEN_BRACKET
 
 -- ]
-abbrev pub close_bracket : Kind
+abbrev pub close_bracket : TokenKind
 close_bracket = symbol symbols.CLOSE_BRACKET
 
 -- {
-abbrev pub open_brace : Kind
+abbrev pub open_brace : TokenKind
 open_brace = symbol symbols.OPEN_BRACE
 
 -- }
-abbrev pub close_brace : Kind
+abbrev pub close_brace : TokenKind
 close_brace = symbol symbols.CLOSE_BRACE

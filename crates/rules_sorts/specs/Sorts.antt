@@ -14,10 +14,10 @@ pub data Sort : Type 0 where
   a_scope_cell : T → Sort
 
 -- a scope: names with their sorts, the last bound first
-pub record Bound : Type 0 where
+pub record SortedName : Type 0 where
   pub name : Name
   pub sort : Sort
 
-abbrev pub sort_at : Name → List Bound → Option Sort
+abbrev pub sort_at : Name → List SortedName → Option Sort
 sort_at y [] = None
 sort_at y (c ∷ cs) = cond (same_name y c.name) (Some c.sort) (sort_at y cs)

@@ -101,7 +101,7 @@ module _ (cells : ℕ → T → Type 0) where
   HasSort (Some typing.masking_name) (Some (Restore m)) = Unit {0}
   HasSort (Some typing.masking_name) (Some v) = ⊥
 
-  abbrev pub Fits : List typing.Bound → Env → Type 0
+  abbrev pub Fits : List typing.TypedName → Env → Type 0
   Fits s env = (x : List ℕ) → HasSort (typing.look s x) (value_at (Written x) env)
 
   -- what earlier pure functions answer

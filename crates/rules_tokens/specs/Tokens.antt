@@ -122,22 +122,22 @@ IsSymbol cs = (n : ℕ) × IsSymbolNumber n cs
 -- ---- Text literals
 
 -- What stands between the quotes: a character, or a backslash and the character that it takes into the literal.
-pub data Part : Type 0 where
-  Plain : ℕ → Part
-  Escape : ℕ → Part
+pub data LiteralPart : Type 0 where
+  Plain : ℕ → LiteralPart
+  Escape : ℕ → LiteralPart
 
 -- A quote ends a literal and a backslash begins an escape, so neither is plain. No literal holds a line feed.
-abbrev pub may_stand : Part → Bool
+abbrev pub may_stand : LiteralPart → Bool
 may_stand (Plain c) = not ((c == quote) || (c == backslash) || (c == line_feed))
 may_stand (Escape c) = not (c == line_feed)
 
-abbrev pub parts_text : List Part → List ℕ
+abbrev pub parts_text : List LiteralPart → List ℕ
 parts_text [] = []
 parts_text (Plain c ∷ ps) = c ∷ parts_text ps
 parts_text (Escape c ∷ ps) = backslash ∷ c ∷ parts_text ps
 
 -- the literal with these parts
-abbrev pub literal_text : List Part → List ℕ
+abbrev pub literal_text : List LiteralPart → List ℕ
 literal_text ps = quote ∷ (parts_text ps ++ quote ∷ [])
 
 -- The character that an escape stands for. The escapes are \" \\ \n and \t.
@@ -148,17 +148,17 @@ escaped c = if c == quote then Some quote
     else (if c == 116 then Some tab else None)))
 
 -- the character that a part stands for
-abbrev pub meaning : Part → Option ℕ
+abbrev pub meaning : LiteralPart → Option ℕ
 meaning (Plain c) = Some c
 meaning (Escape c) = escaped c
 
 -- the parts stand for these characters, one for one
-abbrev pub StandFor : List Part → List ℕ → Type 0
+abbrev pub StandFor : List LiteralPart → List ℕ → Type 0
 StandFor ps cs = map meaning ps ≡ map Some cs
 
 -- the characters are a literal that is closed on its line; its escapes may be wrong ones
 abbrev pub IsLiteral : List ℕ → Type 0
-IsLiteral cs = (ps : List Part) × IsTrue (list_all may_stand ps) × (cs ≡ literal_text ps)
+IsLiteral cs = (ps : List LiteralPart) × IsTrue (list_all may_stand ps) × (cs ≡ literal_text ps)
 
 -- ---- Tokens
 
@@ -175,7 +175,7 @@ abbrev pub Spells : List ℕ → Tok → Type 0
 Spells cs (tok.Name text) = IsWord cs × ((n : ℕ) → ¬ IsReserved n cs) × IsFalse (is_capital cs) × (text ≡ encode_utf8_all cs)
 Spells cs tok.Upper = IsWord cs × ((n : ℕ) → ¬ IsReserved n cs) × IsTrue (is_capital cs)
 Spells cs (tok.Int value) = IsNumber cs × (number_of cs ≤ greatest_number) × (value ≡ pos (number_of cs))
-Spells cs (tok.Text text) = (ps : List Part) × (meant : List ℕ) × IsTrue (list_all may_stand ps) × (cs ≡ literal_text ps) × StandFor ps meant
+Spells cs (tok.Text text) = (ps : List LiteralPart) × (meant : List ℕ) × IsTrue (list_all may_stand ps) × (cs ≡ literal_text ps) × StandFor ps meant
     × (text ≡ encode_utf8_all meant)
 Spells cs (tok.Word n) = IsWord cs × IsReserved n cs
 Spells cs (tok.Sym n) = IsSymbolNumber n cs
@@ -248,9 +248,9 @@ BeginsNothing (c ∷ cs) = IsFalse (is_blank c) × (c ≢ quote) × ((front afte
 
 -- Here begins a closed literal, whose first wrong escape stands behind `read`.
 pub record HasWrongEscape (read rest : List ℕ) : Type 0 where
-  pub good : List Part
+  pub good : List LiteralPart
   pub wrong : ℕ
-  pub more : List Part
+  pub more : List LiteralPart
   pub meant : List ℕ
   pub after : List ℕ
   pub literal : rest ≡ literal_text (good ++ Escape wrong ∷ more) ++ after

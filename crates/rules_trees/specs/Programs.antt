@@ -24,31 +24,31 @@ use Rattle.hs_base.specs.declared.tree.forms.GuardAction.{GuardAction}
 -- ---- actions and blocks
 
 mutual
-  pub data Act : Type 0 where
-    bare : BareAction → Pos → Act
-    unary_act : UnaryAction → Pos → Ex → Act
-    binary_act : BinaryAction → Pos → Ex → Ex → Act
-    throw_io : Pos → Wr → Ex → Act
-    new_empty : Pos → Wr → Act
-    call : Name → Exs → Act
-    choose_act : Pos → Ex → Bl → Bl → Act
-    case_act : Pos → Ex → ActArms → Act
+  pub data SurfaceAction : Type 0 where
+    bare : BareAction → Pos → SurfaceAction
+    unary_act : UnaryAction → Pos → Ex → SurfaceAction
+    binary_act : BinaryAction → Pos → Ex → Ex → SurfaceAction
+    throw_io : Pos → Wr → Ex → SurfaceAction
+    new_empty : Pos → Wr → SurfaceAction
+    call : Name → Exs → SurfaceAction
+    choose_act : Pos → Ex → Bl → Bl → SurfaceAction
+    case_act : Pos → Ex → ActArms → SurfaceAction
     -- modifyMVar_ m x B
-    modify : Pos → Ex → Name → Bl → Act
-    scoped : BlockAction → Pos → Bl → Act
-    masking : MaskingAction → Pos → Name → Bl → Act
-    restore : Pos → Name → Bl → Act
-    catch : Pos → Bl → Name → Bl → Act
-    guard : GuardAction → Pos → Bl → Bl → Act
-    bracket : Pos → Bl → Name → Bl → Bl → Act
-    timeout : Pos → Ex → Bl → Act
-    with_async : Pos → Bl → Name → Bl → Act
+    modify : Pos → Ex → Name → Bl → SurfaceAction
+    scoped : BlockAction → Pos → Bl → SurfaceAction
+    masking : MaskingAction → Pos → Name → Bl → SurfaceAction
+    restore : Pos → Name → Bl → SurfaceAction
+    catch : Pos → Bl → Name → Bl → SurfaceAction
+    guard : GuardAction → Pos → Bl → Bl → SurfaceAction
+    bracket : Pos → Bl → Name → Bl → Bl → SurfaceAction
+    timeout : Pos → Ex → Bl → SurfaceAction
+    with_async : Pos → Bl → Name → Bl → SurfaceAction
 
   pub data Bl : Type 0 where
-    last : Act → Bl
-    then : Act → Bl → Bl
+    last : SurfaceAction → Bl
+    then : SurfaceAction → Bl → Bl
     -- x <- a; the rest
-    bind : Name → Act → Bl → Bl
+    bind : Name → SurfaceAction → Bl → Bl
     -- let x = e; the rest
     let_in : Name → Ex → Bl → Bl
 
@@ -63,7 +63,7 @@ abbrev pub before : List (Bl → Bl) → Bl → Bl
 before [] c = c
 before (s ∷ ss) c = s (before ss c)
 
-abbrev pub act_step : Action-F Act ActArms (Bl → Bl) Bl → Act
+abbrev pub act_step : Action-F SurfaceAction ActArms (Bl → Bl) Bl → SurfaceAction
 act_step (Action-F.Bare w p) = bare w p
 act_step (Action-F.Unary w p e) = unary_act w p (ex_of e)
 act_step (Action-F.Binary w p e f) = binary_act w p (ex_of e) (ex_of f)
@@ -82,31 +82,31 @@ act_step (Action-F.Bracket p a x c e) = bracket p a x c e
 act_step (Action-F.Timeout p e a) = timeout p (ex_of e) a
 act_step (Action-F.WithAsync p a x c) = with_async p a x c
 
-abbrev pub stmt_step : Stmt-F Act ActArms (Bl → Bl) Bl → Bl → Bl
+abbrev pub stmt_step : Stmt-F SurfaceAction ActArms (Bl → Bl) Bl → Bl → Bl
 stmt_step (Stmt-F.Bind x a) c = bind x a c
 stmt_step (Stmt-F.Let x e) c = let_in x (ex_of e) c
 stmt_step (Stmt-F.Do a) c = then a c
 
-abbrev pub block_step : Block-F Act ActArms (Bl → Bl) Bl → Bl
+abbrev pub block_step : Block-F SurfaceAction ActArms (Bl → Bl) Bl → Bl
 block_step c = before c.stmts (last c.last)
 
-abbrev pub act_arms_step : BlockArms-F Act ActArms (Bl → Bl) Bl → ActArms
+abbrev pub act_arms_step : BlockArms-F SurfaceAction ActArms (Bl → Bl) Bl → ActArms
 act_arms_step (BlockArms-F.OfMaybe a x c) = maybe_acts a x c
 act_arms_step (BlockArms-F.OfEither x a y c) = either_acts x a y c
 act_arms_step (BlockArms-F.OfList a x y c) = list_acts a x y c
 act_arms_step (BlockArms-F.OfPair x y a) = pair_acts x y a
 
-abbrev pub act_of : Action → Act
-act_of = fold-Action Act ActArms (Bl → Bl) Bl act_step act_arms_step stmt_step block_step
+abbrev pub act_of : Action → SurfaceAction
+act_of = fold-Action SurfaceAction ActArms (Bl → Bl) Bl act_step act_arms_step stmt_step block_step
 
 abbrev pub stmt_of : Stmt → Bl → Bl
-stmt_of = fold-Stmt Act ActArms (Bl → Bl) Bl act_step act_arms_step stmt_step block_step
+stmt_of = fold-Stmt SurfaceAction ActArms (Bl → Bl) Bl act_step act_arms_step stmt_step block_step
 
 abbrev pub bl_of : Block → Bl
-bl_of = fold-Block Act ActArms (Bl → Bl) Bl act_step act_arms_step stmt_step block_step
+bl_of = fold-Block SurfaceAction ActArms (Bl → Bl) Bl act_step act_arms_step stmt_step block_step
 
 abbrev pub act_arms_of : BlockArms → ActArms
-act_arms_of = fold-BlockArms Act ActArms (Bl → Bl) Bl act_step act_arms_step stmt_step block_step
+act_arms_of = fold-BlockArms SurfaceAction ActArms (Bl → Bl) Bl act_step act_arms_step stmt_step block_step
 
 -- these statements and a last action
 abbrev pub rest_of : List Stmt → Action → Bl

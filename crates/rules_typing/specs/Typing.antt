@@ -221,14 +221,14 @@ pub data Sort : Type 0 where
   value : T → Sort
   masking_name : Sort
 
-pub record Bound : Type 0 where
+pub record TypedName : Type 0 where
   pub spelling : List ℕ
   pub sort : Sort
 
-abbrev pub bound : Name → T → Bound
+abbrev pub bound : Name → T → TypedName
 bound x t = record { spelling = x.text; sort = value t }
 
-abbrev pub masked : Name → Bound
+abbrev pub masked : Name → TypedName
 masked x = record { spelling = x.text; sort = masking_name }
 
 -- what calls know of a definition: its name, whether it is an action function, its parameters' types, its result, and
@@ -246,7 +246,7 @@ pub record Ctx : Type 0 where
   pub here : ℕ
 
 -- the last name of a scope hides earlier equal ones
-abbrev pub look : List Bound → List ℕ → Option Sort
+abbrev pub look : List TypedName → List ℕ → Option Sort
 look [] x = None
 look (b ∷ s) x = cond (bytes_eq b.spelling x) (Some b.sort) (look s x)
 
@@ -277,7 +277,7 @@ meant_sort c x n None = meant_sig c x.pos n (find c.sigs x.text)
 meant_sort c x n (Some masking_name) = wrong (kind x.pos)
 meant_sort c x n (Some (value t)) = meant_args x.pos n [] t
 
-abbrev pub meant : Ctx → List Bound → Name → ℕ → Meant
+abbrev pub meant : Ctx → List TypedName → Name → ℕ → Meant
 meant c s x n = meant_sort c x n (look s x.text)
 
 -- a name in an action: an action function, wherever it is defined
@@ -289,7 +289,7 @@ abbrev pub meant_act_sort : Ctx → Name → ℕ → Option Sort → Meant
 meant_act_sort c x n None = meant_act_sig x.pos n (find c.sigs x.text)
 meant_act_sort c x n (Some sort) = wrong (kind x.pos)
 
-abbrev pub meant_act : Ctx → List Bound → Name → ℕ → Meant
+abbrev pub meant_act : Ctx → List TypedName → Name → ℕ → Meant
 meant_act c s x n = meant_act_sort c x n (look s x.text)
 
 -- a name after `restore` is to be a masking name: the rule that it breaks, if any
@@ -302,7 +302,7 @@ unmask_sort c x None = unmask_sig x.pos (find c.sigs x.text)
 unmask_sort c x (Some masking_name) = None
 unmask_sort c x (Some (value t)) = Some (kind x.pos)
 
-abbrev pub no_mask : Ctx → List Bound → Name → Option Fault
+abbrev pub no_mask : Ctx → List TypedName → Name → Option Fault
 no_mask c s x = unmask_sort c x (look s x.text)
 
 -- each argument is of its parameter's type
@@ -318,10 +318,10 @@ abbrev pub BreaksCall : Pos → Meant → List T → Fault → Type 0
 BreaksCall p m us f = (params : List T) × (t : T) × (m ≡ takes params t) × FirstUnmet p (is_each params us) f
 
 -- the scope takes one more name, or it has 64; hidden names and masking names count
-abbrev pub NotFull : List Bound → Type 0
+abbrev pub NotFull : List TypedName → Type 0
 NotFull s = length s < 64
 
-abbrev pub NoRoom : List Bound → Name → Fault → Type 0
+abbrev pub NoRoom : List TypedName → Name → Fault → Type 0
 NoRoom s x f = (64 ≤ length s) × (f ≡ scope x.pos)
 
 abbrev pub count : Exs → ℕ
@@ -334,7 +334,7 @@ count (more e es) = 1 + count es
 -- link's operand are its parts. `:` and `++` group from the right: the parts of a link are the operand before it and all
 -- that follows.
 abbrev mutual
-  pub HasType : Ctx → List Bound → Ex → T → Type 0
+  pub HasType : Ctx → List TypedName → Ex → T → Type 0
   HasType c s (lit p l) t = t ≡ type_of_lit l
   HasType c s (name x es) t = (us : List T) × HaveTypes c s es us × Calls (meant c s x (count es)) us t
   HasType c s (unary o p a) t = (u : T) × HasType c s a u × Gives (row_unary o u) t
@@ -348,19 +348,19 @@ abbrev mutual
   HasType c s (given x a e) t = (u : T) × HasType c s a u × NotFull s × HasType c (bound x u ∷ s) e t
   HasType c s (case p e arms) t = (u : T) × HasType c s e u × (Has (form_of_arms arms) u × ArmsHave c s p u arms t)
 
-  pub HaveTypes : Ctx → List Bound → Exs → List T → Type 0
+  pub HaveTypes : Ctx → List TypedName → Exs → List T → Type 0
   HaveTypes c s none us = us ≡ []
   HaveTypes c s (more e es) us = (u : T) × (vs : List T) × HasType c s e u × HaveTypes c s es vs × (us ≡ u ∷ vs)
 
-  pub LinksHave : Ctx → List Bound → (T → Type 0) → Links → T → Type 0
+  pub LinksHave : Ctx → List TypedName → (T → Type 0) → Links → T → Type 0
   LinksHave c s H end t = H t
   LinksHave c s H (link o p e ks) t = LinksHave c s (λ w. (u v : T) × H u × HasType c s e v × Gives (row_binary o u v) w) ks t
 
-  pub ConsesHave : Ctx → List Bound → (T → Type 0) → Links → T → Type 0
+  pub ConsesHave : Ctx → List TypedName → (T → Type 0) → Links → T → Type 0
   ConsesHave c s H end t = H t
   ConsesHave c s H (link o p e ks) t = (u v : T) × H u × ConsesHave c s (HasType c s e) ks v × Gives (row_binary o u v) t
 
-  pub ArmsHave : Ctx → List Bound → Pos → T → Arms → T → Type 0
+  pub ArmsHave : Ctx → List TypedName → Pos → T → Arms → T → Type 0
   ArmsHave c s p u (maybe_arms a x e) t = (v z : T) × HasType c s a v × (NotFull s × HasType c (bound x (inner_of u) ∷ s) e z) × Gives (row_arms v z) t
   ArmsHave c s p u (either_arms x a y e) t = (v z : T) × (NotFull s × HasType c (bound x (first_of u) ∷ s) a v) × (NotFull s × HasType c (bound y (second_of u) ∷ s) e z) × Gives (row_arms v z) t
   ArmsHave c s p u (list_arms a x y e) t = (v z : T) × HasType c s a v × (NotFull s × (NotFull (bound x (inner_of u) ∷ s) × HasType c (bound y u ∷ bound x (inner_of u) ∷ s) e z)) × Gives (row_arms v z) t
@@ -369,7 +369,7 @@ abbrev mutual
 -- ---- the rules that an expression breaks: those of its parts, and its own where its parts have types
 
 abbrev mutual
-  pub BreaksIn : Ctx → List Bound → Ex → Fault → Type 0
+  pub BreaksIn : Ctx → List TypedName → Ex → Fault → Type 0
   BreaksIn c s (lit p l) f = ⊥
   BreaksIn c s (name x es) f = BreaksAny c s es f ⊎ ((meant c s x (count es) ≡ wrong f) ⊎ ((us : List T) × HaveTypes c s es us × BreaksCall x.pos (meant c s x (count es)) us f))
   BreaksIn c s (unary o p a) f = BreaksIn c s a f ⊎ ((u : T) × HasType c s a u × Breaks p (row_unary o u) f)
@@ -383,21 +383,21 @@ abbrev mutual
   BreaksIn c s (given x a e) f = NoRoom s x f ⊎ (BreaksIn c s a f ⊎ ((u : T) × HasType c s a u × NotFull s × BreaksIn c (bound x u ∷ s) e f))
   BreaksIn c s (case p e arms) f = BreaksIn c s e f ⊎ ((u : T) × HasType c s e u × (FirstUnmet p (of (form_of_arms arms) u ∷ []) f ⊎ (Has (form_of_arms arms) u × ArmsBreak c s p u arms f)))
 
-  pub BreaksAny : Ctx → List Bound → Exs → Fault → Type 0
+  pub BreaksAny : Ctx → List TypedName → Exs → Fault → Type 0
   BreaksAny c s none f = ⊥
   BreaksAny c s (more e es) f = BreaksIn c s e f ⊎ BreaksAny c s es f
 
-  pub LinksBreak : Ctx → List Bound → (T → Type 0) → Links → Fault → Type 0
+  pub LinksBreak : Ctx → List TypedName → (T → Type 0) → Links → Fault → Type 0
   LinksBreak c s H end f = ⊥
   LinksBreak c s H (link o p e ks) f = (BreaksIn c s e f ⊎ ((u v : T) × H u × HasType c s e v × Breaks p (row_binary o u v) f))
       ⊎ LinksBreak c s (λ w. (u v : T) × H u × HasType c s e v × Gives (row_binary o u v) w) ks f
 
-  pub ConsesBreak : Ctx → List Bound → (T → Type 0) → Links → Fault → Type 0
+  pub ConsesBreak : Ctx → List TypedName → (T → Type 0) → Links → Fault → Type 0
   ConsesBreak c s H end f = ⊥
   ConsesBreak c s H (link o p e ks) f = (BreaksIn c s e f ⊎ ConsesBreak c s (HasType c s e) ks f)
       ⊎ ((u v : T) × H u × ConsesHave c s (HasType c s e) ks v × Breaks p (row_binary o u v) f)
 
-  pub ArmsBreak : Ctx → List Bound → Pos → T → Arms → Fault → Type 0
+  pub ArmsBreak : Ctx → List TypedName → Pos → T → Arms → Fault → Type 0
   ArmsBreak c s p u (maybe_arms a x e) f = (BreaksIn c s a f ⊎ (NoRoom s x f ⊎ (NotFull s × BreaksIn c (bound x (inner_of u) ∷ s) e f)))
       ⊎ ((v z : T) × HasType c s a v × (NotFull s × HasType c (bound x (inner_of u) ∷ s) e z) × Breaks p (row_arms v z) f)
   ArmsBreak c s p u (either_arms x a y e) f = ((NoRoom s x f ⊎ (NotFull s × BreaksIn c (bound x (first_of u) ∷ s) a f)) ⊎ (NoRoom s y f ⊎ (NotFull s × BreaksIn c (bound y (second_of u) ∷ s) e f)))

@@ -19,8 +19,8 @@ use Rattle.hs_base.specs.declared.tree.forms.MaskingAction.TheVariants as m
 use Rattle.hs_base.specs.declared.tree.forms.GuardAction.{GuardAction}
 use Rattle.hs_base.specs.declared.tree.forms.GuardAction.TheVariants as g
 use Rattle.rules_trees.specs.Trees.{T, unit, int, bool, text, thread, exn, pair, maybe, either, cell, async}
-use Rattle.rules_trees.specs.Programs.{Act, bare, unary_act, binary_act, throw_io, new_empty, call, choose_act, case_act, modify, scoped, masking, restore, catch, guard, bracket, timeout, with_async, Bl, last, then, bind, let_in, ActArms, maybe_acts, either_acts, list_acts, pair_acts}
-use Rattle.rules_typing.specs.Typing.{Form, a_maybe, an_either, a_list, a_pair, a_cell, an_async, Fault, Has, first_of, second_of, inner_of, is, of, Row, gives, makes, FirstUnmet, Gives, Breaks, row_choose, row_arms, IsWritten, WrittenBreaks, Bound, bound, masked, Ctx, wrong, meant_act, no_mask, Calls, BreaksCall, NotFull, NoRoom, count, HasType, HaveTypes, BreaksIn, BreaksAny}
+use Rattle.rules_trees.specs.Programs.{SurfaceAction, bare, unary_act, binary_act, throw_io, new_empty, call, choose_act, case_act, modify, scoped, masking, restore, catch, guard, bracket, timeout, with_async, Bl, last, then, bind, let_in, ActArms, maybe_acts, either_acts, list_acts, pair_acts}
+use Rattle.rules_typing.specs.Typing.{Form, a_maybe, an_either, a_list, a_pair, a_cell, an_async, Fault, Has, first_of, second_of, inner_of, is, of, Row, gives, makes, FirstUnmet, Gives, Breaks, row_choose, row_arms, IsWritten, WrittenBreaks, TypedName, bound, masked, Ctx, wrong, meant_act, no_mask, Calls, BreaksCall, NotFull, NoRoom, count, HasType, HaveTypes, BreaksIn, BreaksAny}
 
 -- ---- the table of actions
 
@@ -97,7 +97,7 @@ form_of_acts (pair_acts x y a) = a_pair
 -- ---- the type of an action and of a block, in a scope
 
 abbrev mutual
-  pub ActHas : Ctx → List Bound → Act → T → Type 0
+  pub ActHas : Ctx → List TypedName → SurfaceAction → T → Type 0
   ActHas c s (bare o p) t = t ≡ type_of_bare o
   ActHas c s (unary_act o p a) t = (u : T) × HasType c s a u × Gives (row_unary_act o u) t
   ActHas c s (binary_act o p a e) t = (u v : T) × HasType c s a u × HasType c s e v × Gives (row_binary_act o u v) t
@@ -116,13 +116,13 @@ abbrev mutual
   ActHas c s (timeout p e a) t = (u v : T) × HasType c s e u × BlHas c s a v × Gives (row_timeout u v) t
   ActHas c s (with_async p a x g) t = (u : T) × BlHas c s a u × ((v : T) × Gives (row_async u) v × (NotFull s × BlHas c (bound x v ∷ s) g t))
 
-  pub BlHas : Ctx → List Bound → Bl → T → Type 0
+  pub BlHas : Ctx → List TypedName → Bl → T → Type 0
   BlHas c s (last a) t = ActHas c s a t
   BlHas c s (then a g) t = (u : T) × ActHas c s a u × BlHas c s g t
   BlHas c s (bind x a g) t = (u : T) × ActHas c s a u × NotFull s × BlHas c (bound x u ∷ s) g t
   BlHas c s (let_in x e g) t = (u : T) × HasType c s e u × NotFull s × BlHas c (bound x u ∷ s) g t
 
-  pub ActArmsHave : Ctx → List Bound → Pos → T → ActArms → T → Type 0
+  pub ActArmsHave : Ctx → List TypedName → Pos → T → ActArms → T → Type 0
   ActArmsHave c s p u (maybe_acts a x e) t = (v z : T) × BlHas c s a v × (NotFull s × BlHas c (bound x (inner_of u) ∷ s) e z) × Gives (row_arms v z) t
   ActArmsHave c s p u (either_acts x a y e) t = (v z : T) × (NotFull s × BlHas c (bound x (first_of u) ∷ s) a v) × (NotFull s × BlHas c (bound y (second_of u) ∷ s) e z) × Gives (row_arms v z) t
   ActArmsHave c s p u (list_acts a x y e) t = (v z : T) × BlHas c s a v × (NotFull s × (NotFull (bound x (inner_of u) ∷ s) × BlHas c (bound y u ∷ bound x (inner_of u) ∷ s) e z)) × Gives (row_arms v z) t
@@ -131,7 +131,7 @@ abbrev mutual
 -- ---- the rules that an action and a block break
 
 abbrev mutual
-  pub ActBreaks : Ctx → List Bound → Act → Fault → Type 0
+  pub ActBreaks : Ctx → List TypedName → SurfaceAction → Fault → Type 0
   ActBreaks c s (bare o p) f = ⊥
   ActBreaks c s (unary_act o p a) f = BreaksIn c s a f ⊎ ((u : T) × HasType c s a u × Breaks p (row_unary_act o u) f)
   ActBreaks c s (binary_act o p a e) f = (BreaksIn c s a f ⊎ BreaksIn c s e f) ⊎ ((u v : T) × HasType c s a u × HasType c s e v × Breaks p (row_binary_act o u v) f)
@@ -155,13 +155,13 @@ abbrev mutual
   ActBreaks c s (with_async p a x g) f = BlBreaks c s a f ⊎ ((u : T) × BlHas c s a u × (Breaks p (row_async u) f
       ⊎ ((v : T) × Gives (row_async u) v × (NoRoom s x f ⊎ (NotFull s × BlBreaks c (bound x v ∷ s) g f)))))
 
-  pub BlBreaks : Ctx → List Bound → Bl → Fault → Type 0
+  pub BlBreaks : Ctx → List TypedName → Bl → Fault → Type 0
   BlBreaks c s (last a) f = ActBreaks c s a f
   BlBreaks c s (then a g) f = ActBreaks c s a f ⊎ ((u : T) × ActHas c s a u × BlBreaks c s g f)
   BlBreaks c s (bind x a g) f = NoRoom s x f ⊎ (ActBreaks c s a f ⊎ ((u : T) × ActHas c s a u × NotFull s × BlBreaks c (bound x u ∷ s) g f))
   BlBreaks c s (let_in x e g) f = NoRoom s x f ⊎ (BreaksIn c s e f ⊎ ((u : T) × HasType c s e u × NotFull s × BlBreaks c (bound x u ∷ s) g f))
 
-  pub ActArmsBreak : Ctx → List Bound → Pos → T → ActArms → Fault → Type 0
+  pub ActArmsBreak : Ctx → List TypedName → Pos → T → ActArms → Fault → Type 0
   ActArmsBreak c s p u (maybe_acts a x e) f = (BlBreaks c s a f ⊎ (NoRoom s x f ⊎ (NotFull s × BlBreaks c (bound x (inner_of u) ∷ s) e f)))
       ⊎ ((v z : T) × BlHas c s a v × (NotFull s × BlHas c (bound x (inner_of u) ∷ s) e z) × Breaks p (row_arms v z) f)
   ActArmsBreak c s p u (either_acts x a y e) f = ((NoRoom s x f ⊎ (NotFull s × BlBreaks c (bound x (first_of u) ∷ s) a f)) ⊎ (NoRoom s y f ⊎ (NotFull s × BlBreaks c (bound y (second_of u) ∷ s) e f)))

@@ -8,7 +8,7 @@ use Rattle.hs_base.specs.declared.tree.expr.Name.{Name}
 use Rattle.hs_base.specs.declared.tree.script.Script.{Script}
 use Rattle.rules_trees.specs.Trees.{T, unit, Wr}
 use Rattle.rules_trees.specs.Programs.{Par, Bd, pure_body, io_body, Fn, script_of}
-use Rattle.rules_typing.specs.Typing.{Fault, twice, scope, wide, large, nodes, is, FirstUnmet, Bound, bound, Sig, Ctx, find, HasType, BreaksIn}
+use Rattle.rules_typing.specs.Typing.{Fault, twice, scope, wide, large, nodes, is, FirstUnmet, TypedName, bound, Sig, Ctx, find, HasType, BreaksIn}
 use Rattle.rules_typing.specs.TypingActions.{BlHas, BlBreaks}
 use Rattle.rules_typing.specs.TypingFaults.{In, Precedes}
 use Rattle.rules_expansion.specs.Sizes.{body_size}
@@ -36,17 +36,17 @@ sigs_from k [] = []
 sigs_from k (d ∷ ds) = sig_of_fn k d ∷ sigs_from (k + 1) ds
 
 -- the scope of a body
-abbrev pub params_in : List Bound → List Par → List Bound
+abbrev pub params_in : List TypedName → List Par → List TypedName
 params_in s [] = s
 params_in s (p ∷ ps) = params_in (bound p.name p.ty.ty ∷ s) ps
 
 abbrev pub wide_faults : Wr → List Fault
 wide_faults w = cond (ltb 64 (nodes w.ty)) (wide w.pos ∷ []) []
 
-abbrev pub room_faults : List Bound → Name → List Fault
+abbrev pub room_faults : List TypedName → Name → List Fault
 room_faults s x = cond (ltb 63 (length s)) (scope x.pos ∷ []) []
 
-abbrev pub param_faults : List Bound → List Par → List Fault
+abbrev pub param_faults : List TypedName → List Par → List Fault
 param_faults s [] = []
 param_faults s (p ∷ ps) = (wide_faults p.ty ++ room_faults s p.name) ++ param_faults (bound p.name p.ty.ty ∷ s) ps
 
@@ -62,11 +62,11 @@ twice_faults c x = twice_by x c.here (find c.sigs x.text)
 
 -- ---- definitions
 
-abbrev pub BodyHas : Ctx → List Bound → Bd → T → Type 0
+abbrev pub BodyHas : Ctx → List TypedName → Bd → T → Type 0
 BodyHas c s (pure_body w e) t = HasType c s e t
 BodyHas c s (io_body w a) t = BlHas c s a t
 
-abbrev pub BodyBreaks : Ctx → List Bound → Bd → Fault → Type 0
+abbrev pub BodyBreaks : Ctx → List TypedName → Bd → Fault → Type 0
 BodyBreaks c s (pure_body w e) f = BreaksIn c s e f
 BodyBreaks c s (io_body w a) f = BlBreaks c s a f
 

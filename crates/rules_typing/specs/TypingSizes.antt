@@ -6,9 +6,9 @@
 -- of it, however long.
 use Rattle.std.specs.Prelude.{ℕ, ◌+◌, ◌<◌, ◌⊎◌, List, [], ◌∷◌, ◌++◌, Option, Some, None, max, get_or}
 use Rattle.rules_trees.specs.Trees.{Ex, lit, name, unary, binary, chain, conses, choose, items, empty, side, given, case, Exs, none, more, Links, end, link, Arms, maybe_arms, either_arms, list_arms, pair_arms}
-use Rattle.rules_trees.specs.Programs.{Act, bare, unary_act, binary_act, throw_io, new_empty, call, choose_act, case_act, modify, scoped, masking, restore, catch, guard, bracket, timeout, with_async, Bl, last, then, bind, let_in, ActArms, maybe_acts, either_acts, list_acts, pair_acts, Par, Bd, pure_body, io_body, Fn}
+use Rattle.rules_trees.specs.Programs.{SurfaceAction, bare, unary_act, binary_act, throw_io, new_empty, call, choose_act, case_act, modify, scoped, masking, restore, catch, guard, bracket, timeout, with_async, Bl, last, then, bind, let_in, ActArms, maybe_acts, either_acts, list_acts, pair_acts, Par, Bd, pure_body, io_body, Fn}
 use Rattle.rules_expansion.specs.Sizes.{body_size}
-use Rattle.rules_typing.specs.Typing.{Sort, Bound, Sig, masked, look, find}
+use Rattle.rules_typing.specs.Typing.{Sort, TypedName, Sig, masked, look, find}
 
 -- ---- how far expressions unfold
 
@@ -49,7 +49,7 @@ body_extent gs xs x (Some sort) = nil
 
 -- Of a scope only the names count here, so each is bound by `masked`.
 abbrev mutual
-  pub extent : List Sig → List Extent → List Bound → Ex → Extent
+  pub extent : List Sig → List Extent → List TypedName → Ex → Extent
   extent gs xs s (lit p l) = over nil
   extent gs xs s (name x es) = over (beside (body_extent gs xs x.text (look s x.text)) (extents gs xs s es))
   extent gs xs s (unary o p a) = over (extent gs xs s a)
@@ -63,15 +63,15 @@ abbrev mutual
   extent gs xs s (given x a e) = over (beside (extent gs xs s a) (extent gs xs (masked x ∷ s) e))
   extent gs xs s (case p e arms) = over (beside (extent gs xs s e) (arm_extents gs xs s arms))
 
-  pub extents : List Sig → List Extent → List Bound → Exs → Extent
+  pub extents : List Sig → List Extent → List TypedName → Exs → Extent
   extents gs xs s none = nil
   extents gs xs s (more e es) = beside (extent gs xs s e) (extents gs xs s es)
 
-  pub link_extents : List Sig → List Extent → List Bound → Links → Extent
+  pub link_extents : List Sig → List Extent → List TypedName → Links → Extent
   link_extents gs xs s end = nil
   link_extents gs xs s (link o p e ks) = beside (wider (extent gs xs s e)) (link_extents gs xs s ks)
 
-  pub arm_extents : List Sig → List Extent → List Bound → Arms → Extent
+  pub arm_extents : List Sig → List Extent → List TypedName → Arms → Extent
   arm_extents gs xs s (maybe_arms a x e) = beside (extent gs xs s a) (extent gs xs (masked x ∷ s) e)
   arm_extents gs xs s (either_arms x a y e) = beside (extent gs xs (masked x ∷ s) a) (extent gs xs (masked y ∷ s) e)
   arm_extents gs xs s (list_arms a x y e) = beside (extent gs xs s a) (extent gs xs (masked y ∷ masked x ∷ s) e)
@@ -81,12 +81,12 @@ abbrev mutual
 abbrev pub worse : Extent → Extent → Extent
 worse x y = record { size = max x.size y.size; height = max x.height y.height }
 
-abbrev pub worst_exs : List Sig → List Extent → List Bound → Exs → Extent
+abbrev pub worst_exs : List Sig → List Extent → List TypedName → Exs → Extent
 worst_exs gs xs s none = nil
 worst_exs gs xs s (more e es) = worse (extent gs xs s e) (worst_exs gs xs s es)
 
 abbrev mutual
-  pub worst_act : List Sig → List Extent → List Bound → Act → Extent
+  pub worst_act : List Sig → List Extent → List TypedName → SurfaceAction → Extent
   worst_act gs xs s (bare o p) = nil
   worst_act gs xs s (unary_act o p a) = extent gs xs s a
   worst_act gs xs s (binary_act o p a e) = worse (extent gs xs s a) (extent gs xs s e)
@@ -105,29 +105,29 @@ abbrev mutual
   worst_act gs xs s (timeout p e a) = worse (extent gs xs s e) (worst_bl gs xs s a)
   worst_act gs xs s (with_async p a x h) = worse (worst_bl gs xs s a) (worst_bl gs xs (masked x ∷ s) h)
 
-  pub worst_bl : List Sig → List Extent → List Bound → Bl → Extent
+  pub worst_bl : List Sig → List Extent → List TypedName → Bl → Extent
   worst_bl gs xs s (last a) = worst_act gs xs s a
   worst_bl gs xs s (then a h) = worse (worst_act gs xs s a) (worst_bl gs xs s h)
   worst_bl gs xs s (bind x a h) = worse (worst_act gs xs s a) (worst_bl gs xs (masked x ∷ s) h)
   worst_bl gs xs s (let_in x e h) = worse (extent gs xs s e) (worst_bl gs xs (masked x ∷ s) h)
 
-  pub worst_arms : List Sig → List Extent → List Bound → ActArms → Extent
+  pub worst_arms : List Sig → List Extent → List TypedName → ActArms → Extent
   worst_arms gs xs s (maybe_acts a x e) = worse (worst_bl gs xs s a) (worst_bl gs xs (masked x ∷ s) e)
   worst_arms gs xs s (either_acts x a y e) = worse (worst_bl gs xs (masked x ∷ s) a) (worst_bl gs xs (masked y ∷ s) e)
   worst_arms gs xs s (list_acts a x y e) = worse (worst_bl gs xs s a) (worst_bl gs xs (masked y ∷ masked x ∷ s) e)
   worst_arms gs xs s (pair_acts x y a) = worst_bl gs xs (masked y ∷ masked x ∷ s) a
 
 -- the parameters of a definition, as names
-abbrev pub param_names : List Bound → List Par → List Bound
+abbrev pub param_names : List TypedName → List Par → List TypedName
 param_names s [] = s
 param_names s (p ∷ ps) = param_names (masked p.name ∷ s) ps
 
 -- the greatest expression of a body; a part of an expression is no greater than the whole
-abbrev pub worst_body : List Sig → List Extent → List Bound → Bd → Extent
+abbrev pub worst_body : List Sig → List Extent → List TypedName → Bd → Extent
 worst_body gs xs s (pure_body w e) = extent gs xs s e
 worst_body gs xs s (io_body w a) = worst_bl gs xs s a
 
 -- what a call of the definition unfolds to
-abbrev pub called_extent : List Sig → List Extent → List Bound → Bd → Extent
+abbrev pub called_extent : List Sig → List Extent → List TypedName → Bd → Extent
 called_extent gs xs s (pure_body w e) = extent gs xs s e
 called_extent gs xs s (io_body w a) = nil

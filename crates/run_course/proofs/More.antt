@@ -4,7 +4,7 @@ use Rattle.hs_rules.specs.declared.entry.Entry.{Entry}
 use Rattle.hs_rules.specs.declared.entry.Entry.TheVariants as entry
 use Rattle.hs_rules.specs.Histories.{cost_of, steps_of}
 use Rattle.hs_rules.proofs.Histories.{steps_of_last}
-use Rattle.run_record.specs.declared.acts.Act.{Act}
+use Rattle.run_record.specs.declared.acts.NextEntry.{NextEntry}
 use Rattle.run_record.specs.declared.acts.Next.{Next}
 use Rattle.run_record.specs.declared.record.Record.{Record}
 use Rattle.run_record.specs.Acts.{entry_of}
@@ -34,7 +34,7 @@ looked_same false old new e h = h
 some_end : {A : Type 0} (o : Option A) (x : A) → o ≡ Some x → IsSome o
 some_end o x e = subst IsSome (sym e) refl
 
-pub acted_more : (a : Act) (ended : Option RunEnd) (old new : Record) → Acted (entry_of a) ended old new → IsSome ended ⊎ Less old new
+pub acted_more : (a : NextEntry) (ended : Option RunEnd) (old new : Record) → Acted (entry_of a) ended old new → IsSome ended ⊎ Less old new
 acted_more a ended old new (inl h) = inr (appended_more (entry_of a) old new (cost_one a) h.0)
 acted_more a ended old new (inr h) = inl (some_end ended _ h.1.1)
 

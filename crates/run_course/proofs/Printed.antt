@@ -8,7 +8,7 @@ use Rattle.std.specs.Io.KnownBytes.{Appends}
 use Rattle.hs_rules.specs.declared.entry.Entry.{Entry}
 use Rattle.hs_rules.specs.Runs.{out, err}
 use Rattle.rules_trees.specs.Programs.{Fn, script_of}
-use Rattle.rules_code.specs.declared.code.Body.{Body}
+use Rattle.rules_code.specs.declared.code.CodeBody.{CodeBody}
 use Rattle.hs_laws.proofs.RunParts.{run_before}
 use Rattle.slot_states.specs.SlotStates.{Represents}
 use Rattle.slot_states.specs.Printing.{output_by, errors_by}
@@ -26,7 +26,7 @@ use Rattle.run_course.specs.Told.{AppendsPart, IsCutOff, Both, OneFailed}
 abbrev pub Prints : (ds : List Fn) → (es fs : List Entry) → (output errors : List ℕ) → Type 0
 Prints ds es fs output errors = (out ds fs ≡ out ds es ++ output) × (err ds fs ≡ err ds es ++ errors)
 
-live_prints : (b : Body) (es : List Entry) (e : Entry) (old new : World) → Live b es old → Live b (es ++ e ∷ []) new → Prints (script_of b.of.value) es (es ++ e ∷ []) (output_by (state_of b old) e) (errors_by (state_of b old) e)
+live_prints : (b : CodeBody) (es : List Entry) (e : Entry) (old new : World) → Live b es old → Live b (es ++ e ∷ []) new → Prints (script_of b.of.value) es (es ++ e ∷ []) (output_by (state_of b old) e) (errors_by (state_of b old) e)
 live_prints b es e old new l m =
     let ds : List Fn = script_of b.of.value in
     let k = run_before ds es (e ∷ []) m.state m.run in
@@ -34,12 +34,12 @@ live_prints b es e old new l m =
     entry_adds ds es k.0 k.2.0 e (state_of b old) k.1 (subst (Represents ds (state_of b old)) same l.represents) k.2.1
 
 -- the same, where the code and the history are known by equations
-living : (b c : Body) (es fs : List Entry) (e : Entry) (old new : World) → c ≡ b → fs ≡ es ++ e ∷ [] → ∥ Live b es old ∥₁ → ∥ Live c fs new ∥₁
+living : (b c : CodeBody) (es fs : List Entry) (e : Entry) (old new : World) → c ≡ b → fs ≡ es ++ e ∷ [] → ∥ Live b es old ∥₁ → ∥ Live c fs new ∥₁
     → Prints (script_of c.of.value) es fs (output_by (state_of b old) e) (errors_by (state_of b old) e)
 living b c es fs e old new same is live more =
     ∥∥₁_elim live (hlevel props) (λ l. ∥∥₁_elim more (hlevel props) (λ m.
-    let n : Live b (es ++ e ∷ []) new = subst (λ (z : Body). Live z (es ++ e ∷ []) new) same (subst (λ zs. Live c zs new) is m) in
-    subst (λ (z : Body). Prints (script_of z.of.value) es fs (output_by (state_of b old) e) (errors_by (state_of b old) e)) (sym same)
+    let n : Live b (es ++ e ∷ []) new = subst (λ (z : CodeBody). Live z (es ++ e ∷ []) new) same (subst (λ zs. Live c zs new) is m) in
+    subst (λ (z : CodeBody). Prints (script_of z.of.value) es fs (output_by (state_of b old) e) (errors_by (state_of b old) e)) (sym same)
     (subst (λ zs. Prints (script_of b.of.value) es zs (output_by (state_of b old) e) (errors_by (state_of b old) e)) (sym is) (live_prints b es e old new l n))))
 
 pub printed : (old new : Record) (e : Entry) → Appended e old new

@@ -14,7 +14,7 @@ use crate::course::Course;
 use crate::ends::RunEnd;
 use hs_base::NoMemory;
 use hs_io::{Clock, Failed, Sink};
-use run_record::{Act, Piece, Stream};
+use run_record::{NextEntry, PrintedPiece, Stream};
 
 /// Puts a piece that isn't empty.
 fn put<S: Sink>(sink: &mut S, bytes: &[u8]) -> Result<(), Failed>
@@ -30,7 +30,7 @@ fn put<S: Sink>(sink: &mut S, bytes: &[u8]) -> Result<(), Failed>
 
 /// Puts what there is to its stream.
 fn put_piece<O: Sink, E: Sink>(
-    piece: &Option<Piece>,
+    piece: &Option<PrintedPiece>,
     out: &mut O,
     err: &mut E,
 ) -> Result<(), Failed>
@@ -50,7 +50,7 @@ fn put_piece<O: Sink, E: Sink>(
 }
 
 /// How many bytes a piece has.
-fn length_of(piece: &Option<Piece>) -> usize
+fn length_of(piece: &Option<PrintedPiece>) -> usize
     ensures { (output errors : List ℕ) → IsPiece piece.now output errors → result ≡ length output + length errors }
 {
     match piece {
@@ -61,7 +61,7 @@ fn length_of(piece: &Option<Piece>) -> usize
 
 impl<O: Sink, E: Sink, K: Clock> Course<O, E, K> {
     /// Appends the entry of an act and puts what it prints, or sets the ending where it would exceed a limit or a put fails.
-    pub fn act(&mut self, act: Act) -> Result<(), NoMemory>
+    pub fn act(&mut self, act: NextEntry) -> Result<(), NoMemory>
         requires none { self.old.end ≡ None }
         requires next { IsNext (next.Act act) self.old.clocked.record }
         requires fuel { steps_of self.old.clocked.record.history.list < self.old.clocked.record.fuel }

@@ -20,7 +20,7 @@ use frame_stack::Slice;
 use hs_base::NoMemory;
 use hs_io::{Clock, Sink};
 use hs_rules::{Entry, LimitKind};
-use run_record::{Act, Next, Record};
+use run_record::{Next, NextEntry, Record};
 use std::collections::HashMap;
 
 /// The ending that holds, by what can be done next.
@@ -148,7 +148,7 @@ impl<O: Sink, E: Sink, K: Clock> Course<O, E, K> {
     }
 
     /// An act, unless the clock has gone on, which is entered then.
-    fn look_and_act(&mut self, act: Act, read: &mut bool) -> Result<bool, NoMemory>
+    fn look_and_act(&mut self, act: NextEntry, read: &mut bool) -> Result<bool, NoMemory>
         requires none { self.old.end ≡ None }
         requires next { IsNext (next.Act act) self.old.clocked.record }
         requires fuel { steps_of self.old.clocked.record.history.list < self.old.clocked.record.fuel }
@@ -166,7 +166,7 @@ impl<O: Sink, E: Sink, K: Clock> Course<O, E, K> {
     }
 
     /// Reads the clock where other work is next; answers whether a Tick was entered.
-    fn look(&mut self, act: Option<Act>, read: &mut bool) -> Result<bool, NoMemory>
+    fn look(&mut self, act: Option<NextEntry>, read: &mut bool) -> Result<bool, NoMemory>
         requires none { self.old.end ≡ None }
         requires next { IsNext (work act) self.old.clocked.record }
         requires fuel { steps_of self.old.clocked.record.history.list < self.old.clocked.record.fuel }

@@ -10,7 +10,7 @@ use Rattle.hs_rules.specs.Entries.{on_thread, uncaught_line}
 use Rattle.hs_rules.specs.Entries as entries
 use Rattle.rules_trees.specs.Programs.{script_of}
 use Rattle.rules_meaning.specs.CoreMeaning.{code_of}
-use Rattle.rules_code.specs.declared.code.Body.{Body}
+use Rattle.rules_code.specs.declared.code.CodeBody.{CodeBody}
 use Rattle.rules_waiting.specs.Waiting.{first_awake}
 use Rattle.slot_states.specs.SlotStates.{SlotState}
 use Rattle.slot_states.specs.Printing.{line_by, end_line, output_by, errors_by}
@@ -23,8 +23,8 @@ use Rattle.thread_table.specs.Listing.{is_hit, waits_open}
 use Rattle.thread_table.proofs.Table.{slots_is}
 use Rattle.world_entries.specs.declared.world.World.{World}
 use Rattle.world_entries.specs.Worlds.{state_of, Live, Makes, SameState, Stands, Ends, end_bytes}
-use Rattle.run_record.specs.declared.acts.Act.{Act}
-use Rattle.run_record.specs.declared.acts.Act.TheVariants as act
+use Rattle.run_record.specs.declared.acts.NextEntry.{NextEntry}
+use Rattle.run_record.specs.declared.acts.NextEntry.TheVariants as act
 use Rattle.run_record.specs.Acts.{entry_of}
 use Rattle.run_record.specs.Records.{Can, PrintsIn}
 use Rattle.run_record.proofs.Resting.{rest_alike}
@@ -41,13 +41,13 @@ op_stands w t own =
     let o = op_of_control own.thread.stack.control own.holds in
     (o.0, record { thread = own.thread; is = own.is; control = o.1; unfinished = own.unfinished; free = own.free })
 
-line_bytes : (b : Body) (t : ℕ) (k : Control) → length (line_by t (part_of b k)) ≡ end_bytes t k
+line_bytes : (b : CodeBody) (t : ℕ) (k : Control) → length (line_by t (part_of b k)) ≡ end_bytes t k
 line_bytes b t (c.Doing i vs) = refl
 line_bytes b t (c.Ret v) = refl
 line_bytes b t (c.Throw e) = refl
 line_bytes b t (c.Op o) = refl
 
-pub ends_so : (w : World) (t n : ℕ) → Own IsBare t w.threads → (b : Body) → PrintsIn b n (act.Finish t) w → Ends t n w
+pub ends_so : (w : World) (t n : ℕ) → Own IsBare t w.threads → (b : CodeBody) → PrintsIn b n (act.Finish t) w → Ends t n w
 ends_so w t n own b bytes = record {
   thread = own.thread;
   is = own.is;
@@ -61,7 +61,7 @@ ends_so w t n own b bytes = record {
     none m = omega arith
 
 -- ---- where room was made
-module _ (old new : World) (b : Body) (same : SameState old new) (items : new.threads.list.items ≡ old.threads.list.items) (flight : new.threads.flight.list ≡ old.threads.flight.list) where
+module _ (old new : World) (b : CodeBody) (same : SameState old new) (items : new.threads.list.items ≡ old.threads.list.items) (flight : new.threads.flight.list ≡ old.threads.flight.list) where
   own_kept : (P : Stacked → Type 0) (t : ℕ) → Own P t old.threads → Own P t new.threads
   own_kept P t own = record { thread = own.thread; is = ap (λ ths. slice_get ths t) items ∙ own.is; unfinished = own.unfinished; free = own.free; holds = own.holds }
 
@@ -74,7 +74,7 @@ module _ (old new : World) (b : Body) (same : SameState old new) (items : new.th
   strand_kept : Can act.Strand old → Can act.Strand new
   strand_kept h = (rest_alike old new same h.0, ap (λ (x : SlotState). x.sleepers) (same b) ∙ h.1, (h.2.0, ap (λ ths. waits_open (slice_get ths h.2.0)) items ∙ h.2.1))
 
-  pub can_kept : (a : Act) → Can a old → Can a new
+  pub can_kept : (a : NextEntry) → Can a old → Can a new
   can_kept (act.Op t) h = own_kept _ t h
   can_kept (act.Finish t) h = own_kept _ t h
   can_kept (act.Local t) h = own_kept _ t h
@@ -82,7 +82,7 @@ module _ (old new : World) (b : Body) (same : SameState old new) (items : new.th
   can_kept (act.Wake t) h = awake_kept t h
   can_kept act.Strand h = strand_kept h
 
-  pub prints_kept : (n : ℕ) (a : Act) → PrintsIn b n a old → PrintsIn b n a new
+  pub prints_kept : (n : ℕ) (a : NextEntry) → PrintsIn b n a old → PrintsIn b n a new
   prints_kept n a h = subst (λ x. n ≡ length (output_by x (entry_of a)) + length (errors_by x (entry_of a))) (sym (same b)) h
 
 -- ---- the clock's time
@@ -99,7 +99,7 @@ ticked true s u at e = let z : Some (record s { clock = at }) ≡ Some u = e in 
 ticked false s u at e = absurd (cc e)
 
 -- a world that a Tick makes of a live one shows its time
-pub tick_clock : (b : Body) (es : List Entry) (old new : World) (at : ℕ) → Makes (entry.Tick at) old new → ∥ Live b es old ∥₁ → new.clock ≡ at
+pub tick_clock : (b : CodeBody) (es : List Entry) (old new : World) (at : ℕ) → Makes (entry.Tick at) old new → ∥ Live b es old ∥₁ → new.clock ≡ at
 tick_clock b es old new at makes live =
     ∥∥₁_elim live (hlevel props) (λ l.
     let k = makes b l.accepted l.code es l.state l.run l.represents in

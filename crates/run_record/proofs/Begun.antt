@@ -4,7 +4,7 @@ use Rattle.std.proofs.Math.Logic.{∥∥₁_map}
 use Rattle.hs_base.specs.declared.limits.Limits.{Limits}
 use Rattle.hs_rules.specs.declared.entry.LimitKind.TheVariants as limit
 use Rattle.rules_trees.specs.Programs.{script_of}
-use Rattle.rules_code.specs.declared.code.Body.{Body}
+use Rattle.rules_code.specs.declared.code.CodeBody.{CodeBody}
 use Rattle.rules_code.specs.CodeTrees.{Sa, StandsFor}
 use Rattle.hs_rules.specs.State.{State}
 use Rattle.hs_rules.specs.Endings.{IsWithin}
@@ -32,7 +32,7 @@ first_by a = record {
   printed = 0;
 }
 
-module _ (b : Body) (w : World) (first : state_of b w ≡ first_by (act_of b b.main)) where
+module _ (b : CodeBody) (w : World) (first : state_of b w ≡ first_by (act_of b b.main)) where
   begins : StandsFor b.nodes b.acts b.funs b.main b.of.value → Live b [] w
   begins stands =
       let k = first_stands_for b.of.value stands.accepted in

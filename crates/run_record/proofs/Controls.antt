@@ -7,7 +7,7 @@ use Rattle.hs_progress.specs.GoingOn.{own_entry}
 use Rattle.rules_trees.specs.Trees.{T}
 use Rattle.rules_trees.specs.Programs.{Fn}
 use Rattle.rules_sorts.specs.Sorts.{Sort}
-use Rattle.rules_code.specs.declared.code.Body.{Body}
+use Rattle.rules_code.specs.declared.code.CodeBody.{CodeBody}
 use Rattle.slot_laws.specs.SlotRules.{SlotOp, performs}
 use Rattle.slot_laws.specs.Standing.{PartStands, op_stands, FramesStand}
 use Rattle.slot_states.specs.Resting.{IsDoing}
@@ -21,13 +21,13 @@ use Rattle.thread_table.specs.Kinds.{IsEnd}
 use Rattle.thread_table.specs.Listing.{is_doing}
 
 -- ---- parts
-pub doing_part : (b : Body) (k : Control) → is_doing k ≡ true → IsDoing (part_of b k)
+pub doing_part : (b : CodeBody) (k : Control) → is_doing k ≡ true → IsDoing (part_of b k)
 doing_part b (c.Doing i vs) e = tt
 doing_part b (c.Ret v) e = absurd (cc e)
 doing_part b (c.Throw x) e = absurd (cc e)
 doing_part b (c.Op q) e = absurd (cc e)
 
-pub part_doing : (b : Body) (k : Control) → IsDoing (part_of b k) → is_doing k ≡ true
+pub part_doing : (b : CodeBody) (k : Control) → IsDoing (part_of b k) → is_doing k ≡ true
 part_doing b (c.Doing i vs) d = refl
 part_doing b (c.Ret v) d = absurd d
 part_doing b (c.Throw x) d = absurd d
@@ -38,7 +38,7 @@ module _ (cells : ℕ → T → Type 0) (ds : List Fn) where
   op_named : {p : SlotOp} {q : named.Part} {k : Sort} → PartStands cells ds (performs p) q k → (op : Operation) × (q ≡ Performs op)
   op_named (op_stands {op} h) = (op, refl)
 
-  pub own_op : (b : Body) (t : ℕ) (k : Control) → IsOp k → (q : named.Part) (j : Sort) (gs : List named.Frame) → PartStands cells ds (part_of b k) q j → own_entry t q gs ≡ entry.Op t
+  pub own_op : (b : CodeBody) (t : ℕ) (k : Control) → IsOp k → (q : named.Part) (j : Sort) (gs : List named.Frame) → PartStands cells ds (part_of b k) q j → own_entry t q gs ≡ entry.Op t
   own_op b t (c.Doing i vs) is q j gs h = absurd is
   own_op b t (c.Ret v) is q j gs h = absurd is
   own_op b t (c.Throw x) is q j gs h = absurd is
@@ -47,7 +47,7 @@ module _ (cells : ℕ → T → Type 0) (ds : List Fn) where
   finish_of : (t : ℕ) (gs : List named.Frame) (q x : named.Part) → gs ≡ [] → q ≡ x → own_entry t x [] ≡ entry.Finish t → own_entry t q gs ≡ entry.Finish t
   finish_of t gs q x g e h = ap (λ z. own_entry t z gs) e ∙ (ap (own_entry t x) g ∙ h)
 
-  pub own_finish : (b : Body) (t : ℕ) (k : Control) → IsEnd k → (fs : List Frame) → fs ≡ [] → (q : named.Part) (j : Sort) (gs : List named.Frame) → PartStands cells ds (part_of b k) q j → FramesStand cells ds j (frames_of b fs) gs → own_entry t q gs ≡ entry.Finish t
+  pub own_finish : (b : CodeBody) (t : ℕ) (k : Control) → IsEnd k → (fs : List Frame) → fs ≡ [] → (q : named.Part) (j : Sort) (gs : List named.Frame) → PartStands cells ds (part_of b k) q j → FramesStand cells ds j (frames_of b fs) gs → own_entry t q gs ≡ entry.Finish t
   own_finish b t (c.Doing i vs) is fs none q j gs h g = absurd is
   own_finish b t (c.Op p) is fs none q j gs h g = absurd is
   own_finish b t (c.Ret v) is fs none q j gs h g = finish_of t gs q _ (no_frames cells ds (subst (λ z. FramesStand cells ds j (frames_of b z) gs) none g)) (ret_is cells ds h) refl
@@ -57,7 +57,7 @@ module _ (cells : ℕ → T → Type 0) (ds : List Fn) where
   ret_local t q x n [] e s h = absurd (omega (arith, e))
   ret_local t q x n (g ∷ gs) e s h = ap (λ z. own_entry t z (g ∷ gs)) s ∙ h g gs
 
-  pub own_local : (b : Body) (t : ℕ) (k : Control) (fs : List Frame) → MeetsOne k fs → (q : named.Part) (j : Sort) (gs : List named.Frame) → PartStands cells ds (part_of b k) q j → FramesStand cells ds j (frames_of b fs) gs → own_entry t q gs ≡ entry.Local t 1
+  pub own_local : (b : CodeBody) (t : ℕ) (k : Control) (fs : List Frame) → MeetsOne k fs → (q : named.Part) (j : Sort) (gs : List named.Frame) → PartStands cells ds (part_of b k) q j → FramesStand cells ds j (frames_of b fs) gs → own_entry t q gs ≡ entry.Local t 1
   own_local b t (c.Doing i vs) fs is q j gs h g = absurd is
   own_local b t (c.Op p) fs is q j gs h g = absurd is
   own_local b t (c.Ret v) [] is q j gs h g = absurd is

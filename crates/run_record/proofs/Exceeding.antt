@@ -10,7 +10,7 @@ use Rattle.hs_rules.specs.declared.entry.LimitKind.{LimitKind}
 use Rattle.hs_rules.specs.declared.entry.LimitKind.TheVariants as limit
 use Rattle.rules_trees.specs.Programs.{Fn, script_of}
 use Rattle.rules_meaning.specs.CoreMeaning.{code_of}
-use Rattle.rules_code.specs.declared.code.Body.{Body}
+use Rattle.rules_code.specs.declared.code.CodeBody.{CodeBody}
 use Rattle.hs_rules.specs.State.{State}
 use Rattle.hs_rules.specs.Entries.{Leads}
 use Rattle.hs_rules.specs.Histories.{cost_of, steps_of}
@@ -30,8 +30,8 @@ use Rattle.thread_table.proofs.Table.{slots_is}
 use Rattle.world_entries.specs.declared.world.World.{World}
 use Rattle.world_entries.specs.Worlds.{state_of, Live, Goes, Starts}
 use Rattle.world_entries.proofs.Making.{main_goes}
-use Rattle.run_record.specs.declared.acts.Act.{Act}
-use Rattle.run_record.specs.declared.acts.Act.TheVariants as act
+use Rattle.run_record.specs.declared.acts.NextEntry.{NextEntry}
+use Rattle.run_record.specs.declared.acts.NextEntry.TheVariants as act
 use Rattle.run_record.specs.declared.record.Record.{Record}
 use Rattle.run_record.specs.Acts.{entry_of}
 use Rattle.run_record.specs.Records.{script, Can, Fits, Prints, WouldExceed}
@@ -77,7 +77,7 @@ counted : (limits : Limits) (amount : LimitKind → ℕ) (u : State) → ((kind 
 counted limits amount u e = record { most = λ kind. omega (arith, e kind); over = λ kind h. omega (arith, e kind, h) }
 
 -- ---- what a live world has is within the limits
-live_within : (b : Body) (es : List Entry) (w : World) (limits : Limits) → (live : Live b es w) → StaysWithin limits (script_of b.of.value) es → (kind : LimitKind) → total 0 0 0 0 w kind ≤ allowed kind limits
+live_within : (b : CodeBody) (es : List Entry) (w : World) (limits : Limits) → (live : Live b es w) → StaysWithin limits (script_of b.of.value) es → (kind : LimitKind) → total 0 0 0 0 w kind ≤ allowed kind limits
 live_within b es w limits live stays kind =
     let not = state_within limits (script_of b.of.value) es live.state stays live.run kind in
     let e = same_used (script_of b.of.value) (state_of b w) live.state live.represents kind ∙ used_is b w kind in
@@ -86,16 +86,16 @@ live_within b es w limits live stays kind =
 -- ---- an act
 
 -- it makes so many threads and cells, and prints so many bytes
-pub record Adds (b : Body) (i j n : ℕ) (a : Act) (w : World) : Type 0 where
+pub record Adds (b : CodeBody) (i j n : ℕ) (a : NextEntry) (w : World) : Type 0 where
   pub threads : i ≡ forked (op_of (doer (state_of b w) (entry_of a)))
   pub cells : j ≡ celled (op_of (doer (state_of b w) (entry_of a)))
   pub bytes : n ≡ growth limit.Output (state_of b w) (entry_of a)
 
-module _ (b : Body) (es : List Entry) (w : World) (live : Live b es w) (goes : Goes w) (limits : Limits) (stays : StaysWithin limits (script_of b.of.value) es) (i j n : ℕ) where
+module _ (b : CodeBody) (es : List Entry) (w : World) (live : Live b es w) (goes : Goes w) (limits : Limits) (stays : StaysWithin limits (script_of b.of.value) es) (i j n : ℕ) where
   abbrev ds : List Fn
   ds = script_of b.of.value
 
-  other_counted : (a : Act) → IsNoLocal (entry_of a) → Adds b i j n a w → (u : State) → Leads (code_of ds) live.state (entry_of a) u → Counted limits (total i j i n w) u
+  other_counted : (a : NextEntry) → IsNoLocal (entry_of a) → Adds b i j n a w → (u : State) → Leads (code_of ds) live.state (entry_of a) u → Counted limits (total i j i n w) u
   other_counted a other m u leads = counted limits (total i j i n w) u by
     where
       by : (kind : LimitKind) → used kind u ≡ total i j i n w kind
@@ -123,7 +123,7 @@ module _ (b : Body) (es : List Entry) (w : World) (live : Live b es w) (goes : G
       over limit.Frames h = let e = live_within b es w limits live stays limit.Frames in absurd (omega (arith, e, h, m.threads))
       over limit.Output h = let e = live_within b es w limits live stays limit.Output in absurd (omega (arith, e, h, m.bytes))
 
-  act_counted : (a : Act) → Can a w → Adds b i j n a w → (u : State) → Leads (code_of ds) live.state (entry_of a) u → Counted limits (total i j i n w) u
+  act_counted : (a : NextEntry) → Can a w → Adds b i j n a w → (u : State) → Leads (code_of ds) live.state (entry_of a) u → Counted limits (total i j i n w) u
   act_counted (act.Op t) can m = other_counted (act.Op t) tt m
   act_counted (act.Finish t) can m = other_counted (act.Finish t) tt m
   act_counted (act.Local t) can m = local_counted t can m
@@ -131,7 +131,7 @@ module _ (b : Body) (es : List Entry) (w : World) (live : Live b es w) (goes : G
   act_counted (act.Wake t) can m = other_counted (act.Wake t) tt m
   act_counted act.Strand can m = other_counted act.Strand tt m
 
-pub cost_one : (a : Act) → cost_of (entry_of a) ≡ 1
+pub cost_one : (a : NextEntry) → cost_of (entry_of a) ≡ 1
 cost_one (act.Op t) = refl
 cost_one (act.Finish t) = refl
 cost_one (act.Local t) = refl
@@ -139,7 +139,7 @@ cost_one (act.Receive t) = refl
 cost_one (act.Wake t) = refl
 cost_one act.Strand = refl
 
-act_short : (a : Act) → IsShort (entry_of a)
+act_short : (a : NextEntry) → IsShort (entry_of a)
 act_short (act.Op t) = tt
 act_short (act.Finish t) = tt
 act_short (act.Local t) = omega arith
@@ -147,10 +147,10 @@ act_short (act.Receive t) = tt
 act_short (act.Wake t) = tt
 act_short act.Strand = tt
 
-pub adds_so : (r : Record) (i j n : ℕ) (a : Act) → ((b : Body) → i ≡ forked (op_of (doer (state_of b r.world) (entry_of a)))) → ((b : Body) → j ≡ celled (op_of (doer (state_of b r.world) (entry_of a)))) → Prints n a r → Adds r.of.value i j n a r.world
+pub adds_so : (r : Record) (i j n : ℕ) (a : NextEntry) → ((b : CodeBody) → i ≡ forked (op_of (doer (state_of b r.world) (entry_of a)))) → ((b : CodeBody) → j ≡ celled (op_of (doer (state_of b r.world) (entry_of a)))) → Prints n a r → Adds r.of.value i j n a r.world
 adds_so r i j n a threads cells bytes = record { threads = threads r.of.value; cells = cells r.of.value; bytes = bytes }
 
-module _ (r : Record) (goes : Goes r.world) (a : Act) (can : Can a r.world) (i j n : ℕ) (m : Adds r.of.value i j n a r.world) where
+module _ (r : Record) (goes : Goes r.world) (a : NextEntry) (can : Can a r.world) (i j n : ℕ) (m : Adds r.of.value i j n a r.world) where
   pub act_exceeds : steps_of r.history.list + 1 ≤ r.fuel → (kind : LimitKind) → FirstOver kind r.limits (total i j i n r.world) → WouldExceed kind (entry_of a) r
   act_exceeds fuel kind over =
       ∥∥₁_elim r.after ∥∥₁_prop (λ live. ∥∥₁_map r.limited (λ stays.
@@ -178,7 +178,7 @@ record_within r kind =
     ∥∥₁_elim r.after le_prop (λ live. ∥∥₁_elim r.limited le_prop (λ stays. live_within r.of.value r.history.list r.world r.limits live stays kind))
 
 -- ---- the clock's time
-no_growth : (b : Body) (w : World) (at : ℕ) (kind : LimitKind) → growth kind (state_of b w) (entry.Tick at) ≡ 0
+no_growth : (b : CodeBody) (w : World) (at : ℕ) (kind : LimitKind) → growth kind (state_of b w) (entry.Tick at) ≡ 0
 no_growth b w at limit.Threads = refl
 no_growth b w at limit.Cells = refl
 no_growth b w at limit.Frames = refl
@@ -192,7 +192,7 @@ tick_fits r at s u run leads kind over =
     omega (arith, e, no_growth r.of.value r.world at kind, record_within r kind, over))
 
 -- ---- a slice
-module _ (b : Body) (es : List Entry) (w : World) (live : Live b es w) (goes : Goes w) (s : Slice) (at : Starts s w)
+module _ (b : CodeBody) (es : List Entry) (w : World) (live : Live b es w) (goes : Goes w) (s : Slice) (at : Starts s w)
     (moves : locals (funs_of b) Unmasked s.steps (term_of b (stacked s.start at.thread.stack.frames)) ≡ Some (term_of b (stacked s.end (s.pushed.list ++ at.thread.stack.frames)))) where
   abbrev after : SlotTerm
   after = term_of b (stacked s.end (s.pushed.list ++ at.thread.stack.frames))

@@ -7,7 +7,7 @@ use Rattle.hs_rules.specs.declared.entry.Entry.{Entry}
 use Rattle.rules_trees.specs.Trees.{T}
 use Rattle.rules_trees.specs.Programs.{Fn, script_of}
 use Rattle.rules_sorts.specs.Sorts.{Sort}
-use Rattle.rules_code.specs.declared.code.Body.{Body}
+use Rattle.rules_code.specs.declared.code.CodeBody.{CodeBody}
 use Rattle.hs_rules.specs.Terms as named
 use Rattle.hs_rules.specs.State.{State}
 use Rattle.hs_rules.specs.Endings.{is_ret, result_of, ended_by, IsDone, IsUncaught}
@@ -28,7 +28,7 @@ use Rattle.run_record.specs.Acts.{is_value}
 use Rattle.run_record.specs.Records.{HasFinished}
 
 -- ---- main is there
-pub main_below : (b : Body) (es : List Entry) (w : World) → Live b es w → 0 < length w.threads.list.items
+pub main_below : (b : CodeBody) (es : List Entry) (w : World) → Live b es w → 0 < length w.threads.list.items
 main_below b es w live =
     let m = main_is_there b.of.value live.accepted es live.state live.run in
     let lt = slice_get_within live.state.threads 0 m.0 m.1 in
@@ -40,13 +40,13 @@ pub some_main : (r : Record) → 0 < length r.world.threads.list.items
 some_main r = ∥∥₁_elim r.after (hlevel props) (main_below r.of.value r.history.list r.world)
 
 -- ---- how it has finished
-part_ret : (cells : ℕ → T → Type 0) (ds : List Fn) (b : Body) (k : Control) (q : named.Part) (j : Sort) → PartStands cells ds (part_of b k) q j → is_ret q ≡ is_value k
+part_ret : (cells : ℕ → T → Type 0) (ds : List Fn) (b : CodeBody) (k : Control) (q : named.Part) (j : Sort) → PartStands cells ds (part_of b k) q j → is_ret q ≡ is_value k
 part_ret cells ds b (c.Doing i vs) q j (do_stands h) = refl
 part_ret cells ds b (c.Ret v) q j (ret_stands h) = refl
 part_ret cells ds b (c.Throw e) q j throw_stands = refl
 part_ret cells ds b (c.Op p) q j (op_stands h) = refl
 
-pub ended : (b : Body) (es : List Entry) (w : World) (live : Live b es w) (th : Thread) → slice_get w.threads.list.items 0 ≡ Some th → th.finished ≡ true → ended_by (result_of (slice_get live.state.threads 0)) (is_value th.stack.control)
+pub ended : (b : CodeBody) (es : List Entry) (w : World) (live : Live b es w) (th : Thread) → slice_get w.threads.list.items 0 ≡ Some th → th.finished ≡ true → ended_by (result_of (slice_get live.state.threads 0)) (is_value th.stack.control)
 ended b es w live th is f =
     let ds : List Fn = script_of b.of.value in
     let n = named_of ds (state_of b w) live.state live.represents 0 (slot_of b th) (slots_is b w.threads.list.items 0 th is) in

@@ -5,7 +5,7 @@ use Rattle.hs_base.specs.declared.mask.Mask.{Mask}
 use Rattle.hs_base.specs.declared.mask.Mask.TheVariants.{Unmasked}
 use Rattle.rules_trees.specs.Programs.{script_of}
 use Rattle.rules_meaning.specs.Values.{values_of}
-use Rattle.rules_code.specs.declared.code.Body.{Body}
+use Rattle.rules_code.specs.declared.code.CodeBody.{CodeBody}
 use Rattle.hs_rules.specs.declared.entry.Entry.{Entry}
 use Rattle.hs_rules.specs.Terms.{Term}
 use Rattle.hs_progress.specs.TypedStates.{Store, has}
@@ -34,13 +34,13 @@ doing_is (c.Throw e) d = absurd (cc d)
 doing_is (c.Op p) d = absurd (cc d)
 
 -- an action may be done alone wherever its term stands for a named one
-alone : (b : Body) (store : Store) (m : Mask) (x : Control) (below : List SlotFrame) (t : Term) → is_doing x ≡ true → Stands (has store) (script_of b.of.value) (at (part_of b x) below) t → MayGo b m (part_of b x) []
+alone : (b : CodeBody) (store : Store) (m : Mask) (x : Control) (below : List SlotFrame) (t : Term) → is_doing x ≡ true → Stands (has store) (script_of b.of.value) (at (part_of b x) below) t → MayGo b m (part_of b x) []
 alone b store m (c.Doing i vs) below t d h = action_goes (Some store) (script_of b.of.value) m (act_of b i) (values_of vs) below t h
 alone b store m (c.Ret v) below t d h = absurd (cc d)
 alone b store m (c.Throw e) below t d h = absurd (cc d)
 alone b store m (c.Op p) below t d h = absurd (cc d)
 
-live_goes : (b : Body) (es : List Entry) (w : World) (t : ℕ) (th : Thread) (m : Mask) → slice_get w.threads.list.items t ≡ Some th → is_doing th.stack.control ≡ true → Live b es w → MayGo b m (part_of b th.stack.control) []
+live_goes : (b : CodeBody) (es : List Entry) (w : World) (t : ℕ) (th : Thread) (m : Mask) → slice_get w.threads.list.items t ≡ Some th → is_doing th.stack.control ≡ true → Live b es w → MayGo b m (part_of b th.stack.control) []
 live_goes b es w t th m is d live =
     let n = named_of (script_of b.of.value) (state_of b w) live.state live.represents t (slot_of b th) (slots_is b w.threads.list.items t th is) in
     let store : Store = live.represents.stacks.store in

@@ -5,7 +5,7 @@ use Rattle.hs_base.specs.declared.limits.Limits.{Limits}
 use Rattle.hs_rules.specs.declared.entry.Entry.{Entry}
 use Rattle.rules_trees.specs.Programs.{Fn, script_of}
 use Rattle.rules_meaning.specs.CoreMeaning.{code_of}
-use Rattle.rules_code.specs.declared.code.Body.{Body}
+use Rattle.rules_code.specs.declared.code.CodeBody.{CodeBody}
 use Rattle.hs_rules.specs.State.{State}
 use Rattle.hs_rules.specs.Entries.{Leads}
 use Rattle.hs_rules.specs.Runs.{IsRun}
@@ -21,22 +21,23 @@ use Rattle.run_record.specs.Records.{script, Fits}
 use Rattle.world_entries.specs.Worlds.{Live, IsLive, MakesOf, SameState}
 
 -- ---- nobody sees it
-live_same : (b : Body) (es : List Entry) (old new : World) → SameState old new → Live b es old → Live b es new
+live_same : (b : CodeBody) (es : List Entry) (old new : World) → SameState old new → Live b es old → Live b es new
 live_same b es old new same l = record { accepted = l.accepted; code = l.code; state = l.state; run = l.run; represents = subst (λ z. Represents (script_of b.of.value) z l.state) (sym (same b)) l.represents }
 
-pub still_live : (b : Body) (es : List Entry) (old new : World) → SameState old new → ∥ Live b es old ∥₁ → ∥ Live b es new ∥₁
+pub still_live : (b : CodeBody) (es : List Entry) (old new : World) → SameState old new → ∥ Live b es old ∥₁
+    → ∥ Live b es new ∥₁
 still_live b es old new same h = ∥∥₁_map h (live_same b es old new same)
 
-pub is_live : (b : Body) (es : List Entry) (w : World) → ∥ Live b es w ∥₁ → IsLive w
+pub is_live : (b : CodeBody) (es : List Entry) (w : World) → ∥ Live b es w ∥₁ → IsLive w
 is_live b es w h = ∥∥₁_map h (λ l. (b, es, l))
 
 -- ---- one more entry
-live_more : (b : Body) (es : List Entry) (e : Entry) (old new : World) → MakesOf b e old new → Live b es old → Live b (es ++ e ∷ []) new
+live_more : (b : CodeBody) (es : List Entry) (e : Entry) (old new : World) → MakesOf b e old new → Live b es old → Live b (es ++ e ∷ []) new
 live_more b es e old new makes l =
     let k = makes l.accepted l.code es l.state l.run l.represents in
     record { accepted = l.accepted; code = l.code; state = k.0; run = run_more (script_of b.of.value) es e l.state k.0 l.run k.1; represents = k.2 }
 
-more_live : (b : Body) (es : List Entry) (e : Entry) (old new : World) → MakesOf b e old new → ∥ Live b es old ∥₁ → ∥ Live b (es ++ e ∷ []) new ∥₁
+more_live : (b : CodeBody) (es : List Entry) (e : Entry) (old new : World) → MakesOf b e old new → ∥ Live b es old ∥₁ → ∥ Live b (es ++ e ∷ []) new ∥₁
 more_live b es e old new makes h = ∥∥₁_map h (live_more b es e old new makes)
 
 -- every state that the entry leaves after the history is within the limits
@@ -44,7 +45,7 @@ abbrev pub FitsAfter : Limits → List Fn → List Entry → Entry → Type 0
 FitsAfter limits ds es e = (s u : State) → IsRun ds es s → Leads (code_of ds) s e u → IsWithin limits u
 
 -- the history of a live world stays within limits by an entry that fits
-more_within : (b : Body) (limits : Limits) (es : List Entry) (e : Entry) (old new : World) → MakesOf b e old new → FitsAfter limits (script_of b.of.value) es e
+more_within : (b : CodeBody) (limits : Limits) (es : List Entry) (e : Entry) (old new : World) → MakesOf b e old new → FitsAfter limits (script_of b.of.value) es e
     → ∥ Live b es old ∥₁ → ∥ StaysWithin limits (script_of b.of.value) es ∥₁ → ∥ StaysWithin limits (script_of b.of.value) (es ++ e ∷ []) ∥₁
 more_within b limits es e old new makes fits live stays =
     ∥∥₁_elim live ∥∥₁_prop (λ l. ∥∥₁_map stays (λ h.
@@ -61,7 +62,7 @@ pub one_state : (ds : List Fn) (es : List Entry) (s u : State) → IsRun ds es s
 one_state ds es s u run other = same_after ds es s u run (is_after ds es u other)
 
 -- ---- a history that is the same list
-pub relisted_live : (b : Body) (es fs : List Entry) (w : World) → fs ≡ es → ∥ Live b es w ∥₁ → ∥ Live b fs w ∥₁
+pub relisted_live : (b : CodeBody) (es fs : List Entry) (w : World) → fs ≡ es → ∥ Live b es w ∥₁ → ∥ Live b fs w ∥₁
 relisted_live b es fs w e h = subst (λ zs. ∥ Live b zs w ∥₁) (sym e) h
 
 pub relisted_stays : (limits : Limits) (ds : List Fn) (es fs : List Entry) → fs ≡ es → ∥ StaysWithin limits ds es ∥₁ → ∥ StaysWithin limits ds fs ∥₁

@@ -5,7 +5,7 @@ use Rattle.hs_rules.specs.declared.entry.Entry.{Entry}
 use Rattle.hs_rules.specs.declared.entry.Entry.TheVariants as entry
 use Rattle.rules_trees.specs.Programs.{Fn, script_of}
 use Rattle.rules_meaning.specs.CoreMeaning.{code_of}
-use Rattle.rules_code.specs.declared.code.Body.{Body}
+use Rattle.rules_code.specs.declared.code.CodeBody.{CodeBody}
 use Rattle.rules_waiting.specs.Waiting.{earliest}
 use Rattle.hs_rules.specs.Histories.{steps_of}
 use Rattle.hs_rules.specs.Terms.{Part}
@@ -17,8 +17,8 @@ use Rattle.slot_states.proofs.Settled.{rest_deadlock, no_deadlock}
 use Rattle.world_entries.specs.declared.world.World.{World}
 use Rattle.world_entries.specs.Worlds.{state_of, Live, Goes, IsAtRest}
 use Rattle.world_entries.proofs.Making as making
-use Rattle.run_record.specs.declared.acts.Act.{Act}
-use Rattle.run_record.specs.declared.acts.Act.TheVariants as act
+use Rattle.run_record.specs.declared.acts.NextEntry.{NextEntry}
+use Rattle.run_record.specs.declared.acts.NextEntry.TheVariants as act
 use Rattle.run_record.specs.declared.record.Record.{Record}
 use Rattle.run_record.specs.Acts.{entry_of}
 use Rattle.run_record.specs.Records.{Can, HasFinished, EndsAs}
@@ -36,7 +36,7 @@ pub uncaught_ends : (r : Record) → HasFinished false r → EndsAs Uncaught r
 uncaught_ends r h = ∥∥₁_map h (λ k. record { state = k.0; run = k.1; ends = (λ d. one_result _ d k.2, k.2) })
 
 -- ---- main goes on
-pub act_no_tick : (a : Act) → ¬ IsTick (entry_of a)
+pub act_no_tick : (a : NextEntry) → ¬ IsTick (entry_of a)
 act_no_tick (act.Op t) h = h
 act_no_tick (act.Finish t) h = h
 act_no_tick (act.Local t) h = h
@@ -44,7 +44,7 @@ act_no_tick (act.Receive t) h = h
 act_no_tick (act.Wake t) h = h
 act_no_tick act.Strand h = h
 
-module _ (b : Body) (es : List Entry) (w : World) (live : Live b es w) (goes : Goes w) where
+module _ (b : CodeBody) (es : List Entry) (w : World) (live : Live b es w) (goes : Goes w) where
   abbrev ds : List Fn
   ds = script_of b.of.value
 
@@ -55,7 +55,7 @@ module _ (b : Body) (es : List Entry) (w : World) (live : Live b es w) (goes : G
   spent : (fuel : ℕ) → (¬ IsDeadlock (code_of ds) live.state) → steps_of es ≡ fuel → HasEnding Fuel ds es fuel
   spent fuel more e = record { state = live.state; run = live.run; ends = (going.0, going.1, more, e) }
 
-  pub act_spends : (fuel : ℕ) (a : Act) → Can a w → steps_of es ≡ fuel → HasEnding Fuel ds es fuel
+  pub act_spends : (fuel : ℕ) (a : NextEntry) → Can a w → steps_of es ≡ fuel → HasEnding Fuel ds es fuel
   act_spends fuel a h = spent fuel (λ d. d.0 (entry_of a) (act_no_tick a) (acts_are_legal b es w live goes a h))
 
   pub goer_spends : (fuel t : ℕ) → rest.Goes (state_of b w) t → steps_of es ≡ fuel → HasEnding Fuel ds es fuel

@@ -5,7 +5,7 @@ use Rattle.hs_rules.specs.declared.entry.Entry.TheVariants as entry
 use Rattle.rules_trees.specs.Trees.{T}
 use Rattle.rules_trees.specs.Programs.{Fn, script_of}
 use Rattle.rules_meaning.specs.CoreMeaning.{code_of}
-use Rattle.rules_code.specs.declared.code.Body.{Body}
+use Rattle.rules_code.specs.declared.code.CodeBody.{CodeBody}
 use Rattle.rules_waiting.specs.Waiting.{first_awake}
 use Rattle.hs_rules.specs.Entries.{IsLegal}
 use Rattle.hs_laws.proofs.Lists.{StandsIn}
@@ -31,17 +31,17 @@ use Rattle.thread_table.proofs.Table.{slots_is}
 use Rattle.world_entries.specs.declared.world.World.{World}
 use Rattle.world_entries.specs.Worlds.{state_of, Live, Goes, IsAtRest, SomeWaitOpen}
 use Rattle.world_entries.proofs.Making.{main_goes}
-use Rattle.run_record.specs.declared.acts.Act.{Act}
-use Rattle.run_record.specs.declared.acts.Act.TheVariants as act
+use Rattle.run_record.specs.declared.acts.NextEntry.{NextEntry}
+use Rattle.run_record.specs.declared.acts.NextEntry.TheVariants as act
 use Rattle.run_record.specs.Acts.{entry_of}
 use Rattle.run_record.specs.Records.{Can}
 use Rattle.run_record.proofs.Controls.{own_op, own_finish, own_local}
 
 -- an entry is legal in the state that a live world stands for
-abbrev pub Legal : (b : Body) (es : List Entry) (w : World) → Live b es w → Entry → Type 0
+abbrev pub Legal : (b : CodeBody) (es : List Entry) (w : World) → Live b es w → Entry → Type 0
 Legal b es w live e = IsLegal (code_of (script_of b.of.value)) live.state e
 
-module _ (b : Body) (es : List Entry) (w : World) (live : Live b es w) (goes : Goes w) where
+module _ (b : CodeBody) (es : List Entry) (w : World) (live : Live b es w) (goes : Goes w) where
   abbrev ds : List Fn
   ds = script_of b.of.value
 
@@ -109,7 +109,7 @@ module _ (b : Body) (es : List Entry) (w : World) (live : Live b es w) (goes : G
       })
 
   -- an act that is possible is legal
-  pub acts_are_legal : (a : Act) → Can a w → Legal b es w live (entry_of a)
+  pub acts_are_legal : (a : NextEntry) → Can a w → Legal b es w live (entry_of a)
   acts_are_legal (act.Op t) h = op_legal t h
   acts_are_legal (act.Finish t) h = finish_legal t h
   acts_are_legal (act.Local t) h = pop_legal t h

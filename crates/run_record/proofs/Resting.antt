@@ -1,6 +1,6 @@
 -- What is left where no thread has anything of its own to do and nobody is due.
 use Rattle.std.proofs.Common.{Vec, Global, ◌≡◌, ℕ, List, [], ◌∷◌, Bool, true, false, cond, not, ◌&&◌, Some, None, refl, sym, ap, ◌∙◌, subst, slice_get}
-use Rattle.rules_code.specs.declared.code.Body.{Body}
+use Rattle.rules_code.specs.declared.code.CodeBody.{CodeBody}
 use Rattle.rules_waiting.specs.Waiting.{Sleeper, first_awake, earliest}
 use Rattle.slot_states.specs.SlotStates.{SlotThread}
 use Rattle.slot_states.specs.Resting as rest
@@ -24,7 +24,7 @@ not_own false true y r g e n = absurd (cc e)
 not_own false false true r g e n = refl
 not_own false false false r g e n = absurd (cc n)
 
-module _ (w : World) (none : NobodyWants w.threads.list.items w.threads.flight.list) (b : Body) where
+module _ (w : World) (none : NobodyWants w.threads.list.items w.threads.flight.list) (b : CodeBody) where
   -- a thread that hasn't finished and isn't blocked is to do an action
   own : (t : ℕ) (h : SlotThread) → slice_get (state_of b w).threads t ≡ Some h → h.finished ≡ false → h.blocked ≡ false → IsDoing h.term.part
   own t h is going free =
@@ -43,7 +43,7 @@ module _ (w : World) (none : NobodyWants w.threads.list.items w.threads.flight.l
 pub some_goes : (w : World) (t : ℕ) (th : Thread) → slice_get w.threads.list.items t ≡ Some th → th.finished ≡ false → th.blocked ≡ false → is_doing th.stack.control ≡ true → SomeGoes w
 some_goes w t th is going free does = (t, λ b. record { thread = slot_of b th; is = slots_is b w.threads.list.items t th is; unfinished = going; free = free; does = doing_part b th.stack.control does })
 
-none_goes : (w : World) → ((t : ℕ) (th : Thread) → slice_get w.threads.list.items t ≡ Some th → (th.finished ≡ false) × (th.blocked ≡ false) × (is_doing th.stack.control ≡ true) → ⊥) → (b : Body) (t : ℕ) → rest.Goes (state_of b w) t → ⊥
+none_goes : (w : World) → ((t : ℕ) (th : Thread) → slice_get w.threads.list.items t ≡ Some th → (th.finished ≡ false) × (th.blocked ≡ false) × (is_doing th.stack.control ≡ true) → ⊥) → (b : CodeBody) (t : ℕ) → rest.Goes (state_of b w) t → ⊥
 none_goes w none b t g =
     let th = slot_back b w.threads.list.items t g.thread g.is in
     none t th.0 th.1 (
@@ -66,7 +66,7 @@ none_sleep (s ∷ ss) e = absurd (cc e)
 abbrev pub with_threads : World → Threads → World
 with_threads w ts = record w { threads = ts }
 
-pub same_state : (w : World) (ts : Threads) → ((b : Body) → slots_of b ts.list.items ≡ slots_of b w.threads.list.items) → ts.flight.list ≡ w.threads.flight.list → SameState w (with_threads w ts)
+pub same_state : (w : World) (ts : Threads) → ((b : CodeBody) → slots_of b ts.list.items ≡ slots_of b w.threads.list.items) → ts.flight.list ≡ w.threads.flight.list → SameState w (with_threads w ts)
 same_state w ts slots flight b = λ i. record {
   threads = slots b i;
   cells = (state_of b w).cells;
@@ -91,5 +91,5 @@ pub rest_alike : (old new : World) → SameState old new → IsAtRest old → Is
 rest_alike old new same quiet b = subst AllRest (sym (same b)) (quiet b)
 
 -- where nobody waits open nobody does with slots
-pub none_waits_open : (b : Body) (w : World) → ((t : ℕ) → waits_open (slice_get w.threads.list.items t) ≡ false) → (t : ℕ) → ¬ WaitsOpen (state_of b w) t
+pub none_waits_open : (b : CodeBody) (w : World) → ((t : ℕ) → waits_open (slice_get w.threads.list.items t) ≡ false) → (t : ℕ) → ¬ WaitsOpen (state_of b w) t
 none_waits_open b w none t h = let z : true ≡ false = sym (waits_are_open b w.threads.list.items (state_of b w) t refl h) ∙ none t in cc z

@@ -11,7 +11,7 @@ use Rattle.rules_trees.specs.Programs.{Fn, script_of}
 use Rattle.rules_meaning.specs.Values.{V}
 use Rattle.rules_meaning.specs.Values as val
 use Rattle.rules_meaning.specs.CoreMeaning.{code_of}
-use Rattle.rules_code.specs.declared.code.Body.{Body}
+use Rattle.rules_code.specs.declared.code.CodeBody.{CodeBody}
 use Rattle.rules_code.specs.CodeTrees.{SlottedFunction}
 use Rattle.hs_rules.specs.State.{State}
 use Rattle.hs_rules.specs.Entries.{next, Leads}
@@ -40,7 +40,7 @@ use Rattle.world_entries.proofs.CellsOf.{cells_count}
 use Rattle.world_entries.proofs.Making.{main_goes}
 
 -- ---- what there is
-pub frames_count : (b : Body) (fs : List Frame) → length (frames_of b fs) ≡ length fs
+pub frames_count : (b : CodeBody) (fs : List Frame) → length (frames_of b fs) ≡ length fs
 frames_count b [] = refl
 frames_count b (f ∷ fs) = ap suc (frames_count b fs)
 
@@ -51,7 +51,7 @@ total i j k n w limit.Cells = length w.cells.cells + j
 total i j k n w limit.Frames = frames_over w.threads.list.items + k
 total i j k n w limit.Output = w.printed + n
 
-pub used_is : (b : Body) (w : World) (kind : LimitKind) → used kind (state_of b w) ≡ total 0 0 0 0 w kind
+pub used_is : (b : CodeBody) (w : World) (kind : LimitKind) → used kind (state_of b w) ≡ total 0 0 0 0 w kind
 used_is b w limit.Threads = let e = slots_count b w.threads.list.items in omega (arith, e)
 used_is b w limit.Cells = let e = cells_count w.cells.cells in omega (arith, e)
 used_is b w limit.Frames = let e = frames_same b w.threads.list.items in omega (arith, e)
@@ -81,7 +81,7 @@ frames_moved xs t h st is going =
     omega (arith, m, e, old, new)
 
 -- ---- local rules
-module _ (b : Body) (es : List Entry) (w : World) (live : Live b es w) (goes : Goes w) (t k : ℕ) (th : Thread) (is : slice_get w.threads.list.items t ≡ Some th) (going : th.finished ≡ false) (free : th.blocked ≡ false) (some : 0 < k)
+module _ (b : CodeBody) (es : List Entry) (w : World) (live : Live b es w) (goes : Goes w) (t k : ℕ) (th : Thread) (is : slice_get w.threads.list.items t ≡ Some th) (going : th.finished ≡ false) (free : th.blocked ≡ false) (some : 0 < k)
     (st : SlotTerm) (e : locals (funs_of b) Unmasked k (term_of b th.stack) ≡ Some st) (u : State) (leads : Leads (code_of (script_of b.of.value)) live.state (entry.Local t k) u) where
   abbrev ds : List Fn
   ds = script_of b.of.value
@@ -128,7 +128,7 @@ throw_shrinks x (then_to a vs) fs = (at (throw x) fs, refl, omega arith)
 throw_shrinks x (catch_by a vs) fs = (at (doing a (vs ++ val.Exception x ∷ [])) (mask_in (join_of Masked (mask_from Unmasked fs)) ∷ fs), refl, omega arith)
 throw_shrinks x (mask_in m) fs = (at (throw x) fs, refl, omega arith)
 
-pop_shrinks : (b : Body) (funs : List SlottedFunction) (k : Control) (fs : List Frame) → MeetsOne k fs → (st : SlotTerm) × (local funs Unmasked (part_of b k) (frames_of b fs) ≡ Some st) × (length st.frames ≤ length (frames_of b fs))
+pop_shrinks : (b : CodeBody) (funs : List SlottedFunction) (k : Control) (fs : List Frame) → MeetsOne k fs → (st : SlotTerm) × (local funs Unmasked (part_of b k) (frames_of b fs) ≡ Some st) × (length st.frames ≤ length (frames_of b fs))
 pop_shrinks b funs (c.Doing i vs) fs is = absurd is
 pop_shrinks b funs (c.Op q) fs is = absurd is
 pop_shrinks b funs (c.Ret v) [] is = absurd is
@@ -136,14 +136,14 @@ pop_shrinks b funs (c.Ret v) (f ∷ fs) is = ret_shrinks _ (frame_of b f) (frame
 pop_shrinks b funs (c.Throw x) [] is = absurd is
 pop_shrinks b funs (c.Throw x) (f ∷ fs) is = throw_shrinks x (frame_of b f) (frames_of b fs)
 
-pub pop_moves : (b : Body) (th : Thread) → MeetsOne th.stack.control th.stack.frames → (st : SlotTerm) × (locals (funs_of b) Unmasked 1 (term_of b th.stack) ≡ Some st) × (length st.frames ≤ length th.stack.frames)
+pub pop_moves : (b : CodeBody) (th : Thread) → MeetsOne th.stack.control th.stack.frames → (st : SlotTerm) × (locals (funs_of b) Unmasked 1 (term_of b th.stack) ≡ Some st) × (length st.frames ≤ length th.stack.frames)
 pop_moves b th is =
     let p = pop_shrinks b (funs_of b) th.stack.control th.stack.frames is in
     let n = frames_count b th.stack.frames in
     (p.0, ap (λ o. on_term o (λ u. Some u)) p.1, omega (arith, p.2, n))
 
 -- ---- other entries
-pub other_used : (b : Body) (es : List Entry) (w : World) (live : Live b es w) (e : Entry) (u : State) → Leads (code_of (script_of b.of.value)) live.state e u → IsNoLocal e
+pub other_used : (b : CodeBody) (es : List Entry) (w : World) (live : Live b es w) (e : Entry) (u : State) → Leads (code_of (script_of b.of.value)) live.state e u → IsNoLocal e
     → (kind : LimitKind) → endings.used kind u ≡ total 0 0 0 0 w kind + growth kind (state_of b w) e
 other_used b es w live e u leads other kind =
     entry_grows b.of.value (state_of b w) live.state u e live.represents leads.0 other kind

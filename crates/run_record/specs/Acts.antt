@@ -4,10 +4,10 @@ use Rattle.frame_stack.specs.declared.control.Control.{Control}
 use Rattle.frame_stack.specs.declared.control.Control.TheVariants as control
 use Rattle.hs_rules.specs.declared.entry.Entry.{Entry}
 use Rattle.hs_rules.specs.declared.entry.Entry.TheVariants as entry
-use Rattle.run_record.specs.declared.acts.Act.{Act}
-use Rattle.run_record.specs.declared.acts.Act.TheVariants as act
+use Rattle.run_record.specs.declared.acts.NextEntry.{NextEntry}
+use Rattle.run_record.specs.declared.acts.NextEntry.TheVariants as act
 
-abbrev pub entry_of : Act → Entry
+abbrev pub entry_of : NextEntry → Entry
 entry_of (act.Op t) = entry.Op t
 entry_of (act.Finish t) = entry.Finish t
 entry_of (act.Local t) = entry.Local t 1

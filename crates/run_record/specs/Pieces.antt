@@ -2,13 +2,13 @@
 use Rattle.std.specs.Prelude.{◌≡◌, ℕ, List, [], Option, Some, None}
 use Rattle.run_record.specs.declared.pieces.Stream.{Stream}
 use Rattle.run_record.specs.declared.pieces.Stream.TheVariants.{Output, Errors}
-use Rattle.run_record.specs.declared.pieces.Piece.{Piece}
+use Rattle.run_record.specs.declared.pieces.PrintedPiece.{PrintedPiece}
 
 abbrev pub on_stream : Stream → List ℕ → (output errors : List ℕ) → Type 0
 on_stream Output bytes output errors = (output ≡ bytes) × (errors ≡ [])
 on_stream Errors bytes output errors = (output ≡ []) × (errors ≡ bytes)
 
 -- all that goes to the two streams
-abbrev pub IsPiece : Option Piece → (output errors : List ℕ) → Type 0
+abbrev pub IsPiece : Option PrintedPiece → (output errors : List ℕ) → Type 0
 IsPiece None output errors = (output ≡ []) × (errors ≡ [])
 IsPiece (Some p) output errors = on_stream p.stream p.bytes.items output errors

@@ -1,6 +1,6 @@
 -- What can be done next, and what a record is after it (own).
 use Rattle.std.specs.Prelude.{◌≡◌, ◌++◌, ◌+◌, ◌∷◌, [], ℕ, Bool, cond, List, Some, length}
-use Rattle.rules_code.specs.declared.code.Body.{Body}
+use Rattle.rules_code.specs.declared.code.CodeBody.{CodeBody}
 use Rattle.hs_rules.specs.declared.entry.Entry.{Entry}
 use Rattle.hs_rules.specs.declared.entry.LimitKind.{LimitKind}
 use Rattle.hs_rules.specs.Endings.{RunEnding, IsDone, IsUncaught, IsWithin}
@@ -15,11 +15,11 @@ use Rattle.rules_waiting.specs.Waiting.{first_awake, earliest}
 use Rattle.slot_states.specs.Resting as rest
 use Rattle.slot_states.specs.Resting.{NobodyActs}
 use Rattle.thread_table.specs.Kinds.{IsKind}
-use Rattle.thread_table.specs.declared.kinds.Kind.TheVariants as kind
+use Rattle.thread_table.specs.declared.kinds.EntryKind.TheVariants as kind
 use Rattle.world_entries.specs.declared.world.World.{World}
 use Rattle.world_entries.specs.Worlds.{state_of, Goes, IsAtRest, SomeWaitOpen, SameState}
-use Rattle.run_record.specs.declared.acts.Act.{Act}
-use Rattle.run_record.specs.declared.acts.Act.TheVariants as act
+use Rattle.run_record.specs.declared.acts.NextEntry.{NextEntry}
+use Rattle.run_record.specs.declared.acts.NextEntry.TheVariants as act
 use Rattle.run_record.specs.declared.acts.Next.{Next}
 use Rattle.run_record.specs.declared.acts.Next.TheVariants as next
 use Rattle.run_record.specs.declared.record.Record.{Record}
@@ -30,7 +30,7 @@ abbrev pub script : Record → List Fn
 script r = script_of r.of.value.of.value
 
 -- the act is possible
-abbrev pub Can : Act → World → Type 0
+abbrev pub Can : NextEntry → World → Type 0
 Can (act.Op t) w = IsKind kind.Op t w.threads
 Can (act.Finish t) w = IsKind kind.Finish t w.threads
 Can (act.Local t) w = IsKind kind.Local t w.threads
@@ -44,15 +44,16 @@ HasFinished value r = ∥ ((s : State) × IsRun (script r) r.history.list s × c
 
 -- some thread is to do an action
 abbrev pub SomeGoes : World → Type 0
-SomeGoes w = (t : ℕ) × ((b : Body) → rest.Goes (state_of b w) t)
+SomeGoes w = (t : ℕ) × ((b : CodeBody) → rest.Goes (state_of b w) t)
 
 -- what is next, where main hasn't finished, is what there is
 abbrev pub IsNextOf : Next → World → Type 0
 IsNextOf (next.Over value) w = ⊥
 IsNextOf (next.Act a) w = Goes w × Can a w
-IsNextOf next.Goes w = Goes w × ((b : Body) → NobodyActs (state_of b w)) × SomeGoes w
+IsNextOf next.Goes w = Goes w × ((b : CodeBody) → NobodyActs (state_of b w)) × SomeGoes w
 IsNextOf (next.Sleeps due) w = Goes w × IsAtRest w × (earliest w.sleepers.list ≡ Some due)
-IsNextOf next.Stuck w = Goes w × IsAtRest w × (w.sleepers.list ≡ []) × ((b : Body) (t : ℕ) → ¬ rest.WaitsOpen (state_of b w) t)
+IsNextOf next.Stuck w = Goes w × IsAtRest w × (w.sleepers.list ≡ [])
+    × ((b : CodeBody) (t : ℕ) → ¬ rest.WaitsOpen (state_of b w) t)
 
 abbrev pub IsNext : Next → Record → Type 0
 IsNext (next.Over value) r = HasFinished value r
@@ -85,8 +86,8 @@ abbrev pub Fits : Entry → Record → Type 0
 Fits e r = (s u : State) → IsRun (script r) r.history.list s → Leads (code_of (script r)) s e u → IsWithin r.limits u
 
 -- the act prints so many bytes in a world whose threads' actions are of this code
-abbrev pub PrintsIn : Body → ℕ → Act → World → Type 0
+abbrev pub PrintsIn : CodeBody → ℕ → NextEntry → World → Type 0
 PrintsIn b n a w = n ≡ length (output_by (state_of b w) (entry_of a)) + length (errors_by (state_of b w) (entry_of a))
 
-abbrev pub Prints : ℕ → Act → Record → Type 0
+abbrev pub Prints : ℕ → NextEntry → Record → Type 0
 Prints n a r = PrintsIn r.of.value n a r.world

@@ -1,6 +1,6 @@
 //! One entry.
 ghost use Rattle.std.specs.Prelude.{◌≡◌, ◌<◌, ◌≤◌, ◌+◌, OnErr, IfOk, OnOk, MatchOption};
-ghost use Rattle.rules_code.specs.declared.code.Body.{Body};
+ghost use Rattle.rules_code.specs.declared.code.CodeBody.{CodeBody};
 ghost use Rattle.hs_rules.specs.Histories.{steps_of};
 ghost use Rattle.hs_rules.specs.declared.entry.Entry.TheVariants as entry;
 ghost use Rattle.hs_rules.specs.declared.entry.LimitKind.TheVariants as limit;
@@ -8,7 +8,7 @@ ghost use Rattle.world_entries.specs.Worlds.{Goes, HasRoom, IsLive, Makes, SameS
 ghost use Rattle.run_record.specs.Acts.{entry_of};
 ghost use Rattle.run_record.specs.Records.{Can, Same, Appended, Prints, PrintsIn, WouldExceed};
 
-use crate::acts::Act;
+use crate::acts::NextEntry;
 use crate::record::Record;
 use frame_stack::Slice;
 use hs_base::NoMemory;
@@ -18,7 +18,7 @@ use world_entries::World;
 impl Record {
     /// Appends the entry of an act, which prints so many bytes, and changes the world by it, or answers the limit that this
     /// entry would exceed.
-    pub fn act(&mut self, act: Act, bytes: usize) -> Result<Option<LimitKind>, NoMemory>
+    pub fn act(&mut self, act: NextEntry, bytes: usize) -> Result<Option<LimitKind>, NoMemory>
         requires goes { Goes self.old.world }
         requires can { Can act self.old.world }
         requires fuel { steps_of self.old.history.list < self.old.fuel }
@@ -92,22 +92,22 @@ impl Record {
 }
 
 /// Changes the world by the entry of an act that prints so many bytes.
-fn change(world: &mut World, act: Act, bytes: u32) -> Result<(), NoMemory>
+fn change(world: &mut World, act: NextEntry, bytes: u32) -> Result<(), NoMemory>
     requires live { IsLive world.old }
     requires goes { Goes world.old }
     requires room { HasRoom world.old }
     requires can { Can act world.old }
-    requires bytes { (b : Body) × PrintsIn b bytes act world.old }
+    requires bytes { (b : CodeBody) × PrintsIn b bytes act world.old }
     ensures ok { OnOk result (Makes (entry_of act) world.old world.new) }
     ensures err { OnErr result (SameState world.old world.new) }
 {
     match act {
-        Act::Op(t) => world.op(t)?,
-        Act::Finish(t) => world.finish(t, bytes),
-        Act::Local(t) => world.pop(t),
-        Act::Receive(t) => world.receive(t),
-        Act::Wake(t) => world.wake(t),
-        Act::Strand => world.strand(),
+        NextEntry::Op(t) => world.op(t)?,
+        NextEntry::Finish(t) => world.finish(t, bytes),
+        NextEntry::Local(t) => world.pop(t),
+        NextEntry::Receive(t) => world.receive(t),
+        NextEntry::Wake(t) => world.wake(t),
+        NextEntry::Strand => world.strand(),
     }
     Ok(())
 }

@@ -3,7 +3,7 @@ use hs_rules::Entry;
 /// What a thread, or the clock's time, makes possible: an entry other than a Tick, and local rules only of a value or an
 /// exception in a frame.
 #[derive(Clone, Copy, Debug, PartialEq, Eq)]
-pub enum Act {
+pub enum NextEntry {
     Op(u32),
     Finish(u32),
     /// One local rule.
@@ -18,7 +18,7 @@ pub enum Act {
 pub enum Next {
     /// Nothing: the main thread has finished, by a value or not.
     Over(bool),
-    Act(Act),
+    Act(NextEntry),
     /// Local rules of threads that are to do an action, and Ticks.
     Goes,
     /// Ticks: the first sleeper may wake then.
@@ -27,7 +27,7 @@ pub enum Next {
     Stuck,
 }
 
-impl Act {
+impl NextEntry {
     ghost use Rattle.std.specs.Prelude.{◌≡◌};
     ghost use Rattle.run_record.specs.Acts.{entry_of};
 
@@ -36,12 +36,12 @@ impl Act {
         ensures { result ≡ entry_of self }
     {
         match self {
-            Act::Op(t) => Entry::Op { t },
-            Act::Finish(t) => Entry::Finish { t },
-            Act::Local(t) => Entry::Local { t, k: 1 },
-            Act::Receive(t) => Entry::Receive { t },
-            Act::Wake(t) => Entry::Wake { t },
-            Act::Strand => Entry::Stranded,
+            NextEntry::Op(t) => Entry::Op { t },
+            NextEntry::Finish(t) => Entry::Finish { t },
+            NextEntry::Local(t) => Entry::Local { t, k: 1 },
+            NextEntry::Receive(t) => Entry::Receive { t },
+            NextEntry::Wake(t) => Entry::Wake { t },
+            NextEntry::Strand => Entry::Stranded,
         }
     }
 }

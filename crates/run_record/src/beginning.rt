@@ -4,7 +4,7 @@ ghost use Rattle.rules_code.specs.Codes.{body_of};
 
 use crate::record::Record;
 use hs_base::{Limits, NoMemory};
-use hs_rules::{Body, Code, History};
+use hs_rules::{Code, CodeBody, History};
 use std::alloc::Global;
 use std::snapshot::Snapshot;
 use world_entries::World;
@@ -19,7 +19,7 @@ impl Record {
         ensures clock { IfOk result (λ r. r.world.clock ≡ 0) }
     {
         let world = World::first(alloc, code)?;
-        let body: &Body = &code.body;
+        let body: &CodeBody = &code.body;
         Ok(Record {
             history: History::new(alloc),
             world,

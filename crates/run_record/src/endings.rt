@@ -4,7 +4,7 @@ ghost use Rattle.std.specs.Prelude.{◌≡◌, ℕ, true, false};
 ghost use Rattle.hs_rules.specs.Histories.{steps_of};
 ghost use Rattle.hs_rules.specs.Endings.{Done, Uncaught, Deadlock, Fuel};
 ghost use Rattle.run_record.specs.declared.record.Record.{Record};
-ghost use Rattle.run_record.specs.declared.acts.Act.{Act};
+ghost use Rattle.run_record.specs.declared.acts.NextEntry.{NextEntry};
 ghost use Rattle.run_record.specs.declared.acts.Next.TheVariants as next;
 ghost use Rattle.run_record.specs.Records.{IsNext, EndsAs};
 
@@ -14,7 +14,7 @@ pub fn histories_end()
     ensures done { (r : Record) → IsNext (next.Over true) r → EndsAs Done r }
     ensures uncaught { (r : Record) → IsNext (next.Over false) r → EndsAs Uncaught r }
     ensures deadlock { (r : Record) → IsNext next.Stuck r → EndsAs Deadlock r }
-    ensures fuel_act { (r : Record) (a : Act) → IsNext (next.Act a) r → steps_of r.history.list ≡ r.fuel → EndsAs Fuel r }
+    ensures fuel_act { (r : Record) (a : NextEntry) → IsNext (next.Act a) r → steps_of r.history.list ≡ r.fuel → EndsAs Fuel r }
     ensures fuel_goes { (r : Record) → IsNext next.Goes r → steps_of r.history.list ≡ r.fuel → EndsAs Fuel r }
     ensures fuel_sleeps { (r : Record) → ((due : ℕ) × IsNext (next.Sleeps due) r) → steps_of r.history.list ≡ r.fuel → EndsAs Fuel r }
 {}

@@ -23,7 +23,7 @@ mod pieces;
 mod ready;
 mod record;
 
-pub use acts::{Act, Next};
+pub use acts::{Next, NextEntry};
 pub use next::next_of;
-pub use pieces::{Piece, Stream};
+pub use pieces::{PrintedPiece, Stream};
 pub use record::Record;

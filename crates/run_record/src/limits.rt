@@ -1,6 +1,6 @@
 //! Entries that would exceed a limit.
 ghost use Rattle.std.specs.Prelude.{◌≡◌, ◌<◌, ◌^◌, ◌≤◌, ◌+◌, true, false, IfSome, IfNone};
-ghost use Rattle.rules_code.specs.declared.code.Body.{Body};
+ghost use Rattle.rules_code.specs.declared.code.CodeBody.{CodeBody};
 ghost use Rattle.hs_rules.specs.Histories.{steps_of};
 ghost use Rattle.hs_rules.specs.declared.entry.Entry.TheVariants as entry;
 ghost use Rattle.hs_rules.specs.declared.entry.LimitKind.TheVariants as limit;
@@ -9,7 +9,7 @@ ghost use Rattle.frame_stack.specs.Parts.{part_of};
 ghost use Rattle.thread_table.specs.Table.{frames_over};
 ghost use Rattle.world_entries.specs.Worlds.{state_of, Goes, Starts};
 
-use crate::acts::Act;
+use crate::acts::NextEntry;
 use crate::record::Record;
 use frame_stack::{Control, Prim, Slice};
 use hs_rules::LimitKind;
@@ -23,8 +23,8 @@ struct Made {
 
 /// What the operation of a control makes.
 fn made_by(control: &Control) -> Made
-    ensures threads { (b : Body) → result.threads ≡ forked (performed (part_of b control.now)) }
-    ensures cells { (b : Body) → result.cells ≡ celled (performed (part_of b control.now)) }
+    ensures threads { (b : CodeBody) → result.threads ≡ forked (performed (part_of b control.now)) }
+    ensures cells { (b : CodeBody) → result.cells ≡ celled (performed (part_of b control.now)) }
 {
     match control {
         Control::Op(Prim::Fork(_, _)) => Made {
@@ -55,7 +55,7 @@ impl Record {
     ghost use Rattle.run_record.specs.Records.{Can, Fits, Prints, WouldExceed};
 
     /// The limit that the entry of an act which prints so many bytes would exceed, the first in their order.
-    pub fn exceeds(&self, act: Act, bytes: usize) -> Option<LimitKind>
+    pub fn exceeds(&self, act: NextEntry, bytes: usize) -> Option<LimitKind>
         requires goes { Goes self.now.world }
         requires can { Can act self.now.world }
         requires fuel { steps_of self.now.history.list + 1 ≤ self.now.fuel }
@@ -84,12 +84,12 @@ impl Record {
     }
 
     /// What the operation of an act makes.
-    fn makes(&self, act: Act) -> Made
-        ensures threads { (b : Body) → result.threads ≡ forked (op_of (doer (state_of b self.now.world) (entry_of act))) }
-        ensures cells { (b : Body) → result.cells ≡ celled (op_of (doer (state_of b self.now.world) (entry_of act))) }
+    fn makes(&self, act: NextEntry) -> Made
+        ensures threads { (b : CodeBody) → result.threads ≡ forked (op_of (doer (state_of b self.now.world) (entry_of act))) }
+        ensures cells { (b : CodeBody) → result.cells ≡ celled (op_of (doer (state_of b self.now.world) (entry_of act))) }
     {
         match act {
-            Act::Op(t) => match self.world.threads.list.get(t as usize) {
+            NextEntry::Op(t) => match self.world.threads.list.get(t as usize) {
                 Some(thread) => made_by(thread.stack.control()),
                 None => Made {
                     threads: 0,

@@ -7,10 +7,10 @@ ghost use Rattle.world_entries.specs.Worlds.{Goes, SameState};
 ghost use Rattle.run_record.specs.Acts.{is_value as is_value_by};
 ghost use Rattle.run_record.specs.Records.{Can, IsNextOf, IsNext, Same, HasFinished};
 
-use crate::acts::{Act, Next};
+use crate::acts::{Next, NextEntry};
 use crate::record::Record;
 use frame_stack::Control;
-use thread_table::Kind;
+use thread_table::EntryKind;
 use world_entries::World;
 
 impl Record {
@@ -56,7 +56,7 @@ pub fn next_of(world: &mut World) -> Next
         return Next::Act(act_of(world.threads.kind(t), t));
     }
     if let Some(t) = world.sleepers.due(world.clock) {
-        return Next::Act(Act::Wake(t));
+        return Next::Act(NextEntry::Wake(t));
     }
     if world.threads.some_goes() {
         return Next::Goes;
@@ -65,7 +65,7 @@ pub fn next_of(world: &mut World) -> Next
         return Next::Sleeps(due);
     }
     if world.threads.may_strand() {
-        return Next::Act(Act::Strand);
+        return Next::Act(NextEntry::Strand);
     }
     Next::Stuck
 }
@@ -82,13 +82,13 @@ fn is_value(control: &Control) -> bool
 }
 
 /// The act of a thread that has something to do.
-fn act_of(kind: Kind, t: u32) -> Act
+fn act_of(kind: EntryKind, t: u32) -> NextEntry
     ensures { (w : AWorld) → IsKind kind t w.threads → Can result w }
 {
     match kind {
-        Kind::Op => Act::Op(t),
-        Kind::Finish => Act::Finish(t),
-        Kind::Local => Act::Local(t),
-        Kind::Receive => Act::Receive(t),
+        EntryKind::Op => NextEntry::Op(t),
+        EntryKind::Finish => NextEntry::Finish(t),
+        EntryKind::Local => NextEntry::Local(t),
+        EntryKind::Receive => NextEntry::Receive(t),
     }
 }

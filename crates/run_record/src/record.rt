@@ -5,7 +5,7 @@ ghost use Rattle.rules_trees.specs.Programs.{script_of};
 ghost use Rattle.world_entries.specs.Worlds.{Live};
 
 use hs_base::Limits;
-use hs_rules::{Body, History};
+use hs_rules::{CodeBody, History};
 use std::snapshot::Snapshot;
 use world_entries::World;
 
@@ -18,7 +18,7 @@ pub struct Record {
     pub fuel: u32,
     pub limits: Limits,
     /// The code that the threads' actions are of.
-    pub of: Snapshot<Body>,
+    pub of: Snapshot<CodeBody>,
     pub ghost after: { ∥ Live of.value history.list world ∥₁ },
     pub ghost within: { steps_of history.list ≤ fuel },
     pub ghost few: { fuel < 2 ^ 32 },

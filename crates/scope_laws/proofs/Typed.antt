@@ -11,7 +11,7 @@ use Rattle.rules_expansion.specs.declared.primitive.Primitive.TheVariants.{TakeM
 use Rattle.rules_meaning.specs.Values.{V, Cell, Env, Outcome, Gives}
 use Rattle.rules_meaning.specs.Meaning.{value_of_ex, functions_of}
 use Rattle.rules_meaning.specs.CoreMeaning.{Code, code_of}
-use Rattle.rules_sorts.specs.Sorts.{Sort, a_value, a_masking_name, an_instance, a_scope_cell, Bound}
+use Rattle.rules_sorts.specs.Sorts.{Sort, a_value, a_masking_name, an_instance, a_scope_cell, SortedName}
 use Rattle.rules_sorts.specs.TypedMeaning.{HasV}
 use Rattle.rules_typing.specs.TypingScripts.{Accepted}
 use Rattle.hs_rules.specs.Terms.{Calls, Part, Ret, Frame, BindTo}
@@ -66,7 +66,7 @@ module _ (st : Store) (cells : List Purpose) (kept : Kept st cells) where
     abbrev code : Code
     code = code_of (script_of script)
 
-    module _ (here : ℕ) (g : List Bound) (env : Env) (f : FitsScope (has st) g env) where
+    module _ (here : ℕ) (g : List SortedName) (env : Env) (f : FitsScope (has st) g env) where
       gives_sure : (k : Sort) (t : T) (v : V) (q : Outcome) → q ≡ Gives v → k ≡ a_value t → GoodSort (has st) k q → OfValues (at_values cells) (Some v)
       gives_sure k t v q e s h = value_sure t v (subst (λ j. OfSort (has st) j v) s (subst (GoodSort (has st) k) e h))
 

@@ -6,7 +6,7 @@ use Rattle.std.specs.Prelude.{Result, Ok, Err, IfOk}
 use Rattle.hs_base.specs.declared.no_memory.NoMemory.{NoMemory}
 use Rattle.hs_base.specs.declared.tree.script.Script.{Script}
 use Rattle.rules_trees.specs.Programs.{Fn, script_of}
-use Rattle.rules_code.specs.declared.code.Body.{Body}
+use Rattle.rules_code.specs.declared.code.CodeBody.{CodeBody}
 use Rattle.rules_code.specs.CodeTrees.{SlottedFunction, code_trees}
 use Rattle.outcome_laws.specs.Timings.{IsEndless}
 use Rattle.outcome_listing.specs.declared.bounds.Bounds.{Bounds}
@@ -28,7 +28,7 @@ use Rattle.search_ends.specs.Walks.{AreWithin, HaveRanks, Judges}
 use Rattle.search_ends.specs.Ending.{IsRightOf}
 
 -- each move leads between states that there are
-pub moves_within : (bounds : Bounds) (b : Body) (f : Found) → Searched bounds b f → AreWithin (length f.states) (edges_of f)
+pub moves_within : (bounds : Bounds) (b : CodeBody) (f : Found) → Searched bounds b f → AreWithin (length f.states) (edges_of f)
 moves_within bounds b f found p g is =
     let t = found.edges p g is in
     let many = length-map f.states (shown f.numbers b) in
@@ -36,7 +36,7 @@ moves_within bounds b f found p g is =
     let to = slice_get_within (states_of b f) g.to t.other t.there in
     (omega (arith, from, many), omega (arith, to, many))
 
-module _ (bounds : Bounds) (b : Body) (script : Script) (f : Found) (found : Searched bounds b f) (code : IsCodeOf b script) where
+module _ (bounds : Bounds) (b : CodeBody) (script : Script) (f : Found) (found : Searched bounds b f) (code : IsCodeOf b script) where
   abbrev ds : List Fn
   ds = script_of script
 
@@ -63,7 +63,7 @@ module _ (bounds : Bounds) (b : Body) (script : Script) (f : Found) (found : Sea
       goes_for_ever script code.0 bounds.limits bounds.clock (states_of b f) (edges_of f) edges_here at places h.1 (round_works funs bounds.clock bounds.limits (states_of b f) (edges_of f) edges_here at places h) c is r.origin.steps r.arrives
 
 -- a round begins at a state that there is
-begins_there : (bounds : Bounds) (b : Body) (f : Found) → Searched bounds b f → (at : ℕ) (places : List ℕ) → IsRound (edges_of f) at places → (c : Shown) × (slice_get (states_of b f) at ≡ Some c)
+begins_there : (bounds : Bounds) (b : CodeBody) (f : Found) → Searched bounds b f → (at : ℕ) (places : List ℕ) → IsRound (edges_of f) at places → (c : Shown) × (slice_get (states_of b f) at ≡ Some c)
 begins_there bounds b f found at [] h = absurd (omega (arith, h.0))
 begins_there bounds b f found at (p ∷ ps) h = let t = found.edges p h.1.0 h.1.1 in (t.state, ap (slice_get (states_of b f)) (sym h.1.2) ∙ t.is)
 

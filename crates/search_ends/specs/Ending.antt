@@ -1,7 +1,7 @@
 -- What it means that every schedule ends, or that some goes on for ever (own).
 use Rattle.hs_base.specs.declared.tree.script.Script.{Script}
 use Rattle.rules_trees.specs.Programs.{script_of}
-use Rattle.rules_code.specs.declared.code.Body.{Body}
+use Rattle.rules_code.specs.declared.code.CodeBody.{CodeBody}
 use Rattle.outcome_laws.specs.Timings.{IsEndless}
 use Rattle.outcome_listing.specs.declared.bounds.Bounds.{Bounds}
 use Rattle.ends_laws.specs.Rounds.{HaveBound, IsRound}
@@ -13,11 +13,11 @@ use Rattle.search_ends.specs.declared.marks.Ends.TheVariants.{Never, Round}
 
 -- where a search of the script left nothing out, some number bounds all runs of the timing, so none goes on for ever
 abbrev pub NeverEndless : Found → Type 0
-NeverEndless f = (bounds : Bounds) (b : Body) (script : Script) → Searched bounds b f → IsClosed bounds b f → IsCodeOf b script → HaveBound bounds.clock (script_of script) × ¬ IsEndless bounds.clock (script_of script)
+NeverEndless f = (bounds : Bounds) (b : CodeBody) (script : Script) → Searched bounds b f → IsClosed bounds b f → IsCodeOf b script → HaveBound bounds.clock (script_of script) × ¬ IsEndless bounds.clock (script_of script)
 
 -- where a search of the script came to these states, it is endless
 abbrev pub AlwaysEndless : Found → Type 0
-AlwaysEndless f = (bounds : Bounds) (b : Body) (script : Script) → Searched bounds b f → AreReached bounds script b f → IsCodeOf b script → IsEndless bounds.clock (script_of script)
+AlwaysEndless f = (bounds : Bounds) (b : CodeBody) (script : Script) → Searched bounds b f → AreReached bounds script b f → IsCodeOf b script → IsEndless bounds.clock (script_of script)
 
 -- The answer is right of what a search found.
 abbrev pub IsRightOf : Found → Ends → Type 0

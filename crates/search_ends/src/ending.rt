@@ -1,5 +1,5 @@
 ghost use Rattle.std.specs.Prelude.{IfOk};
-ghost use Rattle.rules_code.specs.declared.code.Body as code;
+ghost use Rattle.rules_code.specs.declared.code.CodeBody as code;
 ghost use Rattle.outcome_listing.specs.declared.bounds.Bounds as bounds;
 ghost use Rattle.state_search.specs.Searching.{Searched};
 ghost use Rattle.search_ends.specs.Ending.{IsRightOf};
@@ -12,7 +12,7 @@ use std::alloc::Global;
 
 /// Whether every schedule ends of the script whose states these are: a search in depth along their moves.
 pub fn ends(alloc: Global, found: &Found) -> Result<Ends, NoMemory>
-    requires { (bounds : bounds.Bounds) × (b : code.Body) × Searched bounds b found.now }
+    requires { (bounds : bounds.Bounds) × (b : code.CodeBody) × Searched bounds b found.now }
     ensures { IfOk result (λ e. IsRightOf found.now e) }
 {
     let count = found.states.len();

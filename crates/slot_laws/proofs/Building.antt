@@ -9,7 +9,7 @@ use Rattle.rules_expansion.specs.Names.{Name, Written, Added, hidden_number, sam
 use Rattle.rules_expansion.specs.declared.hidden.Hidden.{Hidden}
 use Rattle.rules_expansion.specs.Core.{Core}
 use Rattle.rules_meaning.specs.Values.{V, UnitValue, Env, value_at}
-use Rattle.rules_sorts.specs.Sorts.{Sort, Bound, sort_at}
+use Rattle.rules_sorts.specs.Sorts.{Sort, SortedName, sort_at}
 use Rattle.rules_typing.specs.TypingScripts.{Accepted}
 use Rattle.rules_code.specs.Slots.{slot_of}
 use Rattle.rules_code.specs.CodeTrees.{a_bad}
@@ -72,11 +72,11 @@ get_end (x ∷ xs) zero v h = absurd (omega arith)
 get_end (x ∷ xs) (suc k) v h = get_end xs k v (omega arith)
 
 module _ (env : Env) where
-  abbrev slots_in : List Bound → List V
+  abbrev slots_in : List SortedName → List V
   slots_in [] = []
   slots_in (c ∷ g) = slots_in g ++ value_or (value_at c.name env) ∷ []
 
-  slots_count : (g : List Bound) → length (slots_in g) ≡ length (names_of g)
+  slots_count : (g : List SortedName) → length (slots_in g) ≡ length (names_of g)
   slots_count [] = refl
   slots_count (c ∷ g) = let l = length-append (slots_in g) (value_or (value_at c.name env) ∷ []) in let h = slots_count g in omega (arith, l, h)
 
@@ -103,7 +103,7 @@ module _ (env : Env) where
   agree_bound true k n o m w r vs l e h = agree_end k n w r vs l (e refl)
   agree_bound false k n o m w r vs l e h = agree_more o m w vs (value_or r ∷ []) h
 
-  all_agree : (g : List Bound) (y : Name) → Agree (sort_at y g) (slot_of (names_of g) y) (value_at y env) (slots_in g)
+  all_agree : (g : List SortedName) (y : Name) → Agree (sort_at y g) (slot_of (names_of g) y) (value_at y env) (slots_in g)
   all_agree [] y = tt
   all_agree (c ∷ g) y =
       agree_bound (same_name y c.name) c.sort (length (names_of g)) (sort_at y g) (slot_of (names_of g) y) (value_at y env) (value_at c.name env) (slots_in g) (slots_count g)
@@ -118,7 +118,7 @@ module _ (env : Env) where
     seen_agree y (Some k) (Some n) None vs f h = f
     seen_agree y (Some k) (Some n) (Some v) vs f h = h
 
-    slots_fit : (g : List Bound) → FitsScope cells g env → SlotsFit cells g env (slots_in g)
+    slots_fit : (g : List SortedName) → FitsScope cells g env → SlotsFit cells g env (slots_in g)
     slots_fit g f = record {
       slots = record { size = slots_count g; seen = λ y u. seen_agree y (sort_at y g) (slot_of (names_of g) y) (value_at y env) (slots_in g) (f y) (all_agree g y) };
       sorts = f;

@@ -8,14 +8,14 @@ use Rattle.rules_expansion.specs.Core.{CoreEx, OfScript, Core, Return, ThrowIo, 
 use Rattle.rules_expansion.specs.Expansion.{actions_of}
 use Rattle.rules_meaning.specs.Values.{V, Env}
 use Rattle.rules_meaning.specs.CoreMeaning.{code_of}
-use Rattle.rules_sorts.specs.Sorts.{Sort, a_value, Bound}
+use Rattle.rules_sorts.specs.Sorts.{Sort, a_value, SortedName}
 use Rattle.rules_sorts.specs.TypedMeaning.{WellAll}
 use Rattle.rules_typing.specs.Typing as typing
 use Rattle.rules_typing.specs.TypingScripts.{Accepted}
 use Rattle.rules_code.specs.declared.act.Act.{Act}
 use Rattle.rules_code.specs.declared.act.Act.TheVariants as act
 use Rattle.rules_code.specs.declared.act.ActId.{ActId}
-use Rattle.rules_code.specs.declared.code.Body.{Body}
+use Rattle.rules_code.specs.declared.code.CodeBody.{CodeBody}
 use Rattle.rules_code.specs.declared.node.ExprId.{ExprId}
 use Rattle.rules_code.specs.Slots.{Sx, Scope, Root, roots_of, slotted_all, tree_in, trees_in, tree_at, trees}
 use Rattle.rules_code.specs.CodeTrees.{Sa, a_bind, a_then, is_unread, slotted_core, slotted_core_ex, slotted_core_exs, act_decode, act_tree_at, code_trees}
@@ -39,7 +39,7 @@ use Rattle.slot_laws.proofs.Simulation.{same_rules, moved}
 
 -- ---- each has a sort
 
-module _ (c : typing.Ctx) (g : List Bound) where
+module _ (c : typing.Ctx) (g : List SortedName) where
   all_have : {es : List CoreEx} {ks : List Sort} → CoreAllHave c g es ks → HaveSorts c g es
   all_have no_more = tt
   all_have (one_more {k} h hs) = ((k, h), all_have hs)
@@ -48,7 +48,7 @@ module _ (c : typing.Ctx) (g : List Bound) where
   args_have none ts w h = tt
   args_have (more e es) ts w h = ((a_value h.0, (h.0, w.0, h.2, refl)), args_have es h.1 w.1 h.3)
 
-does_have : (c : typing.Ctx) {g : List Bound} {a : Core} {k : Sort} → Does c g a k → HaveSorts c g (evaluated a)
+does_have : (c : typing.Ctx) {g : List SortedName} {a : Core} {k : Sort} → Does c g a k → HaveSorts c g (evaluated a)
 does_have c (does_return {k} h) = ((k, h), tt)
 does_have c (does_throw h) = ((_, h), tt)
 does_have c (does_let {j} p h d) = ((j, h), tt)
@@ -68,7 +68,7 @@ does_have c (does_mask p d) = tt
 does_have c (does_mask_hard p d) = tt
 does_have c (does_restore h d) = tt
 
-sort_of : (c : typing.Ctx) (g : List Bound) (es : List CoreEx) → HaveSorts c g es → (n : ℕ) (e : CoreEx) → slice_get es n ≡ Some e → (k : Sort) × CoreHas c g e k
+sort_of : (c : typing.Ctx) (g : List SortedName) (es : List CoreEx) → HaveSorts c g es → (n : ℕ) (e : CoreEx) → slice_get es n ≡ Some e → (k : Sort) × CoreHas c g e k
 sort_of c g [] h n e p = absurd (let z : None ≡ Some e = p in cc z)
 sort_of c g (d ∷ es) h zero e p = let z : d ≡ e = cc p in subst (λ x. (k : Sort) × CoreHas c g x k) z h.0
 sort_of c g (d ∷ es) h (suc n) e p = sort_of c g es h.1 n e p
@@ -176,7 +176,7 @@ decoded_same ts us (act.Mask i) = refl
 decoded_same ts us (act.UninterruptibleMask i) = refl
 decoded_same ts us (act.Restore k i) = refl
 
-pub nodes_same : (b : Body) (i : ActId) (k : Act) → slice_get b.acts i.0 ≡ Some k → slots_evaluated (act_tree_at b.nodes b.acts i) ≡ map (tree_at b.nodes) (nodes_evaluated k)
+pub nodes_same : (b : CodeBody) (i : ActId) (k : Act) → slice_get b.acts i.0 ≡ Some k → slots_evaluated (act_tree_at b.nodes b.acts i) ≡ map (tree_at b.nodes) (nodes_evaluated k)
 nodes_same b i k h = ap slots_evaluated (act_is b.nodes b.acts i k h) ∙ decoded_same (trees b.nodes) _ k
 
 item_mapped : {A B : Type 0} (f : A → B) (xs : List A) (n : ℕ) (x : A) → slice_get xs n ≡ Some x → slice_get (map f xs) n ≡ Some (f x)
@@ -184,14 +184,14 @@ item_mapped f [] n x e = absurd (let z : ◌≡◌ {A = Option _} None (Some x) 
 item_mapped f (y ∷ xs) zero x e = let z : y ≡ x = cc e in ap (λ w. Some (f w)) z
 item_mapped f (y ∷ xs) (suc n) x e = item_mapped f xs n x e
 
-pub node_at : (b : Body) (i : ActId) (k : Act) → slice_get b.acts i.0 ≡ Some k → (n : ℕ) (e : ExprId) → slice_get (nodes_evaluated k) n ≡ Some e → slice_get (slots_evaluated (act_tree_at b.nodes b.acts i)) n ≡ Some (tree_at b.nodes e)
+pub node_at : (b : CodeBody) (i : ActId) (k : Act) → slice_get b.acts i.0 ≡ Some k → (n : ℕ) (e : ExprId) → slice_get (nodes_evaluated k) n ≡ Some e → slice_get (slots_evaluated (act_tree_at b.nodes b.acts i)) n ≡ Some (tree_at b.nodes e)
 node_at b i k h n e p = ap (λ z. slice_get z n) (nodes_same b i k h) ∙ item_mapped (tree_at b.nodes) (nodes_evaluated k) n e p
 
-pub node_evaluable : (store : Option Store) (b : Body) (i : ActId) (k : Act) → slice_get b.acts i.0 ≡ Some k → (vs : List V) (ss : List SlotFrame) (t : named.Term) → Stands (cells_of store) (script_of b.of.value) (at (doing (act_tree_at b.nodes b.acts i) vs) ss) t
+pub node_evaluable : (store : Option Store) (b : CodeBody) (i : ActId) (k : Act) → slice_get b.acts i.0 ≡ Some k → (vs : List V) (ss : List SlotFrame) (t : named.Term) → Stands (cells_of store) (script_of b.of.value) (at (doing (act_tree_at b.nodes b.acts i) vs) ss) t
     → (n : ℕ) (e : ExprId) → slice_get (nodes_evaluated k) n ≡ Some e → Evaluable (script_of b.of.value) t.part n (tree_at b.nodes e) vs
 node_evaluable store b i k h vs ss t w n e p = stands_evaluable store (script_of b.of.value) (act_tree_at b.nodes b.acts i) vs ss t w n (tree_at b.nodes e) (node_at b i k h n e p)
 
-pub node_reached : (b : Body) → Accepted b.of.value → (stacks : ℕ → SlotTerm) (u : State) → StacksStand (script_of b.of.value) stacks u → (t r : ℕ) (th : Thread) → slice_get u.threads t ≡ Some th → (i : ActId) (k : Act) → slice_get b.acts i.0 ≡ Some k → (vs : List V) (ss : List SlotFrame)
+pub node_reached : (b : CodeBody) → Accepted b.of.value → (stacks : ℕ → SlotTerm) (u : State) → StacksStand (script_of b.of.value) stacks u → (t r : ℕ) (th : Thread) → slice_get u.threads t ≡ Some th → (i : ActId) (k : Act) → slice_get b.acts i.0 ≡ Some k → (vs : List V) (ss : List SlotFrame)
     → slot.locals (code_trees (script_of b.of.value)) Unmasked r (stacks t) ≡ Some (at (doing (act_tree_at b.nodes b.acts i) vs) ss)
     → (x : named.Term) × (name.locals (code_of (script_of b.of.value)) r th.term ≡ Some x) × ((n : ℕ) (e : ExprId) → slice_get (nodes_evaluated k) n ≡ Some e → Evaluable (script_of b.of.value) x.part n (tree_at b.nodes e) vs)
 node_reached b accepted stacks u w t r th is i k h vs ss l =

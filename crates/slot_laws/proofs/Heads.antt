@@ -5,7 +5,7 @@ use Rattle.hs_base.specs.declared.tree.script.Script.{Script}
 use Rattle.rules_trees.specs.Trees.{T, unit}
 use Rattle.rules_trees.specs.Programs.{script_of}
 use Rattle.rules_expansion.specs.Names.{Name}
-use Rattle.rules_sorts.specs.Sorts.{a_value, Bound}
+use Rattle.rules_sorts.specs.Sorts.{a_value, SortedName}
 use Rattle.rules_typing.specs.Typing as typing
 use Rattle.rules_typing.specs.Typing.{Sig}
 use Rattle.rules_typing.specs.TypingScripts.{Accepted, sigs_from, is_unit, is_none, main_by}
@@ -45,7 +45,7 @@ unit_is _ e = absurd (cc e)
 reads_of : (s : Script) (sig : Sig) (d : ActionFunction) (ps : List Name) → d.params ≡ ps → sig.params ≡ [] → KeepsHead (script_of s) sig d → (cells : ℕ → T → Type 0) → Reads cells (script_of s) (tree_or_bad (script_of s) (Some d.body)) [] d.body [] (a_value sig.result)
 reads_of s sig d ps e n h cells = by h.takes h.does (h.scope) n
   where
-    by : {ps : List Name} {ts : List T} {g : List Bound} → Takes [] ps ts g → Does (ctx_of (script_of s) h.here) g d.body (a_value sig.result) → (w : List Bound) → ts ≡ []
+    by : {ps : List Name} {ts : List T} {g : List SortedName} → Takes [] ps ts g → Does (ctx_of (script_of s) h.here) g d.body (a_value sig.result) → (w : List SortedName) → ts ≡ []
         → Reads cells (script_of s) (tree_or_bad (script_of s) (Some d.body)) [] d.body [] (a_value sig.result)
     by takes_none p w e = record { here = h.here; scope = []; is = refl; does = p; fits = fits_none cells }
     by (takes_one {t} {ts} x) p w e = absurd (let z : t ∷ ts ≡ [] = e in cc z)

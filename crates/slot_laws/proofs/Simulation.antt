@@ -11,7 +11,7 @@ use Rattle.rules_trees.specs.Programs.{Fn, script_of}
 use Rattle.rules_expansion.specs.Names.{Name}
 use Rattle.rules_meaning.specs.Values.{V, Truth, Nothing, Just, Left, Right, Pair, Nil, Cons, Exception, Restore, Env, with_name, value_at, Outcomes, AllGive, OneThrows, OneStuck}
 use Rattle.rules_meaning.specs.Meaning.{functions_of, values_of_exs}
-use Rattle.rules_sorts.specs.Sorts.{Sort, a_value, a_masking_name, Bound}
+use Rattle.rules_sorts.specs.Sorts.{Sort, a_value, a_masking_name, SortedName}
 use Rattle.rules_typing.specs.Typing as typing
 use Rattle.rules_typing.specs.TypingScripts.{Accepted, sigs_from}
 use Rattle.rules_sorts.specs.TypedMeaning.{AllOf, AllGood}
@@ -40,10 +40,10 @@ module _ (cells : ℕ → T → Type 0) (script : Script) (accepted : Accepted s
   abbrev ds : List Fn
   ds = script_of script
 
-  reads : (here : ℕ) (g : List Bound) {a : Core} {env : Env} {vs : List V} {k : Sort} → Does (ctx_of ds here) g a k → SlotsFit cells g env vs → Reads cells ds (tree_of ds g a) vs a env k
+  reads : (here : ℕ) (g : List SortedName) {a : Core} {env : Env} {vs : List V} {k : Sort} → Does (ctx_of ds here) g a k → SlotsFit cells g env vs → Reads cells ds (tree_of ds g a) vs a env k
   reads here g d f = record { here = here; scope = g; is = refl; does = d; fits = f }
 
-  awaits : (here : ℕ) (g : List Bound) {x : Name} {j : Sort} {a : Core} {env : Env} {vs : List V} {k : Sort} → Binds x j → Does (ctx_of ds here) (with_bound x j g) a k → SlotsFit cells g env vs
+  awaits : (here : ℕ) (g : List SortedName) {x : Name} {j : Sort} {a : Core} {env : Env} {vs : List V} {k : Sort} → Binds x j → Does (ctx_of ds here) (with_bound x j g) a k → SlotsFit cells g env vs
       → Awaits cells ds x j (tree_of ds (with_bound x j g) a) vs a env k
   awaits here g b d f = record { here = here; scope = g; binds = b; is = refl; does = d; fits = f }
 
@@ -77,7 +77,7 @@ module _ (cells : ℕ → T → Type 0) (script : Script) (accepted : Accepted s
     chooses_either p q (Right u) h = goes_on cells ds b (awaited cells ds q u h)
     chooses_either p q _ h = absurd h
 
-    module _ (here : ℕ) (g : List Bound) (x y : Name) (env : Env) (vs : List V) (f : SlotsFit cells g env vs) where
+    module _ (here : ℕ) (g : List SortedName) (x y : Name) (env : Env) (vs : List V) (f : SlotsFit cells g env vs) where
       -- an action that waits for two values
       two : {i j : Sort} {a : Core} → Binds x i → Binds y j → Does (ctx_of ds here) (with_bound y j (with_bound x i g)) a k → (u w : V) → OfSort cells i u → OfSort cells j w
           → Reads cells ds (tree_of ds (with_bound y j (with_bound x i g)) a) ((vs ++ u ∷ []) ++ w ∷ []) a (with_name y w (with_name x u env)) k
@@ -105,7 +105,7 @@ module _ (cells : ℕ → T → Type 0) (script : Script) (accepted : Accepted s
     restores r {A} {a} {env} {vs} p (Some v) h = restores_at A a env vs p v (mask_of cells r v h)
 
     -- ---- a call
-    enters : {g : List Bound} {k' : Sort} (here : ℕ) (d : ActionFunction) (us : List V) (o : Option Env) (t : Bool) → t ≡ true → k' ≡ k → Does (ctx_of ds here) g d.body k' → Entered cells g us o
+    enters : {g : List SortedName} {k' : Sort} (here : ℕ) (d : ActionFunction) (us : List V) (o : Option Env) (t : Bool) → t ≡ true → k' ≡ k → Does (ctx_of ds here) g d.body k' → Entered cells g us o
         → StepsTo cells ds (slot.on_top ss (cond t (slot.just_part (doing (tree_of ds g d.body) us)) None)) (name.on_top fs (name.entered d.body o))
     enters here d us None t e q w f = absurd f
     enters {g} here d us (Some env) t e q w f =
@@ -125,13 +125,13 @@ module _ (cells : ℕ → T → Type 0) (script : Script) (accepted : Accepted s
 
   -- ---- rules 1 to 11
   module _ (here : ℕ) (s : Mask) where
-    value_is : (g : List Bound) (env : Env) (vs : List V) (e : CoreEx) (j : Sort) → CoreHas (ctx_of ds here) g e j → SlotsFit cells g env vs → run (slotted_core_ex (roots_of ds) (names_of g) e) vs ≡ value_of_core (functions_of ds) env e
+    value_is : (g : List SortedName) (env : Env) (vs : List V) (e : CoreEx) (j : Sort) → CoreHas (ctx_of ds here) g e j → SlotsFit cells g env vs → run (slotted_core_ex (roots_of ds) (names_of g) e) vs ≡ value_of_core (functions_of ds) env e
     value_is g env vs e j h f = core_slots cells ds (ctx_of ds here) g env vs e j h f
 
-    value_good : (g : List Bound) (env : Env) (vs : List V) (e : CoreEx) (j : Sort) → CoreHas (ctx_of ds here) g e j → SlotsFit cells g env vs → GoodSort cells j (value_of_core (functions_of ds) env e)
+    value_good : (g : List SortedName) (env : Env) (vs : List V) (e : CoreEx) (j : Sort) → CoreHas (ctx_of ds here) g e j → SlotsFit cells g env vs → GoodSort cells j (value_of_core (functions_of ds) env e)
     value_good g env vs e j h f = accepted_good cells script here g env e j accepted h f.sorts
 
-    first_steps : {g : List Bound} {a : Core} {k : Sort} {ss : List SlotFrame} {fs : List named.Frame} (env : Env) (vs : List V) → Does (ctx_of ds here) g a k → SlotsFit cells g env vs → FramesStand cells ds k ss fs
+    first_steps : {g : List SortedName} {a : Core} {k : Sort} {ss : List SlotFrame} {fs : List named.Frame} (env : Env) (vs : List V) → Does (ctx_of ds here) g a k → SlotsFit cells g env vs → FramesStand cells ds k ss fs
         → StepsTo cells ds (slot.on_top ss (slot.first_step (code_trees ds) s (tree_of ds g a) vs)) (name.on_top fs (name.first_step (code_of ds) s a env))
     first_steps {g} {k} env vs (does_return {e} h) f b =
         value_steps cells ds b k (value_of_core (functions_of ds) env e) (run (slotted_core_ex (roots_of ds) (names_of g) e) vs) _ _ (value_is g env vs e k h f) (value_good g env vs e k h f) (λ v q. rets cells ds b v q)

@@ -4,7 +4,7 @@ use Rattle.rules_trees.specs.Trees.{T}
 use Rattle.rules_trees.specs.Programs.{Fn}
 use Rattle.rules_expansion.specs.Names.{Name}
 use Rattle.rules_meaning.specs.Values.{V, Env}
-use Rattle.rules_sorts.specs.Sorts.{Sort, Bound}
+use Rattle.rules_sorts.specs.Sorts.{Sort, SortedName}
 use Rattle.rules_expansion.specs.Core.{Core}
 use Rattle.rules_code.specs.CodeTrees.{Sa}
 use Rattle.hs_rules.specs.State.{Thread, State}
@@ -18,7 +18,7 @@ use Rattle.slot_laws.specs.SlotRules.{SlotOp, SlotPart, SlotFrame, SlotTerm, at}
 use Rattle.slot_laws.specs.Standing.{Reads, Awaits, OpStands, calls_stands, forks_stands, forks_unmask_stands, PartStands, ret_stands, throw_stands, do_stands, op_stands, FramesStand, none_stand, bind_stands, then_stands, catch_stands, mask_stands, StandsIn, EndsAs}
 
 module _ (cells more : ℕ → T → Type 0) (grow : (m : ℕ) (t : T) → cells m t → more m t) (ds : List Fn) where
-  slots_more : (g : List Bound) (env : Env) (vs : List V) → SlotsFit cells g env vs → SlotsFit more g env vs
+  slots_more : (g : List SortedName) (env : Env) (vs : List V) → SlotsFit cells g env vs → SlotsFit more g env vs
   slots_more g env vs f = record { slots = f.slots; sorts = scope_more cells more grow g env f.sorts }
 
   reads_more : {tree : Sa} {vs : List V} {a : Core} {env : Env} {k : Sort} → Reads cells ds tree vs a env k → Reads more ds tree vs a env k

@@ -9,7 +9,7 @@ use Rattle.rules_meaning.specs.Values as val
 use Rattle.rules_expansion.specs.Names.{Name, Written, Added, Unread}
 use Rattle.rules_meaning.specs.Values.{V, Env, with_name, value_at, Outcome, Gives, Throws, Stuck, Outcomes, AllGive, OneThrows, OneStuck, and_then}
 use Rattle.rules_meaning.specs.Meaning.{functions_of, value_of_ex, values_of_exs}
-use Rattle.rules_sorts.specs.Sorts.{Sort, a_value, a_masking_name, an_instance, a_scope_cell, Bound}
+use Rattle.rules_sorts.specs.Sorts.{Sort, a_value, a_masking_name, an_instance, a_scope_cell, SortedName}
 use Rattle.rules_typing.specs.Typing as typing
 use Rattle.rules_typing.specs.TypingScripts.{Accepted}
 use Rattle.rules_sorts.specs.TypedMeaning.{AllOf, AllGood, WellAll}
@@ -47,7 +47,7 @@ module _ (cells : ℕ → T → Type 0) where
   binds_fits (Added z) k v b h = h
   binds_fits Unread k v b h = absurd b
 
-  pub more_fits : (g : List Bound) (env : Env) (vs : List V) (y : Name) (k : Sort) (v : V) → Binds y k → OfSort cells k v → SlotsFit cells g env vs → SlotsFit cells (with_bound y k g) (with_name y v env) (vs ++ v ∷ [])
+  pub more_fits : (g : List SortedName) (env : Env) (vs : List V) (y : Name) (k : Sort) (v : V) → Binds y k → OfSort cells k v → SlotsFit cells g env vs → SlotsFit cells (with_bound y k g) (with_name y v env) (vs ++ v ∷ [])
   more_fits g env vs y k v b h f = fits_with cells g env vs y k v (binds_read y k b) (binds_fits y k v b h) f
 
   -- ---- the slot of a masking name
@@ -63,7 +63,7 @@ module _ (cells : ℕ → T → Type 0) where
   slot_holds (Some k) None s vs l h = absurd h
   slot_holds (Some k) (Some v) s vs l h = h
 
-  pub slot_is : (g : List Bound) (env : Env) (vs : List V) (y : Name) → is_unread y ≡ false → SlotsFit cells g env vs → slice_get vs (slot_or_end (slot_of (names_of g) y) (names_of g)) ≡ value_at y env
+  pub slot_is : (g : List SortedName) (env : Env) (vs : List V) (y : Name) → is_unread y ≡ false → SlotsFit cells g env vs → slice_get vs (slot_or_end (slot_of (names_of g) y) (names_of g)) ≡ value_at y env
   slot_is g env vs y u f = slot_holds (slot_of (names_of g) y) (value_at y env) (names_of g) vs f.slots.size (f.slots.seen y u)
 
   pub mask_of : (y : Name) (v : V) → FitsAt cells y (Some a_masking_name) (Some v) → of_masking v
@@ -86,12 +86,12 @@ module _ (cells : ℕ → T → Type 0) where
   and_good k ks Stuck r h g = absurd h
 
   module _ (script : Script) (accepted : Accepted script) (here : ℕ) where
-    pub exs_sorts : {g : List Bound} {es : List CoreEx} {ks : List Sort} (env : Env) → FitsScope cells g env → CoreAllHave (ctx_of (script_of script) here) g es ks → AllGoodSorts ks (values_of_core (functions_of (script_of script)) env es)
+    pub exs_sorts : {g : List SortedName} {es : List CoreEx} {ks : List Sort} (env : Env) → FitsScope cells g env → CoreAllHave (ctx_of (script_of script) here) g es ks → AllGoodSorts ks (values_of_core (functions_of (script_of script)) env es)
     exs_sorts env f no_more = no_values
     exs_sorts {g} env f (one_more {e} {k} {es} {ks} h hs) =
         and_good k ks (value_of_core (functions_of (script_of script)) env e) (values_of_core (functions_of (script_of script)) env es) (accepted_good cells script here g env e k accepted h f) (exs_sorts env f hs)
 
-    pub exs_slots : {g : List Bound} {es : List CoreEx} {ks : List Sort} (env : Env) (vs : List V) → SlotsFit cells g env vs → CoreAllHave (ctx_of (script_of script) here) g es ks
+    pub exs_slots : {g : List SortedName} {es : List CoreEx} {ks : List Sort} (env : Env) (vs : List V) → SlotsFit cells g env vs → CoreAllHave (ctx_of (script_of script) here) g es ks
         → run_all (slotted_core_exs (roots_of (script_of script)) (names_of g) es) vs ≡ values_of_core (functions_of (script_of script)) env es
     exs_slots env vs f no_more = refl
     exs_slots {g} env vs f (one_more {e} {k} {es} {ks} h hs) =
@@ -105,7 +105,7 @@ module _ (cells : ℕ → T → Type 0) where
     arg_good t ts (Throws e) r h g = tt
     arg_good t ts Stuck r h g = absurd h
 
-    pub args_good : (g : List Bound) (env : Env) (es : Exs) (ts : List T) → FitsScope cells g env → WellAll es → typing.HaveTypes (ctx_of (script_of script) here) (written_in g) es ts → AllGood cells ts (values_of_exs (functions_of (script_of script)) env es)
+    pub args_good : (g : List SortedName) (env : Env) (es : Exs) (ts : List T) → FitsScope cells g env → WellAll es → typing.HaveTypes (ctx_of (script_of script) here) (written_in g) es ts → AllGood cells ts (values_of_exs (functions_of (script_of script)) env es)
     args_good g env none ts f w h = subst (λ z. AllGood cells z (values_of_exs (functions_of (script_of script)) env none)) (sym h) tt
     args_good g env (more e es) ts f w h =
         subst (λ z. AllGood cells z (values_of_exs (functions_of (script_of script)) env (more e es))) (sym h.4)
@@ -114,11 +114,11 @@ module _ (cells : ℕ → T → Type 0) where
 
   -- ---- parameters
 
-  abbrev pub Entered : List Bound → List V → Option Env → Type 0
+  abbrev pub Entered : List SortedName → List V → Option Env → Type 0
   Entered g vs None = ⊥
   Entered g vs (Some env) = SlotsFit cells g env vs
 
-  pub takes_fit : {g h : List Bound} {ps : List Name} {ts : List T} → Takes g ps ts h → (env : Env) (vs us : List V) → SlotsFit cells g env vs → AllOf cells ts us → Entered h (vs ++ us) (name.with_params ps us env)
+  pub takes_fit : {g h : List SortedName} {ps : List Name} {ts : List T} → Takes g ps ts h → (env : Env) (vs us : List V) → SlotsFit cells g env vs → AllOf cells ts us → Entered h (vs ++ us) (name.with_params ps us env)
   takes_fit {g} takes_none env vs [] f a = subst (λ z. SlotsFit cells g env z) (sym (append-nil vs)) f
   takes_fit takes_none env vs (u ∷ us) f a = absurd a
   takes_fit (takes_one w) env vs [] f a = absurd a
@@ -126,13 +126,13 @@ module _ (cells : ℕ → T → Type 0) where
       subst (λ z. Entered h z (name.with_params ps us (with_name (Written x) u env))) (append_assoc vs (u ∷ []) us)
       (takes_fit w (with_name (Written x) u env) (vs ++ u ∷ []) us (more_fits g env vs (Written x) (a_value t) u tt a.0 f) a.1)
 
-  pub takes_count : {g h : List Bound} {ps : List Name} {ts : List T} → Takes g ps ts h → (us : List V) → AllOf cells ts us → length ps ≡ length us
+  pub takes_count : {g h : List SortedName} {ps : List Name} {ts : List T} → Takes g ps ts h → (us : List V) → AllOf cells ts us → length ps ≡ length us
   takes_count takes_none [] a = refl
   takes_count takes_none (u ∷ us) a = absurd a
   takes_count (takes_one w) [] a = absurd a
   takes_count (takes_one w) (u ∷ us) a = ap suc (takes_count w us a.1)
 
-pub takes_names : {g h : List Bound} {ps : List Name} {ts : List T} → Takes g ps ts h → names_of h ≡ scope_of_names (names_of g) ps
+pub takes_names : {g h : List SortedName} {ps : List Name} {ts : List T} → Takes g ps ts h → names_of h ≡ scope_of_names (names_of g) ps
 takes_names takes_none = refl
 takes_names (takes_one w) = takes_names w
 

@@ -6,7 +6,7 @@ use Rattle.std.specs.Prelude.{◌≡◌, ℕ, List, [], ◌∷◌, Some, slice_g
 use Rattle.rules_trees.specs.Programs.{Fn}
 use Rattle.rules_expansion.specs.Core.{CoreEx, Core}
 use Rattle.rules_meaning.specs.Values.{V, Env}
-use Rattle.rules_sorts.specs.Sorts.{Sort, Bound}
+use Rattle.rules_sorts.specs.Sorts.{Sort, SortedName}
 use Rattle.rules_sorts.specs.TypedMeaning.{any_cell}
 use Rattle.rules_code.specs.declared.act.Act.{Act}
 use Rattle.rules_code.specs.declared.act.Act.TheVariants as a
@@ -75,7 +75,7 @@ pub record Evaluable (ds : List Fn) (q : Part) (n : ℕ) (tree : Sx) (vs : List 
   pub expression : CoreEx
   pub among : slice_get (evaluated action) n ≡ Some expression
   pub here : ℕ
-  pub scope : List Bound
+  pub scope : List SortedName
   pub sort : Sort
   pub stands : tree ≡ slotted_core_ex (roots_of ds) (names_of scope) expression
   pub has : CoreHas (ctx_of ds here) scope expression sort

@@ -10,7 +10,7 @@ use Rattle.rules_trees.specs.Trees.{T, exn, thread}
 use Rattle.rules_trees.specs.Programs.{Fn}
 use Rattle.rules_expansion.specs.Names.{Name, Unread}
 use Rattle.rules_meaning.specs.Values.{V, Env}
-use Rattle.rules_sorts.specs.Sorts.{Sort, a_value, a_masking_name, Bound}
+use Rattle.rules_sorts.specs.Sorts.{Sort, a_value, a_masking_name, SortedName}
 use Rattle.rules_expansion.specs.Core.{Core}
 use Rattle.rules_expansion.specs.declared.primitive.Primitive.{Primitive}
 use Rattle.rules_expansion.specs.Expansion.{actions_of}
@@ -24,7 +24,7 @@ use Rattle.hs_progress.specs.CoreTyping.{Binds, with_bound, Asks, Does}
 use Rattle.hs_progress.specs.TypedStates.{ctx_of, AllOfSorts, Store, has}
 
 -- an action of a script with slots for the names of a scope
-abbrev pub tree_of : List Fn → List Bound → Core → Sa
+abbrev pub tree_of : List Fn → List SortedName → Core → Sa
 tree_of script g a = slotted_core (roots_of script) (actions_of script) (names_of g) a
 
 -- which number is of which type: each of every type, or as a store says
@@ -37,7 +37,7 @@ module _ (cells : ℕ → T → Type 0) where
     -- an action in values of slots stands for a named one in an environment, and gives a value of sort k
     pub record Reads (tree : Sa) (vs : List V) (a : Core) (env : Env) (k : Sort) : Type 0 where
       pub here : ℕ
-      pub scope : List Bound
+      pub scope : List SortedName
       pub is : tree ≡ tree_of script scope a
       pub does : Does (ctx_of script here) scope a k
       pub fits : SlotsFit cells scope env vs
@@ -45,7 +45,7 @@ module _ (cells : ℕ → T → Type 0) where
     -- the same of an action that waits for a value of sort j, to be bound to x
     pub record Awaits (x : Name) (j : Sort) (tree : Sa) (vs : List V) (a : Core) (env : Env) (k : Sort) : Type 0 where
       pub here : ℕ
-      pub scope : List Bound
+      pub scope : List SortedName
       pub binds : Binds x j
       pub is : tree ≡ tree_of script (with_bound x j scope) a
       pub does : Does (ctx_of script here) (with_bound x j scope) a k

@@ -9,7 +9,7 @@ ghost use Rattle.rules_meaning.specs.CoreMeaning.{code_of};
 ghost use Rattle.rules_typing.specs.TypingScripts.{Accepted};
 ghost use Rattle.rules_code.specs.declared.act.Act.{Act};
 ghost use Rattle.rules_code.specs.declared.act.ActId.{ActId};
-ghost use Rattle.rules_code.specs.declared.code.Body.{Body};
+ghost use Rattle.rules_code.specs.declared.code.CodeBody.{CodeBody};
 ghost use Rattle.rules_code.specs.declared.node.ExprId.{ExprId};
 ghost use Rattle.rules_code.specs.Slots.{Sx, tree_at};
 ghost use Rattle.rules_code.specs.CodeTrees.{Sa, act_tree_at, code_trees};
@@ -34,7 +34,7 @@ pub fn slots_may_be_evaluated()
 /// is to do. The action is in the code under the number `i`; the trees of the expressions that its node names are those that
 /// the action's next local rule evaluates.
 pub fn nodes_may_be_evaluated()
-    ensures same { (b : Body) (i : ActId) (k : Act) → slice_get b.acts i.0 ≡ Some k → slots_evaluated (act_tree_at b.nodes b.acts i) ≡ map (tree_at b.nodes) (nodes_evaluated k) }
-    ensures stands { (store : Option Store) (b : Body) (i : ActId) (k : Act) → slice_get b.acts i.0 ≡ Some k → (vs : List V) (ss : List SlotFrame) (t : Term) → Stands (cells_of store) (script_of b.of.value) (at (doing (act_tree_at b.nodes b.acts i) vs) ss) t → (n : ℕ) (e : ExprId) → slice_get (nodes_evaluated k) n ≡ Some e → Evaluable (script_of b.of.value) t.part n (tree_at b.nodes e) vs }
-    ensures reached { (b : Body) → Accepted b.of.value → (stacks : ℕ → SlotTerm) (u : State) → StacksStand (script_of b.of.value) stacks u → (t r : ℕ) (th : Thread) → slice_get u.threads t ≡ Some th → (i : ActId) (k : Act) → slice_get b.acts i.0 ≡ Some k → (vs : List V) (ss : List SlotFrame) → locals (code_trees (script_of b.of.value)) Unmasked r (stacks t) ≡ Some (at (doing (act_tree_at b.nodes b.acts i) vs) ss) → (x : Term) × (named.locals (code_of (script_of b.of.value)) r th.term ≡ Some x) × ((n : ℕ) (e : ExprId) → slice_get (nodes_evaluated k) n ≡ Some e → Evaluable (script_of b.of.value) x.part n (tree_at b.nodes e) vs) }
+    ensures same { (b : CodeBody) (i : ActId) (k : Act) → slice_get b.acts i.0 ≡ Some k → slots_evaluated (act_tree_at b.nodes b.acts i) ≡ map (tree_at b.nodes) (nodes_evaluated k) }
+    ensures stands { (store : Option Store) (b : CodeBody) (i : ActId) (k : Act) → slice_get b.acts i.0 ≡ Some k → (vs : List V) (ss : List SlotFrame) (t : Term) → Stands (cells_of store) (script_of b.of.value) (at (doing (act_tree_at b.nodes b.acts i) vs) ss) t → (n : ℕ) (e : ExprId) → slice_get (nodes_evaluated k) n ≡ Some e → Evaluable (script_of b.of.value) t.part n (tree_at b.nodes e) vs }
+    ensures reached { (b : CodeBody) → Accepted b.of.value → (stacks : ℕ → SlotTerm) (u : State) → StacksStand (script_of b.of.value) stacks u → (t r : ℕ) (th : Thread) → slice_get u.threads t ≡ Some th → (i : ActId) (k : Act) → slice_get b.acts i.0 ≡ Some k → (vs : List V) (ss : List SlotFrame) → locals (code_trees (script_of b.of.value)) Unmasked r (stacks t) ≡ Some (at (doing (act_tree_at b.nodes b.acts i) vs) ss) → (x : Term) × (named.locals (code_of (script_of b.of.value)) r th.term ≡ Some x) × ((n : ℕ) (e : ExprId) → slice_get (nodes_evaluated k) n ≡ Some e → Evaluable (script_of b.of.value) x.part n (tree_at b.nodes e) vs) }
 {}

@@ -10,7 +10,7 @@ use crate::flaw::Flaw;
 use frame_stack::{Control, Env, Job, Slice, SliceFault, Stack, slice};
 use hs_base::Mask;
 use hs_io::NeverCut;
-use rules_code::{Body, Code};
+use rules_code::{Code, CodeBody};
 use std::alloc::Global;
 use std::snapshot::Snapshot;
 
@@ -18,7 +18,7 @@ use std::snapshot::Snapshot;
 #[derive(Drop)]
 pub struct Thread {
     pub stack: Stack,
-    pub of: Snapshot<Body>,
+    pub of: Snapshot<CodeBody>,
     pub ghost stands: { ∥ IsThread of.value stack ∥₁ },
 }
 

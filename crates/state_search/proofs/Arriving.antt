@@ -2,7 +2,7 @@
 use Rattle.std.proofs.Common.{◌≡◌, ◌<◌, ◌+◌, ℕ, List, [], ◌++◌, length, map, Option, Some, None, slice_get, sym, ap, ◌∙◌, subst, arith}
 use Rattle.std.proofs.lemmas.List.{length-map}
 use Rattle.hs_rules.specs.declared.entry.Entry.{Entry}
-use Rattle.rules_code.specs.declared.code.Body.{Body}
+use Rattle.rules_code.specs.declared.code.CodeBody.{CodeBody}
 use Rattle.outcome_listing.specs.declared.bounds.Bounds.{Bounds}
 use Rattle.local_steps.specs.Machine.{funs_of}
 use Rattle.number_tables.specs.Tables.{Grows}
@@ -25,7 +25,7 @@ use Rattle.state_search.specs.Searching.{MeetsBy, GapIs, Searched}
 use Rattle.state_search.specs.Working.{Going, Extends, ComesTo, IsLeftOf, IsLeftBy, ArrivesAt}
 use Rattle.state_search.proofs.Keeping.{same_states}
 
-module _ (bounds : Bounds) (b : Body) where
+module _ (bounds : Bounds) (b : CodeBody) where
   -- ---- what an entry left
 
   pub meets_left : (f : Found) (e : Option Entry) (parent : ℕ) (x : Shown) (n : ℕ) → IsLeftBy bounds b f e parent x n → MeetsBy bounds b f e parent x.slots n

@@ -2,7 +2,7 @@
 use Rattle.std.proofs.Common.{◌≡◌, ◌≤◌, ◌<◌, ℕ, length, Option, Some, None, slice_get, sym, ap, ◌∙◌, subst, arith, length-append}
 use Rattle.std.proofs.lemmas.List.{length-map}
 use Rattle.hs_rules.specs.declared.entry.Entry.{Entry}
-use Rattle.rules_code.specs.declared.code.Body.{Body}
+use Rattle.rules_code.specs.declared.code.CodeBody.{CodeBody}
 use Rattle.outcome_listing.specs.declared.bounds.Bounds.{Bounds}
 use Rattle.local_steps.specs.Machine.{funs_of}
 use Rattle.search_laws.specs.Shown.{Shown}
@@ -15,7 +15,7 @@ use Rattle.state_search.specs.Working.{Going, Extends, HasBegun}
 use Rattle.state_search.proofs.Promised.{there_at}
 
 -- what was found before is there
-pub begun_on : (b : Body) (f h : Found) → HasBegun f → Extends b f h → HasBegun h
+pub begun_on : (b : CodeBody) (f h : Found) → HasBegun f → Extends b f h → HasBegun h
 begun_on b f h first e none =
     let some = first (e.gap none) in
     let old = length-map f.states (shown f.numbers b) in
@@ -23,7 +23,7 @@ begun_on b f h first e none =
     let more = ap length e.states.1 ∙ length-append (states_of b f) e.states.0 in
     omega (arith, some, old, new, more)
 
-module _ (bounds : Bounds) (b : Body) (n : ℕ) (f : Found) (going : Going bounds b n f) (last : length f.states ≤ n) where
+module _ (bounds : Bounds) (b : CodeBody) (n : ℕ) (f : Found) (going : Going bounds b n f) (last : length f.states ≤ n) where
   below : (i : ℕ) (c : Shown) → slice_get (states_of b f) i ≡ Some c → i < n
   below i c at = let w = there_below (states_of b f) i c at in let e = length-map f.states (shown f.numbers b) in omega (arith, w, e)
 

@@ -4,7 +4,7 @@ use Rattle.std.proofs.lemmas.Option.{same_Some}
 use Rattle.std.specs.List.{AllByRecursion, Contains}
 use Rattle.hs_rules.specs.declared.entry.Entry.{Entry}
 use Rattle.hs_rules.specs.declared.entry.Entry.TheVariants as entry
-use Rattle.rules_code.specs.declared.code.Body.{Body}
+use Rattle.rules_code.specs.declared.code.CodeBody.{CodeBody}
 use Rattle.rules_waiting.specs.Waiting.{Sleeper}
 use Rattle.outcome_listing.specs.declared.bounds.Bounds.{Bounds}
 use Rattle.slot_states.specs.SlotStates.{SlotThread, SlotState}
@@ -70,7 +70,7 @@ always_candidates x =
 
 -- ---- one more entry
 
-module _ (bounds : Bounds) (b : Body) (old : Found) (i : ℕ) (entries : List Entry) where
+module _ (bounds : Bounds) (b : CodeBody) (old : Found) (i : ℕ) (entries : List Entry) where
   pub none_tried : Going bounds b i old → HasTried bounds b old old i entries 0 false
   none_tried going = record { going = going; extends = extends_same b old; followed = λ c at k e below. absurd (omega (arith, below)); legals = λ c at k e below. absurd (omega (arith, below)) }
 

@@ -2,7 +2,7 @@
 use Rattle.std.proofs.Common.{◌≡◌, ◌≤◌, ◌<◌, ◌+◌, ℕ, suc, List, [], ◌∷◌, ◌++◌, length, map, Option, Some, None, slice_get, refl, sym, ap, ap₂, ◌∙◌, subst, arith, append-nil, length-append, ◌⊎◌, inl, inr, ⊎_elim}
 use Rattle.std.proofs.lemmas.List.{map-append, length-map}
 use Rattle.hs_rules.specs.declared.entry.Entry.{Entry}
-use Rattle.rules_code.specs.declared.code.Body.{Body}
+use Rattle.rules_code.specs.declared.code.CodeBody.{CodeBody}
 use Rattle.outcome_laws.specs.Outcomes as laws
 use Rattle.outcome_listing.specs.declared.bounds.Bounds.{Bounds}
 use Rattle.outcome_listing.specs.declared.explored.Cause.{Cause}
@@ -35,21 +35,21 @@ use Rattle.state_search.specs.Working.{AreUpTo, Going, Extends, ComesTo, Bars}
 -- ---- what a state shows
 
 -- where the tables grow it is the same
-pub shown_on : (g h : Stock) (b : Body) (x : NumberState) → HasGrown g h → AreIn g x → shown h b x ≡ shown g b x
+pub shown_on : (g h : Stock) (b : CodeBody) (x : NumberState) → HasGrown g h → AreIn g x → shown h b x ≡ shown g b x
 shown_on g h b x grown t =
     ap₂ (λ (z : SlotState) (w : List ℕ × List ℕ). record { slots = z; output = w.0; errors = w.1 }) (slots_of_on g h grown b (contents x) t)
     (ap₂ (λ (p q : List ℕ). (p, q)) (text_at_on g h grown x.output t.output) (text_at_on g h grown x.errors t.errors))
 
-all_shown_on : (g h : Stock) (b : Body) (xs : List NumberState) → HasGrown g h → ((i : ℕ) (x : NumberState) → slice_get xs i ≡ Some x → AreIn g x) → map (shown h b) xs ≡ map (shown g b) xs
+all_shown_on : (g h : Stock) (b : CodeBody) (xs : List NumberState) → HasGrown g h → ((i : ℕ) (x : NumberState) → slice_get xs i ≡ Some x → AreIn g x) → map (shown h b) xs ≡ map (shown g b) xs
 all_shown_on g h b [] grown t = refl
 all_shown_on g h b (x ∷ xs) grown t = ap₂ (λ y ys. y ∷ ys) (shown_on g h b x grown (t 0 x refl)) (all_shown_on g h b xs grown (λ i y e. t (suc i) y e))
 
 -- by what it holds
-abbrev shown_by : Stock → Body → Contents → Shown
+abbrev shown_by : Stock → CodeBody → Contents → Shown
 shown_by g b c = record { slots = slots_of g b c; output = text_at g c.output; errors = text_at g c.errors }
 
 -- states with one key show the same
-pub shown_alike : (g : Stock) (b : Body) (x y : NumberState) → state_key x ≡ state_key y → shown g b x ≡ shown g b y
+pub shown_alike : (g : Stock) (b : CodeBody) (x y : NumberState) → state_key x ≡ state_key y → shown g b x ≡ shown g b y
 shown_alike g b x y e = ap (shown_by g b) (exact_contents (contents x) (contents y) e)
 
 -- what stands in two lists of one length with one more each is in both, or the last of both
@@ -88,10 +88,10 @@ apart_more xs x h none i j p q at bt key =
     (before_or_last xs x i p at)
 
 -- a state with the key of another shows the same at its number
-pub kept_known : (b : Body) (f : Found) (x : NumberState) (j : ℕ) → IsNumberOf state_key f.states j x → slice_get (states_of b f) j ≡ Some (shown f.numbers b x)
+pub kept_known : (b : CodeBody) (f : Found) (x : NumberState) (j : ℕ) → IsNumberOf state_key f.states j x → slice_get (states_of b f) j ≡ Some (shown f.numbers b x)
 kept_known b f x j (one, at, key) = got_mapped (shown f.numbers b) f.states j one at ∙ ap Some (shown_alike f.numbers b one x key)
 
-module _ (bounds : Bounds) (b : Body) where
+module _ (bounds : Bounds) (b : CodeBody) where
   abbrev AllSources : List Shown → List Source → Type 0
   AllSources states sources = HaveSources bounds.clock (funs_of b) bounds.limits (begun b) states sources
 

@@ -12,7 +12,7 @@ use Rattle.hs_rules.specs.Endings.{allowed, FirstExceeded}
 use Rattle.hs_rules.specs.Endings as endings
 use Rattle.hs_rules.specs.Runs.{IsRun}
 use Rattle.rules_trees.specs.Programs.{Fn, script_of}
-use Rattle.rules_code.specs.declared.code.Body.{Body}
+use Rattle.rules_code.specs.declared.code.CodeBody.{CodeBody}
 use Rattle.rules_code.specs.CodeTrees.{SlottedFunction, code_trees}
 use Rattle.outcome_laws.specs.Outcomes as laws
 use Rattle.outcome_laws.specs.Outcomes.{EndsBy, IsOutcomeOf}
@@ -74,7 +74,7 @@ exceeds_so limit.Output limits x u same h = (
   subst (λ n. limits.output < n) (sym (same limit.Output)) h.3,
 )
 
-module _ (bounds : Bounds) (b : Body) (f : Found) (found : Searched bounds b f) (script : Script) (code : IsCodeOf b script) where
+module _ (bounds : Bounds) (b : CodeBody) (f : Found) (found : Searched bounds b f) (script : Script) (code : IsCodeOf b script) where
   abbrev ds : List Fn
   ds = script_of script
 

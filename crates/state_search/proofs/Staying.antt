@@ -7,7 +7,7 @@ use Rattle.hs_base.specs.declared.clock_choice.ClockChoice.{ClockChoice}
 use Rattle.hs_base.specs.declared.clock_choice.ClockChoice.TheVariants.{Real, Virtual}
 use Rattle.hs_rules.specs.declared.entry.Entry.{Entry}
 use Rattle.hs_rules.specs.declared.entry.Entry.TheVariants as entry
-use Rattle.rules_code.specs.declared.code.Body.{Body}
+use Rattle.rules_code.specs.declared.code.CodeBody.{CodeBody}
 use Rattle.rules_code.specs.CodeTrees.{SlottedFunction}
 use Rattle.rules_waiting.specs.Waiting.{Sleeper, earliest}
 use Rattle.outcome_laws.specs.Outcomes as laws
@@ -34,7 +34,7 @@ last_or_below : (i n : ℕ) → i < n + 1 → (i < n) ⊎ (i ≡ n)
 last_or_below i n h = grind arith
 
 -- the search has gone on from the state of this number too, and knows how it has ended
-pub going_next : (bounds : Bounds) (b : Body) (n : ℕ) (f : Found) → Going bounds b n f → (f.gap ≡ None → (c : Shown) → slice_get (states_of b f) n ≡ Some c → IsGone bounds.clock (funs_of b) (edges_of f) n c)
+pub going_next : (bounds : Bounds) (b : CodeBody) (n : ℕ) (f : Found) → Going bounds b n f → (f.gap ≡ None → (c : Shown) → slice_get (states_of b f) n ≡ Some c → IsGone bounds.clock (funs_of b) (edges_of f) n c)
     → ((c : Shown) (k : Option laws.Final) → slice_get (states_of b f) n ≡ Some c → slice_get (kinds_of f) n ≡ Some k → HasKind (funs_of b) c k) → Going bounds b (n + 1) f
 going_next bounds b n f going gone kind = record {
   searched = going.searched;
@@ -57,7 +57,7 @@ kind_unstuck funs x (Some laws.Uncaught) h = refl
 kind_unstuck funs x (Some laws.Deadlock) h = refl
 
 -- so in what has been found
-pub kind_early : (bounds : Bounds) (b : Body) (n : ℕ) (f : Found) → Going bounds b n f → ((c : Shown) → slice_get (states_of b f) n ≡ Some c → IsStuck (funs_of b) c.slots → ⊥) → (c : Shown) (k : Option laws.Final) → slice_get (states_of b f) n ≡ Some c → slice_get (kinds_of f) n ≡ Some k → HasKind (funs_of b) c k
+pub kind_early : (bounds : Bounds) (b : CodeBody) (n : ℕ) (f : Found) → Going bounds b n f → ((c : Shown) → slice_get (states_of b f) n ≡ Some c → IsStuck (funs_of b) c.slots → ⊥) → (c : Shown) (k : Option laws.Final) → slice_get (states_of b f) n ≡ Some c → slice_get (kinds_of f) n ≡ Some k → HasKind (funs_of b) c k
 kind_early bounds b n f going free c k at bt =
     subst (EndsAs (funs_of b) c.slots (ended_by (slice_get c.slots.threads 0))) (sym (going.early n c k (omega arith) at bt)) (kind_unstuck (funs_of b) c.slots (ended_by (slice_get c.slots.threads 0)) (free c at))
 
@@ -112,7 +112,7 @@ settled_known ks n x k below is some at =
     let same : x ≡ k = same_Some x k (sym (got_read ks n x below is) ∙ at) in
     sym (ap (slice_set ks n) (known_same k (subst (λ z. is_some z ≡ true) same some) ∙ (sym same ∙ is)) ∙ set-get_or ks n x)
 
-module _ (bounds : Bounds) (b : Body) (n : ℕ) (f h : Found) (k : Option Final) (same : h ≡ record f { kinds = h.kinds }) (kinds : h.kinds.items ≡ slice_set f.kinds.items n (settled k)) (was : slice_get f.kinds.items n ≡ Some k) (going : Going bounds b n f)
+module _ (bounds : Bounds) (b : CodeBody) (n : ℕ) (f h : Found) (k : Option Final) (same : h ≡ record f { kinds = h.kinds }) (kinds : h.kinds.items ≡ slice_set f.kinds.items n (settled k)) (was : slice_get f.kinds.items n ≡ Some k) (going : Going bounds b n f)
     (stuck : (c : Shown) → slice_get (states_of b f) n ≡ Some c → IsStuck (funs_of b) c.slots) where
   abbrev with_kinds : Found
   with_kinds = record f { kinds = h.kinds }
@@ -164,11 +164,11 @@ module _ (bounds : Bounds) (b : Body) (n : ℕ) (f h : Found) (k : Option Final)
 -- ---- a state that stays
 
 -- an entry that was tried has its edge, where it has a next state
-pub followed_tried : (bounds : Bounds) (b : Body) (f : Found) (n : ℕ) (e : Entry) (r : Bool) → IsTried bounds b f n e r → f.gap ≡ None → (c : Shown) → slice_get (states_of b f) n ≡ Some c → IsFollowed (funs_of b) (edges_of f) n c e
+pub followed_tried : (bounds : Bounds) (b : CodeBody) (f : Found) (n : ℕ) (e : Entry) (r : Bool) → IsTried bounds b f n e r → f.gap ≡ None → (c : Shown) → slice_get (states_of b f) n ≡ Some c → IsFollowed (funs_of b) (edges_of f) n c e
 followed_tried bounds b f n e true tried none c at z h = (tried c at).1 none z h
 followed_tried bounds b f n e false tried none c at z h = let no = tried c at in absurd (cc (no, h))
 
-module _ (bounds : Bounds) (b : Body) (n : ℕ) (f : Found) (state : NumberState) (going : Going bounds b n f) (still : IsStillAt b f n) (is : slice_get f.states n ≡ Some state) where
+module _ (bounds : Bounds) (b : CodeBody) (n : ℕ) (f : Found) (state : NumberState) (going : Going bounds b n f) (still : IsStillAt b f n) (is : slice_get f.states n ≡ Some state) where
   abbrev one : Shown
   one = shown f.numbers b state
 

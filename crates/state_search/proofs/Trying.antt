@@ -6,7 +6,7 @@ use Rattle.hs_base.specs.declared.clock_choice.ClockChoice.{ClockChoice}
 use Rattle.hs_base.specs.declared.clock_choice.ClockChoice.TheVariants.{Real, Virtual}
 use Rattle.hs_rules.specs.declared.entry.Entry.{Entry}
 use Rattle.hs_rules.specs.declared.entry.Entry.TheVariants as entry
-use Rattle.rules_code.specs.declared.code.Body.{Body}
+use Rattle.rules_code.specs.declared.code.CodeBody.{CodeBody}
 use Rattle.outcome_listing.specs.declared.bounds.Bounds.{Bounds}
 use Rattle.slot_states.specs.SlotStates.{SlotState}
 use Rattle.slot_states.specs.Printing.{output_by, errors_by}
@@ -32,10 +32,10 @@ use Rattle.state_search.proofs.Keeping.{gap_more, same_states}
 
 -- ---- more is found
 
-pub extends_same : (b : Body) (f : Found) → Extends b f f
+pub extends_same : (b : CodeBody) (f : Found) → Extends b f f
 extends_same b f = record { states = ([], sym (append-nil (states_of b f))); edges = ([], sym (append-nil (edges_of f))); gap = λ e. e }
 
-pub extends_on : (b : Body) (f g h : Found) → Extends b f g → Extends b g h → Extends b f h
+pub extends_on : (b : CodeBody) (f g h : Found) → Extends b f g → Extends b g h → Extends b f h
 extends_on b f g h x y = record {
   states = grows_on (states_of b f) (states_of b g) (states_of b h) x.states y.states;
   edges = grows_on (edges_of f) (edges_of g) (edges_of h) x.edges y.edges;
@@ -43,7 +43,7 @@ extends_on b f g h x y = record {
 }
 
 -- nothing but a gap is new
-pub extends_gap : (b : Body) (f h : Found) → h ≡ record f { gap = h.gap } → (h.gap ≡ None → ⊥) → Extends b f h
+pub extends_gap : (b : CodeBody) (f h : Found) → h ≡ record f { gap = h.gap } → (h.gap ≡ None → ⊥) → Extends b f h
 extends_gap b f h same some = record {
   states = ([], ap (states_of b) same ∙ sym (append-nil (states_of b f)));
   edges = ([], ap edges_of same ∙ sym (append-nil (edges_of f)));
@@ -51,7 +51,7 @@ extends_gap b f h same some = record {
 }
 
 -- what stood at a number stands there
-pub here_on : (b : Body) (f h : Found) (i : ℕ) (c : Shown) → Extends b f h → slice_get (states_of b f) i ≡ Some c → slice_get (states_of b h) i ≡ Some c
+pub here_on : (b : CodeBody) (f h : Found) (i : ℕ) (c : Shown) → Extends b f h → slice_get (states_of b f) i ≡ Some c → slice_get (states_of b h) i ≡ Some c
 here_on b f h i c x at = got_on (states_of b f) (states_of b h) i c x.states at
 
 -- ---- one more move
@@ -63,14 +63,14 @@ HasMove h k m = (k ≡ record h { moves = k.moves }) × (edges_of k ≡ edges_of
 pub has_move : (h k : Found) (m : Move) → k ≡ record h { moves = k.moves } → k.moves.items ≡ h.moves.items ++ m ∷ [] → HasMove h k m
 has_move h k m same items = (same, ap (map edge_of) items ∙ map-append edge_of h.moves.items (m ∷ []))
 
-pub extends_move : (b : Body) (h k : Found) (m : Move) → HasMove h k m → Extends b h k
+pub extends_move : (b : CodeBody) (h k : Found) (m : Move) → HasMove h k m → Extends b h k
 extends_move b h k m (same, edges) = record {
   states = ([], ap (states_of b) same ∙ sym (append-nil (states_of b h)));
   edges = (edge_of m ∷ [], edges);
   gap = λ e. sym (ap (λ (z : Found). z.gap) same) ∙ e;
 }
 
-module _ (bounds : Bounds) (b : Body) (n : ℕ) (h k : Found) (m : Move) (move : HasMove h k m) (going : Going bounds b n h) (from : m.from ≡ n) (leads : IsTrueEdge bounds.clock (funs_of b) bounds.limits (states_of b h) (edge_of m)) where
+module _ (bounds : Bounds) (b : CodeBody) (n : ℕ) (h k : Found) (m : Move) (move : HasMove h k m) (going : Going bounds b n h) (from : m.from ≡ n) (leads : IsTrueEdge bounds.clock (funs_of b) bounds.limits (states_of b h) (edge_of m)) where
   abbrev with_move : Found
   with_move = record h { moves = k.moves }
 
@@ -107,7 +107,7 @@ module _ (bounds : Bounds) (b : Body) (n : ℕ) (h k : Found) (m : Move) (move :
 
 -- ---- an entry of a state
 
-module _ (bounds : Bounds) (b : Body) (f : Found) (at : ℕ) (state : NumberState) (g : Stock) (e : Entry) (going : Going bounds b at f) (is : slice_get f.states at ≡ Some state) (more : HasGrown f.numbers g) where
+module _ (bounds : Bounds) (b : CodeBody) (f : Found) (at : ℕ) (state : NumberState) (g : Stock) (e : Entry) (going : Going bounds b at f) (is : slice_get f.states at ≡ Some state) (more : HasGrown f.numbers g) where
   abbrev grown_found : Found
   grown_found = record f { numbers = g }
 
@@ -165,7 +165,7 @@ module _ (bounds : Bounds) (b : Body) (f : Found) (at : ℕ) (state : NumberStat
 -- ---- steps
 
 -- the origin that is read is that of the state
-pub origin_there : (bounds : Bounds) (b : Body) (f : Found) (at : ℕ) (o : Origin) → Going bounds b at f → at < length f.states → o ≡ get_or f.origins.items at o → slice_get f.origins.items at ≡ Some o
+pub origin_there : (bounds : Bounds) (b : CodeBody) (f : Found) (at : ℕ) (o : Origin) → Going bounds b at f → at < length f.states → o ≡ get_or f.origins.items at o → slice_get f.origins.items at ≡ Some o
 origin_there bounds b f at o going below is = let count = going.searched.origins in got_read f.origins.items at o (omega arith) is
 
 step_few : (clock : ClockChoice) (e : Entry) → steps_by clock e ≤ 2
@@ -179,5 +179,5 @@ step_few Real entry.Stranded = omega arith
 step_few Virtual e = omega arith
 
 -- the path to a state has few steps, and so one with one entry more
-pub few_steps : (bounds : Bounds) (b : Body) (f : Found) (at : ℕ) (o : Origin) (e : Entry) (clock : ClockChoice) → Searched bounds b f → slice_get f.origins.items at ≡ Some o → bounds.fuel < 2 ^ 32 → o.steps + steps_by clock e < 2 ^ 33
+pub few_steps : (bounds : Bounds) (b : CodeBody) (f : Found) (at : ℕ) (o : Origin) (e : Entry) (clock : ClockChoice) → Searched bounds b f → slice_get f.origins.items at ≡ Some o → bounds.fuel < 2 ^ 32 → o.steps + steps_by clock e < 2 ^ 33
 few_steps bounds b f at o e clock s is fits = let short = s.short at o is in let step = step_few clock e in omega arith

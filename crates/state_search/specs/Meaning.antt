@@ -1,6 +1,6 @@
 -- What a search in numbers has found, in the words of `search_laws` (own).
 use Rattle.std.specs.Prelude.{List, map, Option, Some, None}
-use Rattle.rules_code.specs.declared.code.Body.{Body}
+use Rattle.rules_code.specs.declared.code.CodeBody.{CodeBody}
 use Rattle.outcome_laws.specs.Outcomes as laws
 use Rattle.outcome_listing.specs.declared.explored.Final.{Final}
 use Rattle.outcome_listing.specs.Finals.{final_of}
@@ -16,7 +16,7 @@ use Rattle.state_search.specs.declared.found.Move.{Move}
 use Rattle.state_search.specs.declared.found.Origin.{Origin}
 
 -- what a state in numbers shows
-abbrev pub shown : Stock → Body → NumberState → Shown
+abbrev pub shown : Stock → CodeBody → NumberState → Shown
 shown g b n = record { slots = slots g b n; output = text_at g n.output; errors = text_at g n.errors }
 
 abbrev pub source_of : Origin → Source
@@ -30,7 +30,7 @@ kind_of None = None
 kind_of (Some f) = Some (final_of f)
 
 -- its states, where each came from, the moves between them, and how each has ended
-abbrev pub states_of : Body → Found → List Shown
+abbrev pub states_of : CodeBody → Found → List Shown
 states_of b f = map (shown f.numbers b) f.states
 
 abbrev pub sources_of : Found → List Source
@@ -43,5 +43,5 @@ abbrev pub kinds_of : Found → List (Option laws.Final)
 kinds_of f = map kind_of f.kinds.items
 
 -- the state with slots that a run of this code begins with
-abbrev pub begun : Body → SlotState
+abbrev pub begun : CodeBody → SlotState
 begun b = first_slots (act_of b b.main)

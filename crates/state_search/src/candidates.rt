@@ -2,7 +2,7 @@
 ghost use Rattle.std.specs.Prelude.{◌≡◌, ◌++◌, ◌∷◌, [], map, IfOk, OnOk};
 ghost use Rattle.hs_rules.specs.declared.entry.Entry.TheVariants as entry;
 ghost use Rattle.number_waits.specs.Sleeping as sleeping;
-ghost use Rattle.rules_code.specs.declared.code.Body.{Body};
+ghost use Rattle.rules_code.specs.declared.code.CodeBody.{CodeBody};
 ghost use Rattle.number_states.specs.Stocks.{Stock};
 ghost use Rattle.number_states.specs.States.{thread_of, slots};
 ghost use Rattle.search_laws.specs.Found as found;
@@ -16,7 +16,7 @@ use std::alloc::Global;
 
 /// Puts the entries that a thread has of its own, and that may have a next state, at the end of a list.
 fn push_own(out: &mut Vec<Entry>, t: u32, thread: NumberThread) -> Result<(), NoMemory>
-    ensures { OnOk result ((g : Stock) (b : Body) → out.new.items ≡ out.old.items ++ entries_at t (thread_of g b thread)) }
+    ensures { OnOk result ((g : Stock) (b : CodeBody) → out.new.items ≡ out.old.items ++ entries_at t (thread_of g b thread)) }
 {
     if thread.finished {
         return Ok(());
@@ -39,7 +39,7 @@ fn candidates(
     threads: &[NumberThread],
     sleepers: &[Asleep],
 ) -> Result<Vec<Entry>, NoMemory>
-    ensures { IfOk result (λ es. (g : Stock) (b : Body) → es.items ≡ (entries_from 0 (map (thread_of g b) threads.now) ++ map wake_of (sleeping.sleepers sleepers.now)) ++ entry.Stranded ∷ []) }
+    ensures { IfOk result (λ es. (g : Stock) (b : CodeBody) → es.items ≡ (entries_from 0 (map (thread_of g b) threads.now) ++ map wake_of (sleeping.sleepers sleepers.now)) ++ entry.Stranded ∷ []) }
 {
     let mut out = Vec::new(alloc);
     let Ok(count) = u32::try_from(threads.len()) else {
@@ -59,7 +59,7 @@ fn candidates(
 
 /// The entries to try in a state: none where the main thread has finished.
 pub fn entries_to_try(alloc: Global, state: &NumberState) -> Result<Vec<Entry>, NoMemory>
-    ensures { IfOk result (λ es. (g : Stock) (b : Body) → es.items ≡ found.candidates (slots g b state.now)) }
+    ensures { IfOk result (λ es. (g : Stock) (b : CodeBody) → es.items ≡ found.candidates (slots g b state.now)) }
 {
     let Some(main) = state.threads.get(0) else {
         return Ok(Vec::new(alloc));

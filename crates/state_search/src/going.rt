@@ -1,7 +1,7 @@
 //! Going on from a state.
 ghost use Rattle.std.specs.Prelude.{◌≡◌, ◌≤◌, ◌<◌, ◌+◌, ◌^◌, ℕ, IfOk, OnOk, MatchOption, length, Option, Some, None, slice_get, slice_set};
 ghost use Rattle.std.specs.List.{AllByRecursion};
-ghost use Rattle.rules_code.specs.declared.code.Body.{Body};
+ghost use Rattle.rules_code.specs.declared.code.CodeBody.{CodeBody};
 ghost use Rattle.outcome_listing.specs.declared.bounds.Bounds.{Bounds};
 ghost use Rattle.outcome_listing.specs.declared.explored.Final.{Final};
 ghost use Rattle.number_states.specs.States.{AreIn, Becomes};
@@ -23,7 +23,7 @@ use number_rests::{EagerRules, rest};
 use number_states::{NumberState, Numbers};
 use number_waits::first_due;
 use outcome_listing::{Bounds, Cause, Final};
-use rules_code::Body;
+use rules_code::CodeBody;
 use std::alloc::Global;
 
 /// How many steps an entry has, and the Tick that it may wait for.
@@ -51,7 +51,7 @@ impl Found {
     fn note(&mut self, cause: Cause, by: Origin)
         ensures gap { self.new.gap ≡ None → ⊥ }
         ensures same { self.new ≡ record self.old { gap = self.new.gap } }
-        ensures shows { (b : Body) (bounds : Bounds) → Searched bounds b self.old → HasCause bounds b self.old by cause → Searched bounds b self.new }
+        ensures shows { (b : CodeBody) (bounds : Bounds) → Searched bounds b self.old → HasCause bounds b self.old by cause → Searched bounds b self.new }
     {
         if self.gap.is_none() {
             self.gap = Some(Gap { cause, by });
@@ -82,9 +82,9 @@ impl Found {
     ) -> Result<u32, NoMemory>
         requires there { AreIn self.old.numbers state }
         requires may { MayAdd bounds.now self.old by.steps }
-        ensures going { OnOk result ((b : Body) (n : ℕ) → n ≤ length self.old.states → Going bounds.now b n self.old → ComesTo bounds.now b self.old by state → Going bounds.now b n self.new) }
-        ensures kept { IfOk result (λ j. (b : Body) → IsKeptAt b self.new j (shown self.old.numbers b state)) }
-        ensures extends { OnOk result ((b : Body) → Extends b self.old self.new) }
+        ensures going { OnOk result ((b : CodeBody) (n : ℕ) → n ≤ length self.old.states → Going bounds.now b n self.old → ComesTo bounds.now b self.old by state → Going bounds.now b n self.new) }
+        ensures kept { IfOk result (λ j. (b : CodeBody) → IsKeptAt b self.new j (shown self.old.numbers b state)) }
+        ensures extends { OnOk result ((b : CodeBody) → Extends b self.old self.new) }
         ensures numbers { OnOk result (self.new.numbers ≡ self.old.numbers) }
         ensures moves { OnOk result (self.new.moves ≡ self.old.moves) }
     {
@@ -111,9 +111,9 @@ impl Found {
         by: Origin,
     ) -> Result<Option<u32>, NoMemory>
         requires { AreIn self.old.numbers state }
-        ensures going { OnOk result ((b : Body) (n : ℕ) → n ≤ length self.old.states → Going bounds.now b n self.old → ComesTo bounds.now b self.old by state → Going bounds.now b n self.new) }
-        ensures kept { IfOk result (λ found. MatchOption found (self.new.gap ≡ None → ⊥) (λ j. (b : Body) → IsKeptAt b self.new j (shown self.old.numbers b state))) }
-        ensures extends { OnOk result ((b : Body) → Extends b self.old self.new) }
+        ensures going { OnOk result ((b : CodeBody) (n : ℕ) → n ≤ length self.old.states → Going bounds.now b n self.old → ComesTo bounds.now b self.old by state → Going bounds.now b n self.new) }
+        ensures kept { IfOk result (λ found. MatchOption found (self.new.gap ≡ None → ⊥) (λ j. (b : CodeBody) → IsKeptAt b self.new j (shown self.old.numbers b state))) }
+        ensures extends { OnOk result ((b : CodeBody) → Extends b self.old self.new) }
         ensures numbers { OnOk result (self.new.numbers ≡ self.old.numbers) }
         ensures moves { OnOk result (self.new.moves ≡ self.old.moves) }
     {
@@ -134,7 +134,7 @@ impl Found {
     fn arrive(
         &mut self,
         alloc: Global,
-        body: &Body,
+        body: &CodeBody,
         bounds: &Bounds,
         state: NumberState,
         parent: u32,
@@ -182,7 +182,7 @@ impl Found {
     pub fn take(
         &mut self,
         alloc: Global,
-        body: &Body,
+        body: &CodeBody,
         bounds: &Bounds,
         at: u32,
         entry: Entry,
@@ -238,7 +238,13 @@ impl Found {
     }
 
     /// What there is where no entry but a Tick has a next state: a Tick in virtual timing, or, where nobody sleeps, an end.
-    fn stay(&mut self, alloc: Global, body: &Body, bounds: &Bounds, at: u32) -> Result<(), NoMemory>
+    fn stay(
+        &mut self,
+        alloc: Global,
+        body: &CodeBody,
+        bounds: &Bounds,
+        at: u32,
+    ) -> Result<(), NoMemory>
         requires going { Going bounds.now body.now at self.old }
         requires there { at < length self.old.states }
         requires still { IsStillAt body.now self.old at }
@@ -265,7 +271,7 @@ impl Found {
     fn try_each(
         &mut self,
         alloc: Global,
-        body: &Body,
+        body: &CodeBody,
         bounds: &Bounds,
         at: u32,
         entries: &[Entry],
@@ -288,7 +294,7 @@ impl Found {
     pub fn go_on(
         &mut self,
         alloc: Global,
-        body: &Body,
+        body: &CodeBody,
         bounds: &Bounds,
         at: u32,
     ) -> Result<(), NoMemory>
@@ -308,7 +314,7 @@ impl Found {
     }
 
     /// The first state alone, where it may be.
-    pub fn begin(alloc: Global, body: &Body, bounds: &Bounds) -> Result<Found, NoMemory>
+    pub fn begin(alloc: Global, body: &CodeBody, bounds: &Bounds) -> Result<Found, NoMemory>
         ensures going { IfOk result (λ f. Going bounds.now body.now 0 f) }
         ensures begun { IfOk result (λ f. HasBegun f) }
     {

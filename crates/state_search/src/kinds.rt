@@ -1,6 +1,6 @@
 //! What a state shows at a glance: how main has ended, whether an entry reads the clock, which limit is exceeded.
 ghost use Rattle.std.specs.Prelude.{◌≡◌, IfOk, MatchBool, MatchOption, slice_get};
-ghost use Rattle.rules_code.specs.declared.code.Body.{Body};
+ghost use Rattle.rules_code.specs.declared.code.CodeBody.{CodeBody};
 ghost use Rattle.local_steps.specs.Machine.{active_of};
 ghost use Rattle.slot_time.specs.WithoutTime.{ReadsClock, part_reads_clock};
 ghost use Rattle.number_states.specs.States.{AreIn, slots};
@@ -19,14 +19,14 @@ use rules_code::Primitive;
 
 /// Whether a part is a value.
 fn is_value(part: &Active) -> bool
-    ensures { (b : Body) → result ≡ is_value_by (active_of b part.now) }
+    ensures { (b : CodeBody) → result ≡ is_value_by (active_of b part.now) }
 {
     matches!(part, Active::Ret(_))
 }
 
 /// Whether a part stands at `clockMicros`.
 fn part_reads(part: &Active) -> bool
-    ensures { (b : Body) → result ≡ part_reads_clock (active_of b part.now) }
+    ensures { (b : CodeBody) → result ≡ part_reads_clock (active_of b part.now) }
 {
     match part {
         Active::Asks(primitive, _) => matches!(primitive, Primitive::ClockMicros),
@@ -37,7 +37,7 @@ fn part_reads(part: &Active) -> bool
 /// How main has ended, where it has finished.
 pub fn ended(numbers: &Numbers, state: &NumberState) -> Option<Final>
     requires { AreIn numbers.now state.now }
-    ensures { (b : Body) → kind_of result ≡ ended_by (slice_get (slots numbers.now b state.now).threads 0) }
+    ensures { (b : CodeBody) → kind_of result ≡ ended_by (slice_get (slots numbers.now b state.now).threads 0) }
 {
     let Some(main) = state.threads.get(0) else {
         return None;
@@ -55,7 +55,7 @@ pub fn ended(numbers: &Numbers, state: &NumberState) -> Option<Final>
 /// Whether an entry reads the clock.
 fn reads_clock(numbers: &Numbers, state: &NumberState, entry: Entry) -> bool
     requires { AreIn numbers.now state.now }
-    ensures { (b : Body) → MatchBool result (ReadsClock (slots numbers.now b state.now) entry) (ReadsClock (slots numbers.now b state.now) entry → ⊥) }
+    ensures { (b : CodeBody) → MatchBool result (ReadsClock (slots numbers.now b state.now) entry) (ReadsClock (slots numbers.now b state.now) entry → ⊥) }
 {
     let Entry::Op { t } = entry else {
         return false;
@@ -69,7 +69,7 @@ fn reads_clock(numbers: &Numbers, state: &NumberState, entry: Entry) -> bool
 /// Whether an entry reads the clock, and the clock is the real one.
 pub fn reads_time(numbers: &Numbers, state: &NumberState, entry: Entry, clock: ClockChoice) -> bool
     requires { AreIn numbers.now state.now }
-    ensures { (b : Body) → MatchBool result (ReadsTime clock (slots numbers.now b state.now) entry) (ReadsTime clock (slots numbers.now b state.now) entry → ⊥) }
+    ensures { (b : CodeBody) → MatchBool result (ReadsTime clock (slots numbers.now b state.now) entry) (ReadsTime clock (slots numbers.now b state.now) entry → ⊥) }
 {
     match clock {
         ClockChoice::Real => reads_clock(numbers, state, entry),
@@ -84,7 +84,7 @@ pub fn exceeded(
     limits: &Limits,
 ) -> Result<Option<LimitKind>, NoMemory>
     requires { AreIn numbers.now state.now }
-    ensures { IfOk result (λ found. (b : Body) → MatchOption found (FitsIn limits.now (slots numbers.now b state.now)) (λ kind. ExceedsFirst kind limits.now (slots numbers.now b state.now))) }
+    ensures { IfOk result (λ found. (b : CodeBody) → MatchOption found (FitsIn limits.now (slots numbers.now b state.now)) (λ kind. ExceedsFirst kind limits.now (slots numbers.now b state.now))) }
 {
     if used(LimitKind::Threads, numbers, state)? > limits.threads as u64 {
         return Ok(Some(LimitKind::Threads));

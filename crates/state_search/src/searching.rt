@@ -5,7 +5,7 @@ ghost use Rattle.state_search.specs.Searching.{Searched, IsClosed, IsCodeOf, Are
 
 use crate::found::Found;
 use hs_base::NoMemory;
-use hs_rules::{Body, Code};
+use hs_rules::{Code, CodeBody};
 use outcome_listing::Bounds;
 use std::alloc::Global;
 
@@ -18,7 +18,7 @@ pub fn search(alloc: Global, code: &Code, bounds: &Bounds) -> Result<Found, NoMe
     ensures complete { IfOk result (λ f. (script : Script) → IsCodeOf (body_of code.now) script → f.gap ≡ None → ShowsAll bounds.now script (body_of code.now) f) }
     ensures gap { IfOk result (λ f. (script : Script) → IsCodeOf (body_of code.now) script → ShowsGap bounds.now script (body_of code.now) f f.gap) }
 {
-    let body: &Body = &code.body;
+    let body: &CodeBody = &code.body;
     let mut found = Found::begin(alloc, body, bounds)?;
     'states: for at in 0..bounds.states {
         if at as usize >= found.states.len() {

@@ -4,7 +4,7 @@ use Rattle.std.proofs.lemmas.List.{append-nil}
 use Rattle.std.specs.Prelude.{MatchBool}
 use Rattle.hs_base.specs.declared.mask.Mask.{Mask}
 use Rattle.hs_base.specs.declared.mask.Mask.TheVariants.{Unmasked}
-use Rattle.rules_code.specs.declared.code.Body.{Body}
+use Rattle.rules_code.specs.declared.code.CodeBody.{CodeBody}
 use Rattle.rules_code.specs.CodeTrees.{SlottedFunction}
 use Rattle.slot_laws.specs.SlotRules.{SlotPart, ret, throw, doing, performs, SlotFrame, bind_to, then_to, catch_by, mask_in, SlotTerm, at, mask_from, first_step, on_top, local}
 use Rattle.slot_laws.proofs.SlotFraming.{framed_one, stuck_more}
@@ -57,7 +57,7 @@ adds_one funs gs (performs o) q own news adds none e is d = absurd d
 
 -- ---- a part that was begun
 
-module _ (old new : Numbered) (b : Body) (p : SlotPart) (fs : List SlotFrame) (begun : Begun) (h : Begins old b p fs begun) where
+module _ (old new : Numbered) (b : CodeBody) (p : SlotPart) (fs : List SlotFrame) (begun : Begun) (h : Begins old b p fs begun) where
   -- the rule alone, in the masking state of the frames below
   alone_is : local (funs_of b) begun.frames.below (active_of b begun.part) (frames_of b begun.frames.list) ≡ local (funs_of b) (mask_from Unmasked (frames_of b h.outer)) p (frames_of b begun.frames.list)
   alone_is = ap₂ (λ m x. local (funs_of b) m x (frames_of b begun.frames.list)) (h.below ∙ masks_inside b Unmasked h.outer) h.part
@@ -108,7 +108,7 @@ not_both (throw x) d n = d
 not_both (performs o) d n = d
 
 -- in its innermost frame
-pub begun_in : (g : Numbered) (b : Body) (p : SlotPart) (fs outer : List Frame) (frame : Frame) (begun : Begun) → active_of b begun.part ≡ p → NeedsFrame p → slice_get g.stacks begun.outer ≡ Some outer → fs ≡ frame ∷ outer
+pub begun_in : (g : Numbered) (b : CodeBody) (p : SlotPart) (fs outer : List Frame) (frame : Frame) (begun : Begun) → active_of b begun.part ≡ p → NeedsFrame p → slice_get g.stacks begun.outer ≡ Some outer → fs ≡ frame ∷ outer
     → begun.frames.below ≡ mask_inside Unmasked outer → frames_of b begun.frames.list ≡ frame_of b frame ∷ [] → Begins g b p (frames_of b fs) begun
 begun_in g b p fs outer frame begun part needs there is below list = record {
   part = part;
@@ -121,7 +121,7 @@ begun_in g b p fs outer frame begun part needs there is below list = record {
 }
 
 -- an action, in no frame
-pub begun_bare : (g : Numbered) (b : Body) (p : SlotPart) (fs : List Frame) (begun : Begun) → active_of b begun.part ≡ p → IsDoing p → slice_get g.stacks begun.outer ≡ Some fs
+pub begun_bare : (g : Numbered) (b : CodeBody) (p : SlotPart) (fs : List Frame) (begun : Begun) → active_of b begun.part ≡ p → IsDoing p → slice_get g.stacks begun.outer ≡ Some fs
     → begun.frames.below ≡ mask_inside Unmasked fs → begun.frames.list ≡ [] → Begins g b p (frames_of b fs) begun
 begun_bare g b p fs begun part does there below list = record {
   part = part;
@@ -135,12 +135,12 @@ begun_bare g b p fs begun part does there below list = record {
 
 -- ---- whether a value leaves eagerly
 
-pub leaving_none : (b : Body) (fs : List Frame) → fs ≡ [] → false ≡ leaving_is_eager (frames_of b fs)
+pub leaving_none : (b : CodeBody) (fs : List Frame) → fs ≡ [] → false ≡ leaving_is_eager (frames_of b fs)
 leaving_none b fs e = ap (λ z. leaving_is_eager (frames_of b z)) (sym e)
 
-pub leaving_some : (b : Body) (fs outer : List Frame) (frame : Frame) (p u : Bool) → fs ≡ frame ∷ outer → p ≡ passes (frame_of b frame) → u ≡ is_unmasked (mask_inside Unmasked outer) → (p && u) ≡ leaving_is_eager (frames_of b fs)
+pub leaving_some : (b : CodeBody) (fs outer : List Frame) (frame : Frame) (p u : Bool) → fs ≡ frame ∷ outer → p ≡ passes (frame_of b frame) → u ≡ is_unmasked (mask_inside Unmasked outer) → (p && u) ≡ leaving_is_eager (frames_of b fs)
 leaving_some b fs outer frame p u is e h =
     ap₂ (λ x y. x && y) e (h ∙ ap is_unmasked (masks_inside b Unmasked outer)) ∙ ap (λ z. leaving_is_eager (frames_of b z)) (sym is)
 
-pub at_once_is : (b : Body) (p : SlotPart) (fs : List Frame) (t u l : Bool) → t ≡ is_throw p → u ≡ is_unmasked (mask_inside Unmasked fs) → l ≡ leaves_eagerly p (frames_of b fs) → ((t || not u) || l) ≡ eager_at_once p (frames_of b fs)
+pub at_once_is : (b : CodeBody) (p : SlotPart) (fs : List Frame) (t u l : Bool) → t ≡ is_throw p → u ≡ is_unmasked (mask_inside Unmasked fs) → l ≡ leaves_eagerly p (frames_of b fs) → ((t || not u) || l) ≡ eager_at_once p (frames_of b fs)
 at_once_is b p fs t u l e h g = ap₂ (λ x y. x || y) (ap₂ (λ x y. x || not y) e (h ∙ ap is_unmasked (masks_inside b Unmasked fs))) g

@@ -1,7 +1,7 @@
 -- Steps of terms by number (own).
 use Rattle.std.specs.Prelude.{◌≡◌, ◌++◌, not, ◌&&◌, ◌||◌, ℕ, Bool, true, false, List, [], Option, Some, None, slice_get, MatchOption}
 use Rattle.hs_base.specs.declared.mask.Mask.TheVariants.{Unmasked}
-use Rattle.rules_code.specs.declared.code.Body.{Body}
+use Rattle.rules_code.specs.declared.code.CodeBody.{CodeBody}
 use Rattle.rules_code.specs.CodeTrees.{SlottedFunction}
 use Rattle.slot_laws.specs.SlotRules.{SlotPart, ret, throw, doing, performs, SlotFrame, SlotTerm, at, mask_from, first_step, local}
 use Rattle.local_steps.specs.declared.active.Frame.{Frame}
@@ -14,7 +14,7 @@ use Rattle.term_graph.specs.declared.stepping.LocalStep.{LocalStep}
 use Rattle.term_graph.specs.Eager.{is_eager, is_throw, passes_all, receives_nothing, leaving_is_eager, step_is_eager}
 
 -- the local rule of a term leads to the term of this number, and is eager or not
-pub record Steps (g : Numbered) (b : Body) (st : SlotTerm) (s : LocalStep) : Type 0 where
+pub record Steps (g : Numbered) (b : CodeBody) (st : SlotTerm) (s : LocalStep) : Type 0 where
   pub next : SlotTerm
   pub is : term_in g b s.term ≡ Some next
   pub rule : local (funs_of b) Unmasked st.part st.frames ≡ Some next
@@ -35,7 +35,7 @@ NeedsFrame (performs p) = ⊥
 
 -- A part inside these frames, with few of them taken off: those and the stack that was begun are these frames. An action has taken
 -- none off, and a value or an exception some.
-pub record Begins (g : Numbered) (b : Body) (p : SlotPart) (fs : List SlotFrame) (begun : Begun) : Type 0 where
+pub record Begins (g : Numbered) (b : CodeBody) (p : SlotPart) (fs : List SlotFrame) (begun : Begun) : Type 0 where
   pub part : active_of b begun.part ≡ p
   pub outer : List Frame
   pub there : slice_get g.stacks begun.outer ≡ Some outer
@@ -62,12 +62,12 @@ adds_eagerly funs (doing a vs) fs = step_is_eager (first_step funs (mask_from Un
 adds_eagerly funs (performs p) fs = false
 
 -- a part in frames of its own over others is the term of this number, and it adds eagerly or not
-pub record Lands (g : Numbered) (b : Body) (p : SlotPart) (own fs : List SlotFrame) (m : Moved) : Type 0 where
+pub record Lands (g : Numbered) (b : CodeBody) (p : SlotPart) (own fs : List SlotFrame) (m : Moved) : Type 0 where
   pub is : term_in g b m.term ≡ Some (at p (own ++ fs))
   pub adds : m.adds ≡ (not (is_throw p) && passes_all own)
 
 -- the local rule of a part in frames leads to the term of this number, and so is what an action adds eager or not
-pub record Moves (g : Numbered) (b : Body) (p : SlotPart) (fs : List SlotFrame) (m : Moved) : Type 0 where
+pub record Moves (g : Numbered) (b : CodeBody) (p : SlotPart) (fs : List SlotFrame) (m : Moved) : Type 0 where
   pub next : SlotTerm
   pub is : term_in g b m.term ≡ Some next
   pub rule : local (funs_of b) Unmasked p fs ≡ Some next

@@ -1,6 +1,6 @@
 //! A term that is about to move: its part, and its innermost frame where the rule needs it.
 ghost use Rattle.std.specs.Prelude.{◌≡◌, ◌<◌, ◌∷◌, [], List, IfOk, IfSome, MatchOption, length, slice_get, Some, None};
-ghost use Rattle.rules_code.specs.declared.code.Body.{Body};
+ghost use Rattle.rules_code.specs.declared.code.CodeBody.{CodeBody};
 ghost use Rattle.slot_laws.specs.SlotRules.{local};
 ghost use Rattle.local_steps.specs.declared.active.Frame.{Frame};
 ghost use Rattle.local_steps.specs.Machine.{active_of, frame_of, frames_of, funs_of};
@@ -25,7 +25,7 @@ pub struct Begun {
 /// A frame alone in a masking state.
 fn alone(alloc: Global, frame: &Frame, outside: Mask) -> Result<Frames, NoMemory>
     ensures below { IfOk result (λ fs. fs.below ≡ outside) }
-    ensures list { IfOk result (λ fs. (b : Body) → frames_of b fs.list ≡ frame_of b frame.now ∷ []) }
+    ensures list { IfOk result (λ fs. (b : CodeBody) → frames_of b fs.list ≡ frame_of b frame.now ∷ []) }
 {
     let mut frames = Frames::new(alloc, outside);
     match frame.copy(alloc)? {
@@ -46,7 +46,7 @@ fn in_innermost(
 ) -> Result<Option<Begun>, NoMemory>
     requires { stack < length terms.now.stacks }
     ensures there { IfOk result (λ found. IfSome found (λ x. x.outer < length terms.now.stacks)) }
-    ensures is { IfOk result (λ found. (b : Body) (fs : List Frame) → slice_get terms.now.stacks stack ≡ Some fs → NeedsFrame (active_of b part) → MatchOption found (fs ≡ []) (Begins terms.now b (active_of b part) (frames_of b fs))) }
+    ensures is { IfOk result (λ found. (b : CodeBody) (fs : List Frame) → slice_get terms.now.stacks stack ≡ Some fs → NeedsFrame (active_of b part) → MatchOption found (fs ≡ []) (Begins terms.now b (active_of b part) (frames_of b fs))) }
 {
     let Some((frame, outer)) = terms.innermost(stack) else {
         return Ok(None);
@@ -68,7 +68,7 @@ pub fn begin(
 ) -> Result<Option<Begun>, NoMemory>
     requires { stack < length terms.now.stacks }
     ensures there { IfOk result (λ found. IfSome found (λ x. x.outer < length terms.now.stacks)) }
-    ensures is { IfOk result (λ found. (b : Body) (fs : List Frame) → slice_get terms.now.stacks stack ≡ Some fs → MatchOption found (local (funs_of b) Unmasked (active_of b part.now) (frames_of b fs) ≡ None) (Begins terms.now b (active_of b part.now) (frames_of b fs))) }
+    ensures is { IfOk result (λ found. (b : CodeBody) (fs : List Frame) → slice_get terms.now.stacks stack ≡ Some fs → MatchOption found (local (funs_of b) Unmasked (active_of b part.now) (frames_of b fs) ≡ None) (Begins terms.now b (active_of b part.now) (frames_of b fs))) }
 {
     match part {
         Active::Doing(at, env) => Ok(Some(Begun {

@@ -1,7 +1,7 @@
 //! Terms that are made of others: by an answer or an exception in a part's place, and by a fork.
 ghost use Rattle.std.specs.Prelude.{◌≡◌, ◌<◌, ◌∷◌, [], IfOk, length, Some};
 ghost use Rattle.hs_base.specs.declared.mask.Mask.TheVariants.{Unmasked};
-ghost use Rattle.rules_code.specs.declared.code.Body.{Body};
+ghost use Rattle.rules_code.specs.declared.code.CodeBody.{CodeBody};
 ghost use Rattle.slot_laws.specs.SlotRules.{SlotTerm, at, doing, mask_in, mask_from};
 ghost use Rattle.local_steps.specs.Machine.{act_of, active_of};
 ghost use Rattle.term_tables.specs.Numbered.{term_in, HasGrown, IsStack};
@@ -17,7 +17,7 @@ use term_tables::Terms;
 fn stack_of(terms: &Terms, number: u32) -> u32
     requires { number < length terms.now.terms }
     ensures there { result < length terms.now.stacks }
-    ensures is { (b : Body) (st : SlotTerm) → term_in terms.now b number ≡ Some st → IsStack terms.now b result st.frames }
+    ensures is { (b : CodeBody) (st : SlotTerm) → term_in terms.now b number ≡ Some st → IsStack terms.now b result st.frames }
 {
     match terms.get(number) {
         Some(term) => term.stack,
@@ -27,7 +27,7 @@ fn stack_of(terms: &Terms, number: u32) -> u32
 
 /// The number of the bare action that a run begins with. Where memory runs out all is as before.
 pub fn first(alloc: Global, terms: &mut Terms, main: ActId) -> Result<u32, NoMemory>
-    ensures is { IfOk result (λ n. (b : Body) → term_in terms.new b n ≡ Some (at (doing (act_of b main) []) [])) }
+    ensures is { IfOk result (λ n. (b : CodeBody) → term_in terms.new b n ≡ Some (at (doing (act_of b main) []) [])) }
     ensures there { IfOk result (λ n. n < length terms.new.terms) }
     ensures grows { HasGrown terms.old terms.new }
 {
@@ -38,7 +38,7 @@ pub fn first(alloc: Global, terms: &mut Terms, main: ActId) -> Result<u32, NoMem
 /// The number of a term with this part in the place of its own, in the same frames. Where memory runs out all is as before.
 pub fn resumed(alloc: Global, terms: &mut Terms, number: u32, part: Active) -> Result<u32, NoMemory>
     requires { number < length terms.old.terms }
-    ensures is { IfOk result (λ n. (b : Body) (st : SlotTerm) → term_in terms.old b number ≡ Some st → term_in terms.new b n ≡ Some (at (active_of b part) st.frames)) }
+    ensures is { IfOk result (λ n. (b : CodeBody) (st : SlotTerm) → term_in terms.old b number ≡ Some st → term_in terms.new b n ≡ Some (at (active_of b part) st.frames)) }
     ensures there { IfOk result (λ n. n < length terms.new.terms) }
     ensures grows { HasGrown terms.old terms.new }
 {
@@ -50,7 +50,7 @@ pub fn resumed(alloc: Global, terms: &mut Terms, number: u32, part: Active) -> R
 /// memory runs out a stack may have got a number.
 pub fn forked(alloc: Global, terms: &mut Terms, parent: u32, part: Active) -> Result<u32, NoMemory>
     requires { parent < length terms.old.terms }
-    ensures is { IfOk result (λ n. (b : Body) (st : SlotTerm) → term_in terms.old b parent ≡ Some st → term_in terms.new b n ≡ Some (at (active_of b part) (mask_in (mask_from Unmasked st.frames) ∷ []))) }
+    ensures is { IfOk result (λ n. (b : CodeBody) (st : SlotTerm) → term_in terms.old b parent ≡ Some st → term_in terms.new b n ≡ Some (at (active_of b part) (mask_in (mask_from Unmasked st.frames) ∷ []))) }
     ensures there { IfOk result (λ n. n < length terms.new.terms) }
     ensures grows { HasGrown terms.old terms.new }
 {

@@ -1,7 +1,7 @@
 //! One local rule of a term.
 ghost use Rattle.std.specs.Prelude.{◌≡◌, ◌++◌, ◌<◌, not, ◌&&◌, ℕ, List, IfOk, IfSome, MatchOption, length, slice_get, Some, None};
 ghost use Rattle.hs_base.specs.declared.mask.Mask.TheVariants.{Unmasked};
-ghost use Rattle.rules_code.specs.declared.code.Body.{Body};
+ghost use Rattle.rules_code.specs.declared.code.CodeBody.{CodeBody};
 ghost use Rattle.slot_laws.specs.SlotRules.{SlotPart, SlotFrame, SlotTerm, local};
 ghost use Rattle.local_steps.specs.declared.active.Frame.{Frame};
 ghost use Rattle.local_steps.specs.Machine.{active_of, frames_of, funs_of};
@@ -12,8 +12,8 @@ ghost use Rattle.term_graph.specs.Steps.{Begins, Lands, Moves, Steps};
 use crate::begun::{Begun, begin};
 use crate::eager::{eager_at_once, is_doing, is_throw, passes};
 use hs_base::NoMemory;
-use local_steps::{Active, Frames, Next};
-use rules_code::Body;
+use local_steps::{Active, Frames, StepResult};
+use rules_code::CodeBody;
 use std::alloc::Global;
 use term_tables::Terms;
 
@@ -51,8 +51,8 @@ fn push_all(
     outer: u32,
 ) -> Result<Pushed, NoMemory>
     requires { outer < length terms.old.stacks }
-    ensures is { IfOk result (λ p. (b : Body) (fs : List Frame) → slice_get terms.old.stacks outer ≡ Some fs → IsStack terms.new b p.stack (frames_of b frames.old.list ++ frames_of b fs)) }
-    ensures passes { IfOk result (λ p. (b : Body) → p.passes ≡ passes_all (frames_of b frames.old.list)) }
+    ensures is { IfOk result (λ p. (b : CodeBody) (fs : List Frame) → slice_get terms.old.stacks outer ≡ Some fs → IsStack terms.new b p.stack (frames_of b frames.old.list ++ frames_of b fs)) }
+    ensures passes { IfOk result (λ p. (b : CodeBody) → p.passes ≡ passes_all (frames_of b frames.old.list)) }
     ensures there { IfOk result (λ p. p.stack < length terms.new.stacks) }
     ensures grows { HasGrown terms.old terms.new }
 {
@@ -89,7 +89,7 @@ fn land(
     outer: u32,
 ) -> Result<Moved, NoMemory>
     requires { outer < length terms.old.stacks }
-    ensures is { IfOk result (λ m. (b : Body) (fs : List Frame) → slice_get terms.old.stacks outer ≡ Some fs → Lands terms.new b (active_of b next) (frames_of b frames.list) (frames_of b fs) m) }
+    ensures is { IfOk result (λ m. (b : CodeBody) (fs : List Frame) → slice_get terms.old.stacks outer ≡ Some fs → Lands terms.new b (active_of b next) (frames_of b frames.list) (frames_of b fs) m) }
     ensures there { IfOk result (λ m. m.term < length terms.new.terms) }
     ensures grows { HasGrown terms.old terms.new }
 {
@@ -105,7 +105,7 @@ fn land(
 #[tactic(auto, using(crate::proofs::Going::stuck_on, crate::proofs::Going::lands_on))]
 fn go_on(
     alloc: Global,
-    body: &Body,
+    body: &CodeBody,
     terms: &mut Terms,
     begun: Begun,
 ) -> Result<Option<Moved>, NoMemory>
@@ -121,8 +121,8 @@ fn go_on(
     } = begun;
     let mut frames = frames;
     match local_steps::step(alloc, body, part, &mut frames)? {
-        Next::Stuck => Ok(None),
-        Next::To(next) => {
+        StepResult::Stuck => Ok(None),
+        StepResult::To(next) => {
             let moved = land(alloc, terms, next, frames, outer)?;
             Ok(Some(moved))
         }
@@ -132,7 +132,7 @@ fn go_on(
 /// The local rule of the term of a number, if there is one. Where memory runs out some terms and stacks may have got numbers.
 pub fn step(
     alloc: Global,
-    body: &Body,
+    body: &CodeBody,
     terms: &mut Terms,
     number: u32,
 ) -> Result<Option<LocalStep>, NoMemory>

@@ -7,7 +7,7 @@ use Rattle.rules_meaning.specs.Values.{V, value_of, values_of}
 use Rattle.rules_expansion.specs.declared.primitive.Primitive.{Primitive}
 use Rattle.rules_expansion.specs.declared.primitive.Primitive.TheVariants as p
 use Rattle.rules_code.specs.declared.act.ActId.{ActId}
-use Rattle.rules_code.specs.declared.code.Body.{Body}
+use Rattle.rules_code.specs.declared.code.CodeBody.{CodeBody}
 use Rattle.slot_laws.specs.SlotRules.{ret, throw, doing, performs, calls, forks, forks_unmask, bind_to, then_to, catch_by, mask_in}
 use Rattle.slot_laws.proofs.ActNodes.{values_push}
 use Rattle.local_steps.specs.declared.active.Active.{Active}
@@ -84,7 +84,7 @@ exact_waiting i j vs ws e =
 
 -- ---- parts and frames
 
-pub exact_part : (x y : Active) → part_key x ≡ part_key y → (b : Body) → active_of b x ≡ active_of b y
+pub exact_part : (x y : Active) → part_key x ≡ part_key y → (b : CodeBody) → active_of b x ≡ active_of b y
 exact_part (a.Doing i vs) (a.Doing j ws) e b = let k = exact_action i j vs ws (ap rest_of e) in ap₂ (λ n us. doing (act_of b n) us) k.action k.values
 exact_part (a.Ret v) (a.Ret w) e b = ap ret (whole_value (value_of v) (value_of w) (ap rest_of e))
 exact_part (a.Throw d) (a.Throw x) e b = ap throw (exact_exn d x [] [] (append-nil (exn_key d) ∙ ap rest_of e ∙ sym (append-nil (exn_key x)))).0
@@ -96,7 +96,7 @@ exact_part (a.Forks i vs) (a.Forks j ws) e b = let k = exact_action i j vs ws (a
 exact_part (a.ForksUnmask i vs) (a.ForksUnmask j ws) e b = let k = exact_action i j vs ws (ap rest_of e) in ap₂ (λ n us. performs (forks_unmask (act_of b n) us)) k.action k.values
 exact_part _ _ e b = let k = ap first_of e in absurd (omega (arith, k))
 
-pub exact_frame : (x y : Frame) → frame_key x ≡ frame_key y → (b : Body) → frame_of b x ≡ frame_of b y
+pub exact_frame : (x y : Frame) → frame_key x ≡ frame_key y → (b : CodeBody) → frame_of b x ≡ frame_of b y
 exact_frame (f.Bind i vs) (f.Bind j ws) e b = let k = exact_waiting i j vs ws (ap rest_of e) in ap₂ (λ n us. bind_to (act_of b n) us) k.action k.values
 exact_frame (f.Then i vs) (f.Then j ws) e b = let k = exact_action i j vs ws (ap rest_of e) in ap₂ (λ n us. then_to (act_of b n) us) k.action k.values
 exact_frame (f.Catch i vs) (f.Catch j ws) e b = let k = exact_waiting i j vs ws (ap rest_of e) in ap₂ (λ n us. catch_by (act_of b n) us) k.action k.values

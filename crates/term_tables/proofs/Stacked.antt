@@ -3,7 +3,7 @@ use Rattle.std.proofs.Common.{◌≡◌, ℕ, zero, suc, ◌+◌, ◌-◌, ◌<�
 use Rattle.std.proofs.lemmas.List.{length_push, length-append, get_or_append_left, append-nil}
 use Rattle.std.proofs.lemmas.Option.{slice_get-get_or, get_or_from_slice_get, slice_get_within, slice_get_cases}
 use Rattle.hs_base.specs.declared.mask.Mask.TheVariants.{Unmasked}
-use Rattle.rules_code.specs.declared.code.Body.{Body}
+use Rattle.rules_code.specs.declared.code.CodeBody.{CodeBody}
 use Rattle.slot_laws.specs.SlotRules.{at}
 use Rattle.local_steps.specs.declared.active.Frame.{Frame}
 use Rattle.local_steps.specs.Frames.{mask_inside}
@@ -155,7 +155,7 @@ measured_now ls ns l h all one = elim h [
 ]
 
 pub is_pushed : (ls ns : List Level) (l one : Level) (n : ℕ) (g : Numbered) → g.stacks ≡ stacks_of ns → AreMeasured ns → Grows (stacks_of ls) (stacks_of ns) → slice_get ns n ≡ Some one
-    → one.outer ∷ frame_key one.frame ≡ l.outer ∷ frame_key l.frame → (b : Body) (fs : List Frame) → slice_get (stacks_of ls) l.outer ≡ Some fs → IsStack g b (n + 1) (frame_of b l.frame ∷ frames_of b fs)
+    → one.outer ∷ frame_key one.frame ≡ l.outer ∷ frame_key l.frame → (b : CodeBody) (fs : List Frame) → slice_get (stacks_of ls) l.outer ≡ Some fs → IsStack g b (n + 1) (frame_of b l.frame ∷ frames_of b fs)
 is_pushed ls ns l one n g is all grows e same b fs there =
     let outers : one.outer ≡ l.outer = cc same in
     let frames : frame_key one.frame ≡ frame_key l.frame = cc same in
@@ -179,7 +179,7 @@ level_found ls all n fs (Some l) e there = makes ls n l.now fs all (sym e) there
 
 -- ---- terms
 
-pub is_term : (stacks : List (List Frame)) (ts : List Term) (n : ℕ) (one t : Term) → slice_get ts n ≡ Some one → one.stack ∷ part_key one.part ≡ t.stack ∷ part_key t.part → (b : Body) (fs : List Frame) → slice_get stacks t.stack ≡ Some fs
+pub is_term : (stacks : List (List Frame)) (ts : List Term) (n : ℕ) (one t : Term) → slice_get ts n ≡ Some one → one.stack ∷ part_key one.part ≡ t.stack ∷ part_key t.part → (b : CodeBody) (fs : List Frame) → slice_get stacks t.stack ≡ Some fs
     → term_in (numbered stacks ts) b n ≡ Some (at (active_of b t.part) (frames_of b fs))
 is_term stacks ts n one t e same b fs there =
     let outer : one.stack ≡ t.stack = cc same in

@@ -1,7 +1,7 @@
 -- Terms by number (own). Two actions of a code with equal trees have two numbers there, so terms that differ in these alone have
 -- two numbers here, though they stand for one term with slots.
 use Rattle.std.specs.Prelude.{◌≡◌, ℕ, ◌<◌, List, Option, Some, None, length, slice_get}
-use Rattle.rules_code.specs.declared.code.Body.{Body}
+use Rattle.rules_code.specs.declared.code.CodeBody.{CodeBody}
 use Rattle.slot_laws.specs.SlotRules.{SlotFrame, SlotPart, SlotTerm, at}
 use Rattle.local_steps.specs.declared.active.Frame.{Frame}
 use Rattle.local_steps.specs.Machine.{active_of, frames_of}
@@ -17,11 +17,11 @@ pub record Numbered : Type 0 where
 abbrev pub numbered : List (List Frame) → List Term → Numbered
 numbered stacks terms = record { stacks = stacks; terms = terms }
 
-abbrev pub over_stack : Body → SlotPart → Option (List Frame) → Option SlotTerm
+abbrev pub over_stack : CodeBody → SlotPart → Option (List Frame) → Option SlotTerm
 over_stack b p None = None
 over_stack b p (Some fs) = Some (at p (frames_of b fs))
 
-abbrev pub of_term : Body → List (List Frame) → Option Term → Option SlotTerm
+abbrev pub of_term : CodeBody → List (List Frame) → Option Term → Option SlotTerm
 of_term b stacks None = None
 of_term b stacks (Some t) = over_stack b (active_of b t.part) (slice_get stacks t.stack)
 
@@ -30,11 +30,11 @@ abbrev pub StandIn : List Term → List (List Frame) → Type 0
 StandIn ts stacks = (n : ℕ) (t : Term) → slice_get ts n ≡ Some t → t.stack < length stacks
 
 -- the term with slots that a number stands for
-abbrev pub term_in : Numbered → Body → ℕ → Option SlotTerm
+abbrev pub term_in : Numbered → CodeBody → ℕ → Option SlotTerm
 term_in g b n = of_term b g.stacks (slice_get g.terms n)
 
 -- the stack of a number stands for these frames
-abbrev pub IsStack : Numbered → Body → ℕ → List SlotFrame → Type 0
+abbrev pub IsStack : Numbered → CodeBody → ℕ → List SlotFrame → Type 0
 IsStack g b n ss = (fs : List Frame) × (slice_get g.stacks n ≡ Some fs) × (frames_of b fs ≡ ss)
 
 -- the other has more stacks and more terms behind those of the one

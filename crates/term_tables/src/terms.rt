@@ -1,7 +1,7 @@
 ghost use Rattle.std.specs.Prelude.{◌≡◌, ◌<◌, ◌∷◌, [], ℕ, List, length, slice_get, Some, IfOk, IfSome, OnErr, MatchOption};
 ghost use Rattle.std.specs.Option.{option_copied};
 ghost use Rattle.hs_base.specs.declared.mask.Mask.TheVariants.{Unmasked};
-ghost use Rattle.rules_code.specs.declared.code.Body.{Body};
+ghost use Rattle.rules_code.specs.declared.code.CodeBody.{CodeBody};
 ghost use Rattle.slot_laws.specs.SlotRules.{at};
 ghost use Rattle.local_steps.specs.declared.active.Frame.{Frame};
 ghost use Rattle.local_steps.specs.Frames.{mask_inside};
@@ -130,7 +130,7 @@ impl Terms {
     /// The number of a frame inside the stack of a number. Where memory runs out all is as before.
     pub fn push(&mut self, alloc: Global, frame: Frame, outer: u32) -> Result<u32, NoMemory>
         requires { outer < length self.old.stacks }
-        ensures is { IfOk result (λ n. (b : Body) (fs : List Frame) → slice_get self.old.stacks outer ≡ Some fs → IsStack self.new b n (frame_of b frame ∷ frames_of b fs)) }
+        ensures is { IfOk result (λ n. (b : CodeBody) (fs : List Frame) → slice_get self.old.stacks outer ≡ Some fs → IsStack self.new b n (frame_of b frame ∷ frames_of b fs)) }
         ensures there { IfOk result (λ n. n < length self.new.stacks) }
         ensures grows { HasGrown self.old self.new }
         ensures err { OnErr result (self.new ≡ self.old) }
@@ -156,7 +156,7 @@ impl Terms {
     /// The number of a part in the stack of a number. Where memory runs out all is as before.
     pub fn number(&mut self, alloc: Global, part: Active, stack: u32) -> Result<u32, NoMemory>
         requires { stack < length self.old.stacks }
-        ensures is { IfOk result (λ n. (b : Body) (fs : List Frame) → slice_get self.old.stacks stack ≡ Some fs → term_in self.new b n ≡ Some (at (active_of b part) (frames_of b fs))) }
+        ensures is { IfOk result (λ n. (b : CodeBody) (fs : List Frame) → slice_get self.old.stacks stack ≡ Some fs → term_in self.new b n ≡ Some (at (active_of b part) (frames_of b fs))) }
         ensures there { IfOk result (λ n. n < length self.new.terms) }
         ensures grows { HasGrown self.old self.new }
         ensures err { OnErr result (self.new ≡ self.old) }

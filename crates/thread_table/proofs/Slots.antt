@@ -9,7 +9,7 @@ use Rattle.rules_meaning.specs.Values as val
 use Rattle.rules_meaning.specs.Values.{value_of}
 use Rattle.rules_waiting.specs.Waiting.{Flying, flying_to, first_thrown}
 use Rattle.hs_rules.specs.Entries.{is_open, is_interruptible}
-use Rattle.rules_code.specs.declared.code.Body.{Body}
+use Rattle.rules_code.specs.declared.code.CodeBody.{CodeBody}
 use Rattle.slot_laws.specs.SlotRules.{calls, SlotPart, performs, mask_from}
 use Rattle.slot_states.specs.SlotStates.{SlotThread, SlotState}
 use Rattle.slot_states.specs.Resting as slots
@@ -27,32 +27,32 @@ use Rattle.thread_table.specs.Listing.{mask_of, is_throw, has_own, is_receptive,
 use Rattle.thread_table.proofs.Table.{slots_at}
 
 -- ---- the thread that stands at a number
-back_from : (b : Body) (o : Option Thread) (y : SlotThread) → option_map (slot_of b) o ≡ Some y → (th : Thread) × (o ≡ Some th) × (slot_of b th ≡ y)
+back_from : (b : CodeBody) (o : Option Thread) (y : SlotThread) → option_map (slot_of b) o ≡ Some y → (th : Thread) × (o ≡ Some th) × (slot_of b th ≡ y)
 back_from b None y h = absurd (cc h)
 back_from b (Some th) y h = (th, refl, cc h)
 
-pub slot_back : (b : Body) (ths : List Thread) (t : ℕ) (y : SlotThread) → slice_get (slots_of b ths) t ≡ Some y → (th : Thread) × (slice_get ths t ≡ Some th) × (slot_of b th ≡ y)
+pub slot_back : (b : CodeBody) (ths : List Thread) (t : ℕ) (y : SlotThread) → slice_get (slots_of b ths) t ≡ Some y → (th : Thread) × (slice_get ths t ≡ Some th) × (slot_of b th ≡ y)
 slot_back b ths t y h = back_from b (slice_get ths t) y (sym (slots_at b ths t) ∙ h)
 
 -- ---- frames
-long : (b : Body) (fs : List Frame) → length (frames_of b fs) ≡ length fs
+long : (b : CodeBody) (fs : List Frame) → length (frames_of b fs) ≡ length fs
 long b [] = refl
 long b (f ∷ fs) = ap suc (long b fs)
 
-pub frames_same : (b : Body) (ths : List Thread) → frames_in (slots_of b ths) ≡ frames_over ths
+pub frames_same : (b : CodeBody) (ths : List Thread) → frames_in (slots_of b ths) ≡ frames_over ths
 frames_same b [] = refl
 frames_same b (th ∷ ths) =
     ap (λ n. cond th.finished 0 n + frames_in (slots_of b ths)) (long b th.stack.frames)
     ∙ ap (λ n. cond th.finished 0 (length th.stack.frames) + n) (frames_same b ths)
 
 -- ---- receptive threads
-throw_same : (b : Body) (x : Control) → slots.is_throw (part_of b x) ≡ is_throw x
+throw_same : (b : CodeBody) (x : Control) → slots.is_throw (part_of b x) ≡ is_throw x
 throw_same b (c.Doing i vs) = refl
 throw_same b (c.Ret v) = refl
 throw_same b (c.Throw e) = refl
 throw_same b (c.Op q) = refl
 
-pub receptive_same : (b : Body) (th : Thread) → slots.is_receptive (slot_of b th) ≡ is_receptive th
+pub receptive_same : (b : CodeBody) (th : Thread) → slots.is_receptive (slot_of b th) ≡ is_receptive th
 receptive_same b th =
     ap (λ z. not z && is_open th.blocked (mask_from Unmasked (frames_of b th.stack.frames))) (throw_same b th.stack.control)
     ∙ ap (λ m. not (is_throw th.stack.control) && is_open th.blocked m) (sym (masks_inside b Unmasked th.stack.frames))
@@ -70,7 +70,7 @@ not_hit [] h = refl
 not_hit (f ∷ fs) h = absurd (cc h)
 
 -- ---- those who wait at a cell
-pub waits_part : (b : Body) (k : ℕ) (x : Control) → WaitsAtCell k x → WaitsAt k (part_of b x)
+pub waits_part : (b : CodeBody) (k : ℕ) (x : Control) → WaitsAtCell k x → WaitsAt k (part_of b x)
 waits_part b k (c.Op (p.TakeMVar m)) h = subst (λ n. WaitsAt n (performs (calls TakeMVar (val.Cell m ∷ [])))) h takes
 waits_part b k (c.Op (p.ReadMVar m)) h = subst (λ n. WaitsAt n (performs (calls ReadMVar (val.Cell m ∷ [])))) h reads
 waits_part b k (c.Op (p.PutMVar m v)) h = subst (λ n. WaitsAt n (performs (calls PutMVar (val.Cell m ∷ value_of v ∷ [])))) h puts
@@ -93,7 +93,7 @@ abbrev cell_part : SlotPart → Bool
 cell_part (performs (calls q vs)) = cell_primitive q
 cell_part _ = false
 
-cell_same : (b : Body) (x : Control) → cell_part (part_of b x) ≡ is_at_cell x
+cell_same : (b : CodeBody) (x : Control) → cell_part (part_of b x) ≡ is_at_cell x
 cell_same b (c.Op (p.TakeMVar m)) = refl
 cell_same b (c.Op (p.ReadMVar m)) = refl
 cell_same b (c.Op (p.PutMVar m v)) = refl
@@ -121,7 +121,7 @@ is_open_there Unmasked n = refl
 is_open_there Uninterruptible n = absurd (n refl)
 is_open_there _ n = refl
 
-open_from : (b : Body) (x : SlotState) (t : ℕ) (o : Option Thread) → slice_get x.threads t ≡ option_map (slot_of b) o → waits_open o ≡ true → WaitsOpen x t
+open_from : (b : CodeBody) (x : SlotState) (t : ℕ) (o : Option Thread) → slice_get x.threads t ≡ option_map (slot_of b) o → waits_open o ≡ true → WaitsOpen x t
 open_from b x t None e h = absurd (cc h)
 open_from b x t (Some th) e h =
     let are = three_are th.blocked (is_at_cell th.stack.control) (is_interruptible (mask_of th)) h in
@@ -136,10 +136,10 @@ open_from b x t (Some th) e h =
     }
 
 -- those who may be stranded are the same
-pub open_waits : (b : Body) (ths : List Thread) (x : SlotState) (t : ℕ) → x.threads ≡ slots_of b ths → waits_open (slice_get ths t) ≡ true → WaitsOpen x t
+pub open_waits : (b : CodeBody) (ths : List Thread) (x : SlotState) (t : ℕ) → x.threads ≡ slots_of b ths → waits_open (slice_get ths t) ≡ true → WaitsOpen x t
 open_waits b ths x t e h = open_from b x t (slice_get ths t) (ap (λ l. slice_get l t) e ∙ slots_at b ths t) h
 
-pub waits_are_open : (b : Body) (ths : List Thread) (x : SlotState) (t : ℕ) → x.threads ≡ slots_of b ths → WaitsOpen x t → waits_open (slice_get ths t) ≡ true
+pub waits_are_open : (b : CodeBody) (ths : List Thread) (x : SlotState) (t : ℕ) → x.threads ≡ slots_of b ths → WaitsOpen x t → waits_open (slice_get ths t) ≡ true
 waits_are_open b ths x t e w =
     let back = slot_back b ths t w.thread (sym (ap (λ l. slice_get l t) e) ∙ w.is) in
     let th = back.0 in
@@ -155,7 +155,7 @@ unheard_from false false true h e k w = w
 unheard_from false false false h e k w = absurd (cc k)
 
 -- none of them can receive an exception in flight to it
-pub nobody_hears : (b : Body) (ths : List Thread) (fs : List Flying) → NobodyWants ths fs → (t : ℕ) (y : SlotThread) → slice_get (slots_of b ths) t ≡ Some y → y.finished ≡ false → slots.is_receptive y ≡ true → flying_to t fs ≡ []
+pub nobody_hears : (b : CodeBody) (ths : List Thread) (fs : List Flying) → NobodyWants ths fs → (t : ℕ) (y : SlotThread) → slice_get (slots_of b ths) t ≡ Some y → y.finished ≡ false → slots.is_receptive y ≡ true → flying_to t fs ≡ []
 nobody_hears b ths fs w t y h f r =
     let s = slot_back b ths t y h in
     let th = s.0 in

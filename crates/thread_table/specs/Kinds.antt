@@ -2,8 +2,8 @@
 use Rattle.std.specs.Prelude.{◌≡◌, ℕ, true, false, [], Some, slice_get}
 use Rattle.thread_table.specs.declared.thread.Thread.{Thread}
 use Rattle.thread_table.specs.declared.threads.Threads.{Threads}
-use Rattle.thread_table.specs.declared.kinds.Kind.{Kind}
-use Rattle.thread_table.specs.declared.kinds.Kind.TheVariants as kind
+use Rattle.thread_table.specs.declared.kinds.EntryKind.{EntryKind}
+use Rattle.thread_table.specs.declared.kinds.EntryKind.TheVariants as kind
 use Rattle.frame_stack.specs.Parts.{IsOp, Meets, Stacked}
 use Rattle.frame_stack.specs.declared.control.Control.{Control}
 use Rattle.frame_stack.specs.declared.control.Control.TheVariants as c
@@ -33,7 +33,7 @@ pub record Hears (t : ℕ) (s : Threads) : Type 0 where
 abbrev pub IsBare : Stacked → Type 0
 IsBare s = IsEnd s.control × (s.frames ≡ [])
 
-abbrev pub IsKind : Kind → ℕ → Threads → Type 0
+abbrev pub IsKind : EntryKind → ℕ → Threads → Type 0
 IsKind kind.Op t s = Own (λ (k : Stacked). IsOp k.control) t s
 IsKind kind.Finish t s = Own IsBare t s
 IsKind kind.Local t s = Own Meets t s

@@ -1,16 +1,16 @@
 -- Threads in memory, and how one of them changes (own).
 use Rattle.std.specs.Prelude.{◌≡◌, ℕ, ◌+◌, Bool, true, false, cond, List, [], ◌∷◌, length, Option, Some, None, map, slice_get, slice_set}
-use Rattle.rules_code.specs.declared.code.Body.{Body}
+use Rattle.rules_code.specs.declared.code.CodeBody.{CodeBody}
 use Rattle.slot_states.specs.SlotStates.{SlotThread}
 use Rattle.frame_stack.specs.declared.control.Control.{Control}
 use Rattle.frame_stack.specs.Parts.{Stacked, stacked, term_of}
 use Rattle.thread_table.specs.declared.thread.Thread.{Thread}
 
 -- what a thread stands for
-abbrev pub slot_of : Body → Thread → SlotThread
+abbrev pub slot_of : CodeBody → Thread → SlotThread
 slot_of b th = record { term = term_of b th.stack; blocked = th.blocked; finished = th.finished }
 
-abbrev pub slots_of : Body → List Thread → List SlotThread
+abbrev pub slots_of : CodeBody → List Thread → List SlotThread
 slots_of b [] = []
 slots_of b (th ∷ ths) = slot_of b th ∷ slots_of b ths
 

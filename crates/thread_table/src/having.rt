@@ -4,7 +4,7 @@ ghost use Rattle.frame_stack.specs.Parts.{IsOp, Meets};
 ghost use Rattle.thread_table.specs.Listing as lists;
 ghost use Rattle.thread_table.specs.Kinds.{IsEnd, IsBare};
 
-use crate::kinds::Kind;
+use crate::kinds::EntryKind;
 use crate::listing::is_receptive;
 use crate::thread::Thread;
 use crate::threads::Threads;
@@ -67,7 +67,7 @@ impl Threads {
     ghost use Rattle.thread_table.specs.Kinds.{IsKind};
 
     /// Whether the thread of this number has this to do; not where there is no such thread.
-    pub fn has(&self, kind: Kind, t: u32) -> bool
+    pub fn has(&self, kind: EntryKind, t: u32) -> bool
         ensures { MatchBool result (IsKind kind t self.now) (IsKind kind t self.now → ⊥) }
     {
         let Some(thread) = self.list.get(t as usize) else {
@@ -77,10 +77,10 @@ impl Threads {
             return false;
         }
         match kind {
-            Kind::Op => !thread.blocked && is_op(thread.stack.control()),
-            Kind::Finish => !thread.blocked && is_bare(&thread.stack),
-            Kind::Local => !thread.blocked && meets(&thread.stack),
-            Kind::Receive => hears(thread, &self.flight, t),
+            EntryKind::Op => !thread.blocked && is_op(thread.stack.control()),
+            EntryKind::Finish => !thread.blocked && is_bare(&thread.stack),
+            EntryKind::Local => !thread.blocked && meets(&thread.stack),
+            EntryKind::Receive => hears(thread, &self.flight, t),
         }
     }
 }

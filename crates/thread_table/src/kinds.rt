@@ -1,6 +1,6 @@
 /// What a thread has to do.
 #[derive(Clone, Copy, Debug, PartialEq, Eq)]
-pub enum Kind {
+pub enum EntryKind {
     Op,
     Finish,
     /// One local rule, of a value or an exception in a frame.

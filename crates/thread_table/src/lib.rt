@@ -20,6 +20,6 @@ mod next;
 mod thread;
 mod threads;
 
-pub use kinds::Kind;
+pub use kinds::EntryKind;
 pub use thread::Thread;
 pub use threads::Threads;

@@ -4,12 +4,12 @@ ghost use Rattle.std.specs.HashMap.{get};
 ghost use Rattle.hs_base.specs.declared.exn.Exn.TheVariants.{BlockedIndefinitely};
 ghost use Rattle.slot_laws.specs.SlotRules.{throw};
 ghost use Rattle.slot_states.specs.SlotStates.{resumed};
-ghost use Rattle.rules_code.specs.declared.code.Body.{Body};
+ghost use Rattle.rules_code.specs.declared.code.CodeBody.{CodeBody};
 ghost use Rattle.thread_table.specs.declared.thread.Thread.{Thread};
 ghost use Rattle.thread_table.specs.Table.{slots_of, changed, with_listed, unqueued, unlisted, IsAt};
 ghost use Rattle.thread_table.specs.Listing.{wants as wants_by, waits_open, WaitsAtCell, NobodyWants, Goes};
 
-use crate::kinds::Kind;
+use crate::kinds::EntryKind;
 use crate::listing::{cell_of, goes_at, has_own, waits_open, wants};
 use crate::threads::Threads;
 use frame_stack::Control;
@@ -39,18 +39,18 @@ impl Threads {
     }
 
     /// What a thread that has something to do is to do: an entry of its own before a receive.
-    pub fn kind(&self, t: u32) -> Kind
+    pub fn kind(&self, t: u32) -> EntryKind
         requires { wants_by t self.now.list.items self.now.flight.list ≡ true }
         ensures { IsKind result t self.now }
     {
         let thread = &self.list[t as usize];
         if !has_own(thread) {
-            return Kind::Receive;
+            return EntryKind::Receive;
         }
         match thread.stack.control() {
-            Control::Op(_) => Kind::Op,
-            _ if thread.stack.frames() == 0 => Kind::Finish,
-            _ => Kind::Local,
+            Control::Op(_) => EntryKind::Op,
+            _ if thread.stack.frames() == 0 => EntryKind::Finish,
+            _ => EntryKind::Local,
         }
     }
 
@@ -60,7 +60,7 @@ impl Threads {
         ensures some { IfSome result (λ t. IsAt t Goes self.new.list.items × (get nat_eq out.now t ≡ None)) }
         ensures none { IfNone result ((t : ℕ) → IsAt t Goes self.new.list.items → IsSome (get nat_eq out.now t)) }
         ensures others { unqueued self.new.list.items ≡ unqueued self.old.list.items }
-        ensures slots { (b : Body) → slots_of b self.new.list.items ≡ slots_of b self.old.list.items }
+        ensures slots { (b : CodeBody) → slots_of b self.new.list.items ≡ slots_of b self.old.list.items }
         ensures flight { self.new.flight ≡ self.old.flight }
         ensures spends { Spends 0 0 0 0 self.old self.new }
     {
@@ -107,7 +107,7 @@ impl Threads {
         ensures front { MatchBool result ((t : ℕ) × (ts : List ℕ) × (self.new.stuck.items ≡ t ∷ ts) × (waits_open (slice_get self.new.list.items t) ≡ true)) (Unit {0}) }
         ensures others { unlisted self.new.list.items ≡ unlisted self.old.list.items }
         ensures fewer { length self.new.stuck.items ≤ length self.old.stuck.items }
-        ensures slots { (b : Body) → slots_of b self.new.list.items ≡ slots_of b self.old.list.items }
+        ensures slots { (b : CodeBody) → slots_of b self.new.list.items ≡ slots_of b self.old.list.items }
         ensures flight { self.new.flight ≡ self.old.flight }
         ensures spends { Spends 0 0 0 0 self.old self.new }
     {
@@ -139,8 +139,8 @@ impl Threads {
     /// at which it waited.
     pub fn strand(&mut self) -> Option<(u32, u32)>
         requires room { length self.old.stuck.items ≤ work_room self.old }
-        ensures some { IfSome result (λ w. (waits_open (slice_get self.old.list.items w.0) ≡ true) × IsAt w.0 (λ th. WaitsAtCell w.1 th.stack.control) self.old.list.items × ((b : Body) → slots_of b self.new.list.items ≡ resumed w.0 (throw BlockedIndefinitely) (slots_of b self.old.list.items))) }
-        ensures none { IfNone result (((t : ℕ) → waits_open (slice_get self.old.list.items t) ≡ false) × ((b : Body) → slots_of b self.new.list.items ≡ slots_of b self.old.list.items)) }
+        ensures some { IfSome result (λ w. (waits_open (slice_get self.old.list.items w.0) ≡ true) × IsAt w.0 (λ th. WaitsAtCell w.1 th.stack.control) self.old.list.items × ((b : CodeBody) → slots_of b self.new.list.items ≡ resumed w.0 (throw BlockedIndefinitely) (slots_of b self.old.list.items))) }
+        ensures none { IfNone result (((t : ℕ) → waits_open (slice_get self.old.list.items t) ≡ false) × ((b : CodeBody) → slots_of b self.new.list.items ≡ slots_of b self.old.list.items)) }
         ensures flight { self.new.flight ≡ self.old.flight }
         ensures less { OnSome result (length self.new.stuck.items < length self.old.stuck.items) }
         ensures room { length self.new.stuck.items ≤ work_room self.new }

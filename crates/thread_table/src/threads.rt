@@ -9,7 +9,7 @@ ghost use Rattle.slot_laws.specs.SlotRules.{local, locals};
 ghost use Rattle.frame_stack.specs.declared.control.Control.TheVariants as control;
 ghost use Rattle.frame_stack.specs.Parts.{IsOp, IsThrow, Meets, Stacked, part_of, term_of};
 ghost use Rattle.frame_stack.specs.Advancing.{MayAdvance};
-ghost use Rattle.rules_code.specs.declared.code.Body.{Body};
+ghost use Rattle.rules_code.specs.declared.code.CodeBody.{CodeBody};
 ghost use Rattle.thread_table.specs.declared.thread.Thread.{Thread};
 ghost use Rattle.thread_table.specs.Table.{changed, with_control, finishing, with_stack, with_queued, new_thread, IsAt, frames_over};
 ghost use Rattle.thread_table.specs.Listing.{Listed, Queued, Kept, queued_after, going_over};
@@ -188,7 +188,7 @@ impl Threads {
         requires few { self.old.frames < 2 ^ 62 }
         requires work { 1 ≤ work_room self.old }
         requires ready { 1 ≤ ready_room self.old }
-        ensures list { (k : Stacked) × (self.new.list.items ≡ changed t (with_stack k) self.old.list.items) × ((th : Thread) → slice_get self.old.list.items t ≡ Some th → (b : Body) → local (funs_of b) Unmasked (part_of b th.stack.control) (frames_of b th.stack.frames) ≡ Some (term_of b k)) }
+        ensures list { (k : Stacked) × (self.new.list.items ≡ changed t (with_stack k) self.old.list.items) × ((th : Thread) → slice_get self.old.list.items t ≡ Some th → (b : CodeBody) → local (funs_of b) Unmasked (part_of b th.stack.control) (frames_of b th.stack.frames) ≡ Some (term_of b k)) }
         ensures flight { self.new.flight ≡ self.old.flight }
         ensures spends { Spends 1 1 0 0 self.old self.new }
     {

@@ -5,7 +5,7 @@ ghost use Rattle.rules_code.specs.Codes.{body_of};
 use hs_base::NoMemory;
 use hs_compile::compile;
 use hs_rules::Ticketed;
-use rules_code::{Body, Code};
+use rules_code::{Code, CodeBody};
 use std::alloc::Global;
 use std::snapshot::Snapshot;
 use std::sync::Arc;
@@ -14,7 +14,7 @@ use std::sync::Arc;
 #[derive(Drop)]
 pub struct Item {
     pub number: u64,
-    pub of: Snapshot<Body>,
+    pub of: Snapshot<CodeBody>,
 }
 
 impl Ticketed for Item {
@@ -31,7 +31,7 @@ impl Ticketed for Item {
 pub fn ticket_of(code: &Code, number: u64) -> Item
     ensures { (result.number ≡ number) × (result.of.value ≡ body_of code.now) }
 {
-    let body: &Body = &code.body;
+    let body: &CodeBody = &code.body;
     Item {
         number,
         of: Snapshot::of(body),
@@ -47,7 +47,7 @@ pub fn a_code(alloc: Global) -> Result<Code, NoMemory> {
 }
 
 /// What that code is.
-pub fn a_body(alloc: Global) -> Result<Body, NoMemory> {
+pub fn a_body(alloc: Global) -> Result<CodeBody, NoMemory> {
     let body = {
         let code = a_code(alloc)?;
         Arc::try_clone(&code.body)?

@@ -1,7 +1,7 @@
 //! A kept value of the tests.
 use hs_base::Limits;
 use hs_rules::{History, Kept, Plan};
-use rules_code::Body;
+use rules_code::CodeBody;
 use std::alloc::Global;
 use std::snapshot::Snapshot;
 
@@ -19,7 +19,7 @@ impl Kept for Log {
 }
 
 /// An empty history, under the plan of a run of this code.
-pub fn a_log(alloc: Global, body: Body) -> Log {
+pub fn a_log(alloc: Global, body: CodeBody) -> Log {
     let plan = Plan {
         body,
         fuel: 1_000,

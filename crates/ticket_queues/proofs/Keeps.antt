@@ -8,7 +8,7 @@ use lib.ListN.{get_elem?}
 use Rattle.crossbeam_deque.proofs.Lists.{at_set, at_snoc}
 use Rattle.crossbeam_deque.specs.Tasks.{Pushes, Takes, Finds, FindsFew, Admits, Forks, Merges}
 use Rattle.crossbeam_queue.specs.Fifo as fifo
-use Rattle.rules_code.specs.declared.code.Body.{Body}
+use Rattle.rules_code.specs.declared.code.CodeBody.{CodeBody}
 use Rattle.ticket_queues.specs.declared.view.QueueView.{QueueView}
 use Rattle.ticket_queues.specs.QueueRule.{weigh, SameTickets, shares_in, put_weight, taken_weight, view_with, untold, spent, Fits, BelongsTo, IsRuled, puts, takes, MetEmpty, puts_one, takes_one, IfEmpty, told, less_one, of_one, both_of}
 use Rattle.ticket_queues.proofs.Weights.{weigh_append, total_set, total_snoc, total_two, total_alone}
@@ -38,14 +38,14 @@ module _ {T : Type 0} where
   first_all : (P : T → Type 0) (x : T) → All P (x ∷ []) → P x
   first_all P x a = a 0 x (omega arith)
 
-spent_fits : (code : Option Body) → Fits code spent
+spent_fits : (code : Option CodeBody) → Fits code spent
 spent_fits code = ((λ some_share. absurd (omega arith)), λ _. refl)
 
-module _ {T : Type 0} (number : T → ℕ) (belongs : T → Body) where
+module _ {T : Type 0} (number : T → ℕ) (belongs : T → CodeBody) where
   abbrev Rule : List T → List QueueView → Type 0
   Rule = IsRuled number belongs
 
-  abbrev Of : Option Body → T → Type 0
+  abbrev Of : Option CodeBody → T → Type 0
   Of = BelongsTo belongs
 
   pub begins : Rule [] (untold ∷ [])
@@ -77,10 +77,10 @@ module _ {T : Type 0} (number : T → ℕ) (belongs : T → Body) where
     refl,
   )
 
-  front : (code : Option Body) (xs ys : List T) → All (Of code) (xs ++ ys) → All (Of code) xs
+  front : (code : Option CodeBody) (xs ys : List T) → All (Of code) (xs ++ ys) → All (Of code) xs
   front code xs ys h = subst (All (Of code)) (take-append_seam xs ys) (All-take (Of code) (length xs) (xs ++ ys) h)
 
-  back : (code : Option Body) (xs ys : List T) → All (Of code) (xs ++ ys) → All (Of code) ys
+  back : (code : Option CodeBody) (xs ys : List T) → All (Of code) (xs ++ ys) → All (Of code) ys
   back code xs ys h = subst (All (Of code)) (drop-append_seam xs ys) (All-drop (Of code) (length xs) (xs ++ ys) h)
 
   -- a view with all shares: all others are spent
@@ -131,7 +131,7 @@ module _ {T : Type 0} (number : T → ℕ) (belongs : T → Body) where
   no_items [] a = refl
   no_items (x ∷ xs) a = absurd (let e = a 0 x (omega arith) in cc e)
 
-  pub may_tell : (port : ℕ) (s : Option Body) → Forks Rule port untold (told s untold) spent
+  pub may_tell : (port : ℕ) (s : Option CodeBody) → Forks Rule port untold (told s untold) spent
   may_tell port s items views r at = let l = told s untold in let vs = set views port l in
       let none : None ≡ r.code = (r.each port untold at).0 (omega arith) in
       let empty : items ≡ [] = no_items items (subst (λ code. All (Of code) items) (sym none) r.of_code) in record {
@@ -151,7 +151,7 @@ module _ {T : Type 0} (number : T → ℕ) (belongs : T → Body) where
       }
 
   -- a view becomes two, whose shares and lists are its own
-  halves : (port : ℕ) (v l w : QueueView) → ((code : Option Body) → Fits code v → Fits code l × Fits code w) → l.shares + w.shares ≡ v.shares
+  halves : (port : ℕ) (v l w : QueueView) → ((code : Option CodeBody) → Fits code v → Fits code l × Fits code w) → l.shares + w.shares ≡ v.shares
       → ((h : ℕ → ℕ) → weigh h l.put + weigh h w.put ≡ weigh h v.put) → ((h : ℕ → ℕ) → weigh h l.taken + weigh h w.taken ≡ weigh h v.taken) → Forks Rule port v l w
   halves port v l w fit shares put taken items views r at = let vs = set views port l in let f = fit r.code (r.each port v at) in record {
     code = r.code;

@@ -2,7 +2,7 @@
 use Rattle.std.specs.Prelude.{◌≡◌, ℕ, ◌+◌, ◌-◌, ◌<◌, ◌≤◌, List, [], ◌∷◌, ◌++◌, map, All, Option, Some, None}
 use mathlib.Core.Option.{some}
 use lib.ListN.{get_elem?}
-use Rattle.rules_code.specs.declared.code.Body.{Body}
+use Rattle.rules_code.specs.declared.code.CodeBody.{CodeBody}
 use Rattle.ticket_queues.specs.declared.view.QueueView.{QueueView}
 
 -- the weights of the tickets in a list, added up
@@ -27,7 +27,7 @@ put_weight h v = weigh h v.put
 abbrev pub taken_weight : (ℕ → ℕ) → QueueView → ℕ
 taken_weight h v = weigh h v.taken
 
-abbrev pub view_with : Option Body → ℕ → List ℕ → List ℕ → QueueView
+abbrev pub view_with : Option CodeBody → ℕ → List ℕ → List ℕ → QueueView
 view_with code shares put taken = record { code = code; shares = shares; put = put; taken = taken }
 
 -- the first view of a queue that has not been told its code
@@ -38,17 +38,17 @@ abbrev pub spent : QueueView
 spent = view_with None 0 [] []
 
 -- a view with a share names the code of the queue, if it has been told one. A view without is spent
-abbrev pub Fits : Option Body → QueueView → Type 0
+abbrev pub Fits : Option CodeBody → QueueView → Type 0
 Fits code v = (0 < v.shares → v.code ≡ code) × (v.shares ≡ 0 → v ≡ spent)
 
-module _ {T : Type 0} (belongs : T → Body) where
-  abbrev pub BelongsTo : Option Body → T → Type 0
+module _ {T : Type 0} (belongs : T → CodeBody) where
+  abbrev pub BelongsTo : Option CodeBody → T → Type 0
   BelongsTo code x = Some (belongs x) ≡ code
 
-module _ {T : Type 0} (number : T → ℕ) (belongs : T → Body) where
+module _ {T : Type 0} (number : T → ℕ) (belongs : T → CodeBody) where
   -- The rule: it holds between any two steps
   pub record IsRuled (items : List T) (views : List QueueView) : Type 0 where
-    pub code : Option Body
+    pub code : Option CodeBody
     -- the shares of all views add up to 16
     pub whole : total shares_in views ≡ 16
     pub each : (port : ℕ) (v : QueueView) → get_elem? views port ≡ some v → Fits code v
@@ -82,7 +82,7 @@ module _ {T : Type 0} (number : T → ℕ) where
   puts_one v x w = w ≡ view_with v.code v.shares (v.put ++ number x ∷ []) v.taken
 
 -- the first view is told its code
-abbrev pub told : Option Body → QueueView → QueueView
+abbrev pub told : Option CodeBody → QueueView → QueueView
 told code v = view_with code v.shares v.put v.taken
 
 -- Split: one share goes, and the new view has it and empty lists

@@ -12,7 +12,7 @@ use crate::view::QueueView;
 use crossbeam_deque::{Steal, Worker};
 use hs_base::NoMemory;
 use hs_rules::Ticketed;
-use rules_code::Body;
+use rules_code::CodeBody;
 use std::alloc::Global;
 use std::marker::Brand;
 use std::sync::Wait;
@@ -23,7 +23,7 @@ const ROOM: usize = 64;
 // Tells the deque its code.
 fn told<J: Ticketed + Drop, C: CodeName>(
     mut worker: Worker<J, Global, QueueView, JobsRule>,
-    code: &Body,
+    code: &CodeBody,
 ) -> Worker<J, Global, QueueView, JobsRule>
     requires fresh { (worker_view worker ≡ untold) × (worker_flavor worker ≡ 0) }
     requires code { Some code.now ≡ C.code }
@@ -37,7 +37,7 @@ fn told<J: Ticketed + Drop, C: CodeName>(
 
 impl<J: Ticketed> Deque<J> {
     /// An empty deque of jobs of this code, and its door. It has all shares.
-    pub fn new(alloc: Global, code: &Body) -> Result<(Deque<J>, Door<J>), NoMemory>
+    pub fn new(alloc: Global, code: &CodeBody) -> Result<(Deque<J>, Door<J>), NoMemory>
     where
         J: Drop,
         ensures deque { IfOk result (λ d. deque_view d.0 ≡ view_with (Some code.now) 16 [] []) }

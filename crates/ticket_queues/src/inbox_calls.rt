@@ -9,14 +9,14 @@ use crate::rule::{AddUp, CodeName, GiveAll, GiveOne, TellCode};
 use crossbeam_queue::RuledSegQueue;
 use hs_base::NoMemory;
 use hs_rules::Ticketed;
-use rules_code::Body;
+use rules_code::CodeBody;
 use std::alloc::Global;
 use std::marker::Brand;
 use std::sync::Wait;
 
 impl<S: Ticketed + Drop> Inbox<S> {
     /// An empty inbox for slices of this code, and a pass with all shares.
-    pub fn new(alloc: Global, code: &Body) -> Result<(Inbox<S>, InboxPass<S>), NoMemory>
+    pub fn new(alloc: Global, code: &CodeBody) -> Result<(Inbox<S>, InboxPass<S>), NoMemory>
         ensures { IfOk result (λ i. IsInboxPass i.0 i.1 × (inbox_view i.1 ≡ view_with (Some code.now) 16 [] [])) }
     {
         let (queue, pass) = RuledSegQueue::with_rule(alloc)?;
@@ -27,7 +27,7 @@ impl<S: Ticketed + Drop> Inbox<S> {
     }
 
     // Tells the inbox its code.
-    fn tell<C: CodeName>(&self, pass: &mut InboxPass<S>, code: &Body)
+    fn tell<C: CodeName>(&self, pass: &mut InboxPass<S>, code: &CodeBody)
         requires fresh { IsInboxPass self.now pass.old × (inbox_view pass.old ≡ untold) }
         requires code { Some code.now ≡ C.code }
         ensures { IsInboxPass self.now pass.new × (inbox_view pass.new ≡ view_with (Some code.now) 16 [] []) }

@@ -1,6 +1,6 @@
 //! How views are split and joined.
 ghost use Rattle.std.specs.Prelude.{Option, None};
-ghost use Rattle.rules_code.specs.declared.code.Body.{Body};
+ghost use Rattle.rules_code.specs.declared.code.CodeBody.{CodeBody};
 ghost use Rattle.ticket_queues.specs.QueueRule.{spent, told, less_one, of_one, both_of};
 
 use crate::view::QueueView;
@@ -9,7 +9,7 @@ use std::marker::{Brand, PhantomData};
 
 /// Names a code. Each call that makes a queue picks it.
 pub trait CodeName {
-    ghost code: { Option Body };
+    ghost code: { Option CodeBody };
 }
 
 impl CodeName for Brand {

@@ -10,7 +10,7 @@ use Rattle.hs_rules.specs.Histories.{cost_of, steps_of}
 use Rattle.hs_rules.proofs.Histories.{steps_of_last}
 use Rattle.hs_rules.specs.Runs.{IsRun}
 use Rattle.hs_rules.specs.State.{State}
-use Rattle.rules_code.specs.declared.code.Body.{Body}
+use Rattle.rules_code.specs.declared.code.CodeBody.{CodeBody}
 use Rattle.rules_meaning.specs.CoreMeaning.{code_of}
 use Rattle.rules_trees.specs.Programs.{Fn, script_of}
 use Rattle.rules_traces.specs.Traces.{Fits, line_of, trace_of, BeginsNoLine, Reads, Spells, HasNoHeader}
@@ -53,19 +53,19 @@ fewer_bytes text rest after es e old new =
 -- ---- what was read
 
 -- an entry behind these, or none
-abbrev pub ReadBehind : Body → List ℕ → List Entry → Walk → Option Entry → Type 0
+abbrev pub ReadBehind : CodeBody → List ℕ → List Entry → Walk → Option Entry → Type 0
 ReadBehind b text es w o = MatchOption o (Spells text es × WalkedTo b text es w) (λ e. HasRead b text es e w)
 
-pub some_read : (b : Body) (text : List ℕ) (es : List Entry) (w : Walk) (o : Option Entry) (e : Entry) → o ≡ Some e → ReadBehind b text es w o → HasRead b text es e w
+pub some_read : (b : CodeBody) (text : List ℕ) (es : List Entry) (w : Walk) (o : Option Entry) (e : Entry) → o ≡ Some e → ReadBehind b text es w o → HasRead b text es e w
 some_read b text es w o e is read = subst (ReadBehind b text es w) is read
 
-pub none_read : (b : Body) (text : List ℕ) (es : List Entry) (w : Walk) (o : Option Entry) → ((e : Entry) → o ≡ Some e → ⊥) → ReadBehind b text es w o → Spells text es × WalkedTo b text es w
+pub none_read : (b : CodeBody) (text : List ℕ) (es : List Entry) (w : Walk) (o : Option Entry) → ((e : Entry) → o ≡ Some e → ⊥) → ReadBehind b text es w o → Spells text es × WalkedTo b text es w
 none_read b text es w None never read = read
 none_read b text es w (Some e) never read = absurd (never e refl)
 
 -- ---- where a walk stands
 
-module _ (b : Body) (text : List ℕ) where
+module _ (b : CodeBody) (text : List ℕ) where
   abbrev ds : List Fn
   ds = script_of b.of.value
 
@@ -78,7 +78,7 @@ module _ (b : Body) (text : List ℕ) where
     runs read h =
         let steps = h.steps in
         let within = w.within in
-        ∥∥₁_map (played_runs w.player es h.played) (λ k. (k.0, record { run = subst (λ (z : Body). IsRun (script_of z.of.value) es k.0) h.of k.1; within = omega (arith, steps, within) }))
+        ∥∥₁_map (played_runs w.player es h.played) (λ k. (k.0, record { run = subst (λ (z : CodeBody). IsRun (script_of z.of.value) es k.0) h.of k.1; within = omega (arith, steps, within) }))
 
     line : (read : List Entry) → Stands b text es read w → w.entries + 2 ≡ length es + 2
     line read h = let entries = h.entries in omega (arith, entries)
@@ -93,12 +93,12 @@ module _ (b : Body) (text : List ℕ) where
           state = k.0;
           spelled = spells;
           runs = record {
-            run = subst (λ (z : Body). IsRun (script_of z.of.value) es k.0) h.of k.1;
+            run = subst (λ (z : CodeBody). IsRun (script_of z.of.value) es k.0) h.of k.1;
             within = let steps = h.steps in let within = w.within in omega (arith, steps, within);
           };
           entries = h.entries;
           steps = h.steps;
-          end = subst (λ (z : Body). ReachedAs r (code_of (script_of z.of.value)) k.0) h.of (reaches es k.0 h.played k.1);
+          end = subst (λ (z : CodeBody). ReachedAs r (code_of (script_of z.of.value)) k.0) h.of (reaches es k.0 h.played k.1);
         })
 
     pub misspelled : WalkedTo b text es w → w.lines.rest ≢ [] → BeginsNoLine w.lines.rest → Judges ds text (Err (fault.Spelling (w.entries + 2)))
@@ -124,7 +124,7 @@ module _ (b : Body) (text : List ℕ) where
       -- no run goes on by an entry that can't follow
       stuck : (CanFollow es e w.player → ⊥) → (u : State) → IsRun ds (es ++ e ∷ []) u → ⊥
       stuck never u run =
-          let l = last_leads (script w.player) es e u (subst (λ (z : Body). IsRun (script_of z.of.value) (es ++ e ∷ []) u) (sym h.of) run) in
+          let l = last_leads (script w.player) es e u (subst (λ (z : CodeBody). IsRun (script_of z.of.value) (es ++ e ∷ []) u) (sym h.of) run) in
           never (l.before, l.run, (u, l.leads))
 
       pub illegal : w.steps + cost_of e ≤ most_steps → (CanFollow es e w.player → ⊥) → Judges ds text (Err (fault.Illegal (w.entries + 2)))
@@ -146,7 +146,7 @@ module _ (b : Body) (text : List ℕ) where
           record {
             read = subst (λ z. Reads text (es ++ e ∷ []) z) (sym rest) h.read;
             played = played;
-            of = ap (λ (z : Snapshot Body). z.value) same ∙ h.of;
+            of = ap (λ (z : Snapshot CodeBody). z.value) same ∙ h.of;
             entries = omega (arith, many, old, entries);
             steps = omega (arith, m, steps);
           }

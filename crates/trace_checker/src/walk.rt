@@ -30,7 +30,7 @@ impl<'a> Walk<'a> {
     ghost use Rattle.std.specs.Prelude.{◌≡◌, ◌++◌, ◌∷◌, [], Err, IfErr, IfOk, List, MatchOption, Ok, OnOk, ℕ};
     ghost use Rattle.hs_rules.specs.declared.entry.Entry.{Entry as AnEntry};
     ghost use Rattle.rules_code.specs.Codes.{body_of};
-    ghost use Rattle.rules_code.specs.declared.code.Body.{Body};
+    ghost use Rattle.rules_code.specs.declared.code.CodeBody.{CodeBody};
     ghost use Rattle.rules_traces.specs.Traces.{Spells};
     ghost use Rattle.rules_trees.specs.Programs.{script_of};
     ghost use Rattle.trace_checker.specs.Checking.{Judges};
@@ -56,9 +56,9 @@ impl<'a> Walk<'a> {
     /// Reads the next line, and answers its entry, which is still to play. `None` exactly where the text ends there; the one
     /// error is that of a line that isn't as a trace has it.
     pub fn next(&mut self) -> Result<Option<Entry>, RunFault>
-        ensures ok { (b : Body) (text : List ℕ) (es : List AnEntry) → WalkedTo b text es self.old
+        ensures ok { (b : CodeBody) (text : List ℕ) (es : List AnEntry) → WalkedTo b text es self.old
             → IfOk result (λ read. MatchOption read (Spells text es × WalkedTo b text es self.new) (λ entry. HasRead b text es entry self.new)) }
-        ensures err { (b : Body) (text : List ℕ) (es : List AnEntry) → WalkedTo b text es self.old → IfErr result (λ fault. Judges (script_of b.of.value) text (Err fault)) }
+        ensures err { (b : CodeBody) (text : List ℕ) (es : List AnEntry) → WalkedTo b text es self.old → IfErr result (λ fault. Judges (script_of b.of.value) text (Err fault)) }
         ensures of { self.new.player.of ≡ self.old.player.of }
     {
         match self.lines.next() {
@@ -71,8 +71,8 @@ impl<'a> Walk<'a> {
     /// Goes on by the entry that was read. It has too many steps, or it isn't legal, or there is no memory to play it.
     pub fn play(&mut self, code: &Code, entry: Entry) -> Result<(), RunFault>
         requires { self.old.player.of.value ≡ body_of code.now }
-        ensures ok { (b : Body) (text : List ℕ) (es : List AnEntry) → HasRead b text es entry self.old → OnOk result (WalkedTo b text (es ++ entry ∷ []) self.new) }
-        ensures err { (b : Body) (text : List ℕ) (es : List AnEntry) → HasRead b text es entry self.old → IfErr result (λ fault. Judges (script_of b.of.value) text (Err fault)) }
+        ensures ok { (b : CodeBody) (text : List ℕ) (es : List AnEntry) → HasRead b text es entry self.old → OnOk result (WalkedTo b text (es ++ entry ∷ []) self.new) }
+        ensures err { (b : CodeBody) (text : List ℕ) (es : List AnEntry) → HasRead b text es entry self.old → IfErr result (λ fault. Judges (script_of b.of.value) text (Err fault)) }
         ensures of { self.new.player.of ≡ self.old.player.of }
     {
         let more = cost(entry);
@@ -89,7 +89,7 @@ impl<'a> Walk<'a> {
 
     /// What is said of the text where it ends here.
     pub fn verdict(&mut self) -> Verified
-        ensures { (b : Body) (text : List ℕ) (es : List AnEntry) → WalkedTo b text es self.old → Spells text es → Judges (script_of b.of.value) text (Ok result) }
+        ensures { (b : CodeBody) (text : List ℕ) (es : List AnEntry) → WalkedTo b text es self.old → Spells text es → Judges (script_of b.of.value) text (Ok result) }
     {
         let end = self.player.reached();
         Verified {

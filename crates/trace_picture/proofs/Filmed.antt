@@ -7,7 +7,7 @@ use Rattle.hs_rules.specs.Runs.{IsRun}
 use Rattle.hs_rules.specs.State.{State}
 use Rattle.hs_laws.proofs.RunParts.{is_after, same_after}
 use Rattle.hs_laws.proofs.Expanded.{standing_of}
-use Rattle.rules_code.specs.declared.code.Body.{Body}
+use Rattle.rules_code.specs.declared.code.CodeBody.{CodeBody}
 use Rattle.rules_meaning.specs.CoreMeaning.{code_of}
 use Rattle.rules_trees.specs.Programs.{Fn, script_of}
 use Rattle.rules_traces.specs.Traces.{Spells}
@@ -39,7 +39,7 @@ use Rattle.trace_picture.proofs.Shown.{poses_shown, fulls_shown, event_shown}
 framed : (e f : Event) (ps qs : List (Option Pose)) (cs ds : List Bool) → e ≡ f → ps ≡ qs → cs ≡ ds → ◌≡◌ {A = Frame} (record { event = e; poses = ps; cells = cs }) (record { event = f; poses = qs; cells = ds })
 framed e f ps qs cs ds p q r = λ i. record { event = p i; poses = q i; cells = r i }
 
-module _ (ds : List Fn) (b : Body) (w : World) (es : List Entry) (s : State) (run : IsRun ds es s) (r : Represents ds (state_of b w) s) where
+module _ (ds : List Fn) (b : CodeBody) (w : World) (es : List Entry) (s : State) (run : IsRun ds es s) (r : Represents ds (state_of b w) s) where
   -- a frame of a world is one of the state that it stands for
   frame_shown : (e f : Event) → e ≡ f → frame_at e w ≡ frame_with f s
   frame_shown e f same =
@@ -47,17 +47,17 @@ module _ (ds : List Fn) (b : Body) (w : World) (es : List Entry) (s : State) (ru
       (poses_shown ds b w s r (standing_of ds es s run)) (fulls_shown ds b w s r)
 
 -- the walk stands behind some entries, and the film is that of these
-pub record Films (b : Body) (text : List ℕ) (w : Walk) (film : List Frame) : Type 0 where
+pub record Films (b : CodeBody) (text : List ℕ) (w : Walk) (film : List Frame) : Type 0 where
   pub list : List Entry
   pub far : WalkedTo b text list w
   pub filmed : ∥ (film ≡ film_of (script_of b.of.value) list) ∥₁
 
-module _ (b : Body) (text : List ℕ) where
+module _ (b : CodeBody) (text : List ℕ) where
   abbrev ds : List Fn
   ds = script_of b.of.value
 
   live : (es read : List Entry) (w : Walk) → Stands b text es read w → ∥ Live b es w.player.world ∥₁
-  live es read w h = subst (λ (z : Body). ∥ Live z es w.player.world ∥₁) h.of h.played
+  live es read w h = subst (λ (z : CodeBody). ∥ Live z es w.player.world ∥₁) h.of h.played
 
   pub films_begun : (w : Walk) (film : List Frame) → WalkedTo b text [] w → film ≡ frame_at event.Nothing w.player.world ∷ [] → Films b text w film
   films_begun w film begun is = record {

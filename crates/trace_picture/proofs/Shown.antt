@@ -6,7 +6,7 @@ use Rattle.hs_base.specs.declared.mask.Mask.TheVariants.{Unmasked}
 use Rattle.rules_trees.specs.Trees.{T}
 use Rattle.rules_trees.specs.Programs.{Fn}
 use Rattle.rules_sorts.specs.Sorts.{Sort}
-use Rattle.rules_code.specs.declared.code.Body.{Body}
+use Rattle.rules_code.specs.declared.code.CodeBody.{CodeBody}
 use Rattle.rules_meaning.specs.Values.{V, value_of}
 use Rattle.rules_meaning.specs.Values as val
 use Rattle.rules_expansion.specs.declared.primitive.Primitive.{Primitive}
@@ -88,7 +88,7 @@ part_doing due (Ret v) = does.Running
 part_doing due (Throw e) = does.Running
 part_doing due (Do a env) = does.Running
 
-operation_same : (b : Body) (due : Option ℕ) (p : control.Operation) → operation_doing due p ≡ slot_op_doing due (op_of b p)
+operation_same : (b : CodeBody) (due : Option ℕ) (p : control.Operation) → operation_doing due p ≡ slot_op_doing due (op_of b p)
 operation_same b due (o.PutStr t) = refl
 operation_same b due (o.PutStrLn t) = refl
 operation_same b due (o.HPutStrLn t) = refl
@@ -110,7 +110,7 @@ operation_same b due (o.Release i) = refl
 operation_same b due (o.Fork i vs) = refl
 operation_same b due (o.ForkUnmask i vs) = refl
 
-control_same : (b : Body) (due : Option ℕ) (k : Control) → control_doing due k ≡ slot_doing due (part_of b k)
+control_same : (b : CodeBody) (due : Option ℕ) (k : Control) → control_doing due k ≡ slot_doing due (part_of b k)
 control_same b due (c.Doing i vs) = refl
 control_same b due (c.Ret v) = refl
 control_same b due (c.Throw e) = refl
@@ -157,7 +157,7 @@ slot_ends t (ret v) = event.Returns t
 slot_ends t (throw e) = event.Fails t e
 slot_ends t (doing a vs) = event.Nothing
 
-deed_same : (b : Body) (p : control.Operation) → operation_deed p ≡ slot_deed (op_of b p)
+deed_same : (b : CodeBody) (p : control.Operation) → operation_deed p ≡ slot_deed (op_of b p)
 deed_same b (o.PutStr t) = refl
 deed_same b (o.PutStrLn t) = refl
 deed_same b (o.HPutStrLn t) = refl
@@ -179,13 +179,13 @@ deed_same b (o.Release i) = refl
 deed_same b (o.Fork i vs) = refl
 deed_same b (o.ForkUnmask i vs) = refl
 
-operates_same : (b : Body) (t : ℕ) (k : Control) → operates t k ≡ slot_operates t (part_of b k)
+operates_same : (b : CodeBody) (t : ℕ) (k : Control) → operates t k ≡ slot_operates t (part_of b k)
 operates_same b t (c.Doing i vs) = refl
 operates_same b t (c.Ret v) = refl
 operates_same b t (c.Throw e) = refl
 operates_same b t (c.Op p) = ap (λ d. event.Does t d) (deed_same b p)
 
-ends_same : (b : Body) (t : ℕ) (k : Control) → ends t k ≡ slot_ends t (part_of b k)
+ends_same : (b : CodeBody) (t : ℕ) (k : Control) → ends t k ≡ slot_ends t (part_of b k)
 ends_same b t (c.Doing i vs) = refl
 ends_same b t (c.Ret v) = refl
 ends_same b t (c.Throw e) = refl
@@ -211,7 +211,7 @@ pose_same : (f g : Bool) (d e : Doing) (m n : Mask) → f ≡ g → d ≡ e → 
     cond {A = Option Pose} f None (Some (record { doing = d; mask = m })) ≡ cond g None (Some (record { doing = e; mask = n }))
 pose_same f g d e m n p q r = λ i. cond {A = Option Pose} (p i) None (Some (record { doing = q i; mask = r i }))
 
-module _ (ds : List Fn) (b : Body) (w : World) (s : State) (r : Represents ds (state_of b w) s) where
+module _ (ds : List Fn) (b : CodeBody) (w : World) (s : State) (r : Represents ds (state_of b w) s) where
   module _ (t : ℕ) where
     abbrev Stood : Option Thread → Option rules.Thread → Type 0
     Stood x y = SameThread (option_map (slot_of b) x) y (is_blocked t s.blocked) × ((th : rules.Thread) → y ≡ Some th → StandsIn ds r.stacks.store t (term_at (option_map (slot_of b) x)) th.term)
@@ -312,7 +312,7 @@ fulls_same (x ∷ xs) (y ∷ ys) e h =
     ap (λ z. z ∷ fulls_at xs) (full_mapped x.content ∙ ap is_some (sym (h zero x y refl refl)))
     ∙ ap (λ z. is_some y ∷ z) (fulls_same xs ys (omega (arith, e)) (λ k. h (suc k)))
 
-module _ (ds : List Fn) (b : Body) (w : World) (s : State) (r : Represents ds (state_of b w) s) where
+module _ (ds : List Fn) (b : CodeBody) (w : World) (s : State) (r : Represents ds (state_of b w) s) where
   content_shown : (k : ℕ) (x : Cell Value) (y : Option V) → slice_get w.cells.cells k ≡ Some x → slice_get s.cells k ≡ Some y → y ≡ map_some value_of x.content
   content_shown k x y p q =
       let shown : SameCell k s (option_map (map_cell value_of) (slice_get w.cells.cells k)) = subst (SameCell k s) (cells_at w.cells.cells k) (r.agrees.cells k) in

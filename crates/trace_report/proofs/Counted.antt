@@ -6,7 +6,7 @@ use Rattle.hs_rules.specs.Histories.{cost_of, steps_of}
 use Rattle.hs_rules.proofs.Histories.{steps_of_last}
 use Rattle.hs_rules.specs.Entries.{Leads}
 use Rattle.hs_laws.proofs.RunParts.{is_after, same_after}
-use Rattle.rules_code.specs.declared.code.Body.{Body}
+use Rattle.rules_code.specs.declared.code.CodeBody.{CodeBody}
 use Rattle.rules_meaning.specs.CoreMeaning.{code_of}
 use Rattle.rules_trees.specs.Programs.{Fn, script_of}
 use Rattle.rules_traces.specs.Traces.{Spells}
@@ -26,19 +26,19 @@ use Rattle.trace_report.proofs.Seeing.{entry_seen}
 use Rattle.trace_report.proofs.Written.{written}
 
 -- the walk stands behind some entries, and the counts are those of these
-pub record Counts (b : Body) (text : List ℕ) (w : Walk) (y : Tally) : Type 0 where
+pub record Counts (b : CodeBody) (text : List ℕ) (w : Walk) (y : Tally) : Type 0 where
   pub list : List Entry
   pub far : WalkedTo b text list w
   pub tallies : ∥ Tallies (script_of b.of.value) list y ∥₁
   pub within : IsWithin y
   pub steps : y.steps ≡ steps_of list
 
-module _ (b : Body) (text : List ℕ) where
+module _ (b : CodeBody) (text : List ℕ) where
   abbrev ds : List Fn
   ds = script_of b.of.value
 
   live : (es read : List Entry) (w : Walk) → Stands b text es read w → ∥ Live b es w.player.world ∥₁
-  live es read w h = subst (λ (z : Body). ∥ Live z es w.player.world ∥₁) h.of h.played
+  live es read w h = subst (λ (z : CodeBody). ∥ Live z es w.player.world ∥₁) h.of h.played
 
   pub counts_begun : (w : Walk) (y : Tally) → WalkedTo b text [] w → ((fs : List Fn) → Tallies fs [] y) → IsWithin y → Counts b text w y
   counts_begun w y begun first within = record {

@@ -3,7 +3,7 @@ use Rattle.std.proofs.Common.{◌≡◌, ◌==◌, ℕ, List, [], ◌∷◌, ◌
 use Rattle.hs_rules.specs.declared.entry.Entry.{Entry}
 use Rattle.hs_rules.specs.declared.entry.Entry.TheVariants as entry
 use Rattle.rules_trees.specs.Programs.{Fn}
-use Rattle.rules_code.specs.declared.code.Body.{Body}
+use Rattle.rules_code.specs.declared.code.CodeBody.{CodeBody}
 use Rattle.rules_meaning.specs.Values.{V}
 use Rattle.rules_meaning.specs.CoreMeaning.{code_of}
 use Rattle.rules_waiting.specs.Waiting.{Reason, Waiting, is_blocked, reason_of}
@@ -55,7 +55,7 @@ line_touched : (w : World) (o : Option ℕ) (m : ℕ) → is_at m o ≡ true →
 line_touched w None m e = absurd (cc e)
 line_touched w (Some k) m e = ap (λ x. line_at (slice_get w.cells.cells x)) (number k m e)
 
-module _ (ds : List Fn) (b : Body) (old new : World) (es : List Entry) (s u : State) (run : IsRun ds es s) (before : Represents ds (state_of b old) s) (after : Represents ds (state_of b new) u) where
+module _ (ds : List Fn) (b : CodeBody) (old new : World) (es : List Entry) (s u : State) (run : IsRun ds es s) (before : Represents ds (state_of b old) s) (after : Represents ds (state_of b new) u) where
   blocked_now : (t : ℕ) → IsRun ds (es ++ entry.Op t ∷ []) u → blocked_at (slice_get new.threads.list.items t) ≡ is_blocked t u.blocked
   blocked_now t later = by (slice_get u.threads t) refl
     where

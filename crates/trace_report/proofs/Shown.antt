@@ -4,7 +4,7 @@ use Rattle.hs_base.specs.declared.value.Value.{Value}
 use Rattle.rules_trees.specs.Trees.{T}
 use Rattle.rules_trees.specs.Programs.{Fn}
 use Rattle.rules_sorts.specs.Sorts.{Sort}
-use Rattle.rules_code.specs.declared.code.Body.{Body}
+use Rattle.rules_code.specs.declared.code.CodeBody.{CodeBody}
 use Rattle.rules_meaning.specs.Values.{V, value_of}
 use Rattle.rules_waiting.specs.OneCell.{Place, Cell}
 use Rattle.rules_waiting.specs.Waiting.{is_blocked}
@@ -46,7 +46,7 @@ slot_touch (ret v) = touch.Nothing
 slot_touch (throw e) = touch.Nothing
 slot_touch (doing a vs) = touch.Nothing
 
-operation_same : (b : Body) (p : Operation) → operation_touch p ≡ slot_op_touch (op_of b p)
+operation_same : (b : CodeBody) (p : Operation) → operation_touch p ≡ slot_op_touch (op_of b p)
 operation_same b (o.PutStr t) = refl
 operation_same b (o.PutStrLn t) = refl
 operation_same b (o.HPutStrLn t) = refl
@@ -68,7 +68,7 @@ operation_same b (o.Release i) = refl
 operation_same b (o.Fork i vs) = refl
 operation_same b (o.ForkUnmask i vs) = refl
 
-control_same : (b : Body) (k : Control) → control_touch k ≡ slot_touch (part_of b k)
+control_same : (b : CodeBody) (k : Control) → control_touch k ≡ slot_touch (part_of b k)
 control_same b (c.Doing i vs) = refl
 control_same b (c.Ret v) = refl
 control_same b (c.Throw e) = refl
@@ -89,7 +89,7 @@ slot_word (throw e) = word_text word.Failed
 slot_word (performs p) = word_text word.Running
 slot_word (doing a vs) = word_text word.Running
 
-ended_control : (b : Body) (k : Control) → word_text (ended_word k) ≡ slot_word (part_of b k)
+ended_control : (b : CodeBody) (k : Control) → word_text (ended_word k) ≡ slot_word (part_of b k)
 ended_control b (c.Doing i vs) = refl
 ended_control b (c.Ret v) = refl
 ended_control b (c.Throw e) = refl
@@ -106,7 +106,7 @@ word_by b true w x e = e
 word_by true false w x e = refl
 word_by false false w x e = refl
 
-module _ (ds : List Fn) (b : Body) (w : World) (s : State) (r : Represents ds (state_of b w) s) (t : ℕ) where
+module _ (ds : List Fn) (b : CodeBody) (w : World) (s : State) (r : Represents ds (state_of b w) s) (t : ℕ) where
   abbrev Stood : Option Thread → Option rules.Thread → Type 0
   Stood x y = SameThread (option_map (slot_of b) x) y (is_blocked t s.blocked) × ((th : rules.Thread) → y ≡ Some th → StandsIn ds r.stacks.store t (term_at (option_map (slot_of b) x)) th.term)
 
@@ -168,7 +168,7 @@ line_mapped : (ps : List (Place Value)) → length ps ≡ length (map_line value
 line_mapped [] = refl
 line_mapped (p ∷ ps) = ap suc (line_mapped ps)
 
-module _ (ds : List Fn) (b : Body) (w : World) (s : State) (r : Represents ds (state_of b w) s) (m : ℕ) where
+module _ (ds : List Fn) (b : CodeBody) (w : World) (s : State) (r : Represents ds (state_of b w) s) (m : ℕ) where
   shown_cell : SameCell m s (option_map (map_cell value_of) (slice_get w.cells.cells m))
   shown_cell = subst (SameCell m s) (cells_at w.cells.cells m) (r.agrees.cells m)
 

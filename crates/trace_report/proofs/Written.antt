@@ -2,7 +2,7 @@
 use Rattle.std.proofs.Common.{◌≡◌, ◌<◌, ℕ, zero, suc, ◌+◌, List, ◌++◌, length, slice_get, refl, sym, ap, ◌∙◌, arith}
 use Rattle.hs_rules.specs.declared.entry.Entry.{Entry}
 use Rattle.rules_trees.specs.Programs.{Fn}
-use Rattle.rules_code.specs.declared.code.Body.{Body}
+use Rattle.rules_code.specs.declared.code.CodeBody.{CodeBody}
 use Rattle.hs_rules.specs.State.{State}
 use Rattle.hs_rules.specs.Runs.{IsRun}
 use Rattle.hs_laws.specs.CellLaw.{outs}
@@ -27,7 +27,7 @@ lines_same : (f g : ℕ → List ℕ) (n : ℕ) → ((k : ℕ) → k < n → f k
 lines_same f g zero h = refl
 lines_same f g (suc n) h = ap (λ z. z ++ f n) (lines_same f g n (λ k less. h k (omega (arith, less)))) ∙ ap (λ z. lines_below g n ++ z) (h n (omega arith))
 
-module _ (ds : List Fn) (b : Body) (w : World) (es : List Entry) (s : State) (y : Tally) (run : IsRun ds es s) (r : Represents ds (state_of b w) s) (h : Tallies ds es y) where
+module _ (ds : List Fn) (b : CodeBody) (w : World) (es : List Entry) (s : State) (y : Tally) (run : IsRun ds es s) (r : Represents ds (state_of b w) s) (h : Tallies ds es y) where
   thread_same : (t : ℕ) → thread_text y w t ≡ thread_line_of ds es s t
   thread_same t =
       ap (λ (k : ThreadCounts). thread_line t k.local k.ops k.waits k.receives (word_text (word_at (slice_get w.threads.list.items t)))) (h.threads t)

@@ -3,14 +3,14 @@ use Rattle.std.proofs.Common.{◌≡◌, ◌≤◌, ◌-◌, List, [], ◌∷◌
 use Rattle.std.proofs.lemmas.List.{append-nil}
 use Rattle.hs_base.specs.declared.tree.expr.Name.{Name}
 use Rattle.rules_trees.specs.Trees.{T}
-use Rattle.rules_typing.specs.Typing.{Fault, Bound, bound, Ctx}
+use Rattle.rules_typing.specs.Typing.{Fault, TypedName, bound, Ctx}
 use Rattle.rules_trees.specs.Programs.{Bl}
 use Rattle.typing_table.proofs.Equations.{type_rules}
 use Rattle.rules_trees.proofs.EquationsOfActions.{act_rules, act_arms_rules, stmt_rules}
 use Rattle.typing_judge.specs.Judging.{Found, after, with1, part, not_full, full, unless, scope_faults}
 use Rattle.typing_judge.specs.JudgingActions.{judge_bl}
 use Rattle.typing_judge.specs.Least.{least}
-use Rattle.typing_table.specs.declared.table.Node.{Node}
+use Rattle.typing_table.specs.declared.table.TypeNode.{TypeNode}
 use Rattle.typing_parts.specs.Judged.{names, kept, Judged, Begun, BegunBy, Goes, Stated}
 use Rattle.typing_parts.specs.declared.checker.Checker.{Checker}
 use Rattle.typing_parts.proofs.Noted.{least-append, step_rules}
@@ -23,7 +23,7 @@ pub ruleset arms_rules = (step_rules, act_arms_rules)
 
 pub ruleset stated_rules = (step_rules, stmt_rules)
 
-goes_by : (ms : List Node) (c : Ctx) (s : List Bound) (k : Option Fault) (b : Bool) (x : Name) (sf af : List Fault) (old new : Checker) (o : Option T) (rest : Bl)
+goes_by : (ms : List TypeNode) (c : Ctx) (s : List TypedName) (k : Option Fault) (b : Bool) (x : Name) (sf af : List Fault) (old new : Checker) (o : Option T) (rest : Bl)
     → names ms old ≡ s → kept ms old ≡ least (least k sf) af → BegunBy ms o old new b x
     → Goes b (after sf (after af (with1 o (λ u. judge_bl c (bound x u ∷ s) rest)))) (judge_bl c (names ms new) rest) k (kept ms new)
 goes_by ms c s k b x sf af old new None rest es ek h =
@@ -37,18 +37,18 @@ goes_by ms c s k b x sf af old new (Some u) rest es ek h =
     (ap (λ z. (judge_bl c z rest).type) e, least-append k sf (af ++ r.faults) ∙ (least-append (least k sf) af r.faults ∙ (ap (λ z. least z r.faults) (sym ek ∙ sym h.2) ∙ ap (λ z. least (kept ms new) (judge_bl c z rest).faults) e))) in
     subst (λ z. Goes z (after sf (after af r)) (judge_bl c (names ms new) rest) k (kept ms new)) (sym h.0) w
 
-back_none : (s n : List Bound) → n ≡ s → (length s ≤ length n) × (drop (length n - length s) n ≡ s)
+back_none : (s n : List TypedName) → n ≡ s → (length s ≤ length n) × (drop (length n - length s) n ≡ s)
 back_none s n e = (omega (arith, ap length e), ap (λ k. drop k n) (let z : length n - length s ≡ 0 = omega (arith, ap length e) in z) ∙ e)
 
-back_one : (s n : List Bound) (u : Bound) → n ≡ u ∷ s → (length s ≤ length n) × (drop (length n - length s) n ≡ s)
+back_one : (s n : List TypedName) (u : TypedName) → n ≡ u ∷ s → (length s ≤ length n) × (drop (length n - length s) n ≡ s)
 back_one s n u e = (omega (arith, ap length e), ap (λ k. drop k n) (let z : length n - length s ≡ 1 = omega (arith, ap length e) in z) ∙ ap (drop 1) e)
 
-back_by : (ms : List Node) (s : List Bound) (b : Bool) (x : Name) (old new : Checker) (o : Option T) → names ms old ≡ s → BegunBy ms o old new b x → (length s ≤ length (names ms new)) × (drop (length (names ms new) - length s) (names ms new) ≡ s)
+back_by : (ms : List TypeNode) (s : List TypedName) (b : Bool) (x : Name) (old new : Checker) (o : Option T) → names ms old ≡ s → BegunBy ms o old new b x → (length s ≤ length (names ms new)) × (drop (length (names ms new) - length s) (names ms new) ≡ s)
 back_by ms s b x old new None es h = back_none s (names ms new) (h.1 ∙ es)
 back_by ms s b x old new (Some u) es h = back_one s (names ms new) (bound x u) (h.1 ∙ ap (λ z. bound x u ∷ z) es)
 
 -- a statement that binds a name
-pub stated : (ms : List Node) (c : Ctx) (old one two new : Checker) (b : Bool) (x : Name) (t : Option T) (a : List Bound → Found) (st : Bl → Bl)
+pub stated : (ms : List TypeNode) (c : Ctx) (old one two new : Checker) (b : Bool) (x : Name) (t : Option T) (a : List TypedName → Found) (st : Bl → Bl)
     → ((rest : Bl) → judge_bl c (names ms old) (st rest) ≡ after (scope_faults (names ms old) x) (part (not_full (names ms old) (a (names ms old))) (λ u. judge_bl c (bound x u ∷ names ms old) rest)))
     → names ms one ≡ names ms old → kept ms one ≡ least (kept ms old) (scope_faults (names ms old) x)
     → Judged ms one two t (a (names ms one)) → Begun ms two new b x (unless (full (names ms two)) t) → Stated ms c old new b st

@@ -25,7 +25,7 @@ use typing_parts::Form;
 use typing_parts::act_rows::bare_type;
 use typing_parts::checker::Checker;
 use typing_parts::funs::Funs;
-use typing_parts::parts::Part;
+use typing_parts::parts::TypePart;
 use typing_table::ty::TypeTerm;
 
 /// The type of an action, where it has one.
@@ -227,7 +227,7 @@ fn in_cell(
             if !checker.fits(alloc, &funs.types, p, Form::Cell, &t)? {
                 return Ok(None);
             }
-            let u = under(checker, alloc, funs, b, x, Part::Inner, &t)?;
+            let u = under(checker, alloc, funs, b, x, TypePart::Inner, &t)?;
             let r = checker.close_modify(alloc, &funs.types, p, &t, u)?;
             Ok(r)
         }
@@ -253,7 +253,7 @@ fn in_scope(
         Some(t) => match checker.scope_type(alloc, &funs.types, p, &t)? {
             None => Ok(None),
             Some(u) => {
-                let r = under(checker, alloc, funs, b, x, Part::Whole, &u)?;
+                let r = under(checker, alloc, funs, b, x, TypePart::Whole, &u)?;
                 Ok(r)
             }
         },
@@ -331,24 +331,44 @@ fn in_arms(
     match arms {
         BlockArms::OfMaybe(a, x, b) => {
             let u = block(checker, alloc, funs, a)?;
-            let v = under(checker, alloc, funs, b, x, Part::Inner, t)?;
+            let v = under(checker, alloc, funs, b, x, TypePart::Inner, t)?;
             let r = checker.close_arms(alloc, &funs.types, p, u, v)?;
             Ok(r)
         }
         BlockArms::OfEither(x, a, y, b) => {
-            let u = under(checker, alloc, funs, a, x, Part::First, t)?;
-            let v = under(checker, alloc, funs, b, y, Part::Second, t)?;
+            let u = under(checker, alloc, funs, a, x, TypePart::First, t)?;
+            let v = under(checker, alloc, funs, b, y, TypePart::Second, t)?;
             let r = checker.close_arms(alloc, &funs.types, p, u, v)?;
             Ok(r)
         }
         BlockArms::OfList(a, x, y, b) => {
             let u = block(checker, alloc, funs, a)?;
-            let v = under_two(checker, alloc, funs, b, x, Part::Inner, y, Part::Whole, t)?;
+            let v = under_two(
+                checker,
+                alloc,
+                funs,
+                b,
+                x,
+                TypePart::Inner,
+                y,
+                TypePart::Whole,
+                t,
+            )?;
             let r = checker.close_arms(alloc, &funs.types, p, u, v)?;
             Ok(r)
         }
         BlockArms::OfPair(x, y, a) => {
-            let r = under_two(checker, alloc, funs, a, x, Part::First, y, Part::Second, t)?;
+            let r = under_two(
+                checker,
+                alloc,
+                funs,
+                a,
+                x,
+                TypePart::First,
+                y,
+                TypePart::Second,
+                t,
+            )?;
             Ok(r)
         }
     }
@@ -362,7 +382,7 @@ fn under(
     funs: &Funs,
     b: &Block,
     x: &Name,
-    which: Part,
+    which: TypePart,
     t: &TypeTerm,
 ) -> Result<Option<TypeTerm>, NoMemory>
     ensures { IfOk result (λ r. Judged funs.now.types.nodes checker.old checker.new (opt_ty funs.now.types.nodes r) (unless_full (names funs.now.types.nodes checker.old) x.now (judge_bl (ctx_of funs.now) (bound x.now (part_of which (type_in funs.now.types.nodes t.now)) ∷ names funs.now.types.nodes checker.old) (bl_of b.now)))) }
@@ -385,9 +405,9 @@ fn under_two(
     funs: &Funs,
     b: &Block,
     x: &Name,
-    first: Part,
+    first: TypePart,
     y: &Name,
-    second: Part,
+    second: TypePart,
     t: &TypeTerm,
 ) -> Result<Option<TypeTerm>, NoMemory>
     ensures { IfOk result (λ r. Judged funs.now.types.nodes checker.old checker.new (opt_ty funs.now.types.nodes r) (unless_full (names funs.now.types.nodes checker.old) x.now (unless_full (bound x.now (part_of first (type_in funs.now.types.nodes t.now)) ∷ names funs.now.types.nodes checker.old) y.now (judge_bl (ctx_of funs.now) (bound y.now (part_of second (type_in funs.now.types.nodes t.now)) ∷ bound x.now (part_of first (type_in funs.now.types.nodes t.now)) ∷ names funs.now.types.nodes checker.old) (bl_of b.now))))) }

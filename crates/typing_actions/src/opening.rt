@@ -15,7 +15,7 @@ use hs_base::tree::{BlockArms, Name};
 use std::alloc::Global;
 use typing_parts::Form;
 use typing_parts::checker::Checker;
-use typing_parts::parts::Part;
+use typing_parts::parts::TypePart;
 use typing_table::base::Base;
 use typing_table::table::TypeTable;
 use typing_table::ty::TypeTerm;
@@ -57,7 +57,7 @@ pub fn open_part(
     alloc: Global,
     types: &TypeTable,
     x: &Name,
-    which: Part,
+    which: TypePart,
     t: &TypeTerm,
 ) -> Result<bool, NoMemory>
     ensures { IfOk result (λ b. Opened types.now.nodes b checker.old checker.new x.now (bound x.now (part_of which (type_in types.now.nodes t.now)))) }

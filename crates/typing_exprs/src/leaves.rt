@@ -16,7 +16,7 @@ use std::alloc::Global;
 use typing_parts::Form;
 use typing_parts::checker::Checker;
 use typing_parts::first::Broken;
-use typing_parts::parts::Part;
+use typing_parts::parts::TypePart;
 use typing_table::base::Base;
 use typing_table::table::TypeTable;
 use typing_table::ty::TypeTerm;
@@ -81,7 +81,7 @@ pub fn enter(
     alloc: Global,
     types: &TypeTable,
     x: &Name,
-    which: Part,
+    which: TypePart,
     t: &TypeTerm,
 ) -> Result<bool, NoMemory>
     ensures { IfOk result (λ b. Entered types.now.nodes checker.old checker.new b x.now (part_of which (type_in types.now.nodes t.now))) }

@@ -19,7 +19,7 @@ use hs_items::Items;
 use std::alloc::Global;
 use typing_parts::checker::Checker;
 use typing_parts::funs::Funs;
-use typing_parts::parts::Part;
+use typing_parts::parts::TypePart;
 use typing_table::base::Base;
 use typing_table::ty::TypeTerm;
 
@@ -382,24 +382,44 @@ fn alternatives(
     match arms {
         ExprArms::OfMaybe(a, x, b) => {
             let u = type_of(checker, alloc, funs, a)?;
-            let v = under(checker, alloc, funs, b, x, Part::Inner, t)?;
+            let v = under(checker, alloc, funs, b, x, TypePart::Inner, t)?;
             let r = checker.close_arms(alloc, &funs.types, p, u, v)?;
             Ok(r)
         }
         ExprArms::OfEither(x, a, y, b) => {
-            let u = under(checker, alloc, funs, a, x, Part::First, t)?;
-            let v = under(checker, alloc, funs, b, y, Part::Second, t)?;
+            let u = under(checker, alloc, funs, a, x, TypePart::First, t)?;
+            let v = under(checker, alloc, funs, b, y, TypePart::Second, t)?;
             let r = checker.close_arms(alloc, &funs.types, p, u, v)?;
             Ok(r)
         }
         ExprArms::OfList(a, x, y, b) => {
             let u = type_of(checker, alloc, funs, a)?;
-            let v = under_two(checker, alloc, funs, b, x, Part::Inner, y, Part::Whole, t)?;
+            let v = under_two(
+                checker,
+                alloc,
+                funs,
+                b,
+                x,
+                TypePart::Inner,
+                y,
+                TypePart::Whole,
+                t,
+            )?;
             let r = checker.close_arms(alloc, &funs.types, p, u, v)?;
             Ok(r)
         }
         ExprArms::OfPair(x, y, a) => {
-            let r = under_two(checker, alloc, funs, a, x, Part::First, y, Part::Second, t)?;
+            let r = under_two(
+                checker,
+                alloc,
+                funs,
+                a,
+                x,
+                TypePart::First,
+                y,
+                TypePart::Second,
+                t,
+            )?;
             Ok(r)
         }
     }
@@ -414,7 +434,7 @@ fn under(
     funs: &Funs,
     e: &Expr,
     x: &Name,
-    which: Part,
+    which: TypePart,
     t: &TypeTerm,
 ) -> Result<Option<TypeTerm>, NoMemory>
     ensures { IfOk result (λ r. Judged funs.now.types.nodes checker.old checker.new (opt_ty funs.now.types.nodes r) (unless_full (names funs.now.types.nodes checker.old) x.now (judge (ctx_of funs.now) (bound x.now (part_of which (type_in funs.now.types.nodes t.now)) ∷ names funs.now.types.nodes checker.old) (ex_of e.now)))) }
@@ -438,9 +458,9 @@ fn under_two(
     funs: &Funs,
     e: &Expr,
     x: &Name,
-    of_x: Part,
+    of_x: TypePart,
     y: &Name,
-    of_y: Part,
+    of_y: TypePart,
     t: &TypeTerm,
 ) -> Result<Option<TypeTerm>, NoMemory>
     ensures { IfOk result (λ r. Judged funs.now.types.nodes checker.old checker.new (opt_ty funs.now.types.nodes r) (unless_full (names funs.now.types.nodes checker.old) x.now (unless_full (bound x.now (part_of of_x (type_in funs.now.types.nodes t.now)) ∷ names funs.now.types.nodes checker.old) y.now (judge (ctx_of funs.now) (bound y.now (part_of of_y (type_in funs.now.types.nodes t.now)) ∷ bound x.now (part_of of_x (type_in funs.now.types.nodes t.now)) ∷ names funs.now.types.nodes checker.old) (ex_of e.now))))) }

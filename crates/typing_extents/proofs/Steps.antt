@@ -8,8 +8,8 @@ use Rattle.hs_base.specs.declared.tree.expr.Expr.{Expr}
 use Rattle.hs_base.specs.declared.tree.action.Block.{Block}
 use Rattle.hs_base.specs.declared.tree.action.BlockArms.{BlockArms}
 use Rattle.rules_trees.specs.Trees.{Ex, Exs, Links, Arms, ex_of}
-use Rattle.rules_trees.specs.Programs.{Act, bl_of, act_arms_of}
-use Rattle.rules_typing.specs.Typing.{Bound, Sig, masked, look}
+use Rattle.rules_trees.specs.Programs.{SurfaceAction, bl_of, act_arms_of}
+use Rattle.rules_typing.specs.Typing.{TypedName, Sig, masked, look}
 use Rattle.rules_typing.specs.TypingSizes as rule
 use Rattle.typing_parts.specs.Views.{scope_of}
 use Rattle.typing_extents.specs.Measuring.{Extends, ext_of, exts_of}
@@ -18,7 +18,7 @@ use Rattle.typing_extents.specs.declared.meter.Meter.{Meter}
 
 -- what the rules give at a place, by the definitions before and the scope
 abbrev pub At : Type 0
-At = List rule.Extent → List Bound → rule.Extent
+At = List rule.Extent → List TypedName → rule.Extent
 
 abbrev pub at : At → Meter → rule.Extent
 at k m = k (exts_of m.extents) (scope_of [] m.scope.items)
@@ -45,7 +45,7 @@ links_at gs ks = λ xs s. rule.link_extents gs xs s ks
 abbrev pub arms_at : List Sig → Arms → At
 arms_at gs ks = λ xs s. rule.arm_extents gs xs s ks
 
-abbrev pub act_at : List Sig → Act → At
+abbrev pub act_at : List Sig → SurfaceAction → At
 act_at gs z = λ xs s. rule.worst_act gs xs s z
 
 abbrev pub bl_at : List Sig → Block → At

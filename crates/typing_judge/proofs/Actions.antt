@@ -2,8 +2,8 @@
 use Rattle.std.proofs.Common.{◌⊎◌, List, ◌∷◌}
 use Rattle.hs_base.specs.declared.pos.Pos.{Pos}
 use Rattle.rules_trees.specs.Trees.{T, exn}
-use Rattle.rules_trees.specs.Programs.{Act, bare, unary_act, binary_act, throw_io, new_empty, call, choose_act, case_act, modify, scoped, masking, restore, catch, guard, bracket, timeout, with_async, Bl, last, then, bind, let_in, ActArms, maybe_acts, either_acts, list_acts, pair_acts}
-use Rattle.rules_typing.specs.Typing.{a_cell, first_of, second_of, inner_of, row_choose, row_arms, Bound, bound, masked, Ctx, meant_act, no_mask, count, Gives, Breaks, NotFull, NoRoom, IsWritten, WrittenBreaks, HasType, HaveTypes, BreaksIn, BreaksAny}
+use Rattle.rules_trees.specs.Programs.{SurfaceAction, bare, unary_act, binary_act, throw_io, new_empty, call, choose_act, case_act, modify, scoped, masking, restore, catch, guard, bracket, timeout, with_async, Bl, last, then, bind, let_in, ActArms, maybe_acts, either_acts, list_acts, pair_acts}
+use Rattle.rules_typing.specs.Typing.{a_cell, first_of, second_of, inner_of, row_choose, row_arms, TypedName, bound, masked, Ctx, meant_act, no_mask, count, Gives, Breaks, NotFull, NoRoom, IsWritten, WrittenBreaks, HasType, HaveTypes, BreaksIn, BreaksAny}
 use Rattle.rules_typing.specs.TypingActions.{type_of_bare, row_unary_act, row_binary_act, row_throw, row_new_empty, row_scoped, row_masking, row_modify, row_guard, row_bracket, row_timeout, row_async, form_of_acts, ActHas, BlHas, ActArmsHave, ActBreaks, BlBreaks, ActArmsBreak}
 use Rattle.typing_judge.specs.Judging.{own, written, unless_full, judge, judges}
 use Rattle.typing_judge.specs.JudgingActions.{judge_act, judge_bl, judge_act_arms}
@@ -11,7 +11,7 @@ use Rattle.typing_judge.proofs.Laws.{Agrees, agree_good, agree_part, agree_parts
 use Rattle.typing_judge.proofs.Expressions.{agree, agrees}
 
 mutual
-  pub agree_act : (c : Ctx) (s : List Bound) (a : Act) → Agrees (judge_act c s a) (ActHas c s a) (ActBreaks c s a)
+  pub agree_act : (c : Ctx) (s : List TypedName) (a : SurfaceAction) → Agrees (judge_act c s a) (ActHas c s a) (ActBreaks c s a)
   agree_act c s (bare o p) = agree_good (type_of_bare o)
   agree_act c s (unary_act o p a) = agree_part (judge c s a) (HasType c s a) (BreaksIn c s a) (λ u. own p (row_unary_act o u)) (λ u. Gives (row_unary_act o u)) (λ u. Breaks p (row_unary_act o u)) (agree c s a) (λ u. agree_own p (row_unary_act o u))
   agree_act c s (binary_act o p a e) = agree_parts2 (judge c s a) (judge c s e) (HasType c s a) (HasType c s e) (BreaksIn c s a) (BreaksIn c s e) (λ u v. own p (row_binary_act o u v)) (λ u v. Gives (row_binary_act o u v)) (λ u v. Breaks p (row_binary_act o u v)) (agree c s a) (agree c s e) (λ u v. agree_own p (row_binary_act o u v))
@@ -30,13 +30,13 @@ mutual
   agree_act c s (timeout p e a) = agree_parts2 (judge c s e) (judge_bl c s a) (HasType c s e) (BlHas c s a) (BreaksIn c s e) (BlBreaks c s a) (λ u v. own p (row_timeout u v)) (λ u v. Gives (row_timeout u v)) (λ u v. Breaks p (row_timeout u v)) (agree c s e) (agree_bl c s a) (λ u v. agree_own p (row_timeout u v))
   agree_act c s (with_async p a x g) = agree_part (judge_bl c s a) (BlHas c s a) (BlBreaks c s a) _ _ _ (agree_bl c s a) (λ u. agree_part (own p (row_async u)) (Gives (row_async u)) (Breaks p (row_async u)) _ _ _ (agree_own p (row_async u)) (λ v. agree_room s x _ _ _ (agree_bl c (bound x v ∷ s) g)))
 
-  pub agree_bl : (c : Ctx) (s : List Bound) (g : Bl) → Agrees (judge_bl c s g) (BlHas c s g) (BlBreaks c s g)
+  pub agree_bl : (c : Ctx) (s : List TypedName) (g : Bl) → Agrees (judge_bl c s g) (BlHas c s g) (BlBreaks c s g)
   agree_bl c s (last a) = agree_act c s a
   agree_bl c s (then a g) = agree_part (judge_act c s a) (ActHas c s a) (ActBreaks c s a) (λ u. judge_bl c s g) (λ u. BlHas c s g) (λ u. BlBreaks c s g) (agree_act c s a) (λ u. agree_bl c s g)
   agree_bl c s (bind x a g) = agree_given s x (judge_act c s a) (ActHas c s a) (ActBreaks c s a) (λ u. judge_bl c (bound x u ∷ s) g) (λ u. BlHas c (bound x u ∷ s) g) (λ u. BlBreaks c (bound x u ∷ s) g) (agree_act c s a) (λ u. agree_bl c (bound x u ∷ s) g)
   agree_bl c s (let_in x e g) = agree_given s x (judge c s e) (HasType c s e) (BreaksIn c s e) (λ u. judge_bl c (bound x u ∷ s) g) (λ u. BlHas c (bound x u ∷ s) g) (λ u. BlBreaks c (bound x u ∷ s) g) (agree c s e) (λ u. agree_bl c (bound x u ∷ s) g)
 
-  pub agree_act_arms : (c : Ctx) (s : List Bound) (p : Pos) (u : T) (arms : ActArms) → Agrees (judge_act_arms c s p u arms) (ActArmsHave c s p u arms) (ActArmsBreak c s p u arms)
+  pub agree_act_arms : (c : Ctx) (s : List TypedName) (p : Pos) (u : T) (arms : ActArms) → Agrees (judge_act_arms c s p u arms) (ActArmsHave c s p u arms) (ActArmsBreak c s p u arms)
   agree_act_arms c s p u (maybe_acts a x e) = agree_parts2 (judge_bl c s a) (unless_full s x (judge_bl c (bound x (inner_of u) ∷ s) e)) (BlHas c s a) (λ t. NotFull s × BlHas c (bound x (inner_of u) ∷ s) e t) (BlBreaks c s a) (λ f. NoRoom s x f ⊎ (NotFull s × BlBreaks c (bound x (inner_of u) ∷ s) e f)) (λ v z. own p (row_arms v z)) (λ v z. Gives (row_arms v z)) (λ v z. Breaks p (row_arms v z)) (agree_bl c s a) (agree_room s x (judge_bl c (bound x (inner_of u) ∷ s) e) (BlHas c (bound x (inner_of u) ∷ s) e) (BlBreaks c (bound x (inner_of u) ∷ s) e) (agree_bl c (bound x (inner_of u) ∷ s) e)) (λ v z. agree_own p (row_arms v z))
   agree_act_arms c s p u (either_acts x a y e) = agree_parts2 (unless_full s x (judge_bl c (bound x (first_of u) ∷ s) a)) (unless_full s y (judge_bl c (bound y (second_of u) ∷ s) e)) (λ t. NotFull s × BlHas c (bound x (first_of u) ∷ s) a t) (λ t. NotFull s × BlHas c (bound y (second_of u) ∷ s) e t) (λ f. NoRoom s x f ⊎ (NotFull s × BlBreaks c (bound x (first_of u) ∷ s) a f)) (λ f. NoRoom s y f ⊎ (NotFull s × BlBreaks c (bound y (second_of u) ∷ s) e f)) (λ v z. own p (row_arms v z)) (λ v z. Gives (row_arms v z)) (λ v z. Breaks p (row_arms v z)) (agree_room s x (judge_bl c (bound x (first_of u) ∷ s) a) (BlHas c (bound x (first_of u) ∷ s) a) (BlBreaks c (bound x (first_of u) ∷ s) a) (agree_bl c (bound x (first_of u) ∷ s) a)) (agree_room s y (judge_bl c (bound y (second_of u) ∷ s) e) (BlHas c (bound y (second_of u) ∷ s) e) (BlBreaks c (bound y (second_of u) ∷ s) e) (agree_bl c (bound y (second_of u) ∷ s) e)) (λ v z. agree_own p (row_arms v z))
   agree_act_arms c s p u (list_acts a x y e) = agree_parts2 (judge_bl c s a) (unless_full s x (unless_full (bound x (inner_of u) ∷ s) y (judge_bl c (bound y u ∷ bound x (inner_of u) ∷ s) e))) (BlHas c s a) (λ t. NotFull s × (NotFull (bound x (inner_of u) ∷ s) × BlHas c (bound y u ∷ bound x (inner_of u) ∷ s) e t)) (BlBreaks c s a) (λ f. NoRoom s x f ⊎ (NotFull s × (NoRoom (bound x (inner_of u) ∷ s) y f ⊎ (NotFull (bound x (inner_of u) ∷ s) × BlBreaks c (bound y u ∷ bound x (inner_of u) ∷ s) e f)))) (λ v z. own p (row_arms v z)) (λ v z. Gives (row_arms v z)) (λ v z. Breaks p (row_arms v z)) (agree_bl c s a) (agree_room s x _ _ _ (agree_room (bound x (inner_of u) ∷ s) y _ _ _ (agree_bl c (bound y u ∷ bound x (inner_of u) ∷ s) e))) (λ v z. agree_own p (row_arms v z))

@@ -4,7 +4,7 @@ use Rattle.std.proofs.lemmas.Bool.{ltb-true}
 use Rattle.hs_base.specs.declared.pos.Pos.{Pos}
 use Rattle.hs_base.specs.declared.tree.expr.Name.{Name}
 use Rattle.rules_trees.specs.Trees.{T, unit, int, bool, text, thread, exn, pair, maybe, either, list, cell, async, Wr}
-use Rattle.rules_typing.specs.Typing.{Form, a_maybe, an_either, a_list, a_pair, a_cell, an_async, equal, order, shown, Fault, scope, wide, nodes, Need, is, of, refusal, Row, Bound, Meant, wrong, takes, is_each, Has, Met, AllMet, FirstUnmet, Makes, TooWide, Gives, Breaks, NotFull, NoRoom, Calls, BreaksCall, IsWritten, WrittenBreaks}
+use Rattle.rules_typing.specs.Typing.{Form, a_maybe, an_either, a_list, a_pair, a_cell, an_async, equal, order, shown, Fault, scope, wide, nodes, Need, is, of, refusal, Row, TypedName, Meant, wrong, takes, is_each, Has, Met, AllMet, FirstUnmet, Makes, TooWide, Gives, Breaks, NotFull, NoRoom, Calls, BreaksCall, IsWritten, WrittenBreaks}
 use Rattle.rules_typing.specs.TypingFaults.{In}
 use Rattle.typing_judge.specs.Judging.{same, has, met, Found, good, bad, lost, after, with1, with2, with3, with_all, needing, made, own, written, unless_full, unless_wrong, scope_faults, unless, Founds, joined, called, part, parts2, parts3, parts_all, join, not_full}
 
@@ -340,7 +340,7 @@ agree_unless (Some g) x H B a = record {
   breaks = λ f h. ⊎_elim (λ e. inl cc) (λ w. inr (a.breaks f w)) h;
 }
 
-pub agree_room : (s : List Bound) (x : Name) (a : Found) (H : T → Type 0) (B : Fault → Type 0) → Agrees a H B
+pub agree_room : (s : List TypedName) (x : Name) (a : Found) (H : T → Type 0) (B : Fault → Type 0) → Agrees a H B
     → Agrees (unless_full s x a) (λ t. NotFull s × H t) (λ f. NoRoom s x f ⊎ (NotFull s × B f))
 agree_room s x a H B h = elim (ltb 63 (length s)) as (λ b. (ltb 63 (length s) ≡ b) → Agrees (cond b (bad (scope x.pos)) a) (λ t. NotFull s × H t) (λ f. NoRoom s x f ⊎ (NotFull s × B f))) [
   | true ↦ λ w. let lt = ltb-true 63 (length s) w in let le : 64 ≤ length s = omega arith in record {
@@ -358,7 +358,7 @@ agree_room s x a H B h = elim (ltb 63 (length s)) as (λ b. (ltb 63 (length s) �
 ] refl
 
 -- a name is bound to what a part has, where the scope takes one more
-pub agree_given : (s : List Bound) (x : Name) (a : Found) (H : T → Type 0) (B : Fault → Type 0) (k : T → Found) (K : T → T → Type 0) (C : T → Fault → Type 0)
+pub agree_given : (s : List TypedName) (x : Name) (a : Found) (H : T → Type 0) (B : Fault → Type 0) (k : T → Found) (K : T → T → Type 0) (C : T → Fault → Type 0)
     → Agrees a H B → ((u : T) → Agrees (k u) (K u) (C u))
     → Agrees (after (scope_faults s x) (part (not_full s a) k)) (λ t. (u : T) × H u × NotFull s × K u t) (λ f. NoRoom s x f ⊎ (B f ⊎ ((u : T) × H u × NotFull s × C u f)))
 agree_given s x a H B k K C h g =

@@ -6,7 +6,7 @@ use Rattle.hs_base.specs.declared.tree.script.Script.{Script}
 use Rattle.rules_trees.specs.Trees.{T, Wr}
 use Rattle.rules_trees.specs.Programs.{Bd, pure_body, io_body, Fn, script_of}
 use Rattle.rules_expansion.specs.Sizes.{body_size}
-use Rattle.rules_typing.specs.Typing.{Fault, large, AllMet, FirstUnmet, is, Bound, Sig, Ctx}
+use Rattle.rules_typing.specs.Typing.{Fault, large, AllMet, FirstUnmet, is, TypedName, Sig, Ctx}
 use Rattle.rules_typing.specs.TypingFaults.{In}
 use Rattle.rules_typing.specs.TypingSizes.{Extent, worst_body, param_names}
 use Rattle.rules_typing.specs.TypingScripts.{result_of, params_in, head_faults, twice_faults, sigs_from, BodyHas, BodyBreaks, Ends, DefBreaks, LargeBreaks, AnyBreaks, ScriptBreaks, NothingBroken, IsFirstBroken, none_of, Measured, unmeasured, measured_with, IsLarge}
@@ -16,7 +16,7 @@ use Rattle.typing_judge.proofs.Laws.{Agrees, agree_part, agree_good, agree_needi
 use Rattle.typing_judge.proofs.Expressions.{agree}
 use Rattle.typing_judge.proofs.Actions.{agree_bl}
 
-agree_body : (c : Ctx) (s : List Bound) (d : Bd) → Agrees (judge_body c s d) (BodyHas c s d) (BodyBreaks c s d)
+agree_body : (c : Ctx) (s : List TypedName) (d : Bd) → Agrees (judge_body c s d) (BodyHas c s d) (BodyBreaks c s d)
 agree_body c s (pure_body w e) = agree c s e
 agree_body c s (io_body w a) = agree_bl c s a
 

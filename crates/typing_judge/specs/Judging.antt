@@ -3,7 +3,7 @@ use Rattle.std.specs.Prelude.{◌&&◌, List, [], ◌∷◌, ◌++◌, length, B
 use Rattle.hs_base.specs.declared.pos.Pos.{Pos}
 use Rattle.hs_base.specs.declared.tree.expr.Name.{Name}
 use Rattle.rules_trees.specs.Trees.{T, unit, int, bool, text, thread, exn, pair, maybe, either, list, cell, async, Wr, Ex, lit, name, unary, binary, chain, conses, choose, items, empty, side, given, case, Exs, none, more, Links, end, link, Arms, maybe_arms, either_arms, list_arms, pair_arms}
-use Rattle.rules_typing.specs.Typing.{Form, a_maybe, an_either, a_list, a_pair, a_cell, an_async, equal, order, shown, Fault, scope, wide, nodes, Need, is, of, refusal, Row, type_of_lit, row_unary, row_binary, row_empty, row_side, row_choose, row_items, row_arms, form_of_arms, first_of, second_of, inner_of, Ctx, Bound, bound, Meant, wrong, takes, meant, is_each, count}
+use Rattle.rules_typing.specs.Typing.{Form, a_maybe, an_either, a_list, a_pair, a_cell, an_async, equal, order, shown, Fault, scope, wide, nodes, Need, is, of, refusal, Row, type_of_lit, row_unary, row_binary, row_empty, row_side, row_choose, row_items, row_arms, form_of_arms, first_of, second_of, inner_of, Ctx, TypedName, bound, Meant, wrong, takes, meant, is_each, count}
 
 abbrev pub same : T → T → Bool
 same unit unit = true
@@ -94,13 +94,13 @@ own p r = needing p r.needs (made p r.makes r.type)
 abbrev pub written : Wr → Found
 written w = cond (ltb 64 (nodes w.ty)) (bad (wide w.pos)) (good w.ty)
 
-abbrev pub full : List Bound → Bool
+abbrev pub full : List TypedName → Bool
 full s = ltb 63 (length s)
 
-abbrev pub unless_full : List Bound → Name → Found → Found
+abbrev pub unless_full : List TypedName → Name → Found → Found
 unless_full s x k = cond (full s) (bad (scope x.pos)) k
 
-abbrev pub scope_faults : List Bound → Name → List Fault
+abbrev pub scope_faults : List TypedName → Name → List Fault
 scope_faults s x = cond (full s) (scope x.pos ∷ []) []
 
 abbrev pub unless : Bool → Option T → Option T
@@ -140,7 +140,7 @@ parts_all a k = after a.faults (k a.types)
 abbrev pub join : Found → Founds → Founds
 join a b = record { faults = a.faults ++ b.faults; types = joined a.type b.types }
 
-abbrev pub not_full : List Bound → Found → Found
+abbrev pub not_full : List TypedName → Found → Found
 not_full s a = record { faults = a.faults; type = unless (full s) a.type }
 
 -- what stands before a link, where its faults stand elsewhere
@@ -156,7 +156,7 @@ folded (x ∷ ts) (link o p e ks) = after (folded ts ks).faults (with2 x (folded
 -- ---- expressions
 
 abbrev mutual
-  pub judge : Ctx → List Bound → Ex → Found
+  pub judge : Ctx → List TypedName → Ex → Found
   judge c s (lit p l) = good (type_of_lit l)
   judge c s (name x es) = parts_all (judges c s es) (called x.pos (meant c s x (count es)))
   judge c s (unary o p a) = part (judge c s a) (λ u. own p (row_unary o u))
@@ -170,25 +170,25 @@ abbrev mutual
   judge c s (given x a e) = after (scope_faults s x) (part (not_full s (judge c s a)) (λ u. judge c (bound x u ∷ s) e))
   judge c s (case p e arms) = part (judge c s e) (λ u. needing p (of (form_of_arms arms) u ∷ []) (judge_arms c s p u arms))
 
-  pub judges : Ctx → List Bound → Exs → Founds
+  pub judges : Ctx → List TypedName → Exs → Founds
   judges c s none = record { faults = []; types = Some [] }
   judges c s (more e es) = join (judge c s e) (judges c s es)
 
   -- the links of a chain, after what stands before them
-  pub judge_links : Ctx → List Bound → Found → Links → Found
+  pub judge_links : Ctx → List TypedName → Found → Links → Found
   judge_links c s x end = x
   judge_links c s x (link o p e ks) = judge_links c s (parts2 x (judge c s e) (λ u v. own p (row_binary o u v))) ks
 
   -- the operands of `:` and `++`
-  pub operand_faults : Ctx → List Bound → Links → List Fault
+  pub operand_faults : Ctx → List TypedName → Links → List Fault
   operand_faults c s end = []
   operand_faults c s (link o p e ks) = (judge c s e).faults ++ operand_faults c s ks
 
-  pub operand_types : Ctx → List Bound → Links → List (Option T)
+  pub operand_types : Ctx → List TypedName → Links → List (Option T)
   operand_types c s end = []
   operand_types c s (link o p e ks) = (judge c s e).type ∷ operand_types c s ks
 
-  pub judge_arms : Ctx → List Bound → Pos → T → Arms → Found
+  pub judge_arms : Ctx → List TypedName → Pos → T → Arms → Found
   judge_arms c s p u (maybe_arms a x e) = parts2 (judge c s a) (unless_full s x (judge c (bound x (inner_of u) ∷ s) e)) (λ v z. own p (row_arms v z))
   judge_arms c s p u (either_arms x a y e) = parts2 (unless_full s x (judge c (bound x (first_of u) ∷ s) a)) (unless_full s y (judge c (bound y (second_of u) ∷ s) e)) (λ v z. own p (row_arms v z))
   judge_arms c s p u (list_arms a x y e) = parts2 (judge c s a) (unless_full s x (unless_full (bound x (inner_of u) ∷ s) y (judge c (bound y u ∷ bound x (inner_of u) ∷ s) e))) (λ v z. own p (row_arms v z))

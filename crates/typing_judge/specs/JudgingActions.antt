@@ -2,13 +2,13 @@
 use Rattle.std.specs.Prelude.{List, [], ◌∷◌}
 use Rattle.hs_base.specs.declared.pos.Pos.{Pos}
 use Rattle.rules_trees.specs.Trees.{T, exn}
-use Rattle.rules_trees.specs.Programs.{Act, bare, unary_act, binary_act, throw_io, new_empty, call, choose_act, case_act, modify, scoped, masking, restore, catch, guard, bracket, timeout, with_async, Bl, last, then, bind, let_in, ActArms, maybe_acts, either_acts, list_acts, pair_acts}
-use Rattle.rules_typing.specs.Typing.{a_cell, of, first_of, second_of, inner_of, row_choose, row_arms, Bound, bound, masked, Ctx, meant_act, no_mask, count}
+use Rattle.rules_trees.specs.Programs.{SurfaceAction, bare, unary_act, binary_act, throw_io, new_empty, call, choose_act, case_act, modify, scoped, masking, restore, catch, guard, bracket, timeout, with_async, Bl, last, then, bind, let_in, ActArms, maybe_acts, either_acts, list_acts, pair_acts}
+use Rattle.rules_typing.specs.Typing.{a_cell, of, first_of, second_of, inner_of, row_choose, row_arms, TypedName, bound, masked, Ctx, meant_act, no_mask, count}
 use Rattle.rules_typing.specs.TypingActions.{type_of_bare, row_unary_act, row_binary_act, row_throw, row_new_empty, row_scoped, row_masking, row_modify, row_guard, row_bracket, row_timeout, row_async, form_of_acts}
 use Rattle.typing_judge.specs.Judging.{Found, good, after, needing, own, written, unless_full, unless_wrong, scope_faults, called, part, parts2, parts3, parts_all, not_full, judge, judges}
 
 abbrev mutual
-  pub judge_act : Ctx → List Bound → Act → Found
+  pub judge_act : Ctx → List TypedName → SurfaceAction → Found
   judge_act c s (bare o p) = good (type_of_bare o)
   judge_act c s (unary_act o p a) = part (judge c s a) (λ u. own p (row_unary_act o u))
   judge_act c s (binary_act o p a e) = parts2 (judge c s a) (judge c s e) (λ u v. own p (row_binary_act o u v))
@@ -27,13 +27,13 @@ abbrev mutual
   judge_act c s (timeout p e a) = parts2 (judge c s e) (judge_bl c s a) (λ u v. own p (row_timeout u v))
   judge_act c s (with_async p a x g) = part (judge_bl c s a) (λ u. part (own p (row_async u)) (λ v. unless_full s x (judge_bl c (bound x v ∷ s) g)))
 
-  pub judge_bl : Ctx → List Bound → Bl → Found
+  pub judge_bl : Ctx → List TypedName → Bl → Found
   judge_bl c s (last a) = judge_act c s a
   judge_bl c s (then a g) = part (judge_act c s a) (λ u. judge_bl c s g)
   judge_bl c s (bind x a g) = after (scope_faults s x) (part (not_full s (judge_act c s a)) (λ u. judge_bl c (bound x u ∷ s) g))
   judge_bl c s (let_in x e g) = after (scope_faults s x) (part (not_full s (judge c s e)) (λ u. judge_bl c (bound x u ∷ s) g))
 
-  pub judge_act_arms : Ctx → List Bound → Pos → T → ActArms → Found
+  pub judge_act_arms : Ctx → List TypedName → Pos → T → ActArms → Found
   judge_act_arms c s p u (maybe_acts a x e) = parts2 (judge_bl c s a) (unless_full s x (judge_bl c (bound x (inner_of u) ∷ s) e)) (λ v z. own p (row_arms v z))
   judge_act_arms c s p u (either_acts x a y e) = parts2 (unless_full s x (judge_bl c (bound x (first_of u) ∷ s) a)) (unless_full s y (judge_bl c (bound y (second_of u) ∷ s) e)) (λ v z. own p (row_arms v z))
   judge_act_arms c s p u (list_acts a x y e) = parts2 (judge_bl c s a) (unless_full s x (unless_full (bound x (inner_of u) ∷ s) y (judge_bl c (bound y u ∷ bound x (inner_of u) ∷ s) e))) (λ v z. own p (row_arms v z))

@@ -5,14 +5,14 @@ use Rattle.hs_base.specs.declared.tree.script.Script.{Script}
 use Rattle.rules_trees.specs.Trees.{T, Wr}
 use Rattle.rules_trees.specs.Programs.{Bd, pure_body, io_body, Fn, script_of}
 use Rattle.rules_expansion.specs.Sizes.{body_size}
-use Rattle.rules_typing.specs.Typing.{Fault, large, is, Bound, Sig, Ctx}
+use Rattle.rules_typing.specs.Typing.{Fault, large, is, TypedName, Sig, Ctx}
 use Rattle.rules_typing.specs.TypingFaults.{In, Precedes}
 use Rattle.rules_typing.specs.TypingSizes.{Extent, worst_body, param_names}
 use Rattle.rules_typing.specs.TypingScripts.{result_of, params_in, head_faults, twice_faults, sigs_from, none_of, Measured, unmeasured, measured_with}
 use Rattle.typing_judge.specs.Judging.{Found, good, lost, part, needing, judge}
 use Rattle.typing_judge.specs.JudgingActions.{judge_bl}
 
-abbrev pub judge_body : Ctx → List Bound → Bd → Found
+abbrev pub judge_body : Ctx → List TypedName → Bd → Found
 judge_body c s (pure_body w e) = judge c s e
 judge_body c s (io_body w a) = judge_bl c s a
 

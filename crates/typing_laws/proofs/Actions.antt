@@ -2,8 +2,8 @@
 use Rattle.std.proofs.Common.{ℕ, ◌+◌, ◌≤◌, List, [], ◌∷◌, ◌++◌, arith}
 use Rattle.hs_base.specs.declared.pos.Pos.{Pos}
 use Rattle.rules_trees.specs.Trees.{T, exn}
-use Rattle.rules_trees.specs.Programs.{Act, bare, unary_act, binary_act, throw_io, new_empty, call, choose_act, case_act, modify, scoped, masking, restore, catch, guard, bracket, timeout, with_async, Bl, last, then, bind, let_in, ActArms, maybe_acts, either_acts, list_acts, pair_acts}
-use Rattle.rules_typing.specs.Typing.{Fault, a_cell, of, first_of, second_of, inner_of, row_choose, row_arms, Bound, bound, masked, Ctx, look, meant_act, no_mask, count}
+use Rattle.rules_trees.specs.Programs.{SurfaceAction, bare, unary_act, binary_act, throw_io, new_empty, call, choose_act, case_act, modify, scoped, masking, restore, catch, guard, bracket, timeout, with_async, Bl, last, then, bind, let_in, ActArms, maybe_acts, either_acts, list_acts, pair_acts}
+use Rattle.rules_typing.specs.Typing.{Fault, a_cell, of, first_of, second_of, inner_of, row_choose, row_arms, TypedName, bound, masked, Ctx, look, meant_act, no_mask, count}
 use Rattle.rules_typing.specs.TypingActions.{row_unary_act, row_binary_act, row_throw, row_new_empty, row_scoped, row_masking, row_modify, row_guard, row_bracket, row_timeout, row_async, form_of_acts}
 use Rattle.typing_judge.specs.Judging.{Found, own, written, unless_full, part, parts2, judge, judges}
 use Rattle.typing_judge.specs.JudgingActions.{judge_act, judge_bl, judge_act_arms}
@@ -39,7 +39,7 @@ module _ (q : Pos) (r : ℕ) where
   in_row a k A B h g = beside q r A B (part a k).faults (part_most q r a k (times q A) (times q B) h g)
 
   mutual
-    pub act_most : (c : Ctx) (s : List Bound) (a : Act) → Most q r (judge_act c s a) (times q (act_positions a))
+    pub act_most : (c : Ctx) (s : List TypedName) (a : SurfaceAction) → Most q r (judge_act c s a) (times q (act_positions a))
     act_most c s (bare o p) = omega arith
     act_most c s (unary_act o p a) = node1 (judge c s a) (λ u. own p (row_unary_act o u)) p (ex_positions a) (judge_most q r c s a) (λ u. own_most q r p (row_unary_act o u))
     act_most c s (binary_act o p a e) = node2 (judge c s a) (judge c s e) (λ u v. own p (row_binary_act o u v)) p (ex_positions a) (ex_positions e) (judge_most q r c s a) (judge_most q r c s e) (λ u v. own_most q r p (row_binary_act o u v))
@@ -68,7 +68,7 @@ module _ (q : Pos) (r : ℕ) where
     act_most c s (guard o p a g) = node2 (judge_bl c s a) (judge_bl c s g) (λ u v. own p (row_guard o u v)) p (bl_positions a) (bl_positions g) (bl_most c s a) (bl_most c s g) (λ u v. own_most q r p (row_guard o u v))
     act_most c s (bracket p a x g h) =
         bracketed (judge_bl c s a) _ p x.pos (bl_positions a) (bl_positions g) (bl_positions h) (bl_most c s a)
-        (λ u. let k : List Bound = bound x u ∷ s in
+        (λ u. let k : List TypedName = bound x u ∷ s in
         unless_full_most q r s x (parts2 (judge_bl c k g) (judge_bl c k h) (λ v z. own p (row_bracket v z))) (times q (bl_positions g) + times q (bl_positions h) + here q p)
         (parts2_most q r (judge_bl c k g) (judge_bl c k h) _ (times q (bl_positions g)) (times q (bl_positions h)) (here q p) (bl_most c k g) (bl_most c k h) (λ v z. own_most q r p (row_bracket v z))))
     act_most c s (timeout p e a) = node2 (judge c s e) (judge_bl c s a) (λ u v. own p (row_timeout u v)) p (ex_positions e) (bl_positions a) (judge_most q r c s e) (bl_most c s a) (λ u v. own_most q r p (row_timeout u v))
@@ -77,28 +77,28 @@ module _ (q : Pos) (r : ℕ) where
         (λ u. part_most q r (own p (row_async u)) (λ v. unless_full s x (judge_bl c (bound x v ∷ s) g)) (here q p) (here q x.pos + times q (bl_positions g)) (own_most q r p (row_async u))
         (λ v. unless_full_most q r s x (judge_bl c (bound x v ∷ s) g) (times q (bl_positions g)) (bl_most c (bound x v ∷ s) g)))
 
-    pub bl_most : (c : Ctx) (s : List Bound) (g : Bl) → Most q r (judge_bl c s g) (times q (bl_positions g))
+    pub bl_most : (c : Ctx) (s : List TypedName) (g : Bl) → Most q r (judge_bl c s g) (times q (bl_positions g))
     bl_most c s (last a) = act_most c s a
     bl_most c s (then a g) = in_row (judge_act c s a) (λ u. judge_bl c s g) (act_positions a) (bl_positions g) (act_most c s a) (λ u. bl_most c s g)
     bl_most c s (bind x a g) = given_most q r s x (judge_act c s a) _ (act_positions a) (bl_positions g) (act_most c s a) (λ u. bl_most c (bound x u ∷ s) g)
     bl_most c s (let_in x e g) = given_most q r s x (judge c s e) _ (ex_positions e) (bl_positions g) (judge_most q r c s e) (λ u. bl_most c (bound x u ∷ s) g)
 
-    act_arms_most : (c : Ctx) (s : List Bound) (p : Pos) (u : T) (arms : ActArms) → Most q r (judge_act_arms c s p u arms) (times q (act_arm_positions arms) + here q p)
+    act_arms_most : (c : Ctx) (s : List TypedName) (p : Pos) (u : T) (arms : ActArms) → Most q r (judge_act_arms c s p u arms) (times q (act_arm_positions arms) + here q p)
     act_arms_most c s p u (maybe_acts a x e) =
-        let k : List Bound = bound x (inner_of u) ∷ s in
+        let k : List TypedName = bound x (inner_of u) ∷ s in
         arms2 q r (judge_bl c s a) (unless_full s x (judge_bl c k e)) _ p (bl_positions a) (x.pos ∷ bl_positions e) (bl_most c s a) (named q r s x (judge_bl c k e) (bl_positions e) (bl_most c k e)) (λ v z. own_most q r p (row_arms v z))
     act_arms_most c s p u (either_acts x a y e) =
-        let k : List Bound = bound x (first_of u) ∷ s in
-        let l : List Bound = bound y (second_of u) ∷ s in
+        let k : List TypedName = bound x (first_of u) ∷ s in
+        let l : List TypedName = bound y (second_of u) ∷ s in
         arms2 q r (unless_full s x (judge_bl c k a)) (unless_full s y (judge_bl c l e)) _ p (x.pos ∷ bl_positions a) (y.pos ∷ bl_positions e) (named q r s x (judge_bl c k a) (bl_positions a) (bl_most c k a)) (named q r s y (judge_bl c l e) (bl_positions e) (bl_most c l e))
         (λ v z. own_most q r p (row_arms v z))
     act_arms_most c s p u (list_acts a x y e) =
-        let k : List Bound = bound x (inner_of u) ∷ s in
-        let l : List Bound = bound y u ∷ k in
+        let k : List TypedName = bound x (inner_of u) ∷ s in
+        let l : List TypedName = bound y u ∷ k in
         arms2 q r (judge_bl c s a) (unless_full s x (unless_full k y (judge_bl c l e))) _ p (bl_positions a) (x.pos ∷ y.pos ∷ bl_positions e) (bl_most c s a)
         (named q r s x (unless_full k y (judge_bl c l e)) (y.pos ∷ bl_positions e) (named q r k y (judge_bl c l e) (bl_positions e) (bl_most c l e))) (λ v z. own_most q r p (row_arms v z))
     act_arms_most c s p u (pair_acts x y a) =
-        let k : List Bound = bound x (first_of u) ∷ s in
-        let l : List Bound = bound y (second_of u) ∷ k in
+        let k : List TypedName = bound x (first_of u) ∷ s in
+        let l : List TypedName = bound y (second_of u) ∷ k in
         more_most q r (unless_full s x (unless_full k y (judge_bl c l a))) (times q (x.pos ∷ y.pos ∷ bl_positions a)) (here q p)
         (named q r s x (unless_full k y (judge_bl c l a)) (y.pos ∷ bl_positions a) (named q r k y (judge_bl c l a) (bl_positions a) (bl_most c l a)))

@@ -5,7 +5,7 @@ use Rattle.hs_base.specs.declared.pos.Pos.{Pos}
 use Rattle.hs_base.specs.declared.tree.expr.Name.{Name}
 use Rattle.hs_base.specs.declared.tree.forms.BinaryForm.{BinaryForm}
 use Rattle.rules_trees.specs.Trees.{T, Ex, lit, name, unary, binary, chain, conses, choose, items, empty, side, given, case, Exs, none, more, Links, end, link, Arms, maybe_arms, either_arms, list_arms, pair_arms}
-use Rattle.rules_typing.specs.Typing.{Fault, of, kind, forward, Sig, Sort, value, masking_name, meant_act_sig, meant_act_sort, unmask_sig, unmask_sort, row_unary, row_binary, row_empty, row_side, row_choose, row_items, row_arms, form_of_arms, first_of, second_of, inner_of, Ctx, Bound, bound, wrong, arity, takes, meant_args, meant_sig, meant_sort, meant, shown_count, find, look, count}
+use Rattle.rules_typing.specs.Typing.{Fault, of, kind, forward, Sig, Sort, value, masking_name, meant_act_sig, meant_act_sort, unmask_sig, unmask_sort, row_unary, row_binary, row_empty, row_side, row_choose, row_items, row_arms, form_of_arms, first_of, second_of, inner_of, Ctx, TypedName, bound, wrong, arity, takes, meant_args, meant_sig, meant_sort, meant, shown_count, find, look, count}
 use Rattle.typing_judge.specs.Judging.{Found, after, own, written, unless_full, typed, folded, with2, scope_faults, not_full, part, parts2, operand_faults, operand_types, judge, judges, judge_links, judge_arms}
 use Rattle.typing_laws.specs.Positions.{ex_positions, exs_positions, link_positions, arm_positions}
 use Rattle.typing_laws.proofs.Counts.{here, times, times-append}
@@ -55,7 +55,7 @@ module _ (q : Pos) (r : ℕ) where
   over3 fs p A B C h = omega (arith, h, times-append q A (B ++ C), times-append q B C)
 
   -- a name that is bound over two parts
-  pub given_most : (s : List Bound) (x : Name) (a : Found) (k : T → Found) (A B : List Pos) → Most q r a (times q A) → ((u : T) → Most q r (k u) (times q B))
+  pub given_most : (s : List TypedName) (x : Name) (a : Found) (k : T → Found) (A B : List Pos) → Most q r a (times q A) → ((u : T) → Most q r (k u) (times q B))
       → Most q r (after (scope_faults s x) (part (not_full s a) k)) (times q (x.pos ∷ (A ++ B)))
   given_most s x a k A B h g =
       let x' : Found = after (scope_faults s x) (part (not_full s a) k) in
@@ -88,7 +88,7 @@ module _ (q : Pos) (r : ℕ) where
   more_most x m n h = omega (arith, h)
 
   -- a name that is bound over a part
-  pub named : (s : List Bound) (x : Name) (a : Found) (A : List Pos) → Most q r a (times q A) → Most q r (unless_full s x a) (times q (x.pos ∷ A))
+  pub named : (s : List TypedName) (x : Name) (a : Found) (A : List Pos) → Most q r a (times q A) → Most q r (unless_full s x a) (times q (x.pos ∷ A))
   named s x a A h = omega (arith, unless_full_most q r s x a (times q A) h)
 
   ends_most : (ts : List (Option T)) → Most q r (folded ts end) 0
@@ -111,7 +111,7 @@ module _ (q : Pos) (r : ℕ) where
 
   -- ---- expressions
   mutual
-    pub judge_most : (c : Ctx) (s : List Bound) (e : Ex) → Most q r (judge c s e) (times q (ex_positions e))
+    pub judge_most : (c : Ctx) (s : List TypedName) (e : Ex) → Most q r (judge c s e) (times q (ex_positions e))
     judge_most c s (lit p l) = omega arith
     judge_most c s (name x es) = over1 _ x.pos (exs_positions es) (call_most q r x.pos (meant c s x (count es)) (judges c s es) (times q (exs_positions es)) (sort_at c x (count es) (look s x.text)) (judges_most c s es))
     judge_most c s (unary o p a) = over1 _ p (ex_positions a) (part_most q r (judge c s a) _ (times q (ex_positions a)) (here q p) (judge_most c s a) (λ u. own_most q r p (row_unary o u)))
@@ -137,35 +137,35 @@ module _ (q : Pos) (r : ℕ) where
         cased (judge c s e) _ p (ex_positions e) (arm_positions arms) (judge_most c s e)
         (λ u. needing_most q r p (of (form_of_arms arms) u ∷ []) (judge_arms c s p u arms) (times q (arm_positions arms) + here q p) (omega arith) (arms_most c s p u arms))
 
-    pub judges_most : (c : Ctx) (s : List Bound) (es : Exs) → tally q r (judges c s es).faults ≤ times q (exs_positions es)
+    pub judges_most : (c : Ctx) (s : List TypedName) (es : Exs) → tally q r (judges c s es).faults ≤ times q (exs_positions es)
     judges_most c s none = omega arith
     judges_most c s (more e es) = joined_most (judge c s e).faults (judges c s es).faults (ex_positions e) (exs_positions es) (judge_most c s e) (judges_most c s es)
 
-    links_most : (c : Ctx) (s : List Bound) (ks : Links) (x : Found) (n : ℕ) → Most q r x n → Most q r (judge_links c s x ks) (n + times q (link_positions ks))
+    links_most : (c : Ctx) (s : List TypedName) (ks : Links) (x : Found) (n : ℕ) → Most q r x n → Most q r (judge_links c s x ks) (n + times q (link_positions ks))
     links_most c s end x n h = omega (arith, h)
     links_most c s (link o p e ks) x n h =
         linked_most n p (ex_positions e) (link_positions ks) _
         (links_most c s ks (parts2 x (judge c s e) (λ u v. own p (row_binary o u v))) (n + times q (ex_positions e) + here q p)
         (parts2_most q r x (judge c s e) _ n (times q (ex_positions e)) (here q p) h (judge_most c s e) (λ u v. own_most q r p (row_binary o u v))))
 
-    conses_most : (c : Ctx) (s : List Bound) (ks : Links) (ts : List (Option T)) → tally q r (operand_faults c s ks) + tally q r (folded ts ks).faults ≤ times q (link_positions ks)
+    conses_most : (c : Ctx) (s : List TypedName) (ks : Links) (ts : List (Option T)) → tally q r (operand_faults c s ks) + tally q r (folded ts ks).faults ≤ times q (link_positions ks)
     conses_most c s end ts = omega (arith, ends_most ts)
     conses_most c s (link o p e ks) ts = consed_most o p e ks ts (judge c s e).faults (operand_faults c s ks) (ex_positions e) (judge_most c s e) (conses_most c s ks)
 
-    arms_most : (c : Ctx) (s : List Bound) (p : Pos) (u : T) (arms : Arms) → Most q r (judge_arms c s p u arms) (times q (arm_positions arms) + here q p)
+    arms_most : (c : Ctx) (s : List TypedName) (p : Pos) (u : T) (arms : Arms) → Most q r (judge_arms c s p u arms) (times q (arm_positions arms) + here q p)
     arms_most c s p u (maybe_arms a x e) =
-        let k : List Bound = bound x (inner_of u) ∷ s in
+        let k : List TypedName = bound x (inner_of u) ∷ s in
         arms2 (judge c s a) (unless_full s x (judge c k e)) _ p (ex_positions a) (x.pos ∷ ex_positions e) (judge_most c s a) (named s x (judge c k e) (ex_positions e) (judge_most c k e)) (λ v z. own_most q r p (row_arms v z))
     arms_most c s p u (either_arms x a y e) =
-        let k : List Bound = bound x (first_of u) ∷ s in
-        let l : List Bound = bound y (second_of u) ∷ s in
+        let k : List TypedName = bound x (first_of u) ∷ s in
+        let l : List TypedName = bound y (second_of u) ∷ s in
         arms2 (unless_full s x (judge c k a)) (unless_full s y (judge c l e)) _ p (x.pos ∷ ex_positions a) (y.pos ∷ ex_positions e) (named s x (judge c k a) (ex_positions a) (judge_most c k a)) (named s y (judge c l e) (ex_positions e) (judge_most c l e)) (λ v z. own_most q r p (row_arms v z))
     arms_most c s p u (list_arms a x y e) =
-        let k : List Bound = bound x (inner_of u) ∷ s in
-        let l : List Bound = bound y u ∷ k in
+        let k : List TypedName = bound x (inner_of u) ∷ s in
+        let l : List TypedName = bound y u ∷ k in
         arms2 (judge c s a) (unless_full s x (unless_full k y (judge c l e))) _ p (ex_positions a) (x.pos ∷ y.pos ∷ ex_positions e) (judge_most c s a)
         (named s x (unless_full k y (judge c l e)) (y.pos ∷ ex_positions e) (named k y (judge c l e) (ex_positions e) (judge_most c l e))) (λ v z. own_most q r p (row_arms v z))
     arms_most c s p u (pair_arms x y a) =
-        let k : List Bound = bound x (first_of u) ∷ s in
-        let l : List Bound = bound y (second_of u) ∷ k in
+        let k : List TypedName = bound x (first_of u) ∷ s in
+        let l : List TypedName = bound y (second_of u) ∷ k in
         more_most (unless_full s x (unless_full k y (judge c l a))) (times q (x.pos ∷ y.pos ∷ ex_positions a)) (here q p) (named s x (unless_full k y (judge c l a)) (y.pos ∷ ex_positions a) (named k y (judge c l a) (ex_positions a) (judge_most c l a)))

@@ -27,7 +27,7 @@ use Rattle.rules_grammar.specs.Grammar as g
 use Rattle.rules_grammar.specs.Grammar.{many, alts, arms, rule_of, SpelledIn, SpelledBy}
 use Rattle.rules_grammar.specs.GrammarForms.{Rule, Item, Spelling}
 use Rattle.rules_grammar.specs.GrammarKinds as k
-use Rattle.rules_grammar.specs.GrammarParts.{Kind, Part, type_in_parens, type_in_brackets, param_in_parens, block_in_braces, block_if, block_case, block_arms, let_stmt, no_items, two_names, expr_if, expr_case, expr_arms, expr_let, expr_in_parens, items_in_brackets, items_or_none}
+use Rattle.rules_grammar.specs.GrammarParts.{TokenKind, OpenerPart, type_in_parens, type_in_brackets, param_in_parens, block_in_braces, block_if, block_case, block_arms, let_stmt, no_items, two_names, expr_if, expr_case, expr_arms, expr_let, expr_in_parens, items_in_brackets, items_or_none}
 use Rattle.typing_laws.specs.Positions.{has_node, ex_positions, act_positions, bl_positions, act_arm_positions, par_positions, body_positions, fn_positions, positions_of}
 use Rattle.typing_laws.proofs.Counts.{here, times, times-append}
 use Rattle.typing_laws.proofs.Fits.{Weighing, Weighs, Free, seen, made, Heavy, Fits, fit_give, fit_word, fit_part, fit_skip, fit_alt, fit_map, fit_many, fit_within, fit_inside, fit_ended}
@@ -137,7 +137,7 @@ module _ (q : Pos) where
       map_fn xs = map fn_of xs
 
 -- ---- the rules
-module _ (q : Pos) (inner : (B : Type 0) → Part B → Spelling B) (parts : (B : Type 0) (part : Part B) → Heavy q (part_weighing q part) (inner B part)) where
+module _ (q : Pos) (inner : (B : Type 0) → OpenerPart B → Spelling B) (parts : (B : Type 0) (part : OpenerPart B) → Heavy q (part_weighing q part) (inner B part)) where
   abbrev Fit : {A : Type 0} → Rule A → Weighing A → Type 0
   Fit r W = Fits q inner r W
 
@@ -146,11 +146,11 @@ module _ (q : Pos) (inner : (B : Type 0) → Part B → Spelling B) (parts : (B 
 
   -- ---- arms of a case, over what stands behind their arrows
   module _ {X R : Type 0} (w : X → ℕ) (v : R → ℕ) (x : Rule X) (hx : Fit x (Weighs w)) where
-    fit_bare_arm : (l : Kind) → has_node l ≡ false → Fit (g.bare_arm l x) (Weighs w)
+    fit_bare_arm : (l : TokenKind) → has_node l ≡ false → Fit (g.bare_arm l x) (Weighs w)
     unfolding g.bare_arm
     fit_bare_arm l aside = fit_part hx (fit_skip refl (fit_skip aside (fit_give (λ y n h. omega (arith, h)))))
 
-    fit_named_arm : (l : Kind) → has_node l ≡ false → Fit (g.named_arm l x) (Weighs (λ y. here q y.0.pos + w y.1))
+    fit_named_arm : (l : TokenKind) → has_node l ≡ false → Fit (g.named_arm l x) (Weighs (λ y. here q y.0.pos + w y.1))
     unfolding g.named_arm
     fit_named_arm l aside = fit_part hx (fit_skip refl (fit_part (fit_name q inner) (fit_skip aside (fit_give (λ y m h z n i. omega (arith, h, i))))))
 
@@ -363,7 +363,7 @@ module _ (q : Pos) (inner : (B : Type 0) → Part B → Spelling B) (parts : (B 
   fit_script = fit_map (fit_many {W = Weighs (defs_weight q)} fit_def refl (def_weighs q)) (λ ds n h. h)
 
   -- ---- what stands in each opener
-  fit_rule_of : {B : Type 0} (part : Part B) → Fit (rule_of part) (part_weighing q part)
+  fit_rule_of : {B : Type 0} (part : OpenerPart B) → Fit (rule_of part) (part_weighing q part)
   unfolding rule_of
   fit_rule_of type_in_parens = fit_alt (fit_map (fit_end q inner refl) (λ p n h. h)) (fit_part (fit_type_end q inner parts) (fit_part (part_type q inner parts) (fit_give (λ t m h f n i. omega (arith, h, i)))))
   fit_rule_of type_in_brackets = fit_skip refl (fit_part (part_type q inner parts) (fit_give (λ t n h. omega (arith, h))))
@@ -400,7 +400,7 @@ module _ (q : Pos) (inner : (B : Type 0) → Part B → Spelling B) (parts : (B 
   fit_rule_of items_or_none = fit_alt (fit_map (fit_end q inner refl) (λ p n h. h)) (fit_map (fit_items q inner parts) (λ xs n h. h))
 
 -- what stands in an opener, however deep it nests
-parts_heavy : (q : Pos) (n j : ℕ) (B : Type 0) (part : Part B) → Heavy q (part_weighing q part) (SpelledIn n j B part)
+parts_heavy : (q : Pos) (n j : ℕ) (B : Type 0) (part : OpenerPart B) → Heavy q (part_weighing q part) (SpelledIn n j B part)
 parts_heavy q zero j B part x from to h = absurd h
 parts_heavy q (suc n) j B part x from to h = (fit_rule_of q (SpelledIn n (suc j)) (parts_heavy q n (suc j)) part).holds (suc j) x from to h
 

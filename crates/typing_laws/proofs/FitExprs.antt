@@ -21,7 +21,7 @@ use Rattle.rules_trees.proofs.Equations.{ex-If, ex-Case, ex-Let, ex-Or, ex-And, 
 use Rattle.rules_grammar.specs.Grammar as g
 use Rattle.rules_grammar.specs.Grammar.{number_of, text_of, type_word, many, or_tree, and_tree, cons_tree, sum_tree, product_tree, compare_tree, link}
 use Rattle.rules_grammar.specs.GrammarForms.{Rule, at, Spelling}
-use Rattle.rules_grammar.specs.GrammarParts.{Kind, Part, type_in_parens, type_in_brackets, expr_if, expr_case, expr_let, expr_in_parens, items_in_brackets, items_or_none}
+use Rattle.rules_grammar.specs.GrammarParts.{TokenKind, OpenerPart, type_in_parens, type_in_brackets, expr_if, expr_case, expr_let, expr_in_parens, items_in_brackets, items_or_none}
 use Rattle.typing_laws.specs.Positions.{has_node, ex_positions, exs_positions, link_positions, arm_positions}
 use Rattle.typing_laws.proofs.Counts.{here, times-append}
 use Rattle.typing_laws.proofs.Fits.{Weighing, Weighs, Free, Sum, Heavy, Fits, fit_give, fit_one, fit_word, fit_part, fit_skip, fit_alt, fit_map, fit_go_on, fit_many, fit_within, fit_aside, fit_inside, fit_either}
@@ -102,17 +102,17 @@ module _ (q : Pos) where
   list_or_empty_weighs p (inr es) n h = list_weighs p es (here q p + n) (omega (arith, h))
 
 -- ---- the rules
-module _ (q : Pos) (inner : (B : Type 0) → Part B → Spelling B) where
+module _ (q : Pos) (inner : (B : Type 0) → OpenerPart B → Spelling B) where
   abbrev Fit : {A : Type 0} → Rule A → Weighing A → Type 0
   Fit r W = Fits q inner r W
 
   abbrev FitsExpr : Rule Expr → Type 0
   FitsExpr r = Fits q inner r (Weighs (expr_weight q))
 
-  pub fit_at : {w : Kind} → Fit (at w) (Weighs (here q))
+  pub fit_at : {w : TokenKind} → Fit (at w) (Weighs (here q))
   fit_at = fit_one (λ t. refl)
 
-  pub fit_end : {w : Kind} → has_node w ≡ false → Fit (at w) Free
+  pub fit_end : {w : TokenKind} → has_node w ≡ false → Fit (at w) Free
   fit_end aside = fit_aside aside
 
   pub fit_name : Fit g.name (Weighs (name_weight q))
@@ -121,12 +121,12 @@ module _ (q : Pos) (inner : (B : Type 0) → Part B → Spelling B) where
   pub fit_exprs : {p : Rule Expr} → FitsExpr p → Fit (many p) (Weighs (exprs_weight q))
   fit_exprs h = fit_many h refl (λ x xs m n v w. omega (arith, v, w, times-append q (ex_positions (ex_of x)) (exs_positions (exs_of xs))))
 
-  module _ (parts : (B : Type 0) (part : Part B) → Heavy q (part_weighing q part) (inner B part)) where
+  module _ (parts : (B : Type 0) (part : OpenerPart B) → Heavy q (part_weighing q part) (inner B part)) where
     -- ---- types: the first token counts, or none where the type is a part of another
-    fit_type_word : {w : Kind} {t : Ty} → Fit (type_word w t) (Weighs (written_weight q))
+    fit_type_word : {w : TokenKind} {t : Ty} → Fit (type_word w t) (Weighs (written_weight q))
     fit_type_word = fit_map fit_at (λ p n h. h)
 
-    part_word : {w : Kind} {t : Ty} → has_node w ≡ false → Fit (type_word w t) Free
+    part_word : {w : TokenKind} {t : Ty} → has_node w ≡ false → Fit (type_word w t) Free
     part_word aside = fit_map (fit_end aside) (λ p n h. h)
 
     pub fit_atype : Fit g.atype (Weighs (written_weight q))
@@ -250,7 +250,8 @@ module _ (q : Pos) (inner : (B : Type 0) → Part B → Spelling B) where
     fit_app = fit_alt fit_call (fit_alt fit_unary_expr (fit_alt fit_side_expr (fit_alt fit_list_form (fit_alt fit_nothing_form (fit_alt fit_div_form (fit_alt fit_mod_form fit_plain_atom))))))
 
     -- ---- chains
-    fit_link : {w : Kind} {p : Rule Expr} → FitsExpr p → Fit (link w p) (Weighs (λ l. here q l.pos + expr_weight q l.operand))
+    fit_link : {w : TokenKind} {p : Rule Expr} → FitsExpr p
+        → Fit (link w p) (Weighs (λ l. here q l.pos + expr_weight q l.operand))
     fit_link h = fit_part h (fit_part fit_at (fit_give (λ p m i x n v. omega (arith, i, v))))
 
     fit_links : {p : Rule Link} → Fit p (Weighs (λ l. here q l.pos + expr_weight q l.operand)) → Fit (many p) (Weighs (links_weight q))

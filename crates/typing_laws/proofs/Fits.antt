@@ -4,7 +4,7 @@ use Rattle.std.proofs.Common.{◌≡◌, ℕ, ◌+◌, ◌≤◌, Bool, true, fa
 use Rattle.hs_base.specs.declared.pos.Pos.{Pos}
 use Rattle.rules_tokens.specs.declared.token.Token.{Token}
 use Rattle.rules_grammar.specs.GrammarForms.{Rule, give, one, seq, alt, go_on, many, ended, within, ◌⊛◌, ◌◁◌, at, map, Item, Spelling, Empty, Single, Made, Then, Either, Each, OnLeft, Passed, Last, Spelled}
-use Rattle.rules_grammar.specs.GrammarParts.{Kind, kind_of, Part}
+use Rattle.rules_grammar.specs.GrammarParts.{TokenKind, kind_of, OpenerPart}
 use Rattle.typing_laws.specs.Positions.{has_node}
 use Rattle.typing_laws.proofs.Counts.{here}
 
@@ -49,7 +49,7 @@ module _ (q : Pos) where
   noded_here t = cond_least (has_node (kind_of t.tok)) (here q t.pos)
 
   -- of a kind that needn't be a node's
-  pub noded_none : (t : Token) (k : Kind) → kind_of t.tok ≡ k → has_node k ≡ false → noded t ≡ 0
+  pub noded_none : (t : Token) (k : TokenKind) → kind_of t.tok ≡ k → has_node k ≡ false → noded t ≡ 0
   noded_none t k e h = ap (λ z. cond (has_node z) (here q t.pos) 0) e ∙ ap (λ b. cond b (here q t.pos) 0) h
 
   -- what is spelled weighs no more than its items, and no less than those that are always a node's
@@ -64,22 +64,22 @@ module _ (q : Pos) where
       let y = each_heavy V W S hs w g bs h.0 to h.2 in
       (x.0 + y.0, g b bs x.0 y.0 x.1 y.1, omega (arith, x.2, y.2), omega (arith, x.3, y.3))
 
-  module _ (inner : (B : Type 0) → Part B → Spelling B) where
+  module _ (inner : (B : Type 0) → OpenerPart B → Spelling B) where
     pub record Fits {A : Type 0} (r : Rule A) (W : Weighing A) : Type 0 where
       pub holds : (j : ℕ) → Heavy W (Spelled inner j r)
 
-module _ {q : Pos} {inner : (B : Type 0) → Part B → Spelling B} where
+module _ {q : Pos} {inner : (B : Type 0) → OpenerPart B → Spelling B} where
   pub fit_give : {A : Type 0} {W : Weighing A} {x : A} → W x 0 → Fits q inner (give x) W
   fit_give {W = W} w = record { holds = λ j a from to h. (0, subst (λ z. W z 0) h.0 w, omega (arith, ap (seen q) h.1), omega (arith, ap (made q) h.1)) }
 
   -- a token that counts, and one that doesn't
-  pub fit_one : {A : Type 0} {W : Weighing A} {k : Kind} {f : Token → A} → ((t : Token) → W (f t) (here q t.pos)) → Fits q inner (one k f) W
+  pub fit_one : {A : Type 0} {W : Weighing A} {k : TokenKind} {f : Token → A} → ((t : Token) → W (f t) (here q t.pos)) → Fits q inner (one k f) W
   fit_one {W = W} w = record {
     holds = λ j a from to h.
         (here q h.0.pos, subst (λ z. W z (here q h.0.pos)) h.1 (w h.0), omega (arith, ap (seen q) h.2.1), omega (arith, ap (made q) h.2.1, noded_here q h.0));
   }
 
-  pub fit_aside : {A : Type 0} {k : Kind} {f : Token → A} → has_node k ≡ false → Fits q inner (one k f) Free
+  pub fit_aside : {A : Type 0} {k : TokenKind} {f : Token → A} → has_node k ≡ false → Fits q inner (one k f) Free
   fit_aside {k = k} aside = record { holds = λ j a from to h. (0, refl, omega (arith, ap (seen q) h.2.1), omega (arith, ap (made q) h.2.1, noded_none q h.0 k h.2.0 aside)) }
 
   pub fit_seq : {A B C : Type 0} {V : Weighing B} {U : Weighing C} {W : Weighing A} {f : B → C → A} {p : Rule B} {r : Rule C}
@@ -95,7 +95,7 @@ module _ {q : Pos} {inner : (B : Type 0) → Part B → Spelling B} where
   pub fit_part : {A B : Type 0} {V : Weighing B} {W : Weighing A} {p : Rule (B → A)} {r : Rule B} → Fits q inner r V → Fits q inner p (Fun V W) → Fits q inner (p ⊛ r) W
   fit_part {V = V} {W = W} hr hp = fit_seq hp hr (λ f b m n v w. v b n w)
 
-  pub fit_skip : {A : Type 0} {W : Weighing A} {p : Rule A} {k : Kind} → has_node k ≡ false → Fits q inner p W → Fits q inner (p ◁ k) W
+  pub fit_skip : {A : Type 0} {W : Weighing A} {p : Rule A} {k : TokenKind} → has_node k ≡ false → Fits q inner p W → Fits q inner (p ◁ k) W
   fit_skip {W = W} {k = k} aside hp = record {
     holds = λ j a from to h.
         let x = hp.holds j h.0 from h.1 h.2 in
@@ -113,7 +113,7 @@ module _ {q : Pos} {inner : (B : Type 0) → Part B → Spelling B} where
   }
 
   -- a word that counts
-  pub fit_word : {A : Type 0} {k : Kind} {x : A} → Fits q inner {A = A × Pos} (map (λ p. (x, p)) (at k)) (Weighs (λ w. here q w.1))
+  pub fit_word : {A : Type 0} {k : TokenKind} {x : A} → Fits q inner {A = A × Pos} (map (λ p. (x, p)) (at k)) (Weighs (λ w. here q w.1))
   fit_word = fit_map {V = Weighs (here q)} (fit_one (λ t. refl)) (λ p n h. h)
 
   pub fit_go_on : {A B C : Type 0} {V : Weighing B} {U : Weighing C} {W : Weighing A} {f : B → C → A} {p : Rule (B ⊎ A)} {r : Rule C}
@@ -135,7 +135,7 @@ module _ {q : Pos} {inner : (B : Type 0) → Part B → Spelling B} where
   }
 
   -- an opener that counts, one that doesn't, and one of which its part decides
-  pub fit_within : {A B : Type 0} {V : Weighing B} {W : Weighing A} {g : Pos → B → A} {k : Kind} {part : Part B}
+  pub fit_within : {A B : Type 0} {V : Weighing B} {W : Weighing A} {g : Pos → B → A} {k : TokenKind} {part : OpenerPart B}
       → Heavy q V (inner B part) → ((p : Pos) (b : B) (n : ℕ) → V b n → W (g p b) (here q p + n)) → Fits q inner (within g k part) W
   fit_within {W = W} hi w = record {
     holds = λ j a from to h.
@@ -143,7 +143,7 @@ module _ {q : Pos} {inner : (B : Type 0) → Part B → Spelling B} where
         (here q h.0.pos + x.0, subst (λ z. W z (here q h.0.pos + x.0)) h.3.1 (w h.0.pos h.3.0 x.0 x.1), omega (arith, x.2, ap (seen q) h.2.1), omega (arith, x.3, ap (made q) h.2.1, noded_here q h.0));
   }
 
-  pub fit_inside : {A B : Type 0} {V : Weighing B} {W : Weighing A} {g : Pos → B → A} {k : Kind} {part : Part B}
+  pub fit_inside : {A B : Type 0} {V : Weighing B} {W : Weighing A} {g : Pos → B → A} {k : TokenKind} {part : OpenerPart B}
       → has_node k ≡ false → Heavy q V (inner B part) → ((p : Pos) (b : B) (n : ℕ) → V b n → W (g p b) n) → Fits q inner (within g k part) W
   fit_inside {W = W} {k = k} aside hi w = record {
     holds = λ j a from to h.
@@ -151,7 +151,7 @@ module _ {q : Pos} {inner : (B : Type 0) → Part B → Spelling B} where
         (x.0, subst (λ z. W z x.0) h.3.1 (w h.0.pos h.3.0 x.0 x.1), omega (arith, x.2, ap (seen q) h.2.1), omega (arith, x.3, ap (made q) h.2.1, noded_none q h.0 k h.2.0 aside));
   }
 
-  pub fit_either : {A B : Type 0} {V : Weighing B} {W : Weighing A} {g : Pos → B → A} {k : Kind} {part : Part B}
+  pub fit_either : {A B : Type 0} {V : Weighing B} {W : Weighing A} {g : Pos → B → A} {k : TokenKind} {part : OpenerPart B}
       → has_node k ≡ false → Heavy q V (inner B part) → ((p : Pos) (b : B) (n : ℕ) → V b n → (m : ℕ) × W (g p b) m × (n ≤ m) × (m ≤ here q p + n)) → Fits q inner (within g k part) W
   fit_either {W = W} {k = k} aside hi w = record {
     holds = λ j a from to h.
@@ -161,7 +161,7 @@ module _ {q : Pos} {inner : (B : Type 0) → Part B → Spelling B} where
   }
 
   -- a block: its items, and what is last
-  pub fit_ended : {A B C : Type 0} {V : Weighing B} {Vs : Weighing (List B)} {U : Weighing C} {W : Weighing A} {f : List B → C → A} {as_item : C → B} {sep close : Kind} {p : Rule (B ⊎ C)}
+  pub fit_ended : {A B C : Type 0} {V : Weighing B} {Vs : Weighing (List B)} {U : Weighing C} {W : Weighing A} {f : List B → C → A} {as_item : C → B} {sep close : TokenKind} {p : Rule (B ⊎ C)}
       → has_node sep ≡ false → has_node close ≡ false → Fits q inner p (Sum V U) → ((c : C) (n : ℕ) → U c n → V (as_item c) n) → Vs [] 0 → ((b : B) (bs : List B) (m n : ℕ) → V b m → Vs bs n → Vs (b ∷ bs) (m + n))
       → ((bs : List B) (c : C) (m n : ℕ) → Vs bs m → U c n → W (f bs c) (m + n)) → Fits q inner (ended f as_item sep close p) W
   fit_ended {A = A} {B = B} {C = C} {V = V} {Vs = Vs} {U = U} {W = W} {f = f} {as_item = as_item} {sep = sep} {close = close} {p = p} no_sep no_close hp item w g whole = record {

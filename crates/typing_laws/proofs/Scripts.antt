@@ -5,7 +5,7 @@ use Rattle.hs_base.specs.declared.pos.Pos.{Pos}
 use Rattle.hs_base.specs.declared.tree.expr.Name.{Name}
 use Rattle.rules_trees.specs.Trees.{T, Wr}
 use Rattle.rules_trees.specs.Programs.{Par, Bd, pure_body, io_body, Fn}
-use Rattle.rules_typing.specs.Typing.{Fault, exactly, twice, mismatch, wide, large, nodes, Bound, bound, Sig, Ctx, find}
+use Rattle.rules_typing.specs.Typing.{Fault, exactly, twice, mismatch, wide, large, nodes, TypedName, bound, Sig, Ctx, find}
 use Rattle.rules_typing.specs.TypingFaults.{place, rank, In}
 use Rattle.rules_typing.specs.TypingScripts.{result_of, params_in, wide_faults, room_faults, param_faults, head_faults, twice_by, twice_faults, sigs_from, none_of, Measured, measured_with, unmeasured}
 use Rattle.typing_judge.specs.Judging.{same, Found, lost, part}
@@ -22,7 +22,7 @@ module _ (q : Pos) (r : ℕ) where
   inner_positions (pure_body w e) = ex_positions e
   inner_positions (io_body w a) = bl_positions a
 
-  body_most : (c : Ctx) (s : List Bound) (d : Bd) → Most q r (judge_body c s d) (times q (inner_positions d))
+  body_most : (c : Ctx) (s : List TypedName) (d : Bd) → Most q r (judge_body c s d) (times q (inner_positions d))
   body_most c s (pure_body w e) = judge_most q r c s e
   body_most c s (io_body w a) = bl_most q r c s a
 
@@ -38,7 +38,7 @@ module _ (q : Pos) (r : ℕ) where
       by true = bad_most q r (wide w.pos) w.pos refl
       by false = omega arith
 
-  params_most : (s : List Bound) (ps : List Par) → tally q r (param_faults s ps) ≤ times q (par_positions ps)
+  params_most : (s : List TypedName) (ps : List Par) → tally q r (param_faults s ps) ≤ times q (par_positions ps)
   params_most s [] = omega arith
   params_most s (p ∷ ps) =
       omega (

@@ -3,7 +3,7 @@ use Rattle.std.proofs.Common.{◌≡◌, ℕ, ◌+◌, ◌≤◌, ◌&&◌, Bool
 use Rattle.hs_base.specs.declared.pos.Pos.{Pos}
 use Rattle.hs_base.specs.declared.tree.expr.Name.{Name}
 use Rattle.rules_trees.specs.Trees.{T, Wr}
-use Rattle.rules_typing.specs.Typing.{Fault, scope, wide, Need, is, of, refusal, Row, nodes, Bound, Meant, wrong, takes, is_each}
+use Rattle.rules_typing.specs.Typing.{Fault, scope, wide, Need, is, of, refusal, Row, nodes, TypedName, Meant, wrong, takes, is_each}
 use Rattle.rules_typing.specs.TypingFaults.{place, rank}
 use Rattle.typing_judge.specs.Judging.{met, Found, good, bad, after, with1, with2, with3, with_all, needing, made, own, written, full, unless_full, unless_wrong, scope_faults, Founds, called, part, parts2, parts3, parts_all}
 use Rattle.typing_laws.proofs.Counts.{same_pos, here}
@@ -113,14 +113,14 @@ module _ (q : Pos) (r : ℕ) where
   all_most a k m n h g = after_most a.faults (with_all a.types k) m n h (with_all_most a.types k n g)
 
   -- ---- names
-  pub room_most : (s : List Bound) (x : Name) → tally (scope_faults s x) ≤ here q x.pos
+  pub room_most : (s : List TypedName) (x : Name) → tally (scope_faults s x) ≤ here q x.pos
   room_most s x = by (full s)
     where
       by : (b : Bool) → tally (cond b (scope x.pos ∷ []) []) ≤ here q x.pos
       by true = bad_most (scope x.pos) x.pos refl
       by false = omega arith
 
-  pub unless_full_most : (s : List Bound) (x : Name) (a : Found) (n : ℕ) → Most a n → Most (unless_full s x a) (here q x.pos + n)
+  pub unless_full_most : (s : List TypedName) (x : Name) (a : Found) (n : ℕ) → Most a n → Most (unless_full s x a) (here q x.pos + n)
   unless_full_most s x a n h =
       cond_most (full s) (bad (scope x.pos)) a (here q x.pos + n) (omega (arith, bad_most (scope x.pos) x.pos refl)) (omega (arith, h))
 

@@ -18,8 +18,8 @@ use Rattle.hs_base.specs.declared.tree.script.Param.{Param}
 use Rattle.hs_base.specs.declared.tree.ty.Written.{Written}
 use Rattle.hs_base.specs.declared.tree.forms.BinaryForm.{BinaryForm}
 use Rattle.rules_trees.specs.Trees.{Ex, Arms, ex_of, arms_of, exs_of, links_of, list_links_of, sum_links_of}
-use Rattle.rules_trees.specs.Programs.{Act, Bl, ActArms, before, act_of, bl_of, stmt_of, act_arms_of, par_of, bd_of, fn_of}
-use Rattle.rules_grammar.specs.GrammarParts.{Part, type_in_parens, type_in_brackets, param_in_parens, block_in_braces, block_if, block_case, block_arms, let_stmt, no_items, two_names, expr_if, expr_case, expr_arms, expr_let, expr_in_parens, items_in_brackets, items_or_none}
+use Rattle.rules_trees.specs.Programs.{SurfaceAction, Bl, ActArms, before, act_of, bl_of, stmt_of, act_arms_of, par_of, bd_of, fn_of}
+use Rattle.rules_grammar.specs.GrammarParts.{OpenerPart, type_in_parens, type_in_brackets, param_in_parens, block_in_braces, block_if, block_case, block_arms, let_stmt, no_items, two_names, expr_if, expr_case, expr_arms, expr_let, expr_in_parens, items_in_brackets, items_or_none}
 use Rattle.typing_laws.specs.Positions.{ex_positions, exs_positions, link_positions, arm_positions, act_positions, bl_positions, act_arm_positions, par_positions, body_positions, fn_positions}
 use Rattle.typing_laws.proofs.Counts.{here, times, times-append}
 use Rattle.typing_laws.proofs.Fits.{Weighing, Weighs, Free, Sum}
@@ -100,7 +100,7 @@ module _ (q : Pos) where
   abbrev pub BlockItem : Weighing (Stmt ⊎ Action)
   BlockItem = Sum Stated (Weighs action_weight)
 
-  pub weigh_act : (a : Action) (x : Act) (n : ℕ) → act_of a ≡ x → times q (act_positions x) ≡ n → action_weight a ≡ n
+  pub weigh_act : (a : Action) (x : SurfaceAction) (n : ℕ) → act_of a ≡ x → times q (act_positions x) ≡ n → action_weight a ≡ n
   weigh_act a x n i h = omega (arith, ap (λ z. times q (act_positions z)) i, h)
 
   pub weigh_act_arms : (r : BlockArms) (x : ActArms) (n : ℕ) → act_arms_of r ≡ x → times q (act_arm_positions x) ≡ n → block_arms_weight r ≡ n
@@ -126,7 +126,7 @@ module _ (q : Pos) where
   defs_weight ds = times q (fn_positions (map fn_of ds))
 
   -- ---- what stands in an opener
-  abbrev pub part_weighing : {B : Type 0} → Part B → Weighing B
+  abbrev pub part_weighing : {B : Type 0} → OpenerPart B → Weighing B
   part_weighing type_in_parens = Free
   part_weighing type_in_brackets = Free
   part_weighing param_in_parens = Weighs param_weight

@@ -13,9 +13,9 @@ use Rattle.rules_tokens.specs.declared.token.Token.{Token}
 use Rattle.rules_tokens.specs.declared.symbol.TheConstants as s
 use Rattle.rules_tokens.specs.declared.word.TheConstants as w
 use Rattle.rules_grammar.specs.GrammarParts as g
-use Rattle.rules_grammar.specs.GrammarParts.{Kind}
+use Rattle.rules_grammar.specs.GrammarParts.{TokenKind}
 use Rattle.rules_trees.specs.Trees.{Ex, lit, name, unary, binary, chain, conses, choose, items, empty, side, given, case, Exs, none, more, Links, end, link, Arms, maybe_arms, either_arms, list_arms, pair_arms}
-use Rattle.rules_trees.specs.Programs.{Act, bare, unary_act, binary_act, throw_io, new_empty, call, choose_act, case_act, modify, scoped, masking, restore, catch, guard, bracket, timeout, with_async, Bl, last, then, bind, let_in, ActArms, maybe_acts, either_acts, list_acts, pair_acts, Par, Bd, pure_body, io_body, Fn, script_of}
+use Rattle.rules_trees.specs.Programs.{SurfaceAction, bare, unary_act, binary_act, throw_io, new_empty, call, choose_act, case_act, modify, scoped, masking, restore, catch, guard, bracket, timeout, with_async, Bl, last, then, bind, let_in, ActArms, maybe_acts, either_acts, list_acts, pair_acts, Par, Bd, pure_body, io_body, Fn, script_of}
 
 -- ---- expressions
 
@@ -52,7 +52,7 @@ abbrev mutual
 -- ---- actions and blocks
 
 abbrev mutual
-  pub act_positions : Act → List Pos
+  pub act_positions : SurfaceAction → List Pos
   act_positions (bare o p) = p ∷ []
   act_positions (unary_act o p a) = p ∷ ex_positions a
   act_positions (binary_act o p a e) = p ∷ (ex_positions a ++ ex_positions e)
@@ -131,7 +131,7 @@ symbols_aside =
     ∷ s.DOUBLE_COLON ∷ s.ARROW ∷ s.LEFT_ARROW ∷ s.EQUAL ∷ s.SEMICOLON ∷ s.COMMA ∷ s.AT ∷ []
 
 -- a token of this kind is a node's wherever it stands in a script; a word that begins with a capital stands in none
-abbrev pub has_node : Kind → Bool
+abbrev pub has_node : TokenKind → Bool
 has_node g.name = true
 has_node g.upper = true
 has_node g.int = true

@@ -7,7 +7,7 @@ use Rattle.rules_typing.specs.Typing.{Fault, Need, refusal, Meant, wrong, is, is
 use Rattle.typing_judge.specs.Judging.{called, met, made, own, with_all}
 use Rattle.typing_judge.specs.Least.{least}
 use Rattle.hs_base.specs.declared.pos.Pos.{Pos}
-use Rattle.typing_table.specs.declared.table.Node.{Node}
+use Rattle.typing_table.specs.declared.table.TypeNode.{TypeNode}
 use Rattle.typing_table.specs.declared.ty.TypeTerm.{TypeTerm}
 use Rattle.typing_table.specs.declared.ty.TypeTerm.TheVariants as t
 use Rattle.typing_table.specs.Meaning.{type_in}
@@ -20,7 +20,7 @@ use Rattle.typing_parts.specs.declared.checker.Checker.{Checker}
 -- ---- arguments
 
 -- the needs of one more argument
-pub each_more : (ms : List Node) (ps : List ℕ) (us : List TypeTerm) (i : ℕ) (u : TypeTerm) → i < length ps → i < length us → u ≡ get_or us i u
+pub each_more : (ms : List TypeNode) (ps : List ℕ) (us : List TypeTerm) (i : ℕ) (u : TypeTerm) → i < length ps → i < length us → u ≡ get_or us i u
     → is_each (place_types ms (drop i ps)) (tys_of ms (drop i us)) ≡ is (type_in ms (t.Known (get_or ps i 0))) (type_in ms u) ∷ is_each (place_types ms (drop (i + 1) ps)) (tys_of ms (drop (i + 1) us))
 each_more ms ps us i u lp lu at =
     let j : suc i ≡ i + 1 = omega arith in
@@ -36,11 +36,11 @@ each_none [] = refl
 each_none (t ∷ ts) = refl
 
 -- no needs where no argument is left
-pub each_end : (ms : List Node) (ts : List T) (us : List TypeTerm) (i : ℕ) → length us ≤ i → is_each ts (tys_of ms (drop i us)) ≡ []
+pub each_end : (ms : List TypeNode) (ts : List T) (us : List TypeTerm) (i : ℕ) → length us ≤ i → is_each ts (tys_of ms (drop i us)) ≡ []
 each_end ms ts us i h = ap (λ z. is_each ts (tys_of ms z)) (drop_all i us h) ∙ each_none ts
 
 -- a need that isn't met is the last that is looked at
-pub all_stop : (ms : List Node) (o m n : Checker) (b : Bool) (p : Pos) (x : Need) (rest whole : List Need) → b ≡ false → Needed ms m n b p x
+pub all_stop : (ms : List TypeNode) (o m n : Checker) (b : Bool) (p : Pos) (x : Need) (rest whole : List Need) → b ≡ false → Needed ms m n b p x
     → names ms m ≡ names ms o → all_met (x ∷ rest) ≡ all_met whole → least (kept ms m) (unmet p (x ∷ rest)) ≡ least (kept ms o) (unmet p whole)
     → AllNeeded ms o n false p whole
 all_stop ms o m n b p x rest whole e d s a f =
@@ -51,7 +51,7 @@ all_stop ms o m n b p x rest whole e d s a f =
     }
 
 -- after a need that is met those that follow are looked at
-pub all_go : (ms : List Node) (o m n : Checker) (b : Bool) (p : Pos) (x : Need) (rest whole : List Need) → b ≡ true → Needed ms m n b p x
+pub all_go : (ms : List TypeNode) (o m n : Checker) (b : Bool) (p : Pos) (x : Need) (rest whole : List Need) → b ≡ true → Needed ms m n b p x
     → all_met (x ∷ rest) ≡ all_met whole → least (kept ms m) (unmet p (x ∷ rest)) ≡ least (kept ms o) (unmet p whole)
     → (all_met rest ≡ all_met whole) × (least (kept ms n) (unmet p rest) ≡ least (kept ms o) (unmet p whole))
 all_go ms o m n b p x rest whole e d a f =
@@ -63,7 +63,7 @@ all_go ms o m n b p x rest whole e d a f =
 -- ---- elements of a list
 
 -- elements of one type are a list of it
-pub judged_items : (ms : List Node) (o m n : Checker) (b : Bool) (p : Pos) (s : Option (List TypeTerm)) (us : List TypeTerm) (a : TypeTerm) (rest : List TypeTerm) (l : TypeTerm) (r : Option TypeTerm)
+pub judged_items : (ms : List TypeNode) (o m n : Checker) (b : Bool) (p : Pos) (s : Option (List TypeTerm)) (us : List TypeTerm) (a : TypeTerm) (rest : List TypeTerm) (l : TypeTerm) (r : Option TypeTerm)
     → s ≡ Some us → us ≡ a ∷ rest → b ≡ true → AllNeeded ms o m b p (map (is (type_in ms a)) (tys_of ms rest)) → l ≡ t.List a
     → Judged ms m n (opt_ty ms r) (made p true (type_in ms l)) → Judged ms o n (opt_ty ms r) (with_all (opt_tys ms s) (λ ts. own p (row_items ts)))
 judged_items ms o m n b p s us a rest l r es eu eb q el d =
@@ -81,7 +81,7 @@ judged_items ms o m n b p s us a rest l r es eu eb q el d =
 -- ---- names
 
 -- a name that has no meaning here
-pub judged_wrong : (ms : List Node) (o n : Checker) (p : Pos) (m : Meant) (f : Fault) (us : Option (List T)) → m ≡ wrong f → names ms n ≡ names ms o → kept ms n ≡ least (kept ms o) (f ∷ [])
+pub judged_wrong : (ms : List TypeNode) (o n : Checker) (p : Pos) (m : Meant) (f : Fault) (us : Option (List T)) → m ≡ wrong f → names ms n ≡ names ms o → kept ms n ≡ least (kept ms o) (f ∷ [])
     → Judged ms o n None (called p m us)
 judged_wrong ms o n p m f us e s k = record {
   scope = s;

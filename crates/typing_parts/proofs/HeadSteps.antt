@@ -8,7 +8,7 @@ use Rattle.rules_trees.specs.Trees.{T, ty_of, wr_of}
 use Rattle.rules_trees.specs.Programs.{par_of, bd_of, fn_of}
 use Rattle.rules_typing.specs.Typing.{Sig}
 use Rattle.rules_typing.specs.TypingScripts.{acts, result_of, param_types, sigs_from, sig_of_fn}
-use Rattle.typing_table.specs.declared.table.Node.{Node}
+use Rattle.typing_table.specs.declared.table.TypeNode.{TypeNode}
 use Rattle.typing_table.specs.Meaning.{Grows, known}
 use Rattle.typing_table.proofs.Tables.{grows_length, grows_more, known-grows}
 use Rattle.typing_parts.specs.Heads.{AllBelow, HeadBelow, HeadsBelow}
@@ -25,16 +25,16 @@ below_push : (is : List ℕ) (i n : ℕ) → AllBelow is n → i < n → AllBelo
 below_push [] i n b h = (h, tt)
 below_push (x ∷ is) i n b h = (b.0, below_push is i n b.1 h)
 
-types_push : (ms : List Node) (is : List ℕ) (i : ℕ) → place_types ms (is ++ i ∷ []) ≡ place_types ms is ++ known ms i ∷ []
+types_push : (ms : List TypeNode) (is : List ℕ) (i : ℕ) → place_types ms (is ++ i ∷ []) ≡ place_types ms is ++ known ms i ∷ []
 types_push ms [] i = refl
 types_push ms (x ∷ is) i = ap (λ z. known ms x ∷ z) (types_push ms is i)
 
-types_grow : (old new : List Node) (is : List ℕ) → Grows old new → AllBelow is (length old) → place_types new is ≡ place_types old is
+types_grow : (old new : List TypeNode) (is : List ℕ) → Grows old new → AllBelow is (length old) → place_types new is ≡ place_types old is
 types_grow old new [] g b = refl
 types_grow old new (i ∷ is) g b = ap (λ z. z ∷ place_types new is) (known-grows old new i g b.0) ∙ ap (λ z. known old i ∷ z) (types_grow old new is g b.1)
 
 -- one more parameter
-pub places_step : (old one two : List Node) (ps : List Param) (i : ℕ) (p : Param) (ts us : List ℕ) (place : ℕ)
+pub places_step : (old one two : List TypeNode) (ps : List Param) (i : ℕ) (p : Param) (ts us : List ℕ) (place : ℕ)
     → i < length ps → p ≡ get_or ps i p → us ≡ ts ++ place ∷ []
     → Grows one two × (place < length two) × (known two place ≡ ty_of p.ty.ty)
     → Grows old one × AllBelow ts (length one) × (place_types one ts ++ param_types (map par_of (drop i ps)) ≡ param_types (map par_of ps))
@@ -52,7 +52,7 @@ places_step old one two ps i p ts us place lt is eu n h =
 -- ---- heads
 
 -- the head of a definition whose types stand in the table
-pub head_step : (old one two : List Node) (k : ℕ) (d : Def) (params : List ℕ) (result : ℕ) (text : List ℕ) (io : Bool) (w : Written)
+pub head_step : (old one two : List TypeNode) (k : ℕ) (d : Def) (params : List ℕ) (result : ℕ) (text : List ℕ) (io : Bool) (w : Written)
     → text ≡ d.name.text → io ≡ acts (bd_of d.body) → wr_of w ≡ result_of (bd_of d.body)
     → Grows old one × AllBelow params (length one) × (place_types one params ≡ param_types (map par_of d.params))
     → Grows one two × (result < length two) × (known two result ≡ ty_of w.ty)
@@ -79,21 +79,22 @@ heads_push : (fs : List Fun) (f : Fun) (n : ℕ) → HeadsBelow fs n → HeadBel
 heads_push [] f n b h = (h, tt)
 heads_push (x ∷ fs) f n b h = (b.0, heads_push fs f n b.1 h)
 
-sig_grows : (old new : List Node) (f : Fun) → Grows old new → HeadBelow f (length old) → sig_of new f ≡ sig_of old f
+sig_grows : (old new : List TypeNode) (f : Fun) → Grows old new → HeadBelow f (length old) → sig_of new f ≡ sig_of old f
 sig_grows old new f g b =
     let made : List T → T → Sig = λ ts t. record { spelling = f.text; acts = f.acts; params = ts; result = t; place = f.place } in
     ap (λ ts. made ts (known new f.result)) (types_grow old new f.params g b.0) ∙ ap (made (place_types old f.params)) (known-grows old new f.result g b.1)
 
-sigs_grow : (old new : List Node) (fs : List Fun) → Grows old new → HeadsBelow fs (length old) → sigs_of new fs ≡ sigs_of old fs
+sigs_grow : (old new : List TypeNode) (fs : List Fun) → Grows old new → HeadsBelow fs (length old)
+    → sigs_of new fs ≡ sigs_of old fs
 sigs_grow old new [] g b = refl
 sigs_grow old new (f ∷ fs) g b = ap (λ z. z ∷ sigs_of new fs) (sig_grows old new f g b.0) ∙ ap (λ z. sig_of old f ∷ z) (sigs_grow old new fs g b.1)
 
-sigs_of-push : (ms : List Node) (fs : List Fun) (f : Fun) → sigs_of ms (fs ++ f ∷ []) ≡ sigs_of ms fs ++ sig_of ms f ∷ []
+sigs_of-push : (ms : List TypeNode) (fs : List Fun) (f : Fun) → sigs_of ms (fs ++ f ∷ []) ≡ sigs_of ms fs ++ sig_of ms f ∷ []
 sigs_of-push ms [] f = refl
 sigs_of-push ms (x ∷ fs) f = ap (λ z. sig_of ms x ∷ z) (sigs_of-push ms fs f)
 
 -- one more definition
-pub heads_step : (one two : List Node) (ds : List Def) (i : ℕ) (d : Def) (fs us : List Fun) (f : Fun)
+pub heads_step : (one two : List TypeNode) (ds : List Def) (i : ℕ) (d : Def) (fs us : List Fun) (f : Fun)
     → i < length ds → d ≡ get_or ds i d → us ≡ fs ++ f ∷ []
     → Grows one two × HeadBelow f (length two) × (sig_of two f ≡ sig_of_fn i (fn_of d))
     → HeadsBelow fs (length one) × (sigs_of one fs ++ sigs_from i (map fn_of (drop i ds)) ≡ sigs_from 0 (map fn_of ds))

@@ -5,7 +5,7 @@ use Rattle.std.specs.Option.{option_copied}
 use Rattle.std.specs.Str.{bytes_eq}
 use Rattle.hs_index.specs.Indexing.{first_among, next}
 use Rattle.rules_typing.specs.Typing.{find}
-use Rattle.typing_table.specs.declared.table.Node.{Node}
+use Rattle.typing_table.specs.declared.table.TypeNode.{TypeNode}
 use Rattle.typing_parts.specs.Views.{sig_of, sigs_of, texts_of, first_named, opt_sig}
 use Rattle.typing_parts.specs.declared.entry.Fun.{Fun}
 
@@ -33,11 +33,11 @@ pub found_some : (fs : List Fun) (x : List ℕ) (k : ℕ) (r : Option (Bor Fun))
 found_some fs x k None p q = found fs x ∙ (ap (head_at fs) p ∙ sym q)
 found_some fs x k (Some f) p q = found fs x ∙ (ap (head_at fs) p ∙ sym q)
 
-sig_by : (ms : List Node) (f : Fun) (b : Bool) (o : Option Fun) → cond b (Some (sig_of ms f)) (opt_sig ms o) ≡ opt_sig ms (cond b (Some f) o)
+sig_by : (ms : List TypeNode) (f : Fun) (b : Bool) (o : Option Fun) → cond b (Some (sig_of ms f)) (opt_sig ms o) ≡ opt_sig ms (cond b (Some f) o)
 sig_by ms f true o = refl
 sig_by ms f false o = refl
 
 -- what the rules find of a name is the first head of that name
-pub find_sigs : (ms : List Node) (fs : List Fun) (x : List ℕ) → find (sigs_of ms fs) x ≡ opt_sig ms (first_named fs x)
+pub find_sigs : (ms : List TypeNode) (fs : List Fun) (x : List ℕ) → find (sigs_of ms fs) x ≡ opt_sig ms (first_named fs x)
 find_sigs ms [] x = refl
 find_sigs ms (f ∷ fs) x = ap (cond (bytes_eq f.text x) (Some (sig_of ms f))) (find_sigs ms fs x) ∙ sig_by ms f (bytes_eq f.text x) (first_named fs x)

@@ -3,12 +3,12 @@ use Rattle.std.proofs.Common.{◌≡◌, ℕ, ◌+◌, suc, List, true, false, c
 use Rattle.std.proofs.lemmas.List.{append-nil}
 use Rattle.std.proofs.Math.Seq.{drop-cons}
 use Rattle.rules_trees.specs.Trees.{T, exs_of, ex_of}
-use Rattle.rules_typing.specs.Typing.{Fault, count, Need, refusal, Ctx, Bound}
+use Rattle.rules_typing.specs.Typing.{Fault, count, Need, refusal, Ctx, TypedName}
 use Rattle.typing_judge.specs.Judging.{joined, Found, Founds, judge, judges, bad, needing, met}
 use Rattle.typing_judge.specs.Least.{least, lesser}
 use Rattle.hs_base.specs.declared.tree.expr.Expr.{Expr}
 use Rattle.rules_trees.proofs.Equations.{ex_rules, ty_rules, arms_rules}
-use Rattle.typing_table.specs.declared.table.Node.{Node}
+use Rattle.typing_table.specs.declared.table.TypeNode.{TypeNode}
 use Rattle.typing_table.specs.declared.ty.TypeTerm.{TypeTerm}
 use Rattle.typing_table.specs.Meaning.{type_in}
 use Rattle.typing_table.proofs.Equations.{type_rules}
@@ -20,17 +20,17 @@ pub least-append : (o : Option Fault) (fs gs : List Fault) → least o (fs ++ gs
 least-append o [] gs = refl
 least-append o (f ∷ fs) gs = least-append (Some (lesser o f)) fs gs
 
-pub tys_of-push : (ms : List Node) (ts : List TypeTerm) (t : TypeTerm) → tys_of ms (ts ++ t ∷ []) ≡ tys_of ms ts ++ type_in ms t ∷ []
+pub tys_of-push : (ms : List TypeNode) (ts : List TypeTerm) (t : TypeTerm) → tys_of ms (ts ++ t ∷ []) ≡ tys_of ms ts ++ type_in ms t ∷ []
 tys_of-push ms [] t = refl
 tys_of-push ms (x ∷ ts) t = ap (λ z. type_in ms x ∷ z) (tys_of-push ms ts t)
 
 -- one more type that was gathered
-pub opt_tys-pushed : (ms : List Node) (o : Option (List TypeTerm)) (t : Option TypeTerm) → opt_tys ms (pushed o t) ≡ pushed (opt_tys ms o) (opt_ty ms t)
+pub opt_tys-pushed : (ms : List TypeNode) (o : Option (List TypeTerm)) (t : Option TypeTerm) → opt_tys ms (pushed o t) ≡ pushed (opt_tys ms o) (opt_ty ms t)
 opt_tys-pushed ms None t = refl
 opt_tys-pushed ms (Some ts) None = refl
 opt_tys-pushed ms (Some ts) (Some t) = ap Some (tys_of-push ms ts t)
 
-pub place_types-length : (ms : List Node) (is : List ℕ) → length (place_types ms is) ≡ length is
+pub place_types-length : (ms : List TypeNode) (is : List ℕ) → length (place_types ms is) ≡ length is
 place_types-length ms [] = refl
 place_types-length ms (x ∷ is) = ap (λ n. suc n) (place_types-length ms is)
 
@@ -81,7 +81,7 @@ pub ruleset step_rules = (least-append, count-exs, joined-pushed, joined-none)
 pub ruleset noted_rules = (least-append, ex_rules, arms_rules, type_rules, opt_tys-pushed, count-exs, joined-pushed, joined-none)
 
 -- one more part of a list
-pub judged_step : (c : Ctx) (s : List Bound) (o m n : Option Fault) (es : List Expr) (e : Expr) (i : ℕ) (ts us : Option (List T)) (t : Option T) (whole : Founds)
+pub judged_step : (c : Ctx) (s : List TypedName) (o m n : Option Fault) (es : List Expr) (e : Expr) (i : ℕ) (ts us : Option (List T)) (t : Option T) (whole : Founds)
     → i < length es → e ≡ get_or es i e
     → all_joined ts (judges c s (exs_of (drop i es))).types ≡ whole.types
     → least m (judges c s (exs_of (drop i es))).faults ≡ least o whole.faults

@@ -8,7 +8,7 @@ ghost use Rattle.typing_parts.specs.Judged.{Judged};
 
 use crate::checker::Checker;
 use crate::fault::Form;
-use crate::parts::Part;
+use crate::parts::TypePart;
 use hs_base::tree::forms::{
     BareAction, BinaryAction, BlockAction, GuardAction, MaskingAction, UnaryAction,
 };
@@ -51,12 +51,12 @@ impl Checker {
                 let t = cell_of(alloc, a)?;
                 Ok(self.unless_wide(types, p, t))
             }
-            UnaryAction::TakeMVar => self.its_part(alloc, types, p, Form::Cell, Part::Inner, a),
-            UnaryAction::ReadMVar => self.its_part(alloc, types, p, Form::Cell, Part::Inner, a),
+            UnaryAction::TakeMVar => self.its_part(alloc, types, p, Form::Cell, TypePart::Inner, a),
+            UnaryAction::ReadMVar => self.its_part(alloc, types, p, Form::Cell, TypePart::Inner, a),
             UnaryAction::TryTakeMVar => self.row_try_take(alloc, types, p, a),
             UnaryAction::KillThread => self.one(alloc, types, p, Base::Thread, a, Base::Unit),
             UnaryAction::ThreadDelay => self.one(alloc, types, p, Base::Int, a, Base::Unit),
-            UnaryAction::Wait => self.its_part(alloc, types, p, Form::Async, Part::Inner, a),
+            UnaryAction::Wait => self.its_part(alloc, types, p, Form::Async, TypePart::Inner, a),
             UnaryAction::Cancel => self.of_form(alloc, types, p, Form::Async, a, Base::Unit),
         }
     }

@@ -15,7 +15,7 @@ use hs_items::Items;
 use std::alloc::Global;
 use typing_table::base::Base;
 use typing_table::interner::Interner;
-use typing_table::kind::{Kind, kind_in};
+use typing_table::kind::{TypeKind, kind_in};
 use typing_table::table::TypeTable;
 use typing_table::ty::TypeTerm;
 
@@ -90,7 +90,7 @@ fn is_unit(types: &TypeTable, place: usize) -> bool
 {
     matches!(
         kind_in(types, &TypeTerm::Known(place)),
-        Kind::Base(Base::Unit)
+        TypeKind::Base(Base::Unit)
     )
 }
 

@@ -8,7 +8,7 @@ ghost use Rattle.typing_parts.specs.Judged.{Judged, Needed, AllNeeded};
 use crate::checker::Checker;
 use crate::fault::Form;
 use crate::first::{Asked, Broken};
-use crate::parts::{Part, is_form, that_part};
+use crate::parts::{TypePart, is_form, that_part};
 use hs_base::{NoMemory, Pos};
 use std::alloc::Global;
 use typing_table::base::Base;
@@ -132,7 +132,7 @@ impl Checker {
         types: &TypeTable,
         p: Pos,
         form: Form,
-        which: Part,
+        which: TypePart,
         got: &TypeTerm,
     ) -> Result<Option<TypeTerm>, NoMemory>
         ensures { IfOk result (λ r. Judged types.now.nodes self.old self.new (opt_ty types.now.nodes r) (own p (gives (of (form_of form) (type_in types.now.nodes got.now) ∷ []) (part_of which (type_in types.now.nodes got.now))))) }

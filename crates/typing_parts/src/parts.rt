@@ -7,32 +7,32 @@ use crate::fault::Form;
 use hs_base::NoMemory;
 use std::alloc::Global;
 use typing_table::base::Base;
-use typing_table::kind::{Kind, kind_in};
+use typing_table::kind::{TypeKind, kind_in};
 use typing_table::parts::{first_part, inner_part, second_part};
 use typing_table::table::TypeTable;
 use typing_table::ty::TypeTerm;
 
 /// Whether types of the kind are of the form.
-fn kind_has(form: Form, kind: Kind) -> bool
+fn kind_has(form: Form, kind: TypeKind) -> bool
     ensures { result ≡ kind_has (form_of form) kind }
 {
     match form {
-        Form::Maybe => matches!(kind, Kind::Maybe),
-        Form::Either => matches!(kind, Kind::Either),
-        Form::List => matches!(kind, Kind::List),
-        Form::Pair => matches!(kind, Kind::Pair),
-        Form::Cell => matches!(kind, Kind::Cell),
-        Form::Async => matches!(kind, Kind::Async),
+        Form::Maybe => matches!(kind, TypeKind::Maybe),
+        Form::Either => matches!(kind, TypeKind::Either),
+        Form::List => matches!(kind, TypeKind::List),
+        Form::Pair => matches!(kind, TypeKind::Pair),
+        Form::Cell => matches!(kind, TypeKind::Cell),
+        Form::Async => matches!(kind, TypeKind::Async),
         Form::Equal => match kind {
-            Kind::Base(base) => base != Base::Unit,
+            TypeKind::Base(base) => base != Base::Unit,
             _ => false,
         },
         Form::Order => match kind {
-            Kind::Base(base) => matches!(base, Base::Int | Base::Text),
+            TypeKind::Base(base) => matches!(base, Base::Int | Base::Text),
             _ => false,
         },
         Form::Show => match kind {
-            Kind::Base(base) => !matches!(base, Base::Unit | Base::Text),
+            TypeKind::Base(base) => !matches!(base, Base::Unit | Base::Text),
             _ => false,
         },
     }
@@ -48,7 +48,7 @@ pub fn is_form(types: &TypeTable, form: Form, a: &TypeTerm) -> bool
 
 /// A part of a type.
 #[derive(Clone, Copy, Debug, PartialEq, Eq)]
-pub enum Part {
+pub enum TypePart {
     /// the type itself
     Whole,
     /// what a `Maybe`, a list, an `MVar` or an `Async` is of
@@ -63,15 +63,15 @@ pub enum Part {
 pub fn that_part(
     alloc: Global,
     types: &TypeTable,
-    which: Part,
+    which: TypePart,
     t: &TypeTerm,
 ) -> Result<TypeTerm, NoMemory>
     ensures { IfOk result (λ b. type_in types.now.nodes b ≡ part_of which (type_in types.now.nodes t.now)) }
 {
     match which {
-        Part::Whole => Ok(t.copy(alloc)?),
-        Part::Inner => inner_part(alloc, types, t),
-        Part::First => first_part(alloc, types, t),
-        Part::Second => second_part(alloc, types, t),
+        TypePart::Whole => Ok(t.copy(alloc)?),
+        TypePart::Inner => inner_part(alloc, types, t),
+        TypePart::First => first_part(alloc, types, t),
+        TypePart::Second => second_part(alloc, types, t),
     }
 }

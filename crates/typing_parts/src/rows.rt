@@ -9,7 +9,7 @@ ghost use Rattle.typing_parts.specs.Judged.{Judged};
 use crate::checker::Checker;
 use crate::fault::Form;
 use crate::first::Broken;
-use crate::parts::Part;
+use crate::parts::TypePart;
 use hs_base::tree::Written;
 use hs_base::tree::forms::{BinaryForm, EmptyForm, SideForm, UnaryForm};
 use hs_base::{NoMemory, Pos};
@@ -40,8 +40,8 @@ impl Checker {
             }
             UnaryForm::ErrorCall => self.one(alloc, types, p, Base::Text, a, Base::Exn),
             UnaryForm::Not => self.one(alloc, types, p, Base::Bool, a, Base::Bool),
-            UnaryForm::Fst => self.its_part(alloc, types, p, Form::Pair, Part::First, a),
-            UnaryForm::Snd => self.its_part(alloc, types, p, Form::Pair, Part::Second, a),
+            UnaryForm::Fst => self.its_part(alloc, types, p, Form::Pair, TypePart::First, a),
+            UnaryForm::Snd => self.its_part(alloc, types, p, Form::Pair, TypePart::Second, a),
             UnaryForm::Show => self.of_form(alloc, types, p, Form::Show, a, Base::Text),
             UnaryForm::Negate => self.one(alloc, types, p, Base::Int, a, Base::Int),
         }

@@ -9,7 +9,7 @@ ghost use Rattle.typing_parts.specs.Judged.{Begun, names, kept};
 use crate::checker::Checker;
 use crate::entry::{Entry, Sorted};
 use crate::first::Broken;
-use crate::parts::{Part, that_part};
+use crate::parts::{TypePart, that_part};
 use hs_base::NoMemory;
 use hs_base::tree::Name;
 use std::alloc::Global;
@@ -48,7 +48,7 @@ impl Checker {
         alloc: Global,
         types: &TypeTable,
         x: &Name,
-        which: Part,
+        which: TypePart,
         t: &TypeTerm,
     ) -> Result<(), NoMemory>
         ensures { OnOk result ((names types.now.nodes self.new ≡ bound x.now (part_of which (type_in types.now.nodes t.now)) ∷ names types.now.nodes self.old) × (kept types.now.nodes self.new ≡ kept types.now.nodes self.old)) }

@@ -3,8 +3,8 @@ use Rattle.std.proofs.Common.{◌≡◌, ℕ, ◌+◌, List, [], ◌∷◌, refl
 use Rattle.rules_expansion.specs.declared.template.Derived.{Derived}
 use Rattle.rules_expansion.specs.declared.template.Operand.{Operand}
 use Rattle.rules_expansion.specs.declared.template.Operand.TheVariants as x
-use Rattle.rules_expansion.specs.declared.template.Part.{Part}
-use Rattle.rules_expansion.specs.declared.template.Part.TheVariants as part
+use Rattle.rules_expansion.specs.declared.template.FormBlock.{FormBlock}
+use Rattle.rules_expansion.specs.declared.template.FormBlock.TheVariants as part
 use Rattle.rules_expansion.specs.declared.template.Step.{Step}
 use Rattle.rules_expansion.specs.declared.template.Step.TheVariants as s
 use Rattle.rules_expansion.specs.Templates.{Template, hole, give, throw, let_in, bind, then, choose, either, perform, perform_one, perform_two, fork, fork_unmask, catch, mask, mask_hard, restore, Filling, operand, fill, flat, steps, template}
@@ -61,7 +61,7 @@ operand_capped : (m n : ℕ) → m ≡ min n 1000001 → (e : Operand) → min (
 operand_capped m n h x.Subject = omega (arith, h)
 operand_capped m n h e = refl
 
-part_capped : (f : Filling) (m a c e : ℕ) → Counted f m a c e → (i : Part) → min (of_three a c e i) 1000001 ≡ min (core_size (f.block i)) 1000001
+part_capped : (f : Filling) (m a c e : ℕ) → Counted f m a c e → (i : FormBlock) → min (of_three a c e i) 1000001 ≡ min (core_size (f.block i)) 1000001
 part_capped f m a c e h part.First = omega (arith, h.first)
 part_capped f m a c e h part.Second = omega (arith, h.second)
 part_capped f m a c e h part.Third = omega (arith, h.third)

@@ -1,6 +1,6 @@
 -- Counts of what a form puts into its template.
 use Rattle.std.specs.Prelude.{◌≡◌, ℕ, min}
-use Rattle.rules_expansion.specs.declared.template.Part.TheVariants as part
+use Rattle.rules_expansion.specs.declared.template.FormBlock.TheVariants as part
 use Rattle.rules_expansion.specs.Templates.{Filling}
 use Rattle.rules_expansion.specs.Sizes.{core_ex_size, core_size}
 

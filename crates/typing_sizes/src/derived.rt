@@ -6,7 +6,7 @@ ghost use Rattle.rules_expansion.specs.Sizes.{core_size, operand_size, step_size
 ghost use Rattle.typing_sizes.specs.Counted.{Counted};
 
 use crate::count::add;
-use rules_expansion::{Derived, Operand, Part, Step, steps};
+use rules_expansion::{Derived, FormBlock, Operand, Step, steps};
 
 /// What stands for the expression of a form that has none: `Nothing`.
 pub const NO_EXPRESSION: u32 = 1;
@@ -31,9 +31,9 @@ fn step_nodes(step: Step, subject: u32, first: u32, second: u32, third: u32) -> 
     ensures { result ≡ step_size subject (of_three first second third) step }
 {
     match step {
-        Step::Hole(Part::First) => first,
-        Step::Hole(Part::Second) => second,
-        Step::Hole(Part::Third) => third,
+        Step::Hole(FormBlock::First) => first,
+        Step::Hole(FormBlock::Second) => second,
+        Step::Hole(FormBlock::Third) => third,
         Step::Push(e) => operand_nodes(e, subject),
         Step::Under(_) | Step::Off => 0,
         Step::Return | Step::Throw | Step::Let | Step::Bind | Step::Then => 1,

@@ -6,11 +6,11 @@ use Rattle.std.specs.List.{slice_get}
 use Rattle.std.specs.Result.{IfOk}
 use Rattle.hs_base.specs.declared.no_memory.NoMemory.{NoMemory}
 use Rattle.rules_trees.specs.Trees.{T}
-use Rattle.typing_table.specs.declared.table.Node.{Node}
+use Rattle.typing_table.specs.declared.table.TypeNode.{TypeNode}
 use Rattle.typing_table.specs.Meaning.{node_type, types_at, known, Below, Ordered, Grows}
 use Rattle.typing_table.proofs.Tables.{known-node, node_type-within, known-grows, grows_length, grows_more}
 
-placed : (first old new : List Node) (m : Node) (u : T) (place : ℕ)
+placed : (first old new : List TypeNode) (m : TypeNode) (u : T) (place : ℕ)
     → Ordered new → Below m (length old) → node_type (types_at old) m ≡ u → Grows first old
     → Grows old new × (slice_get new place ≡ Some m)
     → Grows first new × (place < length new) × (known new place ≡ u)
@@ -22,7 +22,7 @@ placed first old new m u place o b e g h = (
       ∙ e,
 )
 
-pub interned : (r : Result ℕ NoMemory) (first old new : List Node) (m : Node) (u : T)
+pub interned : (r : Result ℕ NoMemory) (first old new : List TypeNode) (m : TypeNode) (u : T)
     → Ordered new → Below m (length old) → node_type (types_at old) m ≡ u → Grows first old
     → IfOk r (λ place. Grows old new × (slice_get new place ≡ Some m))
     → IfOk r (λ place. Grows first new × (place < length new) × (known new place ≡ u))
@@ -32,7 +32,7 @@ interned r first old new m u o b e g =
     (λ place. placed first old new m u place o b e g)
 
 -- what a first part's place says still holds after the second part
-pub kept : (first mid old : List Node) (i : ℕ) (u : T)
+pub kept : (first mid old : List TypeNode) (i : ℕ) (u : T)
     → Grows first mid × (i < length mid) × (known mid i ≡ u) → Grows mid old
     → Grows first old × (i < length old) × (known old i ≡ u)
 kept first mid old i u h g = (

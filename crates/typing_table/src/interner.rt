@@ -3,7 +3,7 @@ ghost use Rattle.rules_trees.specs.Trees.{ty_of};
 ghost use Rattle.typing_table.specs.Meaning.{Below, Grows, known};
 
 use crate::base::Base;
-use crate::table::{Node, TypeTable};
+use crate::table::{TypeNode, TypeTable};
 use hs_base::{NoMemory, Ty};
 use std::alloc::Global;
 use std::collections::BTreeMap;
@@ -12,7 +12,7 @@ use std::collections::BTreeMap;
 #[derive(Drop)]
 pub struct Interner {
     pub types: TypeTable,
-    places: BTreeMap<Node, usize>,
+    places: BTreeMap<TypeNode, usize>,
 }
 
 impl Interner {
@@ -35,7 +35,7 @@ impl Interner {
     }
 
     /// The place that is kept for a node, where the node stands there.
-    fn place_of(&self, node: Node) -> Option<usize>
+    fn place_of(&self, node: TypeNode) -> Option<usize>
         ensures { IfSome result (λ place. slice_get self.now.types.nodes place ≡ Some node) }
     {
         let place = self.places.get(&node).copied()?;
@@ -44,7 +44,7 @@ impl Interner {
     }
 
     /// The place of a node: the one where it stands, or one behind all others.
-    fn put(&mut self, node: Node) -> Result<usize, NoMemory>
+    fn put(&mut self, node: TypeNode) -> Result<usize, NoMemory>
         requires { Below node (length self.old.types.nodes) }
         ensures { IfOk result (λ place. Grows self.old.types.nodes self.new.types.nodes × (slice_get self.new.types.nodes place ≡ Some node)) }
     {
@@ -65,37 +65,37 @@ impl Interner {
         ensures { IfOk result (λ place. Grows self.old.types.nodes self.new.types.nodes × (place < length self.new.types.nodes) × (known self.new.types.nodes place ≡ ty_of t.now)) }
     {
         match t {
-            Ty::Unit => self.put(Node::Base(Base::Unit)),
-            Ty::Int => self.put(Node::Base(Base::Int)),
-            Ty::Bool => self.put(Node::Base(Base::Bool)),
-            Ty::Text => self.put(Node::Base(Base::Text)),
-            Ty::Thread => self.put(Node::Base(Base::Thread)),
-            Ty::Exn => self.put(Node::Base(Base::Exn)),
+            Ty::Unit => self.put(TypeNode::Base(Base::Unit)),
+            Ty::Int => self.put(TypeNode::Base(Base::Int)),
+            Ty::Bool => self.put(TypeNode::Base(Base::Bool)),
+            Ty::Text => self.put(TypeNode::Base(Base::Text)),
+            Ty::Thread => self.put(TypeNode::Base(Base::Thread)),
+            Ty::Exn => self.put(TypeNode::Base(Base::Exn)),
             Ty::Pair(a, b) => {
                 let first = self.intern(a.get())?;
                 let second = self.intern(b.get())?;
-                self.put(Node::Pair(first, second))
+                self.put(TypeNode::Pair(first, second))
             }
             Ty::Maybe(a) => {
                 let part = self.intern(a.get())?;
-                self.put(Node::Maybe(part))
+                self.put(TypeNode::Maybe(part))
             }
             Ty::Either(a, b) => {
                 let first = self.intern(a.get())?;
                 let second = self.intern(b.get())?;
-                self.put(Node::Either(first, second))
+                self.put(TypeNode::Either(first, second))
             }
             Ty::List(a) => {
                 let part = self.intern(a.get())?;
-                self.put(Node::List(part))
+                self.put(TypeNode::List(part))
             }
             Ty::Cell(a) => {
                 let part = self.intern(a.get())?;
-                self.put(Node::Cell(part))
+                self.put(TypeNode::Cell(part))
             }
             Ty::Async(a) => {
                 let part = self.intern(a.get())?;
-                self.put(Node::Async(part))
+                self.put(TypeNode::Async(part))
             }
         }
     }

@@ -2,12 +2,12 @@ ghost use Rattle.std.specs.Prelude.{◌≡◌};
 ghost use Rattle.typing_table.specs.Meaning.{kind_of, known, type_in};
 
 use crate::base::Base;
-use crate::table::{Node, TypeTable};
+use crate::table::{TypeNode, TypeTable};
 use crate::ty::TypeTerm;
 
 /// The outermost form of a type.
 #[derive(Clone, Copy, Debug, PartialEq, Eq)]
-pub enum Kind {
+pub enum TypeKind {
     Base(Base),
     Pair,
     Maybe,
@@ -18,33 +18,33 @@ pub enum Kind {
 }
 
 /// The outermost form of the type at a place.
-fn kind_at(types: &TypeTable, place: usize) -> Kind
+fn kind_at(types: &TypeTable, place: usize) -> TypeKind
     ensures { result ≡ kind_of (known types.now.nodes place) }
 {
     match types.node(place) {
-        Node::Base(base) => Kind::Base(base),
-        Node::Pair(_, _) => Kind::Pair,
-        Node::Maybe(_) => Kind::Maybe,
-        Node::Either(_, _) => Kind::Either,
-        Node::List(_) => Kind::List,
-        Node::Cell(_) => Kind::Cell,
-        Node::Async(_) => Kind::Async,
+        TypeNode::Base(base) => TypeKind::Base(base),
+        TypeNode::Pair(_, _) => TypeKind::Pair,
+        TypeNode::Maybe(_) => TypeKind::Maybe,
+        TypeNode::Either(_, _) => TypeKind::Either,
+        TypeNode::List(_) => TypeKind::List,
+        TypeNode::Cell(_) => TypeKind::Cell,
+        TypeNode::Async(_) => TypeKind::Async,
     }
 }
 
 /// The outermost form of a type.
 #[tactic(auto, using(crate::proofs::Equations::type_rules))]
-pub fn kind_in(types: &TypeTable, t: &TypeTerm) -> Kind
+pub fn kind_in(types: &TypeTable, t: &TypeTerm) -> TypeKind
     ensures { result ≡ kind_of (type_in types.now.nodes t.now) }
 {
     match t {
-        TypeTerm::Base(base) => Kind::Base(*base),
-        TypeTerm::Pair(_, _) => Kind::Pair,
-        TypeTerm::Maybe(_) => Kind::Maybe,
-        TypeTerm::Either(_, _) => Kind::Either,
-        TypeTerm::List(_) => Kind::List,
-        TypeTerm::Cell(_) => Kind::Cell,
-        TypeTerm::Async(_) => Kind::Async,
+        TypeTerm::Base(base) => TypeKind::Base(*base),
+        TypeTerm::Pair(_, _) => TypeKind::Pair,
+        TypeTerm::Maybe(_) => TypeKind::Maybe,
+        TypeTerm::Either(_, _) => TypeKind::Either,
+        TypeTerm::List(_) => TypeKind::List,
+        TypeTerm::Cell(_) => TypeKind::Cell,
+        TypeTerm::Async(_) => TypeKind::Async,
         TypeTerm::Known(place) => kind_at(types, *place),
     }
 }

@@ -3,7 +3,7 @@ ghost use Rattle.rules_typing.specs.Typing.{first_of, second_of, inner_of};
 ghost use Rattle.typing_table.specs.Meaning.{known, type_in};
 
 use crate::base::Base;
-use crate::table::{Node, TypeTable};
+use crate::table::{TypeNode, TypeTable};
 use crate::ty::TypeTerm;
 use hs_base::NoMemory;
 use std::alloc::Global;
@@ -14,13 +14,13 @@ fn inner_at(types: &TypeTable, place: usize) -> TypeTerm
     ensures { type_in types.now.nodes result ≡ inner_of (known types.now.nodes place) }
 {
     match types.node(place) {
-        Node::Maybe(part) => TypeTerm::Known(part),
-        Node::List(part) => TypeTerm::Known(part),
-        Node::Cell(part) => TypeTerm::Known(part),
-        Node::Async(part) => TypeTerm::Known(part),
-        Node::Base(_) => TypeTerm::Base(Base::Unit),
-        Node::Pair(_, _) => TypeTerm::Base(Base::Unit),
-        Node::Either(_, _) => TypeTerm::Base(Base::Unit),
+        TypeNode::Maybe(part) => TypeTerm::Known(part),
+        TypeNode::List(part) => TypeTerm::Known(part),
+        TypeNode::Cell(part) => TypeTerm::Known(part),
+        TypeNode::Async(part) => TypeTerm::Known(part),
+        TypeNode::Base(_) => TypeTerm::Base(Base::Unit),
+        TypeNode::Pair(_, _) => TypeTerm::Base(Base::Unit),
+        TypeNode::Either(_, _) => TypeTerm::Base(Base::Unit),
     }
 }
 
@@ -47,13 +47,13 @@ fn first_at(types: &TypeTable, place: usize) -> TypeTerm
     ensures { type_in types.now.nodes result ≡ first_of (known types.now.nodes place) }
 {
     match types.node(place) {
-        Node::Pair(part, _) => TypeTerm::Known(part),
-        Node::Either(part, _) => TypeTerm::Known(part),
-        Node::Base(_) => TypeTerm::Base(Base::Unit),
-        Node::Maybe(_) => TypeTerm::Base(Base::Unit),
-        Node::List(_) => TypeTerm::Base(Base::Unit),
-        Node::Cell(_) => TypeTerm::Base(Base::Unit),
-        Node::Async(_) => TypeTerm::Base(Base::Unit),
+        TypeNode::Pair(part, _) => TypeTerm::Known(part),
+        TypeNode::Either(part, _) => TypeTerm::Known(part),
+        TypeNode::Base(_) => TypeTerm::Base(Base::Unit),
+        TypeNode::Maybe(_) => TypeTerm::Base(Base::Unit),
+        TypeNode::List(_) => TypeTerm::Base(Base::Unit),
+        TypeNode::Cell(_) => TypeTerm::Base(Base::Unit),
+        TypeNode::Async(_) => TypeTerm::Base(Base::Unit),
     }
 }
 
@@ -80,13 +80,13 @@ fn second_at(types: &TypeTable, place: usize) -> TypeTerm
     ensures { type_in types.now.nodes result ≡ second_of (known types.now.nodes place) }
 {
     match types.node(place) {
-        Node::Pair(_, part) => TypeTerm::Known(part),
-        Node::Either(_, part) => TypeTerm::Known(part),
-        Node::Base(_) => TypeTerm::Base(Base::Unit),
-        Node::Maybe(_) => TypeTerm::Base(Base::Unit),
-        Node::List(_) => TypeTerm::Base(Base::Unit),
-        Node::Cell(_) => TypeTerm::Base(Base::Unit),
-        Node::Async(_) => TypeTerm::Base(Base::Unit),
+        TypeNode::Pair(_, part) => TypeTerm::Known(part),
+        TypeNode::Either(_, part) => TypeTerm::Known(part),
+        TypeNode::Base(_) => TypeTerm::Base(Base::Unit),
+        TypeNode::Maybe(_) => TypeTerm::Base(Base::Unit),
+        TypeNode::List(_) => TypeTerm::Base(Base::Unit),
+        TypeNode::Cell(_) => TypeTerm::Base(Base::Unit),
+        TypeNode::Async(_) => TypeTerm::Base(Base::Unit),
     }
 }
 

@@ -2,7 +2,7 @@ ghost use Rattle.std.specs.Prelude.{◌≡◌};
 ghost use Rattle.typing_judge.specs.Judging.{same};
 ghost use Rattle.typing_table.specs.Meaning.{known, type_in};
 
-use crate::table::{Node, TypeTable};
+use crate::table::{TypeNode, TypeTable};
 use crate::ty::TypeTerm;
 
 /// Whether the types at two places are the same. Where equal types have one place, it goes down one path of them at most.
@@ -13,17 +13,17 @@ fn same_places(types: &TypeTable, m: usize, n: usize) -> bool
         return true;
     }
     match (types.node(m), types.node(n)) {
-        (Node::Base(a), Node::Base(b)) => a == b,
-        (Node::Pair(a, b), Node::Pair(c, d)) => {
+        (TypeNode::Base(a), TypeNode::Base(b)) => a == b,
+        (TypeNode::Pair(a, b), TypeNode::Pair(c, d)) => {
             same_places(types, a, c) && same_places(types, b, d)
         }
-        (Node::Maybe(a), Node::Maybe(b)) => same_places(types, a, b),
-        (Node::Either(a, b), Node::Either(c, d)) => {
+        (TypeNode::Maybe(a), TypeNode::Maybe(b)) => same_places(types, a, b),
+        (TypeNode::Either(a, b), TypeNode::Either(c, d)) => {
             same_places(types, a, c) && same_places(types, b, d)
         }
-        (Node::List(a), Node::List(b)) => same_places(types, a, b),
-        (Node::Cell(a), Node::Cell(b)) => same_places(types, a, b),
-        (Node::Async(a), Node::Async(b)) => same_places(types, a, b),
+        (TypeNode::List(a), TypeNode::List(b)) => same_places(types, a, b),
+        (TypeNode::Cell(a), TypeNode::Cell(b)) => same_places(types, a, b),
+        (TypeNode::Async(a), TypeNode::Async(b)) => same_places(types, a, b),
         (_, _) => false,
     }
 }
@@ -35,17 +35,17 @@ fn stands_at(types: &TypeTable, t: &TypeTerm, place: usize) -> bool
 {
     match (t, types.node(place)) {
         (TypeTerm::Known(other), _) => same_places(types, *other, place),
-        (TypeTerm::Base(a), Node::Base(b)) => *a == b,
-        (TypeTerm::Pair(a, b), Node::Pair(c, d)) => {
+        (TypeTerm::Base(a), TypeNode::Base(b)) => *a == b,
+        (TypeTerm::Pair(a, b), TypeNode::Pair(c, d)) => {
             stands_at(types, a.get(), c) && stands_at(types, b.get(), d)
         }
-        (TypeTerm::Maybe(a), Node::Maybe(b)) => stands_at(types, a.get(), b),
-        (TypeTerm::Either(a, b), Node::Either(c, d)) => {
+        (TypeTerm::Maybe(a), TypeNode::Maybe(b)) => stands_at(types, a.get(), b),
+        (TypeTerm::Either(a, b), TypeNode::Either(c, d)) => {
             stands_at(types, a.get(), c) && stands_at(types, b.get(), d)
         }
-        (TypeTerm::List(a), Node::List(b)) => stands_at(types, a.get(), b),
-        (TypeTerm::Cell(a), Node::Cell(b)) => stands_at(types, a.get(), b),
-        (TypeTerm::Async(a), Node::Async(b)) => stands_at(types, a.get(), b),
+        (TypeTerm::List(a), TypeNode::List(b)) => stands_at(types, a.get(), b),
+        (TypeTerm::Cell(a), TypeNode::Cell(b)) => stands_at(types, a.get(), b),
+        (TypeTerm::Async(a), TypeNode::Async(b)) => stands_at(types, a.get(), b),
         (_, _) => false,
     }
 }

@@ -8,7 +8,7 @@ use std::alloc::Global;
 
 /// The form of a type over its parts' places in a table.
 #[derive(Clone, Copy, Debug, PartialEq, Eq, PartialOrd, Ord)]
-pub enum Node {
+pub enum TypeNode {
     Base(Base),
     Pair(usize, usize),
     Maybe(usize),
@@ -21,7 +21,7 @@ pub enum Node {
 /// Types by their places, each behind its parts.
 #[derive(Drop)]
 pub struct TypeTable {
-    pub nodes: Items<Node>,
+    pub nodes: Items<TypeNode>,
     pub ghost ordered: { Ordered nodes },
 }
 
@@ -36,18 +36,18 @@ impl TypeTable {
     }
 
     /// The node at a place; behind the end stands `()`.
-    pub fn node(&self, place: usize) -> Node
+    pub fn node(&self, place: usize) -> TypeNode
         ensures node { node_type (types_at self.now.nodes) result ≡ known self.now.nodes place }
         ensures below { Below result place }
     {
         match self.nodes.get(place) {
-            None => Node::Base(Base::Unit),
+            None => TypeNode::Base(Base::Unit),
             Some(node) => *node,
         }
     }
 
     /// One more type behind the others.
-    pub fn add(&mut self, node: Node) -> Result<(), NoMemory>
+    pub fn add(&mut self, node: TypeNode) -> Result<(), NoMemory>
         requires { Below node (length self.old.nodes) }
         ensures added { OnOk result (self.new.nodes ≡ self.old.nodes ++ node ∷ []) }
         ensures kept { OnErr result (self.new.nodes ≡ self.old.nodes) }

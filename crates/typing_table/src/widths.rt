@@ -3,7 +3,7 @@ ghost use Rattle.rules_trees.specs.Trees.{ty_of};
 ghost use Rattle.rules_typing.specs.Typing.{nodes};
 ghost use Rattle.typing_table.specs.Meaning.{known, type_in};
 
-use crate::table::{Node, TypeTable};
+use crate::table::{TypeNode, TypeTable};
 use crate::ty::TypeTerm;
 use hs_base::Ty;
 
@@ -16,19 +16,19 @@ fn spend_at(types: &TypeTable, place: usize, left: u32) -> Option<u32>
         return None;
     }
     match types.node(place) {
-        Node::Base(_) => Some(left - 1),
-        Node::Pair(a, b) => {
+        TypeNode::Base(_) => Some(left - 1),
+        TypeNode::Pair(a, b) => {
             let rest = spend_at(types, a, left - 1)?;
             spend_at(types, b, rest)
         }
-        Node::Maybe(a) => spend_at(types, a, left - 1),
-        Node::Either(a, b) => {
+        TypeNode::Maybe(a) => spend_at(types, a, left - 1),
+        TypeNode::Either(a, b) => {
             let rest = spend_at(types, a, left - 1)?;
             spend_at(types, b, rest)
         }
-        Node::List(a) => spend_at(types, a, left - 1),
-        Node::Cell(a) => spend_at(types, a, left - 1),
-        Node::Async(a) => spend_at(types, a, left - 1),
+        TypeNode::List(a) => spend_at(types, a, left - 1),
+        TypeNode::Cell(a) => spend_at(types, a, left - 1),
+        TypeNode::Async(a) => spend_at(types, a, left - 1),
     }
 }
 

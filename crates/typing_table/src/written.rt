@@ -3,7 +3,7 @@ ghost use Rattle.rules_trees.specs.Trees.{ty_of};
 ghost use Rattle.typing_table.specs.Meaning.{base_of, known, type_in};
 
 use crate::base::Base;
-use crate::table::{Node, TypeTable};
+use crate::table::{TypeNode, TypeTable};
 use crate::ty::TypeTerm;
 use hs_base::{NoMemory, Ty};
 use hs_items::Boxed;
@@ -39,16 +39,19 @@ fn written_at(alloc: Global, types: &TypeTable, place: usize) -> Result<Ty, NoMe
     ensures { IfOk result (λ t. ty_of t ≡ known types.now.nodes place) }
 {
     match types.node(place) {
-        Node::Base(base) => Ok(written_base(base)),
-        Node::Pair(a, b) => Ok(Ty::Pair(boxed_at(alloc, types, a)?, boxed_at(alloc, types, b)?)),
-        Node::Maybe(a) => Ok(Ty::Maybe(boxed_at(alloc, types, a)?)),
-        Node::Either(a, b) => Ok(Ty::Either(
+        TypeNode::Base(base) => Ok(written_base(base)),
+        TypeNode::Pair(a, b) => Ok(Ty::Pair(
             boxed_at(alloc, types, a)?,
             boxed_at(alloc, types, b)?,
         )),
-        Node::List(a) => Ok(Ty::List(boxed_at(alloc, types, a)?)),
-        Node::Cell(a) => Ok(Ty::Cell(boxed_at(alloc, types, a)?)),
-        Node::Async(a) => Ok(Ty::Async(boxed_at(alloc, types, a)?)),
+        TypeNode::Maybe(a) => Ok(Ty::Maybe(boxed_at(alloc, types, a)?)),
+        TypeNode::Either(a, b) => Ok(Ty::Either(
+            boxed_at(alloc, types, a)?,
+            boxed_at(alloc, types, b)?,
+        )),
+        TypeNode::List(a) => Ok(Ty::List(boxed_at(alloc, types, a)?)),
+        TypeNode::Cell(a) => Ok(Ty::Cell(boxed_at(alloc, types, a)?)),
+        TypeNode::Async(a) => Ok(Ty::Async(boxed_at(alloc, types, a)?)),
     }
 }
 
@@ -86,7 +89,7 @@ pub fn to_written(alloc: Global, types: &TypeTable, t: &TypeTerm) -> Result<Ty, 
 
 #[cycle(types_written)]
 fn boxed_type(alloc: Global, t: &Ty) -> Result<Boxed<TypeTerm>, NoMemory>
-    ensures { IfOk result (λ r. (ms : List Node) → type_in ms r ≡ ty_of t.now) }
+    ensures { IfOk result (λ r. (ms : List TypeNode) → type_in ms r ≡ ty_of t.now) }
 {
     let t = from_written(alloc, t)?;
     Ok(Boxed::new(alloc, t)?)
@@ -96,7 +99,7 @@ fn boxed_type(alloc: Global, t: &Ty) -> Result<Boxed<TypeTerm>, NoMemory>
 #[cycle(types_written)]
 #[tactic(auto, using(rules_trees::proofs::Equations::ty_rules, crate::proofs::Equations::type_rules))]
 pub fn from_written(alloc: Global, t: &Ty) -> Result<TypeTerm, NoMemory>
-    ensures { IfOk result (λ r. (ms : List Node) → type_in ms r ≡ ty_of t.now) }
+    ensures { IfOk result (λ r. (ms : List TypeNode) → type_in ms r ≡ ty_of t.now) }
 {
     match t {
         Ty::Unit => Ok(TypeTerm::Base(Base::Unit)),

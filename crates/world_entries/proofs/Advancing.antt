@@ -7,7 +7,7 @@ use Rattle.hs_rules.specs.declared.entry.Entry.TheVariants as entry
 use Rattle.hs_rules.specs.State.{State}
 use Rattle.hs_rules.specs.Terms.{Term}
 use Rattle.rules_trees.specs.Programs.{Fn, script_of}
-use Rattle.rules_code.specs.declared.code.Body.{Body}
+use Rattle.rules_code.specs.declared.code.CodeBody.{CodeBody}
 use Rattle.hs_progress.specs.TypedStates.{has}
 use Rattle.slot_laws.specs.SlotRules.{locals}
 use Rattle.slot_laws.specs.Standing.{Stands, cells_of}
@@ -37,12 +37,12 @@ stands_anywhere ds x s r t h is =
     )
 
 -- a thread of a live world stands for a term of the code's script
-pub may_advance : (b : Body) (w : World) (t : ℕ) (th : Thread) → ∥ ((es : List Entry) × Live b es w) ∥₁ → slice_get w.threads.list.items t ≡ Some th → MayAdvance b th.stack
+pub may_advance : (b : CodeBody) (w : World) (t : ℕ) (th : Thread) → ∥ ((es : List Entry) × Live b es w) ∥₁ → slice_get w.threads.list.items t ≡ Some th → MayAdvance b th.stack
 may_advance b w t th live is =
     ∥∥₁_map live (λ l. stands_anywhere (script_of b.of.value) (state_of b w) l.1.state l.1.represents t (slot_of b th) (slots_is b w.threads.list.items t th is))
 
 -- all of the rules
-pub advance_makes : (old new : World) (t k : ℕ) (b : Body) → Goes old → ((th : Thread) × (slice_get old.threads.list.items t ≡ Some th) × (th.finished ≡ false) × (th.blocked ≡ false)) → 0 < k
+pub advance_makes : (old new : World) (t k : ℕ) (b : CodeBody) → Goes old → ((th : Thread) × (slice_get old.threads.list.items t ≡ Some th) × (th.finished ≡ false) × (th.blocked ≡ false)) → 0 < k
     → ((s : Stacked) × (new.threads.list.items ≡ changed t (with_stack s) old.threads.list.items) × ((th : Thread) → slice_get old.threads.list.items t ≡ Some th → locals (funs_of b) Unmasked k (term_of b th.stack) ≡ Some (term_of b s)))
     → new.cells.cells ≡ old.cells.cells → new.threads.flight.list ≡ old.threads.flight.list → new.sleepers.list ≡ old.sleepers.list → SameCounts old new → MakesOf b (entry.Local t k) old new
 advance_makes old new t k b goes free some moved cells flight sleepers counts =

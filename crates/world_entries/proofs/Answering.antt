@@ -2,7 +2,7 @@
 use Rattle.std.proofs.Common.{◌≡◌, ◌≢◌, ℕ, List, [], ◌∷◌, ◌++◌, slice_get, slice_set, refl, sym, ap, ◌∙◌}
 use Rattle.hs_base.specs.declared.value.Value.{Value}
 use Rattle.rules_meaning.specs.Values.{V, value_of}
-use Rattle.rules_code.specs.declared.code.Body.{Body}
+use Rattle.rules_code.specs.declared.code.CodeBody.{CodeBody}
 use Rattle.rules_waiting.specs.OneCell.{Cell, Call, Reply, Answer, call, reply_of, shown}
 use Rattle.cell_laws.specs.Mapped.{map_call, map_replies, map_answer}
 use Rattle.mvar_cell.specs.Calls.{IsCall}
@@ -20,10 +20,10 @@ use Rattle.world_entries.proofs.CellsOf.{cells_called, replies_called}
 
 -- ---- threads that are answered
 
-pub one_answered : (b : Body) (ths : List Thread) (t : ℕ) (v : Value) (x : V) → value_of v ≡ x → slots_of b (changed t (with_control (c.Ret v)) ths) ≡ answered t x (slots_of b ths)
+pub one_answered : (b : CodeBody) (ths : List Thread) (t : ℕ) (v : Value) (x : V) → value_of v ≡ x → slots_of b (changed t (with_control (c.Ret v)) ths) ≡ answered t x (slots_of b ths)
 one_answered b ths t v x e = slots_resumed b ths t (c.Ret v) ∙ ap (λ y. answered t y (slots_of b ths)) e
 
-pub shown_answered : (b : Body) (m : ℕ) (v : Value) (ts : List ℕ) (ths : List Thread) → slots_of b (all_answered v ts ths) ≡ replied m (map_replies value_of (shown v ts)) (slots_of b ths)
+pub shown_answered : (b : CodeBody) (m : ℕ) (v : Value) (ts : List ℕ) (ths : List Thread) → slots_of b (all_answered v ts ths) ≡ replied m (map_replies value_of (shown v ts)) (slots_of b ths)
 shown_answered b m v [] ths = refl
 shown_answered b m v (t ∷ ts) ths =
     shown_answered b m v ts (changed t (with_control (c.Ret v)) ths)
@@ -49,18 +49,18 @@ told_some t m [] ss r ths = refl
 told_some t m (q ∷ rs) ss r ths = refl
 
 -- one is answered, or two
-pub told_one : (b : Body) (t m u : ℕ) (w : Value) (a : Answer Value) (ths : List Thread) → value_of w ≡ told m (map_answer value_of a)
+pub told_one : (b : CodeBody) (t m u : ℕ) (w : Value) (a : Answer Value) (ths : List Thread) → value_of w ≡ told m (map_answer value_of a)
     → slots_of b (changed u (with_control (c.Ret w)) ths) ≡ told_all t m (map_replies value_of (reply_of u a ∷ [])) (slots_of b ths)
 told_one b t m u w a ths e = one_answered b ths u w (told m (map_answer value_of a)) e
 
-pub told_two : (b : Body) (t m u u' : ℕ) (w w' : Value) (a a' : Answer Value) (ths : List Thread) → value_of w ≡ told m (map_answer value_of a) → value_of w' ≡ told m (map_answer value_of a')
+pub told_two : (b : CodeBody) (t m u u' : ℕ) (w w' : Value) (a a' : Answer Value) (ths : List Thread) → value_of w ≡ told m (map_answer value_of a) → value_of w' ≡ told m (map_answer value_of a')
     → slots_of b (changed u' (with_control (c.Ret w')) (changed u (with_control (c.Ret w)) ths)) ≡ told_all t m (map_replies value_of (reply_of u a ∷ reply_of u' a' ∷ [])) (slots_of b ths)
 told_two b t m u u' w w' a a' ths e e' =
     one_answered b (changed u (with_control (c.Ret w)) ths) u' w' (told m (map_answer value_of a')) e'
     ∙ ap (answered u' (told m (map_answer value_of a'))) (one_answered b ths u w (told m (map_answer value_of a)) e)
 
 -- readers are shown the value, and then somebody is answered
-pub told_readers : (b : Body) (t m : ℕ) (v : Value) (ts : List ℕ) (r : Reply Value) (rs : List (Reply Value)) (ths : List Thread)
+pub told_readers : (b : CodeBody) (t m : ℕ) (v : Value) (ts : List ℕ) (r : Reply Value) (rs : List (Reply Value)) (ths : List Thread)
     → told_all t m (map_replies value_of (shown v ts ++ r ∷ rs)) (slots_of b ths) ≡ replied m (map_replies value_of (r ∷ rs)) (slots_of b (all_answered v ts ths))
 told_readers b t m v ts r rs ths =
     ap (λ qs. told_all t m qs (slots_of b ths)) (replies_both (shown v ts) (r ∷ rs))
@@ -79,7 +79,7 @@ pub record Elsewhere (old new : World) : Type 0 where
   pub timeouts : new.timeouts ≡ old.timeouts
   pub printed : new.printed ≡ old.printed
 
-pub state_is : (b : Body) (old new : World) (ths : List SlotThread) (cs : List (Cell V)) → slots_of b new.threads.list.items ≡ ths → slot_cells new.cells.cells ≡ cs → Elsewhere old new → state_of b new ≡ record (state_of b old) { threads = ths; cells = cs }
+pub state_is : (b : CodeBody) (old new : World) (ths : List SlotThread) (cs : List (Cell V)) → slots_of b new.threads.list.items ≡ ths → slot_cells new.cells.cells ≡ cs → Elsewhere old new → state_of b new ≡ record (state_of b old) { threads = ths; cells = cs }
 state_is b old new ths cs e f r =
     let flight = r.flight in
     let sleepers = r.sleepers in
@@ -89,7 +89,7 @@ state_is b old new ths cs e f r =
     let printed = r.printed in
     cc (e, f)
 
-pub state_called : (b : Body) (old new : World) (t m : ℕ) (q : Call Value) (rs : List (Reply Value)) → IsCall q m old.cells new.cells rs → slots_of b new.threads.list.items ≡ told_all t m (map_replies value_of rs) (slots_of b old.threads.list.items)
+pub state_called : (b : CodeBody) (old new : World) (t m : ℕ) (q : Call Value) (rs : List (Reply Value)) → IsCall q m old.cells new.cells rs → slots_of b new.threads.list.items ≡ told_all t m (map_replies value_of rs) (slots_of b old.threads.list.items)
     → Elsewhere old new → state_of b new ≡ called t m (map_call value_of q) (state_of b old)
 state_called b old new t m q rs h e r =
     state_is b old new (told_all t m (call (map_call value_of q) (cell_at m (slot_cells old.cells.cells))).replies (slots_of b old.threads.list.items)) (slice_set (slot_cells old.cells.cells) m (call (map_call value_of q) (cell_at m (slot_cells old.cells.cells))).cell)

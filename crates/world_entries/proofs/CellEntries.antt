@@ -6,7 +6,7 @@ use Rattle.hs_rules.specs.declared.entry.Entry.TheVariants as entry
 use Rattle.rules_meaning.specs.Values as val
 use Rattle.rules_meaning.specs.Values.{V, value_of}
 use Rattle.rules_typing.specs.TypingScripts.{Accepted}
-use Rattle.rules_code.specs.declared.code.Body.{Body}
+use Rattle.rules_code.specs.declared.code.CodeBody.{CodeBody}
 use Rattle.rules_waiting.specs.OneCell.{Call, Take, Read, Put, Try_take, Try_put, Reply, made}
 use Rattle.cell_laws.specs.Mapped.{map_some, map_call, map_replies}
 use Rattle.hs_eval.proofs.Cases.{value_of-Cell}
@@ -48,7 +48,7 @@ elsewhere w ths cs e =
 
 -- ---- what each operation is to make
 
-module _ (w : World) (t m : ℕ) (g : Goes w) (b : Body) (accepted : Accepted b.of.value) where
+module _ (w : World) (t m : ℕ) (g : Goes w) (b : CodeBody) (accepted : Accepted b.of.value) where
   pub take_law : Stands w t (o.TakeMVar m) → Enters b.of.value (entry.Op t) (state_of b w) (called t m (Take t) (state_of b w))
   take_law s = take_entered b.of.value accepted (state_of b w) t m (stands_at w t (o.TakeMVar m) s b) (main_goes w g b)
 
@@ -66,8 +66,8 @@ module _ (w : World) (t m : ℕ) (g : Goes w) (b : Body) (accepted : Accepted b.
 
 -- A call on cell m, and whom it answers answered: from a world that stands for the same as the old one.
 pub call_made : (old base new : World) (t m : ℕ) (q : Call Value) (rs : List (Reply Value)) → SameState old base → IsCall q m base.cells new.cells rs
-    → ((b : Body) → slots_of b new.threads.list.items ≡ told_all t m (map_replies value_of rs) (slots_of b base.threads.list.items)) → Elsewhere base new
-    → ((b : Body) → Accepted b.of.value → Enters b.of.value (entry.Op t) (state_of b old) (called t m (map_call value_of q) (state_of b old)))
+    → ((b : CodeBody) → slots_of b new.threads.list.items ≡ told_all t m (map_replies value_of rs) (slots_of b base.threads.list.items)) → Elsewhere base new
+    → ((b : CodeBody) → Accepted b.of.value → Enters b.of.value (entry.Op t) (state_of b old) (called t m (map_call value_of q) (state_of b old)))
     → Makes (entry.Op t) old new
 call_made old base new t m q rs same h e r law =
     making.made (entry.Op t) old new (λ b. called t m (map_call value_of q) (state_of b old))
@@ -75,19 +75,19 @@ call_made old base new t m q rs same h e r law =
 
 -- the same from the old world
 pub call_makes : (old : World) (ths : Threads) (cs : Mvars) (t m : ℕ) (q : Call Value) (rs : List (Reply Value)) → IsCall q m old.cells cs rs
-    → ((b : Body) → slots_of b ths.list.items ≡ told_all t m (map_replies value_of rs) (slots_of b old.threads.list.items)) → ths.flight ≡ old.threads.flight
-    → ((b : Body) → Accepted b.of.value → Enters b.of.value (entry.Op t) (state_of b old) (called t m (map_call value_of q) (state_of b old)))
+    → ((b : CodeBody) → slots_of b ths.list.items ≡ told_all t m (map_replies value_of rs) (slots_of b old.threads.list.items)) → ths.flight ≡ old.threads.flight
+    → ((b : CodeBody) → Accepted b.of.value → Enters b.of.value (entry.Op t) (state_of b old) (called t m (map_call value_of q) (state_of b old)))
     → Makes (entry.Op t) old (with_parts old ths cs)
 call_makes old ths cs t m q rs h e f law = call_made old old (with_parts old ths cs) t m q rs (λ b. refl) h e (elsewhere old ths cs f) law
 
 -- nobody is answered
-pub told_none : (b : Body) (t m : ℕ) (old ths : List Thread) → ((l : Bool) × (ths ≡ changed t (λ (th : Thread). record th { blocked = true; listed = l }) old)) → slots_of b ths ≡ told_all t m [] (slots_of b old)
+pub told_none : (b : CodeBody) (t m : ℕ) (old ths : List Thread) → ((l : Bool) × (ths ≡ changed t (λ (th : Thread). record th { blocked = true; listed = l }) old)) → slots_of b ths ≡ told_all t m [] (slots_of b old)
 told_none b t m old ths h = ap (slots_of b) h.1 ∙ slots_blocked b old t h.0
 
 -- ---- a new cell
 
 fresh_same : (old : World) (ths : Threads) (cs : Mvars) (t n : ℕ) (first : Option Value) → n ≡ length old.cells.cells → cs.cells ≡ old.cells.cells ++ made first ∷ [] → ths.list.items ≡ changed t (with_control (c.Ret (raw.Cell n))) old.threads.list.items
-    → ths.flight ≡ old.threads.flight → (b : Body) → state_of b (with_parts old ths cs) ≡ makes t (map_some value_of first) (state_of b old)
+    → ths.flight ≡ old.threads.flight → (b : CodeBody) → state_of b (with_parts old ths cs) ≡ makes t (map_some value_of first) (state_of b old)
 fresh_same old ths cs t n first number cells list flight b =
     state_is b old (with_parts old ths cs) (answered t (val.Cell (length (slot_cells old.cells.cells))) (slots_of b old.threads.list.items)) (slot_cells old.cells.cells ++ made (map_some value_of first) ∷ [])
     (ap (slots_of b) list ∙ one_answered b old.threads.list.items t (raw.Cell n) (val.Cell (length (slot_cells old.cells.cells))) (value_of-Cell n ∙ ap val.Cell (number ∙ sym (cells_count old.cells.cells))))

@@ -10,7 +10,7 @@ use Rattle.hs_rules.specs.Runs.{IsRun}
 use Rattle.rules_trees.specs.Programs.{script_of}
 use Rattle.rules_meaning.specs.CoreMeaning.{code_of}
 use Rattle.rules_typing.specs.TypingScripts.{Accepted}
-use Rattle.rules_code.specs.declared.code.Body.{Body}
+use Rattle.rules_code.specs.declared.code.CodeBody.{CodeBody}
 use Rattle.rules_code.specs.CodeTrees.{StandsFor}
 use Rattle.rules_waiting.specs.Waiting.{still_asleep}
 use Rattle.exn_flight.specs.Asleep.{due_of}
@@ -24,7 +24,7 @@ use Rattle.local_steps.specs.Machine.{funs_of, frames_of}
 use Rattle.frame_stack.specs.declared.control.Control.TheVariants as c
 use Rattle.frame_stack.specs.Parts.{Stacked, part_of, term_of}
 use Rattle.thread_table.specs.declared.thread.Thread.{Thread}
-use Rattle.thread_table.specs.declared.kinds.Kind.TheVariants as kind
+use Rattle.thread_table.specs.declared.kinds.EntryKind.TheVariants as kind
 use Rattle.thread_table.specs.Kinds.{IsKind}
 use Rattle.thread_table.specs.Table.{slot_of, slots_of, changed, with_control, with_stack}
 use Rattle.thread_table.proofs.Table.{slots_is, slots_resumed, slots_moved}
@@ -46,14 +46,14 @@ pub record SameCounts (old new : World) : Type 0 where
 
 -- where what the entry makes is known of each state that is stood for
 pub made_from : (e : Entry) (old new : World)
-    → ((b : Body) → Accepted b.of.value → StandsFor b.nodes b.acts b.funs b.main b.of.value → (es : List Entry) (s : State) → IsRun (script_of b.of.value) es s → Represents (script_of b.of.value) (state_of b old) s → (y : SlotState) × (state_of b new ≡ y) × Enters b.of.value e (state_of b old) y)
+    → ((b : CodeBody) → Accepted b.of.value → StandsFor b.nodes b.acts b.funs b.main b.of.value → (es : List Entry) (s : State) → IsRun (script_of b.of.value) es s → Represents (script_of b.of.value) (state_of b old) s → (y : SlotState) × (state_of b new ≡ y) × Enters b.of.value e (state_of b old) y)
     → Makes e old new
 made_from e old new h b accepted stands es s run r =
     let k = h b accepted stands es s run r in
     subst (λ y. (u : State) × Leads (code_of (script_of b.of.value)) s e u × Represents (script_of b.of.value) y u) (sym k.1) (k.2 es s run r)
 
 -- a thread that is answered ()
-pub slots_unit : (b : Body) (ths : List Thread) (t : ℕ) → slots_of b (changed t (with_control (c.Ret value.Unit)) ths) ≡ answered t UnitValue (slots_of b ths)
+pub slots_unit : (b : CodeBody) (ths : List Thread) (t : ℕ) → slots_of b (changed t (with_control (c.Ret value.Unit)) ths) ≡ answered t UnitValue (slots_of b ths)
 slots_unit b ths t = slots_resumed b ths t (c.Ret value.Unit) ∙ ap (λ v. answered t v (slots_of b ths)) value_of-Unit
 
 -- ---- the clock goes on
@@ -71,13 +71,13 @@ wake_makes old new t due goes asleep come list cells flight sleepers counts =
     (λ b accepted. due_wake_entered b.of.value accepted (state_of b old) t due asleep come (main_goes old goes b))
 
 -- ---- local rules
-local_moves : (old new : World) (t k : ℕ) (b : Body) (u : Stacked) → new.threads.list.items ≡ changed t (with_stack u) old.threads.list.items → new.cells.cells ≡ old.cells.cells → new.threads.flight.list ≡ old.threads.flight.list → new.sleepers.list ≡ old.sleepers.list
+local_moves : (old new : World) (t k : ℕ) (b : CodeBody) (u : Stacked) → new.threads.list.items ≡ changed t (with_stack u) old.threads.list.items → new.cells.cells ≡ old.cells.cells → new.threads.flight.list ≡ old.threads.flight.list → new.sleepers.list ≡ old.sleepers.list
     → SameCounts old new → state_of b new ≡ moves t (term_of b u) (state_of b old)
 local_moves old new t k b u list cells flight sleepers counts =
     same_state (state_of b new) (moves t (term_of b u) (state_of b old)) (ap (slots_of b) list ∙ slots_moved b old.threads.list.items t u) (ap slot_cells cells) flight sleepers counts.clock counts.instances counts.timeouts counts.printed
 
 pub pop_makes : (old new : World) (t : ℕ) → Goes old → IsKind kind.Local t old.threads
-    → ((u : Stacked) × (new.threads.list.items ≡ changed t (with_stack u) old.threads.list.items) × ((th : Thread) → slice_get old.threads.list.items t ≡ Some th → (b : Body) → local (funs_of b) Unmasked (part_of b th.stack.control) (frames_of b th.stack.frames) ≡ Some (term_of b u)))
+    → ((u : Stacked) × (new.threads.list.items ≡ changed t (with_stack u) old.threads.list.items) × ((th : Thread) → slice_get old.threads.list.items t ≡ Some th → (b : CodeBody) → local (funs_of b) Unmasked (part_of b th.stack.control) (frames_of b th.stack.frames) ≡ Some (term_of b u)))
     → new.cells.cells ≡ old.cells.cells → new.threads.flight.list ≡ old.threads.flight.list → new.sleepers.list ≡ old.sleepers.list → SameCounts old new → Makes (entry.Local t 1) old new
 pop_makes old new t goes own moved cells flight sleepers counts =
     made_from (entry.Local t 1) old new (λ b accepted stands es s run r. (
@@ -88,7 +88,7 @@ pop_makes old new t goes own moved cells flight sleepers counts =
           (main_goes old goes b),
     ))
 
-pub accept_makes : (old new : World) (t k : ℕ) (b : Body) (th : Thread) (u : Stacked) → Goes old → slice_get old.threads.list.items t ≡ Some th → th.finished ≡ false → th.blocked ≡ false → 0 < k
+pub accept_makes : (old new : World) (t k : ℕ) (b : CodeBody) (th : Thread) (u : Stacked) → Goes old → slice_get old.threads.list.items t ≡ Some th → th.finished ≡ false → th.blocked ≡ false → 0 < k
     → new.threads.list.items ≡ changed t (with_stack u) old.threads.list.items → ∥ locals (funs_of b) Unmasked k (term_of b th.stack) ≡ Some (term_of b u) ∥₁
     → new.cells.cells ≡ old.cells.cells → new.threads.flight.list ≡ old.threads.flight.list → new.sleepers.list ≡ old.sleepers.list → SameCounts old new → MakesOf b (entry.Local t k) old new
 accept_makes old new t k b th u goes is going free some list e cells flight sleepers counts accepted stands =

@@ -14,7 +14,7 @@ use Rattle.hs_laws.proofs.Expanded.{standing_of}
 use Rattle.rules_trees.specs.Programs.{script_of}
 use Rattle.rules_meaning.specs.Values.{UnitValue, value_of}
 use Rattle.rules_typing.specs.TypingScripts.{Accepted}
-use Rattle.rules_code.specs.declared.code.Body.{Body}
+use Rattle.rules_code.specs.declared.code.CodeBody.{CodeBody}
 use Rattle.rules_waiting.specs.Waiting.{Flying, flying_to, first_thrown, withdrawn, without, reason_of}
 use Rattle.exn_flight.specs.Flights.{after_delivery}
 use Rattle.exn_flight.specs.Asleep.{Asleep}
@@ -89,7 +89,7 @@ few_throw t [] = omega arith
 few_throw t (f ∷ fs) = let k = fewer (f.target == t) f (flying_to t fs) (length fs) (few_throw t fs) in omega (arith, k)
 
 -- ---- in a world that stands for the state of a run
-module _ (w : World) (b : Body) (es : List Entry) (l : Live b es w) (t : ℕ) where
+module _ (w : World) (b : CodeBody) (es : List Entry) (l : Live b es w) (t : ℕ) where
   distinct_now : Distinct (throwers (flying_to t w.threads.flight.list))
   distinct_now =
       subst Distinct (sym (ap (λ fs. throwers (flying_to t fs)) l.represents.agrees.flight ∙ throwers_are t l.state.blocked))
@@ -128,7 +128,7 @@ abbrev pub all_unit : List ℕ → List Thread → List Thread
 all_unit [] ths = ths
 all_unit (u ∷ us) ths = all_unit us (changed u (with_control (c.Ret value.Unit)) ths)
 
-slots_all_unit : (b : Body) (us : List ℕ) (ths : List Thread) → slots_of b (all_unit us ths) ≡ all_resumed us (ret UnitValue) (slots_of b ths)
+slots_all_unit : (b : CodeBody) (us : List ℕ) (ths : List Thread) → slots_of b (all_unit us ths) ≡ all_resumed us (ret UnitValue) (slots_of b ths)
 slots_all_unit b [] ths = refl
 slots_all_unit b (u ∷ us) ths = slots_all_unit b us (changed u (with_control (c.Ret value.Unit)) ths) ∙ ap (all_resumed us (ret UnitValue)) (slots_unit b ths u)
 
@@ -209,7 +209,7 @@ answering_last : (t : ℕ) (us : List ℕ) (ths : List Thread) (fs : List Flying
 answering_last t us ths fs s g none = sym (g.all ∙ (ap (λ z. us ++ z) (nobody_throws (flying_to t s.flight.list) none) ∙ append-nil us))
 
 -- ---- the entry
-module _ (w : World) (goes : Goes w) (t n : ℕ) (ends : Ends t n w) (b : Body) (accepted : Accepted b.of.value) where
+module _ (w : World) (goes : Goes w) (t n : ℕ) (ends : Ends t n w) (b : CodeBody) (accepted : Accepted b.of.value) where
   by : (k : Control) → ends.thread.stack.control ≡ k → IsEnd k → n ≡ end_bytes t k → Enters b.of.value (entry.Finish t) (state_of b w) (finishes t n (state_of b w))
   by (c.Doing i vs) e h q = absurd h
   by (c.Op p) e h q = absurd h

@@ -3,7 +3,7 @@ use Rattle.std.proofs.Common.{◌≡◌, [], ◌∷◌, false, sym, ap, ◌∙�
 use Rattle.std.proofs.Math.Logic.{∥∥₁_map}
 use Rattle.rules_trees.specs.Programs.{script_of}
 use Rattle.rules_typing.specs.TypingScripts.{Accepted}
-use Rattle.rules_code.specs.declared.code.Body.{Body}
+use Rattle.rules_code.specs.declared.code.CodeBody.{CodeBody}
 use Rattle.rules_code.specs.CodeTrees.{Sa, StandsFor}
 use Rattle.slot_laws.specs.SlotRules.{doing, at}
 use Rattle.slot_states.specs.SlotStates.{SlotState, Represents}
@@ -16,11 +16,11 @@ use Rattle.world_entries.specs.First.{first_state}
 abbrev begun : Sa → SlotState
 begun a = record { threads = record { term = at (doing a []) []; blocked = false; finished = false } ∷ []; cells = []; flight = []; sleepers = []; clock = 0; next_instance = 0; next_timeout = 0; printed = 0 }
 
-pub first_live : (b : Body) (w : World) → Accepted b.of.value → StandsFor b.nodes b.acts b.funs b.main b.of.value → state_of b w ≡ first_state b → Live b [] w
+pub first_live : (b : CodeBody) (w : World) → Accepted b.of.value → StandsFor b.nodes b.acts b.funs b.main b.of.value → state_of b w ≡ first_state b → Live b [] w
 first_live b w accepted stands e =
     let f = first_stands_for b.of.value accepted in
     record { accepted = accepted; code = stands; state = f.0; run = f.1; represents = subst (λ x. Represents (script_of b.of.value) x f.0) (sym (e ∙ ap begun stands.main_is)) f.2 }
 
 -- the code itself keeps that it stands for its script
-pub first_is_live : (b : Body) (w : World) → state_of b w ≡ first_state b → IsLive w
+pub first_is_live : (b : CodeBody) (w : World) → state_of b w ≡ first_state b → IsLive w
 first_is_live b w e = ∥∥₁_map b.stands (λ k. (b, [], first_live b w k.accepted k e))

@@ -9,7 +9,7 @@ use Rattle.hs_base.specs.declared.mask.Mask.TheVariants.{Unmasked}
 use Rattle.hs_rules.specs.declared.entry.Entry.TheVariants as entry
 use Rattle.rules_meaning.specs.Values as val
 use Rattle.rules_meaning.specs.Values.{V, values_of}
-use Rattle.rules_code.specs.declared.code.Body.{Body}
+use Rattle.rules_code.specs.declared.code.CodeBody.{CodeBody}
 use Rattle.rules_code.specs.declared.act.ActId.{ActId}
 use Rattle.rules_waiting.specs.Waiting.{Flying, Sleeper}
 use Rattle.rules_waiting.specs.OneCell.{Cell}
@@ -37,7 +37,7 @@ abbrev parts : List SlotThread → List (Cell V) → List Flying → List Sleepe
 parts ths cs fs ss k i n p = record { threads = ths; cells = cs; flight = fs; sleepers = ss; clock = k; next_instance = i; next_timeout = n; printed = p }
 
 -- all but the list of threads is as it was
-pub state_kept : (old new : World) (b : Body) (ths : List SlotThread) → slots_of b new.threads.list.items ≡ ths → new.threads.flight ≡ old.threads.flight → new.cells ≡ old.cells → new.sleepers ≡ old.sleepers
+pub state_kept : (old new : World) (b : CodeBody) (ths : List SlotThread) → slots_of b new.threads.list.items ≡ ths → new.threads.flight ≡ old.threads.flight → new.cells ≡ old.cells → new.sleepers ≡ old.sleepers
     → (new.clock ≡ old.clock) × (new.instances ≡ old.instances) × (new.timeouts ≡ old.timeouts) × (new.printed ≡ old.printed) → state_of b new ≡ record (state_of b old) { threads = ths }
 state_kept old new b ths e f c s k =
     ap (λ z. parts z (slot_cells new.cells.cells) new.threads.flight.list new.sleepers.list new.clock new.instances new.timeouts new.printed) e
@@ -56,7 +56,7 @@ resumed_before t p ths y th is =
     ∙ (set-append_left ths (y ∷ []) t (resumed_by p th) (slice_get_within ths t th is)
     ∙ sym (ap (λ q. slots.set_thread t (resumed_by p) q ths ++ y ∷ []) is))
 
-fork_slots : (b : Body) (old new : List Thread) (t : ℕ) (k : Stacked) (th : Thread) → slice_get old t ≡ Some th → new ≡ changed t (with_control (c.Ret (raw.Thread (length old)))) (old ++ new_thread k ∷ [])
+fork_slots : (b : CodeBody) (old new : List Thread) (t : ℕ) (k : Stacked) (th : Thread) → slice_get old t ≡ Some th → new ≡ changed t (with_control (c.Ret (raw.Thread (length old)))) (old ++ new_thread k ∷ [])
     → slots_of b new ≡ spawned (term_of b k) (answered t (val.Thread (length (slots_of b old))) (slots_of b old))
 fork_slots b old new t k th is list =
     ap (slots_of b) list
@@ -74,13 +74,13 @@ module _ (old new : World) (t : ℕ) (goes : Goes old) (k : Stacked)
     (list : new.threads.list.items ≡ changed t (with_control (c.Ret (raw.Thread (length old.threads.list.items)))) (old.threads.list.items ++ new_thread k ∷ []))
     (flight : new.threads.flight ≡ old.threads.flight) (cells : new.cells ≡ old.cells) (sleepers : new.sleepers ≡ old.sleepers)
     (counts : (new.clock ≡ old.clock) × (new.instances ≡ old.instances) × (new.timeouts ≡ old.timeouts) × (new.printed ≡ old.printed)) where
-  forked : (th : Thread) → slice_get old.threads.list.items t ≡ Some th → (b : Body) (st : SlotTerm) → term_of b k ≡ st → state_of b new ≡ forks_to t st (state_of b old)
+  forked : (th : Thread) → slice_get old.threads.list.items t ≡ Some th → (b : CodeBody) (st : SlotTerm) → term_of b k ≡ st → state_of b new ≡ forks_to t st (state_of b old)
   forked th is b st e =
       state_kept old new b (spawned st (answered t (val.Thread (length (slots_of b old.threads.list.items))) (slots_of b old.threads.list.items)))
       (fork_slots b old.threads.list.items new.threads.list.items t k th is list ∙ ap (λ z. spawned z (answered t (val.Thread (length (slots_of b old.threads.list.items))) (slots_of b old.threads.list.items))) e)
       flight cells sleepers counts
 
-  pub fork_made : (i : ActId) (env : List Value) (s : Stands old t (o.Fork i env)) (m : Mask) → ((b : Body) → m ≡ mask_from Unmasked (frames_of b s.thread.stack.frames))
+  pub fork_made : (i : ActId) (env : List Value) (s : Stands old t (o.Fork i env)) (m : Mask) → ((b : CodeBody) → m ≡ mask_from Unmasked (frames_of b s.thread.stack.frames))
       → k ≡ stacked (c.Doing i env) (frame.Mask (masking m Unmasked) ∷ []) → Makes (entry.Op t) old new
   fork_made i env s m masked is =
       made (entry.Op t) old new (λ b. forks_to t (at (doing (act_of b i) (values_of env)) (mask_in (mask_from Unmasked (frames_of b s.thread.stack.frames)) ∷ [])) (state_of b old))
@@ -88,7 +88,7 @@ module _ (old new : World) (t : ℕ) (goes : Goes old) (k : Stacked)
       (ap (term_of b) is ∙ ap (λ z. at (doing (act_of b i) (values_of env)) (mask_in z ∷ [])) (masked b)))
       (λ b a. fork_enters b.of.value a (state_of b old) t (act_of b i) (values_of env) (stands_at old t (o.Fork i env) s b) (main_goes old goes b))
 
-  pub fork_unmask_made : (i : ActId) (env more : List Value) (s : Stands old t (o.ForkUnmask i env)) (m : Mask) → ((b : Body) → m ≡ mask_from Unmasked (frames_of b s.thread.stack.frames))
+  pub fork_unmask_made : (i : ActId) (env more : List Value) (s : Stands old t (o.ForkUnmask i env)) (m : Mask) → ((b : CodeBody) → m ≡ mask_from Unmasked (frames_of b s.thread.stack.frames))
       → more ≡ env ++ raw.Restore Unmasked ∷ [] → k ≡ stacked (c.Doing i more) (frame.Mask (masking m Unmasked) ∷ []) → Makes (entry.Op t) old new
   fork_unmask_made i env more s m masked pushed is =
       let values : values_of more ≡ values_of env ++ val.Restore Unmasked ∷ [] = ap values_of pushed ∙ (values_push env (raw.Restore Unmasked) ∙ ap (λ u. values_of env ++ u ∷ []) (value_of-Restore Unmasked)) in

@@ -16,7 +16,7 @@ use Rattle.rules_meaning.specs.Values as val
 use Rattle.rules_meaning.specs.Values.{V}
 use Rattle.rules_expansion.specs.declared.primitive.Primitive.{Primitive}
 use Rattle.rules_expansion.specs.declared.primitive.Primitive.TheVariants.{TakeMVar, PutMVar, ReadMVar, ThreadDelay, ThrowTo}
-use Rattle.rules_code.specs.declared.code.Body.{Body}
+use Rattle.rules_code.specs.declared.code.CodeBody.{CodeBody}
 use Rattle.rules_waiting.specs.OneCell.{Leave, call, stands_in}
 use Rattle.rules_waiting.specs.Waiting.{Reason, Taking, Reading, Putting, Throwing, Sleeping, flying_to, first_thrown, withdrawn, still_asleep}
 use Rattle.slot_laws.specs.SlotRules.{SlotPart, performs, calls}
@@ -74,11 +74,11 @@ apart_live w live t u e f q =
     ∥∥₁_elim live (λ x y. absurd x) (λ p. thrower_apart (script_of p.0.of.value) p.1 p.2.state p.2.run (state_of p.0 w) p.2.represents t u e f q)
 
 -- ---- who is blocked at a cell stands in its line
-module _ (w : World) (b : Body) (es : List Entry) (l : Live b es w) where
+module _ (w : World) (b : CodeBody) (es : List Entry) (l : Live b es w) where
   in_line : (t m : ℕ) (th : Thread) → slice_get w.threads.list.items t ≡ Some th → th.blocked ≡ true → WaitsAt m (part_of b th.stack.control) → InLine t m (state_of b w)
   in_line t m th is k a = thread_is_in_line b.of.value es l.state l.run (state_of b w) l.represents t m (slot_of b th) (slots_is b w.threads.list.items t th is) k a
 
-pub line_live : (w : World) → IsLive w → (t m : ℕ) (th : Thread) → slice_get w.threads.list.items t ≡ Some th → th.blocked ≡ true → ((b : Body) → WaitsAt m (part_of b th.stack.control)) → (m < length w.cells.cells) × (stands_in t (cell_at m w.cells).line ≡ true)
+pub line_live : (w : World) → IsLive w → (t m : ℕ) (th : Thread) → slice_get w.threads.list.items t ≡ Some th → th.blocked ≡ true → ((b : CodeBody) → WaitsAt m (part_of b th.stack.control)) → (m < length w.cells.cells) × (stands_in t (cell_at m w.cells).line ≡ true)
 line_live w live t m th is k a = (
   ∥∥₁_elim live (hlevel le_prop) (λ p. subst (λ n. m < n) (cells_count w.cells.cells) (in_line w p.0 p.1 p.2 t m th is k (a p.0)).exists),
   ∥∥₁_elim live (hlevel Bool-set) (λ p. sym (stands_same t m w.cells) ∙ (in_line w p.0 p.1 p.2 t m th is k (a p.0)).stands),
@@ -86,7 +86,7 @@ line_live w live t m th is k a = (
 
 -- what leaving asks, also where other threads and the flight have changed
 module _ (w v : World) (live : IsLive w) (t : ℕ) (th : Thread) (is : slice_get w.threads.list.items t ≡ Some th) (cells : v.cells ≡ w.cells) where
-  at_cell : (m : ℕ) → th.blocked ≡ true → ((b : Body) → WaitsAt m (part_of b th.stack.control)) → (m < length v.cells.cells) × (stands_in t (cell_at m v.cells).line ≡ true)
+  at_cell : (m : ℕ) → th.blocked ≡ true → ((b : CodeBody) → WaitsAt m (part_of b th.stack.control)) → (m < length v.cells.cells) × (stands_in t (cell_at m v.cells).line ≡ true)
   at_cell m k a = subst (λ (z : Mvars). (m < length z.cells) × (stands_in t (cell_at m z).line ≡ true)) (sym cells) (line_live w live t m th is k a)
 
   may_by : (q : Bool) (k : Control) → th.blocked ≡ q → th.stack.control ≡ k → MayLeave t q k v
@@ -99,7 +99,7 @@ module _ (w v : World) (live : IsLive w) (t : ℕ) (th : Thread) (is : slice_get
   may_leave = may_by th.blocked th.stack.control refl refl
 
 -- ---- where it waits, also where another's throw is over
-module _ (w v : World) (b : Body) (es : List Entry) (l : Live b es w) (t u : ℕ) (th : Thread) (is : slice_get w.threads.list.items t ≡ Some th) (cells : v.cells ≡ w.cells) (flight : v.threads.flight.list ≡ withdrawn u w.threads.flight.list)
+module _ (w v : World) (b : CodeBody) (es : List Entry) (l : Live b es w) (t u : ℕ) (th : Thread) (is : slice_get w.threads.list.items t ≡ Some th) (cells : v.cells ≡ w.cells) (flight : v.threads.flight.list ≡ withdrawn u w.threads.flight.list)
     (sleepers : v.sleepers.list ≡ w.sleepers.list) where
   here : slice_get (slots_of b w.threads.list.items) t ≡ Some (slot_of b th)
   here = slots_is b w.threads.list.items t th is

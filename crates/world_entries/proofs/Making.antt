@@ -3,7 +3,7 @@ use Rattle.std.proofs.Common.{◌≡◌, ℕ, List, Option, Some, None, slice_ge
 use Rattle.std.proofs.Math.Logic.{∥∥₁_elim}
 use Rattle.hs_rules.specs.declared.entry.Entry.{Entry}
 use Rattle.rules_typing.specs.TypingScripts.{Accepted}
-use Rattle.rules_code.specs.declared.code.Body.{Body}
+use Rattle.rules_code.specs.declared.code.CodeBody.{CodeBody}
 use Rattle.slot_laws.specs.SlotRules.{performs}
 use Rattle.slot_states.specs.SlotStates.{SlotState, Enters, StandsAt, MainGoes}
 use Rattle.frame_stack.specs.declared.control.Operation.{Operation}
@@ -17,11 +17,11 @@ use Rattle.world_entries.specs.declared.world.World.{World}
 use Rattle.world_entries.specs.Worlds.{state_of, Makes, Stands, Goes}
 
 -- where the new world is what an entry makes of the old one, the entry makes it
-pub made : (e : Entry) (old new : World) (y : Body → SlotState) → ((b : Body) → state_of b new ≡ y b) → ((b : Body) → Accepted b.of.value → Enters b.of.value e (state_of b old) (y b)) → Makes e old new
+pub made : (e : Entry) (old new : World) (y : CodeBody → SlotState) → ((b : CodeBody) → state_of b new ≡ y b) → ((b : CodeBody) → Accepted b.of.value → Enters b.of.value e (state_of b old) (y b)) → Makes e old new
 made e old new y same law b accepted stands = subst (Enters b.of.value e (state_of b old)) (sym (same b)) (law b accepted)
 
 -- ---- threads
-abbrev pub stands_at : (w : World) (t : ℕ) (o : Operation) → Stands w t o → (b : Body) → StandsAt (state_of b w) t (performs (op_of b o))
+abbrev pub stands_at : (w : World) (t : ℕ) (o : Operation) → Stands w t o → (b : CodeBody) → StandsAt (state_of b w) t (performs (op_of b o))
 stands_at w t o s b = record {
   thread = slot_of b s.thread;
   is = slots_is b w.threads.list.items t s.thread s.is;
@@ -30,7 +30,7 @@ stands_at w t o s b = record {
   free = s.free;
 }
 
-pub main_goes : (w : World) → Goes w → (b : Body) → MainGoes (state_of b w)
+pub main_goes : (w : World) → Goes w → (b : CodeBody) → MainGoes (state_of b w)
 main_goes w g b = record { main = slot_of b g.main; is = slots_is b w.threads.list.items 0 g.main g.is; unfinished = g.unfinished }
 
 pub stands_op : (w : World) (t : ℕ) (o : Operation) → Stands w t o → IsAt t (λ (th : Thread). IsOp th.stack.control) w.threads.list.items

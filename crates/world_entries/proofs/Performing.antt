@@ -18,7 +18,7 @@ use Rattle.rules_meaning.specs.Values as val
 use Rattle.rules_meaning.specs.Values.{V, UnitValue, value_of}
 use Rattle.rules_trees.specs.Programs.{script_of}
 use Rattle.rules_typing.specs.TypingScripts.{Accepted}
-use Rattle.rules_code.specs.declared.code.Body.{Body}
+use Rattle.rules_code.specs.declared.code.CodeBody.{CodeBody}
 use Rattle.rules_waiting.specs.Waiting.{Flying, is_throwing, is_sleeping, sleeper_added}
 use Rattle.exn_flight.specs.Asleep.{Asleep}
 use Rattle.slot_laws.specs.SlotRules.{at, throw, performs, mask_from}
@@ -42,7 +42,7 @@ use Rattle.world_entries.proofs.Making.{made, stands_at, main_goes}
 
 -- ---- what a world stands for whose threads are others
 
-pub with_threads : (w : World) (n : Threads) (b : Body) (ths : List SlotThread) (fs : List Flying) → slots_of b n.list.items ≡ ths → n.flight.list ≡ fs
+pub with_threads : (w : World) (n : Threads) (b : CodeBody) (ths : List SlotThread) (fs : List Flying) → slots_of b n.list.items ≡ ths → n.flight.list ≡ fs
     → state_of b (record w { threads = n }) ≡ record (state_of b w) { threads = ths; flight = fs }
 with_threads w n b ths fs e f =
     ap (λ xs. record (state_of b w) { threads = xs; flight = n.flight.list }) e
@@ -50,7 +50,7 @@ with_threads w n b ths fs e f =
 
 -- thread t is answered
 pub with_answer : (w : World) (n : Threads) (t : ℕ) (v : Value) (u : V) → value_of v ≡ u → n.list.items ≡ changed t (with_control (c.Ret v)) w.threads.list.items → n.flight ≡ w.threads.flight
-    → (b : Body) → state_of b (record w { threads = n }) ≡ answer t u (state_of b w)
+    → (b : CodeBody) → state_of b (record w { threads = n }) ≡ answer t u (state_of b w)
 with_answer w n t v u is list flight b =
     with_threads w n b (answered t u (slots_of b w.threads.list.items)) w.threads.flight.list
     (ap (slots_of b) list ∙ (slots_resumed b w.threads.list.items t (c.Ret v) ∙ ap (λ x. answered t x (slots_of b w.threads.list.items)) is))
@@ -58,7 +58,7 @@ with_answer w n t v u is list flight b =
 
 -- it throws
 pub with_throw : (w : World) (n : Threads) (t : ℕ) (e : Exn) → n.list.items ≡ changed t (with_control (c.Throw e)) w.threads.list.items → n.flight ≡ w.threads.flight
-    → (b : Body) → state_of b (record w { threads = n }) ≡ throws t e (state_of b w)
+    → (b : CodeBody) → state_of b (record w { threads = n }) ≡ throws t e (state_of b w)
 with_throw w n t e list flight b =
     with_threads w n b (resumed t (throw e) (slots_of b w.threads.list.items)) w.threads.flight.list
     (ap (slots_of b) list ∙ slots_resumed b w.threads.list.items t (c.Throw e))
@@ -68,7 +68,7 @@ with_throw w n t e list flight b =
 abbrev pub IsBlocked : ℕ → List Thread → List Thread → Type 0
 IsBlocked t old new = (l : Bool) × (new ≡ changed t (λ th. record th { blocked = true; listed = l }) old)
 
-pub blocked_slots : (b : Body) (t : ℕ) (old new : List Thread) → IsBlocked t old new → slots_of b new ≡ blocked_at t (slots_of b old)
+pub blocked_slots : (b : CodeBody) (t : ℕ) (old new : List Thread) → IsBlocked t old new → slots_of b new ≡ blocked_at t (slots_of b old)
 blocked_slots b t old new h = ap (slots_of b) h.1 ∙ slots_blocked b old t h.0
 
 -- ---- what is known of a thread that stands at an operation
@@ -97,8 +97,8 @@ module _ (w : World) (t : ℕ) (q : Operation) (live : IsLive w) (s : Stands w t
   lent_target u e is x at = slice_get_read w.threads.list.items w.threads.list.len u x w.threads.list.ok.0 (target_is_there u e is) at
 
 -- the masking state of the thread that is lent
-pub masked_as : (w : World) (t : ℕ) (q : Operation) (s : Stands w t q) (x : Thread) → x ≡ slice_index_or w.threads.list.items t x → (m : Mask) → ((b : Body) → m ≡ mask_from Unmasked (frames_of b x.stack.frames))
-    → (b : Body) → m ≡ mask_from Unmasked (frames_of b s.thread.stack.frames)
+pub masked_as : (w : World) (t : ℕ) (q : Operation) (s : Stands w t q) (x : Thread) → x ≡ slice_index_or w.threads.list.items t x → (m : Mask) → ((b : CodeBody) → m ≡ mask_from Unmasked (frames_of b x.stack.frames))
+    → (b : CodeBody) → m ≡ mask_from Unmasked (frames_of b s.thread.stack.frames)
 masked_as w t q s x at m is b = is b ∙ ap (λ (th : Thread). mask_from Unmasked (frames_of b th.stack.frames)) (lent_is w.threads.list.items t s.thread x s.is at)
 
 -- ---- signs
@@ -115,10 +115,10 @@ less_is_no_more k e = cc e
 
 module _ (w : World) (t : ℕ) (goes : Goes w) (n : Threads) where
   -- it prints
-  abbrev PrintEnters : Body → ℕ → Type 0
+  abbrev PrintEnters : CodeBody → ℕ → Type 0
   PrintEnters b k = Enters b.of.value (entry.Op t) (state_of b w) (prints t k (state_of b w))
 
-  prints_law : (k : ℕ) → Prints w t k → (b : Body) → Accepted b.of.value → PrintEnters b k
+  prints_law : (k : ℕ) → Prints w t k → (b : CodeBody) → Accepted b.of.value → PrintEnters b k
   prints_law k (inl p) b a = subst (PrintEnters b) (sym p.2) (prints_text b.of.value a (state_of b w) t p.0 (stands_at w t (o.PutStr p.0) p.1 b) (main_goes w goes b))
   prints_law k (inr (inl p)) b a = subst (PrintEnters b) (sym p.2) (prints_line b.of.value a (state_of b w) t p.0 (stands_at w t (o.PutStrLn p.0) p.1 b) (main_goes w goes b))
   prints_law k (inr (inr p)) b a = subst (PrintEnters b) (sym p.2) (prints_error_line b.of.value a (state_of b w) t p.0 (stands_at w t (o.HPutStrLn p.0) p.1 b) (main_goes w goes b))
@@ -131,8 +131,8 @@ module _ (w : World) (t : ℕ) (goes : Goes w) (n : Threads) where
       (prints_law k p)
 
   -- it is answered, and all else stays
-  answer_made : (v : Value) (u : Body → V) → ((b : Body) → value_of v ≡ u b) → n.list.items ≡ changed t (with_control (c.Ret v)) w.threads.list.items → n.flight ≡ w.threads.flight
-      → ((b : Body) → Accepted b.of.value → Enters b.of.value (entry.Op t) (state_of b w) (answer t (u b) (state_of b w))) → Makes (entry.Op t) w (record w { threads = n })
+  answer_made : (v : Value) (u : CodeBody → V) → ((b : CodeBody) → value_of v ≡ u b) → n.list.items ≡ changed t (with_control (c.Ret v)) w.threads.list.items → n.flight ≡ w.threads.flight
+      → ((b : CodeBody) → Accepted b.of.value → Enters b.of.value (entry.Op t) (state_of b w) (answer t (u b) (state_of b w))) → Makes (entry.Op t) w (record w { threads = n })
   answer_made v u is list flight law =
       made (entry.Op t) w (record w { threads = n }) (λ b. answer t (u b) (state_of b w)) (λ b. with_answer w n t v (u b) (is b) list flight b) law
 
@@ -140,7 +140,7 @@ module _ (w : World) (t : ℕ) (goes : Goes w) (n : Threads) where
   thread_made s list flight =
       answer_made (raw.Thread t) (λ b. val.Thread t) (λ b. value_of-Thread t) list flight (λ b a. answers_thread b.of.value a (state_of b w) t (stands_at w t o.MyThreadId s b) (main_goes w goes b))
 
-  pub masking_made : (s : Stands w t o.GetMaskingState) (m : Mask) (text : List ℕ) → ((b : Body) → m ≡ mask_from Unmasked (frames_of b s.thread.stack.frames)) → text ≡ masking_text m
+  pub masking_made : (s : Stands w t o.GetMaskingState) (m : Mask) (text : List ℕ) → ((b : CodeBody) → m ≡ mask_from Unmasked (frames_of b s.thread.stack.frames)) → text ≡ masking_text m
       → n.list.items ≡ changed t (with_control (c.Ret (raw.Text text))) w.threads.list.items → n.flight ≡ w.threads.flight → Makes (entry.Op t) w (record w { threads = n })
   masking_made s m text mask is list flight =
       answer_made (raw.Text text) (λ b. val.Text (masking_text (mask_from Unmasked (frames_of b s.thread.stack.frames)))) (λ b. value_of-Text text ∙ ap val.Text (is ∙ ap masking_text (mask b))) list flight
@@ -175,7 +175,7 @@ module _ (w : World) (t : ℕ) (goes : Goes w) (n : Threads) where
       (λ b a. answers_acquired b.of.value a (state_of b w) t (stands_at w t o.Acquired s b) (main_goes w goes b))
 
   -- ---- sleeping
-  none_law : (z : ℤ) → int_le z (pos 0) ≡ true → Stands w t (o.ThreadDelay z) → (b : Body) → Accepted b.of.value → Enters b.of.value (entry.Op t) (state_of b w) (answer t UnitValue (state_of b w))
+  none_law : (z : ℤ) → int_le z (pos 0) ≡ true → Stands w t (o.ThreadDelay z) → (b : CodeBody) → Accepted b.of.value → Enters b.of.value (entry.Op t) (state_of b w) (answer t UnitValue (state_of b w))
   none_law (pos zero) e s b a = delay_none b.of.value a (state_of b w) t (stands_at w t (o.ThreadDelay (pos 0)) s b) (main_goes w goes b)
   none_law (pos (suc k)) e s b a = absurd (not_positive k e)
   none_law (negsuc k) e s b a = delay_less b.of.value a (state_of b w) t k (stands_at w t (o.ThreadDelay (negsuc k)) s b) (main_goes w goes b)
@@ -185,7 +185,7 @@ module _ (w : World) (t : ℕ) (goes : Goes w) (n : Threads) where
   none_made z fits e s list flight =
       answer_made raw.Unit (λ b. UnitValue) (λ b. value_of-Unit) list flight (none_law z (subst (λ x. int_le x (pos 0) ≡ true) (to_z-of_z fits) e) s)
 
-  sleeps_law : (z : ℤ) → int_le z (pos 0) ≡ false → Stands w t (o.ThreadDelay z) → (b : Body) → Accepted b.of.value
+  sleeps_law : (z : ℤ) → int_le z (pos 0) ≡ false → Stands w t (o.ThreadDelay z) → (b : CodeBody) → Accepted b.of.value
       → Enters b.of.value (entry.Op t) (state_of b w) (sleeps t (min (w.clock + nat_abs z) 18446744073709551615) (state_of b w))
   sleeps_law (pos zero) e s b a = absurd (none_is_no_more e)
   sleeps_law (pos (suc k)) e s b a = delay_sleeps b.of.value a (state_of b w) t k (stands_at w t (o.ThreadDelay (pos (suc k))) s b) (main_goes w goes b)

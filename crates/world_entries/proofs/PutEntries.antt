@@ -5,7 +5,7 @@ use Rattle.hs_base.specs.declared.value.Value.{Value}
 use Rattle.hs_rules.specs.declared.entry.Entry.TheVariants as entry
 use Rattle.rules_meaning.specs.Values.{value_of}
 use Rattle.rules_typing.specs.TypingScripts.{Accepted}
-use Rattle.rules_code.specs.declared.code.Body.{Body}
+use Rattle.rules_code.specs.declared.code.CodeBody.{CodeBody}
 use Rattle.rules_waiting.specs.OneCell.{Cell, Call, Reply, shown, stands_in, readers, leave_line}
 use Rattle.cell_laws.specs.Mapped.{map_call, map_replies}
 use Rattle.mvar_cell.specs.Mvars.{Mvars}
@@ -141,8 +141,8 @@ module _ (v : Value) (m : ℕ) (old base mid : World) (h : AllShown v m old base
   -- ---- the world after the put
 
   module _ (t : ℕ) (q : Call Value) (new : World) (rest : Elsewhere mid new)
-      (law : (b : Body) → Accepted b.of.value → Enters b.of.value (entry.Op t) (state_of b old) (called t m (map_call value_of q) (state_of b old))) where
-    whole : (rs : List (Reply Value)) → IsCall q m old.cells new.cells rs → ((b : Body) → slots_of b new.threads.list.items ≡ told_all t m (map_replies value_of rs) (slots_of b old.threads.list.items)) → Makes (entry.Op t) old new
+      (law : (b : CodeBody) → Accepted b.of.value → Enters b.of.value (entry.Op t) (state_of b old) (called t m (map_call value_of q) (state_of b old))) where
+    whole : (rs : List (Reply Value)) → IsCall q m old.cells new.cells rs → ((b : CodeBody) → slots_of b new.threads.list.items ≡ told_all t m (map_replies value_of rs) (slots_of b old.threads.list.items)) → Makes (entry.Op t) old new
     whole rs call e =
         call_made old base new t m q rs h.same (subst (λ (cs : Mvars). IsCall q m cs new.cells rs) (sym h.same_cells) call)
         (λ b. e b ∙ ap (λ l. told_all t m (map_replies value_of rs) (slots_of b l.items)) (sym h.same_list))
@@ -150,7 +150,7 @@ module _ (v : Value) (m : ℕ) (old base mid : World) (h : AllShown v m old base
 
     -- somebody is answered after the readers
     pub answered_makes : (r : Reply Value) (rs : List (Reply Value)) → IsCall q m old.cells new.cells (shown v (readers (cell_at m old.cells).line) ++ r ∷ rs)
-        → ((b : Body) → slots_of b new.threads.list.items ≡ told_all t m (map_replies value_of (r ∷ rs)) (slots_of b mid.threads.list.items)) → Makes (entry.Op t) old new
+        → ((b : CodeBody) → slots_of b new.threads.list.items ≡ told_all t m (map_replies value_of (r ∷ rs)) (slots_of b mid.threads.list.items)) → Makes (entry.Op t) old new
     answered_makes r rs call e =
         whole (shown v (readers (cell_at m old.cells).line) ++ r ∷ rs) call
         (λ b. e b ∙ (ap (λ ths. told_all t m (map_replies value_of (r ∷ rs)) (slots_of b ths)) h.list ∙ sym (told_readers b t m v (readers (cell_at m old.cells).line) r rs old.threads.list.items)))

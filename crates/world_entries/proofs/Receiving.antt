@@ -17,7 +17,7 @@ use Rattle.frame_stack.specs.declared.control.Control.{Control}
 use Rattle.frame_stack.specs.declared.control.Control.TheVariants as c
 use Rattle.frame_stack.specs.Parts.{IsThrow}
 use Rattle.thread_table.specs.declared.thread.Thread.{Thread}
-use Rattle.thread_table.specs.declared.kinds.Kind.TheVariants as kind
+use Rattle.thread_table.specs.declared.kinds.EntryKind.TheVariants as kind
 use Rattle.thread_table.specs.Kinds.{IsKind}
 use Rattle.thread_table.specs.Listing.{is_throw}
 use Rattle.thread_table.specs.Table.{slot_of, slots_of, changed, with_control, IsAt}

@@ -5,7 +5,7 @@ use Rattle.std.proofs.Math.Bool.{Bool-set}
 use Rattle.std.proofs.Math.Logic.{∥∥₁_elim, ∥∥₁_map}
 use Rattle.hs_base.specs.declared.value.Value.{Value}
 use Rattle.rules_meaning.specs.Values.{value_of}
-use Rattle.rules_code.specs.declared.code.Body.{Body}
+use Rattle.rules_code.specs.declared.code.CodeBody.{CodeBody}
 use Rattle.hs_rules.specs.declared.entry.Entry.{Entry}
 use Rattle.rules_trees.specs.Programs.{script_of}
 use Rattle.rules_waiting.specs.OneCell.{stands_in}
@@ -31,15 +31,15 @@ use Rattle.world_entries.proofs.CellsOf.{cells_count, stands_same, stands_nowher
 
 -- ---- a thread by what it stands for
 
-slotted_from : (b : Body) (q : Option Thread) (f : SlotThread) → option_map (slot_of b) q ≡ Some f → (th : Thread) × (q ≡ Some th) × (slot_of b th ≡ f)
+slotted_from : (b : CodeBody) (q : Option Thread) (f : SlotThread) → option_map (slot_of b) q ≡ Some f → (th : Thread) × (q ≡ Some th) × (slot_of b th ≡ f)
 slotted_from b None f h = absurd (cc h)
 slotted_from b (Some th) f h = (th, refl, cc h)
 
-pub thread_of_slot : (b : Body) (ths : List Thread) (t : ℕ) (f : SlotThread) → slice_get (slots_of b ths) t ≡ Some f → (th : Thread) × (slice_get ths t ≡ Some th) × (slot_of b th ≡ f)
+pub thread_of_slot : (b : CodeBody) (ths : List Thread) (t : ℕ) (f : SlotThread) → slice_get (slots_of b ths) t ≡ Some f → (th : Thread) × (slice_get ths t ≡ Some th) × (slot_of b th ≡ f)
 thread_of_slot b ths t f h = slotted_from b (slice_get ths t) f (sym (slots_at b ths t) ∙ h)
 
 -- who waits at a cell stands at an operation
-pub waits_op : (b : Body) (m : ℕ) (k : Control) → WaitsAt m (part_of b k) → IsOp k
+pub waits_op : (b : CodeBody) (m : ℕ) (k : Control) → WaitsAt m (part_of b k) → IsOp k
 waits_op b m (c.Doing i vs) h = elim h [ ]
 waits_op b m (c.Ret v) h = elim h [ ]
 waits_op b m (c.Throw e) h = elim h [ ]
@@ -54,7 +54,7 @@ pub record InLineOf (w : World) (u : ℕ) : Type 0 where
   pub op : IsOp thread.stack.control
 
 module _ (w : World) where
-  line_of_live : (u m : ℕ) → stands_in u (cell_at m w.cells).line ≡ true → ((b : Body) × (es : List Entry) × Live b es w) → InLineOf w u
+  line_of_live : (u m : ℕ) → stands_in u (cell_at m w.cells).line ≡ true → ((b : CodeBody) × (es : List Entry) × Live b es w) → InLineOf w u
   line_of_live u m h (b, es, l) =
       let f = line_is_of_threads b.of.value es l.state l.run (state_of b w) l.represents u m (stands_same u m w.cells ∙ h) in
       let th = thread_of_slot b w.threads.list.items u f.0 f.1 in
@@ -90,7 +90,7 @@ module _ (w : World) where
           stands_nowhere t w.cells (free_is_nowhere l.0.of.value (state_of l.0 w) l.2.state l.2.represents t (slot_of l.0 s.thread) (slots_is l.0 w.threads.list.items t s.thread s.is) s.free))
 
       -- the cell of an operation that waits there is there
-      waits_below_at : (m : ℕ) → ((b : Body) → WaitsAt m (performs (op_of b q))) → m < length w.cells.cells
+      waits_below_at : (m : ℕ) → ((b : CodeBody) → WaitsAt m (performs (op_of b q))) → m < length w.cells.cells
       waits_below_at m waits =
           ∥∥₁_elim live (hlevel props) (λ l.
           let at = stands_at w t q s l.0 in

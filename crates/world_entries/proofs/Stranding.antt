@@ -11,7 +11,7 @@ use Rattle.hs_rules.specs.declared.entry.Entry.TheVariants as entry
 use Rattle.hs_rules.specs.Entries.{is_interruptible}
 use Rattle.hs_laws.proofs.Lists.{cond_false, equal_or, item_same, StandsIn}
 use Rattle.rules_expansion.specs.declared.primitive.Primitive.TheVariants.{TakeMVar, PutMVar, ReadMVar}
-use Rattle.rules_code.specs.declared.code.Body.{Body}
+use Rattle.rules_code.specs.declared.code.CodeBody.{CodeBody}
 use Rattle.rules_waiting.specs.OneCell.{Leave, stands_in, call}
 use Rattle.slot_laws.specs.SlotRules.{SlotPart, throw, performs, calls, mask_from}
 use Rattle.slot_states.specs.SlotStates.{SlotThread, set_thread, resumed_by, resumed, all_resumed, left_lines, all_left, strands, Enters}
@@ -55,19 +55,19 @@ abbrev is_open : Option SlotThread → Bool
 is_open None = false
 is_open (Some th) = th.blocked && is_at_line th.term.part && is_interruptible (mask_from Unmasked th.term.frames)
 
-same_line : (b : Body) (k : Control) → is_at_line (part_of b k) ≡ is_at_cell k
+same_line : (b : CodeBody) (k : Control) → is_at_line (part_of b k) ≡ is_at_cell k
 same_line b (c.Op (o.TakeMVar m)) = refl
 same_line b (c.Op (o.ReadMVar m)) = refl
 same_line b (c.Op (o.PutMVar m a)) = refl
 same_line b _ = refl
 
-same_open : (b : Body) (q : Option Thread) → is_open (option_map (slot_of b) q) ≡ waits_open q
+same_open : (b : CodeBody) (q : Option Thread) → is_open (option_map (slot_of b) q) ≡ waits_open q
 same_open b None = refl
 same_open b (Some th) =
     ap (λ z. th.blocked && z && is_interruptible (mask_from Unmasked (frames_of b th.stack.frames))) (same_line b th.stack.control)
     ∙ ap (λ m. th.blocked && is_at_cell th.stack.control && is_interruptible m) (sym (masks_inside b Unmasked th.stack.frames))
 
-open_at : (b : Body) (ths : List Thread) (t : ℕ) → is_open (slice_get (slots_of b ths) t) ≡ waits_open (slice_get ths t)
+open_at : (b : CodeBody) (ths : List Thread) (t : ℕ) → is_open (slice_get (slots_of b ths) t) ≡ waits_open (slice_get ths t)
 open_at b ths t = ap is_open (slots_at b ths t) ∙ same_open b (slice_get ths t)
 
 both_true : (x y : Bool) → x && y ≡ true → (x ≡ true) × (y ≡ true)
@@ -114,9 +114,9 @@ resumed_last (u ∷ ts) t p ths = resumed_last ts t p (resumed u p ths)
 -- ---- the loop
 -- these are stranded so far, and no other
 pub record Stranding (ts : List ℕ) (old now : World) : Type 0 where
-  pub slots : (b : Body) → slots_of b now.threads.list.items ≡ all_resumed ts (throw BlockedIndefinitely) (slots_of b old.threads.list.items)
+  pub slots : (b : CodeBody) → slots_of b now.threads.list.items ≡ all_resumed ts (throw BlockedIndefinitely) (slots_of b old.threads.list.items)
   pub each : (u : ℕ) → StandsIn u ts → waits_open (slice_get old.threads.list.items u) ≡ true
-  pub cells : (b : Body) (es : List Entry) → Live b es old → slot_cells now.cells.cells ≡ all_left ts (slot_cells old.cells.cells)
+  pub cells : (b : CodeBody) (es : List Entry) → Live b es old → slot_cells now.cells.cells ≡ all_left ts (slot_cells old.cells.cells)
   pub flight : now.threads.flight ≡ old.threads.flight
   pub sleepers : now.sleepers ≡ old.sleepers
   pub counts : SameCounts old now
@@ -135,20 +135,20 @@ stranding_first w room = record {
 
 module _ (ts : List ℕ) (old now : World) (g : Stranding ts old now) where
   -- who is stranded isn't to be stranded again
-  closed : (b : Body) (u : ℕ) → is_among u ts ≡ true → waits_open (slice_get now.threads.list.items u) ≡ false
+  closed : (b : CodeBody) (u : ℕ) → is_among u ts ≡ true → waits_open (slice_get now.threads.list.items u) ≡ false
   closed b u a =
       sym (open_at b now.threads.list.items u)
       ∙ (ap (λ z. is_open (slice_get z u)) (g.slots b) ∙ free_closed (slice_get (all_resumed ts (throw BlockedIndefinitely) (slots_of b old.threads.list.items)) u) (resumed_free ts (throw BlockedIndefinitely) (slots_of b old.threads.list.items) u a))
 
   -- and nothing has changed of the others
-  others : (b : Body) (u : ℕ) → is_among u ts ≡ false → slice_get (slots_of b now.threads.list.items) u ≡ slice_get (slots_of b old.threads.list.items) u
+  others : (b : CodeBody) (u : ℕ) → is_among u ts ≡ false → slice_get (slots_of b now.threads.list.items) u ≡ slice_get (slots_of b old.threads.list.items) u
   others b u a = ap (λ z. slice_get z u) (g.slots b) ∙ resumed_other ts (throw BlockedIndefinitely) (slots_of b old.threads.list.items) u a
 
-  still_open : (b : Body) (u : ℕ) → is_among u ts ≡ false → waits_open (slice_get now.threads.list.items u) ≡ waits_open (slice_get old.threads.list.items u)
+  still_open : (b : CodeBody) (u : ℕ) → is_among u ts ≡ false → waits_open (slice_get now.threads.list.items u) ≡ waits_open (slice_get old.threads.list.items u)
   still_open b u a = sym (open_at b now.threads.list.items u) ∙ (ap is_open (others b u a) ∙ open_at b old.threads.list.items u)
 
   module _ (t : ℕ) (waits : waits_open (slice_get now.threads.list.items t) ≡ true) where
-    not_yet : (b : Body) → is_among t ts ≡ false
+    not_yet : (b : CodeBody) → is_among t ts ≡ false
     not_yet b = by (is_among t ts) refl
       where
         by : (q : Bool) → is_among t ts ≡ q → is_among t ts ≡ false
@@ -156,7 +156,7 @@ module _ (ts : List ℕ) (old now : World) (g : Stranding ts old now) where
         by true e = let z : true ≡ false = sym waits ∙ closed b t e in absurd (cc z)
 
     -- it stands in the line of its cell
-    module _ (m : ℕ) (at : IsAt t (λ (th : Thread). WaitsAtCell m th.stack.control) now.threads.list.items) (b : Body) (es : List Entry) (l : Live b es old) where
+    module _ (m : ℕ) (at : IsAt t (λ (th : Thread). WaitsAtCell m th.stack.control) now.threads.list.items) (b : CodeBody) (es : List Entry) (l : Live b es old) where
       was_in_line : InLine t m (state_of b old)
       was_in_line =
           thread_is_in_line b.of.value es l.state l.run (state_of b old) l.represents t m (slot_of b at.thread)
@@ -194,7 +194,7 @@ module _ (ts : List ℕ) (old now : World) (g : Stranding ts old now) where
     one_of live (v ∷ us) h u (inr k) = one_of live us (λ w i. h w (inr i)) u k
 
     pub stranding_next : (new : World) → IsLive old → (m : ℕ) → IsAt t (λ (th : Thread). WaitsAtCell m th.stack.control) now.threads.list.items
-        → ((b : Body) → slots_of b new.threads.list.items ≡ resumed t (throw BlockedIndefinitely) (slots_of b now.threads.list.items)) → new.threads.flight ≡ now.threads.flight → length new.threads.stuck.items ≤ work_room new.threads
+        → ((b : CodeBody) → slots_of b new.threads.list.items ≡ resumed t (throw BlockedIndefinitely) (slots_of b now.threads.list.items)) → new.threads.flight ≡ now.threads.flight → length new.threads.stuck.items ≤ work_room new.threads
         → IsCall (Leave t) m now.cells new.cells [] → new.sleepers ≡ now.sleepers → SameCounts now new
         → Stranding (ts ++ t ∷ []) old new
     stranding_next new live m at threw flight room left sleepers counts = record {
@@ -208,7 +208,7 @@ module _ (ts : List ℕ) (old now : World) (g : Stranding ts old now) where
     }
 
   -- where nobody is left, all are stranded
-  module _ (none : (t : ℕ) → waits_open (slice_get now.threads.list.items t) ≡ false) (b : Body) where
+  module _ (none : (t : ℕ) → waits_open (slice_get now.threads.list.items t) ≡ false) (b : CodeBody) where
     all_among : (u : ℕ) → waits_open (slice_get old.threads.list.items u) ≡ true → is_among u ts ≡ true
     all_among u h = by (is_among u ts) refl
       where
@@ -220,7 +220,7 @@ module _ (ts : List ℕ) (old now : World) (g : Stranding ts old now) where
     these u = (λ h. open_waits b old.threads.list.items (state_of b old) u refl (g.each u (contains_stands ts u h)), λ h. stands_contains ts u (stands_among u ts (all_among u (waits_are_open b old.threads.list.items (state_of b old) u refl h))))
 
   pub strand_makes : (new : World) → Goes old → IsAtRest old → old.sleepers.list ≡ [] → SomeWaitOpen old
-      → ((t : ℕ) → waits_open (slice_get now.threads.list.items t) ≡ false) → ((b : Body) → slots_of b new.threads.list.items ≡ slots_of b now.threads.list.items) → new.threads.flight ≡ now.threads.flight
+      → ((t : ℕ) → waits_open (slice_get now.threads.list.items t) ≡ false) → ((b : CodeBody) → slots_of b new.threads.list.items ≡ slots_of b now.threads.list.items) → new.threads.flight ≡ now.threads.flight
       → new.cells ≡ now.cells → new.sleepers ≡ now.sleepers → SameCounts now new → Makes entry.Stranded old new
   strand_makes new goes rest asleep some none slots flight cells sleepers counts =
       made_from entry.Stranded old new (λ b accepted stands es s run r.

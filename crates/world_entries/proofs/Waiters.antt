@@ -6,7 +6,7 @@ use Rattle.std.proofs.lemmas.Option.{same_Some}
 use Rattle.hs_base.specs.declared.exn.Exn.{Exn}
 use Rattle.hs_rules.specs.declared.entry.Entry.{Entry}
 use Rattle.rules_trees.specs.Programs.{script_of}
-use Rattle.rules_code.specs.declared.code.Body.{Body}
+use Rattle.rules_code.specs.declared.code.CodeBody.{CodeBody}
 use Rattle.rules_waiting.specs.Waiting.{flying_to, first_thrown, first_awake}
 use Rattle.exn_flight.specs.Asleep.{due_of}
 use Rattle.slot_laws.specs.SlotRules.{SlotOp, performs}
@@ -24,28 +24,28 @@ use Rattle.world_entries.specs.Worlds.{state_of, Live, IsLive}
 use Rattle.world_entries.proofs.Making.{op_shown}
 
 -- ---- a thread with slots is one of memory
-some_of : (b : Body) (o : Option Thread) (h : SlotThread) → option_map (slot_of b) o ≡ Some h → (th : Thread) × (o ≡ Some th) × (slot_of b th ≡ h)
+some_of : (b : CodeBody) (o : Option Thread) (h : SlotThread) → option_map (slot_of b) o ≡ Some h → (th : Thread) × (o ≡ Some th) × (slot_of b th ≡ h)
 some_of b None h e = absurd (cc e)
 some_of b (Some th) h e = (th, refl, cc e)
 
-pub slot_there : (b : Body) (ths : List Thread) (t : ℕ) (h : SlotThread) → slice_get (slots_of b ths) t ≡ Some h → (th : Thread) × (slice_get ths t ≡ Some th) × (slot_of b th ≡ h)
+pub slot_there : (b : CodeBody) (ths : List Thread) (t : ℕ) (h : SlotThread) → slice_get (slots_of b ths) t ≡ Some h → (th : Thread) × (slice_get ths t ≡ Some th) × (slot_of b th ≡ h)
 slot_there b ths t h e = some_of b (slice_get ths t) h (sym (slots_at b ths t) ∙ e)
 
 -- one that performs an operation stands at one
-pub op_of_part : (b : Body) (k : Control) (op : SlotOp) → part_of b k ≡ performs op → IsOp k
+pub op_of_part : (b : CodeBody) (k : Control) (op : SlotOp) → part_of b k ≡ performs op → IsOp k
 op_of_part b (c.Doing i vs) op e = absurd (cc e)
 op_of_part b (c.Ret v) op e = absurd (cc e)
 op_of_part b (c.Throw x) op e = absurd (cc e)
 op_of_part b (c.Op q) op e = tt
 
-pub op_there : (b : Body) (ths : List Thread) (t : ℕ) (h : SlotThread) → slice_get (slots_of b ths) t ≡ Some h → (op : SlotOp) × (h.term.part ≡ performs op) → IsAt t (λ (x : Thread). IsOp x.stack.control) ths
+pub op_there : (b : CodeBody) (ths : List Thread) (t : ℕ) (h : SlotThread) → slice_get (slots_of b ths) t ≡ Some h → (op : SlotOp) × (h.term.part ≡ performs op) → IsAt t (λ (x : Thread). IsOp x.stack.control) ths
 op_there b ths t h e p =
     let th = slot_there b ths t h e in
     record { thread = th.0; is = th.1; holds = op_of_part b th.0.stack.control p.0 (ap (λ (z : SlotThread). z.term.part) th.2 ∙ p.1) }
 
 -- ---- in a world that stands for the state of a run
 -- who is blocked stands at an operation
-pub blocked_op : (w : World) (b : Body) (es : List Entry) → Live b es w → (t : ℕ) (h : SlotThread) → slice_get (slots_of b w.threads.list.items) t ≡ Some h → h.blocked ≡ true → IsAt t (λ (x : Thread). IsOp x.stack.control) w.threads.list.items
+pub blocked_op : (w : World) (b : CodeBody) (es : List Entry) → Live b es w → (t : ℕ) (h : SlotThread) → slice_get (slots_of b w.threads.list.items) t ≡ Some h → h.blocked ≡ true → IsAt t (λ (x : Thread). IsOp x.stack.control) w.threads.list.items
 blocked_op w b es l t h is k =
     op_there b w.threads.list.items t h is
     (blocked_performs (script_of b.of.value) (state_of b w) l.state l.represents (standing_of (script_of b.of.value) es l.state l.run) t h is k).1

@@ -5,7 +5,7 @@ use Rattle.hs_rules.specs.declared.entry.Entry.{Entry}
 use Rattle.rules_trees.specs.Programs.{script_of}
 use Rattle.rules_meaning.specs.Values.{V, value_of}
 use Rattle.rules_typing.specs.TypingScripts.{Accepted}
-use Rattle.rules_code.specs.declared.code.Body.{Body}
+use Rattle.rules_code.specs.declared.code.CodeBody.{CodeBody}
 use Rattle.rules_waiting.specs.OneCell.{Cell, Leave, call, stands_in}
 use Rattle.rules_waiting.specs.Waiting.{withdrawn, still_asleep}
 use Rattle.rules_code.specs.CodeTrees.{StandsFor}
@@ -35,7 +35,7 @@ slot_cells [] = []
 slot_cells (x ∷ xs) = map_cell value_of x ∷ slot_cells xs
 
 -- the state with slots, where the threads' actions are of this code
-abbrev pub state_of : Body → World → SlotState
+abbrev pub state_of : CodeBody → World → SlotState
 state_of b w = record {
   threads = slots_of b w.threads.list.items;
   cells = slot_cells w.cells.cells;
@@ -48,7 +48,7 @@ state_of b w = record {
 }
 
 -- it stands for the state that a run of an accepted script leaves, with actions of that script's code
-pub record Live (b : Body) (es : List Entry) (w : World) : Type 0 where
+pub record Live (b : CodeBody) (es : List Entry) (w : World) : Type 0 where
   pub accepted : Accepted b.of.value
   pub code : StandsFor b.nodes b.acts b.funs b.main b.of.value
   pub state : State
@@ -56,15 +56,15 @@ pub record Live (b : Body) (es : List Entry) (w : World) : Type 0 where
   pub represents : Represents (script_of b.of.value) (state_of b w) state
 
 abbrev pub IsLive : World → Type 0
-IsLive w = ∥ ((b : Body) × (es : List Entry) × Live b es w) ∥₁
+IsLive w = ∥ ((b : CodeBody) × (es : List Entry) × Live b es w) ∥₁
 
 -- wherever the one stands for such a state, the entry is legal there, and the other stands for the state that it leaves
 abbrev pub Makes : Entry → World → World → Type 0
-Makes e old new = (b : Body) → Accepted b.of.value → StandsFor b.nodes b.acts b.funs b.main b.of.value → Enters b.of.value e (state_of b old) (state_of b new)
+Makes e old new = (b : CodeBody) → Accepted b.of.value → StandsFor b.nodes b.acts b.funs b.main b.of.value → Enters b.of.value e (state_of b old) (state_of b new)
 
 -- the same state with slots
 abbrev pub SameState : World → World → Type 0
-SameState old new = (b : Body) → state_of b new ≡ state_of b old
+SameState old new = (b : CodeBody) → state_of b new ≡ state_of b old
 
 -- thread t hasn't finished, isn't blocked, and stands at this operation
 pub record Stands (w : World) (t : ℕ) (o : Operation) : Type 0 where
@@ -92,7 +92,7 @@ pub record HasRoom (w : World) : Type 0 where
 
 -- wherever the one stands for such a state of this code's script, the entry is legal there, and the other stands for the
 -- state that it leaves
-abbrev pub MakesOf : Body → Entry → World → World → Type 0
+abbrev pub MakesOf : CodeBody → Entry → World → World → Type 0
 MakesOf b e old new = Accepted b.of.value → StandsFor b.nodes b.acts b.funs b.main b.of.value → Enters b.of.value e (state_of b old) (state_of b new)
 
 -- thread t stands at an operation that prints so many bytes
@@ -129,7 +129,7 @@ pub record Ends (t n : ℕ) (w : World) : Type 0 where
 
 -- all rest
 abbrev pub IsAtRest : World → Type 0
-IsAtRest w = (b : Body) → AllRest (state_of b w)
+IsAtRest w = (b : CodeBody) → AllRest (state_of b w)
 
 -- some thread may be stranded
 abbrev pub SomeWaitOpen : World → Type 0

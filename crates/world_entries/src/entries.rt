@@ -12,7 +12,7 @@ ghost use Rattle.thread_table.specs.declared.thread.Thread.{Thread};
 ghost use Rattle.thread_table.specs.Table.{IsAt};
 ghost use Rattle.thread_table.specs.Rooms.{work_room};
 ghost use Rattle.thread_table.specs.Kinds.{IsKind};
-ghost use Rattle.thread_table.specs.declared.kinds.Kind.TheVariants as kind;
+ghost use Rattle.thread_table.specs.declared.kinds.EntryKind.TheVariants as kind;
 ghost use Rattle.world_entries.specs.Worlds.{Live, IsLive, Makes, MakesOf, SameState, Goes, HasRoom, Starts, Ends, IsAtRest, SomeWaitOpen, LeavesFrom, MayLeave, Left};
 
 use crate::world::World;

@@ -1,5 +1,5 @@
 ghost use Rattle.std.specs.Prelude.{◌≡◌, OnOk, IfOk};
-ghost use Rattle.rules_code.specs.declared.code.Body.{Body};
+ghost use Rattle.rules_code.specs.declared.code.CodeBody.{CodeBody};
 ghost use Rattle.rules_code.specs.Codes.{body_of};
 
 use exn_flight::Sleepers;
@@ -54,7 +54,7 @@ impl World {
 
     /// The first state: main alone, which is to do its action.
     pub fn first(alloc: Global, code: &Code) -> Result<World, NoMemory>
-        ensures { IfOk result (λ w. (b : Body) → b ≡ body_of code.now → state_of b w ≡ first_state b) }
+        ensures { IfOk result (λ w. (b : CodeBody) → b ≡ body_of code.now → state_of b w ≡ first_state b) }
     {
         let stack = Stack::first(alloc, Control::Doing(code.main(), Env::new(alloc)));
         Ok(World {

@@ -1,6 +1,6 @@
 use Rattle.std.proofs.Common.{sym, subst}
 use Rattle.hs_base.specs.declared.tree.script.Script.{Script}
-use Rattle.rules_code.specs.declared.code.Body.{Body}
+use Rattle.rules_code.specs.declared.code.CodeBody.{CodeBody}
 use Rattle.rules_code.specs.Codes.{body_of}
 use Rattle.state_search.specs.Searching.{IsCodeOf}
 use Rattle.conc_outcomes.proofs.Whole.{explored}
@@ -8,7 +8,7 @@ use Rattle.conc_outcomes.proofs.exploring.explore.Goals as goal
 
 pub returns : goal.returns
 returns c = λ script code.
-    let b : Body = body_of c.args.code.now in
+    let b : CodeBody = body_of c.args.code.now in
     let found = c.in_ok-found.ensures in
     let here : (s : Script) → IsCodeOf b s → IsCodeOf c.deref-body.result.now s = λ s. subst (λ z. IsCodeOf z s) (sym c.deref-body.ensures) in
     explored c.args.bounds.now b c.in_ok-found.found c.in_ok-endings.endings script code c.in_ok-ends.ends _

@@ -1,7 +1,7 @@
 use Rattle.std.proofs.Common.{◌≡◌, ap, sym, ◌∙◌}
 use Rattle.std.proofs.lemmas.Slice.Eq.{bytes_eq-Decides}
 use Rattle.hs_base.specs.declared.clock_choice.ClockChoice.{ClockChoice}
-use Rattle.rules_code.specs.declared.code.Body.{Body}
+use Rattle.rules_code.specs.declared.code.CodeBody.{CodeBody}
 use Rattle.number_states.specs.Stocks.{Stock, text_at}
 use Rattle.number_states.specs.States.{Contents, Becomes, contents, slots_of}
 use Rattle.number_states.specs.declared.state.NumberState.{NumberState}
@@ -11,7 +11,7 @@ use Rattle.exact_walks.specs.Entering.{AreAlike}
 use Rattle.exact_walks.proofs.rounds.are_alike.Goals as goal
 
 -- states that become the same but for what is forgotten are alike
-alike_by : (clock : ClockChoice) (b : Body) (g : Stock) (one other x y : NumberState) → Becomes (λ c. forget clock) g one g x → Becomes (λ c. forget clock) g other g y → contents x ≡ contents y → AreAlike clock b g one other
+alike_by : (clock : ClockChoice) (b : CodeBody) (g : Stock) (one other x y : NumberState) → Becomes (λ c. forget clock) g one g x → Becomes (λ c. forget clock) g other g y → contents x ≡ contents y → AreAlike clock b g one other
 alike_by clock b g one other x y p q same = (
   sym (p.is b) ∙ (ap (slots_of g b) same ∙ q.is b),
   ap (text_at g) (sym p.output ∙ (ap (λ (k : Contents). k.output) same ∙ q.output)),

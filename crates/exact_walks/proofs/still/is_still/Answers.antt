@@ -2,7 +2,7 @@ use Rattle.std.proofs.Common.{◌≡◌, None, List, get_or, ◌∙◌, subst, a
 use Rattle.std.proofs.lemmas.Option.{slice_get-get_or}
 use Rattle.hs_rules.specs.declared.entry.Entry.{Entry}
 use Rattle.hs_rules.specs.declared.entry.Entry.TheVariants as entry
-use Rattle.rules_code.specs.declared.code.Body.{Body}
+use Rattle.rules_code.specs.declared.code.CodeBody.{CodeBody}
 use Rattle.slot_states.specs.SlotStates.{SlotState}
 use Rattle.slot_entries.specs.Entering.{next}
 use Rattle.local_steps.specs.Machine.{funs_of}
@@ -23,7 +23,7 @@ pub loop-entry-preserved : goal.loop-entry-preserved
 loop-entry-preserved c =
     let old : Stock = c.args.numbers.now in
     let now : Stock = c.loop-entry.numbers in
-    let b : Body = c.args.body.now in
+    let b : CodeBody = c.args.body.now in
     let x : SlotState = slots old b c.args.state.now in
     let items : List Entry = c.as_slice-entry-items.result.now in
     let e : Entry = get_or items c.loop-entry.entry-index (entry.Local 0 0) in
@@ -38,6 +38,6 @@ loop-entry-preserved c =
 pub returns-clause-still : goal.returns-clause-still
 returns-clause-still c = λ yes.
     let old : Stock = c.args.numbers.now in
-    let b : Body = c.args.body.now in
+    let b : CodeBody = c.args.body.now in
     none_of_all (funs_of b) (slots old b c.args.state.now) c.as_slice-entry-items.result.now c.loop-entry.entry-index
     (c.as_slice-entry-items.ensures.value ∙ c.in_ok-entries.ensures {u = tt} old b) (omega arith) c.loop-entry.invariant.none

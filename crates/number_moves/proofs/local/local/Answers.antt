@@ -1,7 +1,7 @@
 use Rattle.std.proofs.Common.{◌≡◌, Some, None, MatchOption, ◌∙◌, subst}
 use Rattle.hs_base.specs.declared.mask.Mask.TheVariants.{Unmasked}
 use Rattle.hs_rules.specs.declared.entry.Entry.TheVariants as entry
-use Rattle.rules_code.specs.declared.code.Body.{Body}
+use Rattle.rules_code.specs.declared.code.CodeBody.{CodeBody}
 use Rattle.slot_laws.specs.SlotRules.{locals}
 use Rattle.slot_states.specs.SlotStates.{moves}
 use Rattle.slot_entries.specs.Entering.{entered, local_entry}
@@ -30,7 +30,7 @@ returns-clause-is c =
     let th = c.in-Some.thread in
     let known = c.in_ok-term.ensures {u = tt} in
     let term = c.in-Some-2.term in
-    let f = λ (b : Body). moves c.args.t (term_at h b term) in
+    let f = λ (b : CodeBody). moves c.args.t (term_at h b term) in
     let acts = c.in-Some.ensures {u = tt} in
     let led : locals funs Unmasked c.args.k (term_at g b th.term) ≡ Some (term_at h b term) =
     subst (λ o. MatchOption o (locals funs Unmasked c.args.k (term_at g b th.term) ≡ None) (λ n. locals funs Unmasked c.args.k (term_at g b th.term) ≡ Some (term_at h b n))) c.in-Some-2.is known.is in

@@ -1,6 +1,6 @@
 use Rattle.std.proofs.Common.{◌≡◌, true, length, sym, ap, ◌∙◌, arith}
 use Rattle.hs_rules.specs.declared.entry.Entry.TheVariants as entry
-use Rattle.rules_code.specs.declared.code.Body.{Body}
+use Rattle.rules_code.specs.declared.code.CodeBody.{CodeBody}
 use Rattle.local_steps.specs.Machine.{funs_of}
 use Rattle.slot_states.specs.SlotStates.{strands}
 use Rattle.slot_entries.specs.Entering.{entered, rest_from}
@@ -21,7 +21,7 @@ returns-clause-is c = λ b.
     let awake : length x.sleepers.items ≡ 0 = omega (arith, x.sleepers.ok.0) in
     let rests : rest_from (slots g b x).flight 0 (slots g b x).threads ≡ true = sym (c.in_ok-all_rest.ensures {u = tt} b) ∙ c.if-not-branch.false in
     let some : length ts ≡ 0 → ⊥ = λ e. omega (arith, e, c.in_ok-stranded.stranded.ok.0, ap length c.as_slice.ensures.value) in
-    let f = λ (b : Body). strands ts in
+    let f = λ (b : CodeBody). strands ts in
     makes f (λ s. entered (funs_of b) s entry.Stranded) b g h x y c.requires known.grows (of_copy f g h x c.in_ok-next.next y (c.in_ok-next.ensures {u = tt}) known.is)
     (strands_some x.sleepers.items ts (slots g b x) awake rests (c.as_slice.ensures.value ∙ c.in_ok-stranded.ensures {u = tt} b) some)
 

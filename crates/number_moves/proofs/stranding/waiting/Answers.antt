@@ -1,7 +1,7 @@
 use Rattle.std.proofs.Common.{◌≡◌, ℕ, ◌+◌, ◌<◌, ◌++◌, [], ◌∷◌, true, false, Vec, Global, length, get_or, drop, map, sym, ap, ◌∙◌, arith}
 use Rattle.std.proofs.lemmas.List.{append-nil}
 use Rattle.slot_entries.specs.Entering.{waits_open, waiting_from}
-use Rattle.rules_code.specs.declared.code.Body.{Body}
+use Rattle.rules_code.specs.declared.code.CodeBody.{CodeBody}
 use Rattle.number_states.specs.declared.state.NumberThread.{NumberThread}
 use Rattle.number_states.specs.States.{thread_of}
 use Rattle.number_moves.proofs.Strands.{waiting_more}
@@ -18,7 +18,7 @@ loop-thread-preserved c =
     let us = c.if-waits_open.waiting.items in
     let ws = c.loop-thread.waiting.items in
     let nobody : NumberThread = record { term = 0; blocked = false; finished = false } in
-    let here : (b : Body) → waits_open (thread_of g b (get_or x.threads.items i nobody)) ≡ c.waits_open.result =
+    let here : (b : CodeBody) → waits_open (thread_of g b (get_or x.threads.items i nobody)) ≡ c.waits_open.result =
     λ b. ap (λ ths. waits_open (thread_of g b (get_or ths i nobody))) (sym c.deref-thread-items.ensures.value) ∙ sym (c.waits_open.ensures b) in
     let on : c.in-Some.next ≡ t + 1 = (c.in-Some.ensures {u = tt}).1 in
     let small : i < length x.threads.items = omega (arith, ap length c.deref-thread-items.ensures.value) in

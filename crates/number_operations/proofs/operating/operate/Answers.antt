@@ -1,7 +1,7 @@
 use Rattle.std.proofs.Common.{None, ◌≡◌, subst, rules}
 use Rattle.std.specs.Prelude.{MatchOption}
 use Rattle.hs_rules.specs.declared.entry.Entry.TheVariants as entry
-use Rattle.rules_code.specs.declared.code.Body.{Body}
+use Rattle.rules_code.specs.declared.code.CodeBody.{CodeBody}
 use Rattle.slot_entries.specs.Entering.{entered}
 use Rattle.local_steps.specs.Machine.{funs_of}
 use Rattle.number_states.specs.States.{slots}
@@ -15,7 +15,7 @@ returns-then-not-has_target-clause-is c = λ b.
     let g = c.args.numbers.now in
     let x = c.args.state.now in
     let t = c.args.thread in
-    let stands = subst (λ o. MatchOption o ((b : Body) → entered (funs_of b) (slots g b x) (entry.Op t) ≡ None) (Stands g x t)) c.in-Some.is c.in_ok-found.ensures in
+    let stands = subst (λ o. MatchOption o ((b : CodeBody) → entered (funs_of b) (slots g b x) (entry.Op t) ≡ None) (Stands g x t)) c.in-Some.is c.in_ok-found.ensures in
     targets_nobody g x t c.in-Some.found stands b c.len.result (search rules) (search rules)
 
 pub returns-clause-is : goal.returns-clause-is
@@ -23,5 +23,5 @@ returns-clause-is c = λ b.
     let g = c.args.numbers.now in
     let x = c.args.state.now in
     let t = c.args.thread in
-    let stands = subst (λ o. MatchOption o ((b : Body) → entered (funs_of b) (slots g b x) (entry.Op t) ≡ None) (Stands g x t)) c.in-Some.is c.in_ok-found.ensures in
+    let stands = subst (λ o. MatchOption o ((b : CodeBody) → entered (funs_of b) (slots g b x) (entry.Op t) ≡ None) (Stands g x t)) c.in-Some.is c.in_ok-found.ensures in
     performs_enters g x t c.in-Some.found stands b c.perform.new.numbers c.in_ok-next.next c.perform.new.next c.in_ok-next.ensures (c.in_ok-perform.ensures.is b)

@@ -4,7 +4,7 @@ use mir.Val.{SFits, to_z, of_z}
 use Rattle.hs_eval.proofs.Cases.{value_of-Unit, value_of-Thread}
 use Rattle.slot_states.specs.SlotStates.{answer, prints}
 use Rattle.slot_entries.specs.Operating.{delayed}
-use Rattle.rules_code.specs.declared.code.Body.{Body}
+use Rattle.rules_code.specs.declared.code.CodeBody.{CodeBody}
 use Rattle.hs_rules.specs.Primitives.{line_feed}
 use Rattle.number_changes.specs.Moves.{Makes}
 use Rattle.number_changes.proofs.Written.{on_ok}
@@ -15,15 +15,15 @@ use Rattle.number_operations.proofs.operating.perform.Goals as goal
 -- src/operating.rt
 pub returns-in-PutStr-clause-is : goal.returns-in-PutStr-clause-is
 returns-in-PutStr-clause-is c = performed_so _ _ _ _ _ _ _ _ c.in-PutStr.is _
-    (on_ok _ _ (subst (λ s. (b : Body) → Makes (λ x. Some (prints c.args.thread (length s) x)) b c.args.numbers.now c.args.next.now s [] c.print.new.numbers c.print.new.state) c.as_str.ensures) c.print.result c.print.ensures.is)
+    (on_ok _ _ (subst (λ s. (b : CodeBody) → Makes (λ x. Some (prints c.args.thread (length s) x)) b c.args.numbers.now c.args.next.now s [] c.print.new.numbers c.print.new.state) c.as_str.ensures) c.print.result c.print.ensures.is)
 
 pub returns-in-PutStrLn-clause-is : goal.returns-in-PutStrLn-clause-is
 returns-in-PutStrLn-clause-is c = performed_so _ _ _ _ _ _ _ _ c.in-PutStrLn.is _
-    (on_ok _ _ (subst (λ s. (b : Body) → Makes (λ x. Some (prints c.args.thread (length s + 1) x)) b c.args.numbers.now c.args.next.now (s ++ line_feed) [] c.print_line.new.numbers c.print_line.new.state) c.as_str-in-PutStrLn.ensures) c.print_line.result c.print_line.ensures.is)
+    (on_ok _ _ (subst (λ s. (b : CodeBody) → Makes (λ x. Some (prints c.args.thread (length s + 1) x)) b c.args.numbers.now c.args.next.now (s ++ line_feed) [] c.print_line.new.numbers c.print_line.new.state) c.as_str-in-PutStrLn.ensures) c.print_line.result c.print_line.ensures.is)
 
 pub returns-in-HPutStrLn-clause-is : goal.returns-in-HPutStrLn-clause-is
 returns-in-HPutStrLn-clause-is c = performed_so _ _ _ _ _ _ _ _ c.in-HPutStrLn.is _
-    (on_ok _ _ (subst (λ s. (b : Body) → Makes (λ x. Some (prints c.args.thread (length s + 1) x)) b c.args.numbers.now c.args.next.now [] (s ++ line_feed) c.print_error.new.numbers c.print_error.new.state) c.as_str-in-HPutStrLn.ensures) c.print_error.result c.print_error.ensures.is)
+    (on_ok _ _ (subst (λ s. (b : CodeBody) → Makes (λ x. Some (prints c.args.thread (length s + 1) x)) b c.args.numbers.now c.args.next.now [] (s ++ line_feed) c.print_error.new.numbers c.print_error.new.state) c.as_str-in-HPutStrLn.ensures) c.print_error.result c.print_error.ensures.is)
 
 pub returns-in-NewMVar-clause-is : goal.returns-in-NewMVar-clause-is
 returns-in-NewMVar-clause-is c = quietly _ _ _ _ _ _ _ _ c.in-NewMVar.is _ _ c.requires.state c.make.ensures.grows c.make.ensures.is (λ b. refl) (λ b. refl) (λ b. refl)

@@ -4,14 +4,14 @@ use Rattle.hs_rules.specs.declared.entry.Entry.{Entry}
 use Rattle.hs_rules.specs.declared.entry.Entry.TheVariants as entry
 use Rattle.number_waits.specs.declared.sleepers.Asleep.{Asleep}
 use Rattle.number_waits.specs.Sleeping.{sleepers}
-use Rattle.rules_code.specs.declared.code.Body.{Body}
+use Rattle.rules_code.specs.declared.code.CodeBody.{CodeBody}
 use Rattle.number_states.specs.declared.state.NumberThread.{NumberThread}
 use Rattle.number_states.specs.Stocks.{Stock}
 use Rattle.number_states.specs.States.{thread_of}
 use Rattle.search_laws.specs.Found.{entries_at, entries_from, wake_of}
 use Rattle.state_search.proofs.candidates.candidates.Goals as goal
 
-module _ (g : Stock) (b : Body) where
+module _ (g : Stock) (b : CodeBody) where
   -- those of so many threads
   abbrev rest : (t : ℕ) (ths : List NumberThread) → List Entry
   rest t ths = entries_from t (map (thread_of g b) ths)

@@ -1,5 +1,5 @@
 use Rattle.std.proofs.Common.{◌≡◌, ◌≤◌, None, length, subst, arith}
-use Rattle.rules_code.specs.declared.code.Body.{Body}
+use Rattle.rules_code.specs.declared.code.CodeBody.{CodeBody}
 use Rattle.rules_code.specs.Codes.{body_of}
 use Rattle.state_search.specs.Searching.{IsClosed}
 use Rattle.state_search.specs.Working.{Going}
@@ -16,7 +16,7 @@ states-preserved c =
 pub returns : goal.returns
 returns c =
     let bounds = c.args.bounds.now in
-    let b : Body = body_of c.args.code.now in
+    let b : CodeBody = body_of c.args.code.now in
     let f = c.states.found in
     let going : Going bounds b c.states.at f = subst (λ z. Going bounds z c.states.at f) c.deref-body.ensures c.states.invariant.going in
     let few = going.searched.few in

@@ -1,7 +1,7 @@
 use Rattle.std.proofs.Common.{[], ap, ◌∙◌}
 use Rattle.std.specs.declared.snapshot.Snapshot.{Snapshot}
 use Rattle.std.proofs.lemmas.Result.{err_from_is_err_and}
-use Rattle.rules_code.specs.declared.code.Body.{Body}
+use Rattle.rules_code.specs.declared.code.CodeBody.{CodeBody}
 use Rattle.rules_code.specs.Codes.{body_of}
 use Rattle.trace_checker.proofs.Following.{fewer_bytes, none_read, some_read}
 use Rattle.trace_checker.proofs.checking.check_run.Goals as goal
@@ -10,7 +10,7 @@ pub loop-walk-init : goal.loop-walk-init
 loop-walk-init c = ([], c.in_ok-walk.ensures.ok)
 
 pub play-requires : goal.play-requires
-play-requires c = let (es, h) = c.loop-walk.invariant in ap (λ (z : Snapshot Body). z.value) c.next.ensures.of ∙ h.of
+play-requires c = let (es, h) = c.loop-walk.invariant in ap (λ (z : Snapshot CodeBody). z.value) c.next.ensures.of ∙ h.of
 
 pub returns-in_err-play : goal.returns-in_err-play
 returns-in_err-play c =

@@ -1,7 +1,7 @@
 use Rattle.std.proofs.Common.{◌++◌, ◌∷◌, [], ap, ◌∙◌, vec_items}
 use Rattle.std.specs.declared.snapshot.Snapshot.{Snapshot}
 use Rattle.std.proofs.lemmas.Result.{err_from_is_err_and}
-use Rattle.rules_code.specs.declared.code.Body.{Body}
+use Rattle.rules_code.specs.declared.code.CodeBody.{CodeBody}
 use Rattle.rules_code.specs.Codes.{body_of}
 use Rattle.trace_checker.proofs.Following.{fewer_bytes, none_read, some_read}
 use Rattle.lane_picture.specs.declared.film.Event.TheVariants as event
@@ -16,7 +16,7 @@ lines-init c =
     (c.in_ok-add.ensures ∙ ap (λ z. z ++ frame_at event.Nothing c.in_ok-walk.walk.player.world ∷ []) c.new-film.ensures.items)
 
 pub play-requires : goal.play-requires
-play-requires c = ap (λ (z : Snapshot Body). z.value) c.next.ensures.of ∙ c.lines.invariant.far.of
+play-requires c = ap (λ (z : Snapshot CodeBody). z.value) c.next.ensures.of ∙ c.lines.invariant.far.of
 
 pub returns-in_err-play-clause-err : goal.returns-in_err-play-clause-err
 returns-in_err-play-clause-err c =

@@ -1,7 +1,7 @@
 use Rattle.std.proofs.Common.{ap, ◌∙◌}
 use Rattle.std.specs.declared.snapshot.Snapshot.{Snapshot}
 use Rattle.std.proofs.lemmas.Result.{err_from_is_err_and}
-use Rattle.rules_code.specs.declared.code.Body.{Body}
+use Rattle.rules_code.specs.declared.code.CodeBody.{CodeBody}
 use Rattle.rules_code.specs.Codes.{body_of}
 use Rattle.trace_checker.proofs.Following.{fewer_bytes, none_read, some_read}
 use Rattle.trace_report.proofs.Counted.{counts_begun, counts_on, few, reported}
@@ -12,7 +12,7 @@ loop-tally-init c =
     counts_begun (body_of c.args.code.now) c.args.text.now c.in_ok-walk.walk c.new-tally.result c.in_ok-walk.ensures.ok c.new-tally.ensures.first c.new-tally.ensures.within
 
 pub play-requires : goal.play-requires
-play-requires c = ap (λ (z : Snapshot Body). z.value) c.next.ensures.of ∙ c.loop-tally.invariant.far.of
+play-requires c = ap (λ (z : Snapshot CodeBody). z.value) c.next.ensures.of ∙ c.loop-tally.invariant.far.of
 
 pub returns-in_err-play-clause-err : goal.returns-in_err-play-clause-err
 returns-in_err-play-clause-err c =

@@ -1,5 +1,5 @@
 use Rattle.std.proofs.Common.{◌≡◌, true, false, sym, ◌∙◌}
-use Rattle.rules_code.specs.declared.code.Body.{Body}
+use Rattle.rules_code.specs.declared.code.CodeBody.{CodeBody}
 use Rattle.outcome_listing.specs.declared.bounds.Bounds.{Bounds}
 use Rattle.hs_rules.specs.Endings.{IsTick}
 use Rattle.number_states.specs.Stocks.{Stock}
@@ -15,7 +15,7 @@ next-requires c = there_later c.args.numbers.now c.may_stand.new.numbers c.args.
 pub returns-clause-at : goal.returns-clause-at
 returns-clause-at c =
     let bounds : Bounds = c.args.bounds.now in
-    let b : Body = c.args.body.now in
+    let b : CodeBody = c.args.body.now in
     let g : Stock = c.args.numbers.now in
     let h : Stock = c.may_stand.new.numbers in
     let i : Stock = c.next.new.numbers in

@@ -1,5 +1,5 @@
 use Rattle.std.proofs.Common.{◌≡◌, refl, sym, subst}
-use Rattle.rules_code.specs.declared.code.Body.{Body}
+use Rattle.rules_code.specs.declared.code.CodeBody.{CodeBody}
 use Rattle.rules_code.specs.Codes.{body_of}
 use Rattle.history_player.proofs.Following.{Stood, still_stood, none_follows, stands_on, legal_on, illegal_on}
 use Rattle.history_player.proofs.player.Player.play.Goals as goal
@@ -13,7 +13,7 @@ invariant_of-self c = let p = c.args.self.now in record { live = still_stood p.o
 pub enter-requires-clause-live : goal.enter-requires-clause-live
 enter-requires-clause-live c =
     let p = c.args.self.now in
-    subst (λ (b : Body). Stood b c.room.new.self) c.requires (still_stood p.of.value p.world c.room.new.self c.room.ensures.state p.live)
+    subst (λ (b : CodeBody). Stood b c.room.new.self) c.requires (still_stood p.of.value p.world c.room.new.self c.room.ensures.state p.live)
 
 pub invariant_of-self-2 : goal.invariant_of-self-2
 invariant_of-self-2 c =

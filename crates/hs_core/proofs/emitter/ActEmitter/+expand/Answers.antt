@@ -8,14 +8,14 @@ use Rattle.rules_trees.specs.Programs.{choose_act, case_act, catch, bind, let_in
 use Rattle.rules_trees.proofs.EquationsOfActions.{act-Unary, act-Guard, act-If, act-Case, act-Catch, stmt-Bind, stmt-Let, stmt-Do, acts-OfMaybe, acts-OfEither, acts-OfList, acts-OfPair}
 use Rattle.rules_code.specs.Slots.{slot_of, slotted}
 use Rattle.rules_code.specs.CodeTrees.{a_if, a_maybe, a_either, a_list, a_pair, a_fork, a_fork_unmask, a_catch, a_mask, a_mask_hard, a_restore, slot_or_end}
-use Rattle.hs_nodes.specs.declared.names.Bound.TheVariants as w
+use Rattle.hs_nodes.specs.declared.names.ScopedName.TheVariants as w
 use Rattle.hs_core.specs.Defining.{roots}
 use Rattle.hs_core.specs.Opening.{core_tree, block_tree, arms_tree}
 use Rattle.hs_core.proofs.Afterwards.{held_branch, all_as_core, all_as_action, act_then, ex_act_then}
 use Rattle.hs_core.proofs.Steps.{one, first, under, after1}
 use Rattle.hs_core.proofs.Openings.{opens_first, opens_step, opens_bind, opens_let, opens_then, block_is, after_known, as_core, as_action, as_case, arms_two, arms_one, as_arms}
 use Rattle.std.specs.Option.{option_copied}
-use Rattle.rules_expansion.specs.declared.template.Part.TheVariants as part
+use Rattle.rules_expansion.specs.declared.template.FormBlock.TheVariants as part
 use Rattle.rules_expansion.specs.declared.template.Step.TheVariants as p
 use Rattle.rules_expansion.specs.Templates.{steps}
 use Rattle.hs_core.specs.Making.{filling_of}

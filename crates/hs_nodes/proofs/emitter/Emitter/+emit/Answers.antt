@@ -6,7 +6,7 @@ use Rattle.rules_trees.specs.Trees.{ex_of, exs_of, wr_of, arms_of, links_of, sum
 use Rattle.rules_trees.proofs.Equations.{ex-If, ex-Case, ex-Let, ex-Or, ex-And, ex-Product, ex-Sum, ex-Cons, ex-Compare, ex-Call, ex-Unary, ex-Empty, ex-Side, ex-Div, ex-Mod, ex-Pair, ex-Unit, ex-List, arms-OfMaybe, arms-OfEither, arms-OfList, arms-OfPair}
 use Rattle.rules_expansion.specs.Names.{Written}
 use Rattle.rules_code.specs.declared.node.Node.TheVariants as n
-use Rattle.hs_nodes.specs.declared.names.Bound.TheVariants as w
+use Rattle.hs_nodes.specs.declared.names.ScopedName.TheVariants as w
 use Rattle.hs_nodes.specs.Names.{scope_of}
 use Rattle.hs_nodes.specs.Emitting.{own1, own2, nodes_of, all_nodes, ids_of, link_nodes, node_links, arm_nodes, two_nodes, Emitted}
 use Rattle.hs_nodes.proofs.Steps.{IsAdded, alone, all_ended, owned, following_by, behind, two, three, under, as_form, as_arms, all_step, link_step, links-drop, sum_links-drop, list_links-drop}

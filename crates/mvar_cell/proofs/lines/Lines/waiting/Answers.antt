@@ -4,13 +4,13 @@ use Rattle.std.proofs.lemmas.List.{get_or-map, length-map}
 use Rattle.slab.specs.Slab.{Slab, get}
 use Rattle.rules_waiting.specs.OneCell.{Place}
 use Rattle.hs_base.specs.declared.value.Value.{Value}
-use Rattle.mvar_cell.specs.declared.lines.Node.{Node}
+use Rattle.mvar_cell.specs.declared.lines.LineNode.{LineNode}
 use Rattle.mvar_cell.specs.declared.lines.Ends.{Ends}
 use Rattle.mvar_cell.specs.Lined.{Lined}
 use Rattle.mvar_cell.specs.Nodes.{places, next_of, line_at}
 use Rattle.mvar_cell.proofs.lines.Lines.waiting.Goals as goal
 
-places-length : (s : Slab Node) (n i : ℕ) → length (places s n i) ≡ n
+places-length : (s : Slab LineNode) (n i : ℕ) → length (places s n i) ≡ n
 places-length s zero i = refl
 places-length s (suc n) i = ap suc (places-length s n (next_of (get s i)))
 

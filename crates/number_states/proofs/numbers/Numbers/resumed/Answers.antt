@@ -1,6 +1,6 @@
 use Rattle.std.proofs.Common.{◌≡◌, Some, ap, ◌∙◌}
 use Rattle.std.proofs.lemmas.Result.{IfOk-weaker}
-use Rattle.rules_code.specs.declared.code.Body.{Body}
+use Rattle.rules_code.specs.declared.code.CodeBody.{CodeBody}
 use Rattle.term_tables.specs.Numbered.{term_in}
 use Rattle.number_states.specs.Stocks.{Stock, term_at, or_bare}
 use Rattle.number_states.proofs.Stacked.{both_ok, term_there}
@@ -10,11 +10,11 @@ use Rattle.number_states.proofs.numbers.Numbers.resumed.Goals as goal
 pub returns-clause-is : goal.returns-clause-is
 returns-clause-is c =
     let now = c.args.self.now in
-    let old : (b : Body) → term_in c.self.inside.terms b c.args.term ≡ Some (term_at now b c.args.term) = λ b. ap (λ (g : Stock). term_in g.terms b c.args.term) c.self.view_is ∙ term_there now b c.args.term c.requires in
+    let old : (b : CodeBody) → term_in c.self.inside.terms b c.args.term ≡ Some (term_at now b c.args.term) = λ b. ap (λ (g : Stock). term_in g.terms b c.args.term) c.self.view_is ∙ term_there now b c.args.term c.requires in
     IfOk-weaker c.resumed.result _ _ (λ n is b. ap or_bare (is b (term_at now b c.args.term) (old b))) c.resumed.ensures.is
 
 pub returns-clause-there : goal.returns-clause-there
 returns-clause-there c =
     let now = c.args.self.now in
-    let old : (b : Body) → term_in c.self.inside.terms b c.args.term ≡ Some (term_at now b c.args.term) = λ b. ap (λ (g : Stock). term_in g.terms b c.args.term) c.self.view_is ∙ term_there now b c.args.term c.requires in
+    let old : (b : CodeBody) → term_in c.self.inside.terms b c.args.term ≡ Some (term_at now b c.args.term) = λ b. ap (λ (g : Stock). term_in g.terms b c.args.term) c.self.view_is ∙ term_there now b c.args.term c.requires in
     both_ok _ _ _ (λ n is t. record { there = t; term = λ b. (_, is b (term_at now b c.args.term) (old b)) }) c.resumed.result c.resumed.ensures.is c.resumed.ensures.there

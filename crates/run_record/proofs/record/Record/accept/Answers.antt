@@ -2,7 +2,7 @@ use Rattle.std.proofs.Common.{◌≡◌, refl, sym, ap, ◌∙◌, subst, arith}
 use Rattle.std.specs.declared.snapshot.Snapshot.{Snapshot}
 use Rattle.hs_rules.specs.declared.entry.Entry.{Entry}
 use Rattle.hs_rules.specs.declared.entry.Entry.TheVariants as entry
-use Rattle.rules_code.specs.declared.code.Body.{Body}
+use Rattle.rules_code.specs.declared.code.CodeBody.{CodeBody}
 use Rattle.world_entries.specs.Worlds.{MakesOf}
 use Rattle.hs_rules.specs.Histories.{steps_of}
 use Rattle.run_record.proofs.GoingOn.{is_live, same_live, grown_live, grown_steps, grown_stays}
@@ -22,7 +22,7 @@ invariant_of-self c =
     let r = c.room.new.self in
     let same = c.in_ok-room.ensures.same in
     let e : Entry = entry.Local c.args.slice.tid c.args.slice.steps in
-    let code : c.args.slice.of.value ≡ r.of.value = c.requires.code ∙ sym (ap (λ (z : Snapshot Body). z.value) same.plan.2) in
+    let code : c.args.slice.of.value ≡ r.of.value = c.requires.code ∙ sym (ap (λ (z : Snapshot CodeBody). z.value) same.plan.2) in
     let makes = subst (λ b. MakesOf b e r.world c.accept.new.self) code c.in-Ok.ensures.ok in
     let steps = ap steps_of same.history in
     record {

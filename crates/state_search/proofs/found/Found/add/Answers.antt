@@ -1,5 +1,5 @@
 use Rattle.std.proofs.Common.{◌≡◌, ◌∷◌, ◌++◌, [], refl, sym, ap, ◌∙◌, subst, arith}
-use Rattle.rules_code.specs.declared.code.Body.{Body}
+use Rattle.rules_code.specs.declared.code.CodeBody.{CodeBody}
 use Rattle.state_search.specs.declared.found.Found.{Found}
 use Rattle.state_search.specs.Meaning.{shown}
 use Rattle.state_search.specs.Working.{Going, Extends, IsKeptAt}
@@ -36,7 +36,7 @@ returns c =
     let new = added f.states h.states c.in_ok-number.number x none number.is number.adds in
     let origins = c.in_ok-reserve.ensures.items in
     let kinds = c.in_ok-reserve-2.ensures.items in
-    let adds : (b : Body) → Adds c.args.bounds.now b f h x c.args.by = λ b. record {
+    let adds : (b : CodeBody) → Adds c.args.bounds.now b f h x c.args.by = λ b. record {
       kind = c.ended-kind.result;
       numbers = refl;
       states = new.0;

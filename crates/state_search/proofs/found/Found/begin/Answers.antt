@@ -1,5 +1,5 @@
 use Rattle.std.proofs.Common.{◌≡◌, ◌≤◌, ◌<◌, ℕ, Option, Some, None, MatchOption, length, refl, arith}
-use Rattle.rules_code.specs.declared.code.Body.{Body}
+use Rattle.rules_code.specs.declared.code.CodeBody.{CodeBody}
 use Rattle.outcome_listing.specs.declared.bounds.Bounds.{Bounds}
 use Rattle.state_search.specs.declared.found.Found.{Found}
 use Rattle.state_search.specs.Working.{Going, HasBegun}
@@ -7,7 +7,7 @@ use Rattle.state_search.proofs.Arriving.{nothing_yet}
 use Rattle.state_search.proofs.found.Found.begin.Goals as goal
 
 -- the first state arrives, or there is a gap
-begun_so : (bounds : Bounds) (b : Body) (f h : Found) (o : Option (ℕ × ℕ)) → MatchOption o (h.gap ≡ None → ⊥) (λ r. (n : ℕ) → n ≤ length f.states → Going bounds b n f → r.0 < length h.states) → Going bounds b 0 f → HasBegun h
+begun_so : (bounds : Bounds) (b : CodeBody) (f h : Found) (o : Option (ℕ × ℕ)) → MatchOption o (h.gap ≡ None → ⊥) (λ r. (n : ℕ) → n ≤ length f.states → Going bounds b n f → r.0 < length h.states) → Going bounds b 0 f → HasBegun h
 begun_so bounds b f h None gap going none = absurd (gap none)
 begun_so bounds b f h (Some r) arrived going none = let w = arrived 0 (omega arith) going in omega arith
 

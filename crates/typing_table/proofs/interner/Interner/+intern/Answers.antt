@@ -2,7 +2,7 @@ use Rattle.std.proofs.Common.{ap, arith, sym, ◌∙◌}
 use Rattle.rules_trees.specs.Trees.{ty_of, maybe, list, cell, async}
 use Rattle.rules_trees.proofs.Equations.{ty-Unit, ty-Int, ty-Bool, ty-Text, ty-Thread, ty-Exn, ty-Pair, ty-Maybe, ty-Either, ty-List, ty-Cell, ty-Async}
 use Rattle.typing_table.specs.declared.base.Base.TheVariants as b
-use Rattle.typing_table.specs.declared.table.Node.TheVariants as n
+use Rattle.typing_table.specs.declared.table.TypeNode.TheVariants as n
 use Rattle.typing_table.proofs.Interned.{interned, kept}
 use Rattle.typing_table.proofs.Tables.{grows_self}
 use Rattle.typing_table.proofs.interner.Interner.+intern.Goals as goal
