@@ -19,6 +19,7 @@ use crate::stack::Stack;
 use hs_base::{NoMemory, Value};
 use local_steps::{Active, Frames, StepResult, step, step_in_place};
 use rules_code::{Code, CodeBody};
+use slot_env::Spare;
 use std::alloc::Global;
 use std::mem;
 
@@ -113,12 +114,13 @@ fn step_alone(
     body: &CodeBody,
     active: &mut Active,
     own: &mut Frames,
+    spare: &mut Spare,
 ) -> Result<bool, NoMemory>
     ensures rule { IfOk result (λ done. IsTrue done → local (funs_of body.now) own.old.below (active_of body.now active.old) (frames_of body.now own.old.list) ≡ Some (at (active_of body.now active.new) (frames_of body.now own.new.list))) }
     ensures none { IfOk result (λ done. (done ≡ false) → local (funs_of body.now) own.old.below (active_of body.now active.old) (frames_of body.now own.old.list) ≡ None) }
     ensures below { own.new.below ≡ own.old.below }
 {
-    if step_in_place(alloc, body, active)? {
+    if step_in_place(alloc, body, active, spare)? {
         return Ok(true);
     }
     let part = mem::replace(active, Active::Ret(Value::Unit));
@@ -132,7 +134,13 @@ fn step_alone(
 }
 
 /// One local rule over the frames of a stack, if there is one.
-fn turn(alloc: Global, body: &CodeBody, frames: &Frames, walk: &mut Walk) -> Result<bool, NoMemory>
+fn turn(
+    alloc: Global,
+    body: &CodeBody,
+    frames: &Frames,
+    walk: &mut Walk,
+    spare: &mut Spare,
+) -> Result<bool, NoMemory>
     requires over { IsOver frames.now.below frames.now.list walk.old }
     ensures over { IfOk result (λ done. IsTrue done → IsOver frames.now.below frames.now.list walk.new) }
     ensures rule { IfOk result (λ done. IsTrue done → local (funs_of body.now) frames.now.below (active_of body.now walk.old.part) (frames_of body.now (over_frames walk.old frames.now.list)) ≡ Some (at (active_of body.now walk.new.part) (frames_of body.now (over_frames walk.new frames.now.list)))) }
@@ -141,7 +149,7 @@ fn turn(alloc: Global, body: &CodeBody, frames: &Frames, walk: &mut Walk) -> Res
     if !framed(alloc, frames, walk)? {
         return Ok(false);
     }
-    step_alone(alloc, body, &mut walk.part, &mut walk.own)
+    step_alone(alloc, body, &mut walk.part, &mut walk.own, spare)
 }
 
 /// So many local rules in turn over the frames of a stack, if there are so many.
@@ -159,8 +167,9 @@ fn walked(
         own: Frames::new(alloc, frames.mask()),
         gone: 0,
     };
+    let mut spare = Spare::new(alloc);
     for _done in 0..k {
-        if !turn(alloc, body, frames, &mut walk)? {
+        if !turn(alloc, body, frames, &mut walk, &mut spare)? {
             return Ok(None);
         }
     }

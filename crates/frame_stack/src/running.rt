@@ -14,6 +14,7 @@ use hs_base::{Mask, NoMemory, Value};
 use hs_io::Cutter;
 use local_steps::{Active, Frames, StepResult, step, step_in_place};
 use rules_code::CodeBody;
+use slot_env::Spare;
 use std::alloc::Global;
 use std::mem;
 
@@ -50,11 +51,12 @@ pub fn run<C: Cutter>(
 {
     let mut active = start;
     let mut frames = Frames::new(alloc, mask);
+    let mut spare = Spare::new(alloc);
     for done in 0..budget {
         if done % LOOK == 0 {
             look(ticket, cutter)?;
         }
-        step_on(alloc, body, &mut active, &mut frames)?;
+        step_on(alloc, body, &mut active, &mut frames, &mut spare)?;
         if stopped(&active, &frames) {
             return Ok(Ran {
                 pushed: frames,
@@ -87,6 +89,7 @@ fn step_on(
     body: &CodeBody,
     active: &mut Active,
     frames: &mut Frames,
+    spare: &mut Spare,
 ) -> Result<(), NoMemory>
     requires may { ∥ MayGo body.now frames.old.below (active_of body.now active.old) (frames_of body.now frames.old.list) ∥₁ }
     requires goes { Stops (active_of body.now active.old) frames.old.list → ⊥ }
@@ -94,7 +97,7 @@ fn step_on(
     ensures below { frames.new.below ≡ frames.old.below }
     ensures may { OnOk result ∥ MayGo body.now frames.old.below (active_of body.now active.new) (frames_of body.now frames.new.list) ∥₁ }
 {
-    if step_in_place(alloc, body, active)? {
+    if step_in_place(alloc, body, active, spare)? {
         return Ok(());
     }
     let part = mem::replace(active, Active::Ret(Value::Unit));

@@ -17,11 +17,16 @@ use hs_base::NoMemory;
 use hs_eval::FoundAll;
 use hs_items::Items;
 use rules_code::{Act, ActId, CodeBody, ExprId, Fun};
-use slot_env::Env;
+use slot_env::{Env, Spare};
 use std::alloc::Global;
 
-/// Does the local rule of such an action. Whether it did: else the part is as before.
-pub fn step_in_place(alloc: Global, body: &CodeBody, active: &mut Active) -> Result<bool, NoMemory>
+/// Does the local rule of such an action, a call with its arguments in spare memory. Whether it did: else the part is as before.
+pub fn step_in_place(
+    alloc: Global,
+    body: &CodeBody,
+    active: &mut Active,
+    spare: &mut Spare,
+) -> Result<bool, NoMemory>
     ensures rule { IfOk result (λ done. IsTrue done → (s : Mask) (fs : List SlotFrame) → local (funs_of body.now) s (active_of body.now active.old) fs ≡ Some (at (active_of body.now active.new) fs)) }
     ensures same { IfOk result (λ done. (IsTrue done → ⊥) → active.new ≡ active.old) }
 {
@@ -30,7 +35,7 @@ pub fn step_in_place(alloc: Global, body: &CodeBody, active: &mut Active) -> Res
     };
     match act_at(body, *at) {
         Some(Act::If(e, i, j)) => Ok(branch(body, at, *e, *i, *j, env)),
-        Some(Act::Call(f, ids)) => call(alloc, body, at, *f, ids, env),
+        Some(Act::Call(f, ids)) => call(alloc, body, at, *f, ids, env, spare),
         _ => Ok(false),
     }
 }
@@ -69,17 +74,19 @@ fn call(
     f: u32,
     ids: &Items<ExprId>,
     env: &mut Env,
+    spare: &mut Spare,
 ) -> Result<bool, NoMemory>
     ensures rule { IfOk result (λ done. IsTrue done → rules.on_values (run_all (trees_in (trees body.now.nodes) ids.now) (values_of env.old)) (rules.called (slice_get (funs_of body.now) f)) ≡ just_part (doing (act_of body.now at.new) (values_of env.new))) }
     ensures same { IfOk result (λ done. (IsTrue done → ⊥) → (at.new ≡ at.old) × (env.new ≡ env.old)) }
 {
-    let FoundAll::Values(args) = eval_all(alloc, &body.nodes, ids, env)? else {
+    let room = spare.take(alloc);
+    let FoundAll::Values(args) = eval_all(alloc, &body.nodes, ids, env, room)? else {
         return Ok(false);
     };
     match fun_for(body, f, args.len()) {
         None => Ok(false),
         Some(fun) => {
-            *env = Env::of(alloc, args)?;
+            env.refill(alloc, args, spare)?;
             *at = fun.body;
             Ok(true)
         }

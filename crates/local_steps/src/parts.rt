@@ -27,17 +27,19 @@ fn id_at(ids: &[ExprId], i: usize) -> ExprId
     ids[i]
 }
 
-/// What expressions give, from the left to the right, up to the first exception.
+/// What expressions give, from the left to the right, up to the first exception. The values get the memory of `room`.
 pub fn eval_all(
     alloc: Global,
     nodes: &Items<Node>,
     ids: &Items<ExprId>,
     env: &mut Env,
+    room: Values,
 ) -> Result<FoundAll, NoMemory>
+    requires { room ≡ [] }
     ensures value { IfOk result (λ o. outs_of o ≡ run_all (trees_in (trees nodes.now) ids.now) (values_of env.old)) }
     ensures same { OnOk result (env.new ≡ env.old) }
 {
-    let mut values = Items::new(alloc);
+    let mut values = room;
     'each: for i in 0..ids.len() {
         let id = id_at(ids.as_slice(), i);
         match env.eval(alloc, nodes, id)? {
@@ -247,7 +249,7 @@ pub fn do_call(
     ensures { IfOk result (λ n. alone_of body.now n ≡ rules.on_values (run_all (trees_in (trees body.now.nodes) ids.now) (values_of env)) (rules.called (slice_get (funs_of body.now) f))) }
 {
     let mut env = env;
-    match eval_all(alloc, &body.nodes, ids, &mut env)? {
+    match eval_all(alloc, &body.nodes, ids, &mut env, Items::new(alloc))? {
         FoundAll::Values(args) => entered(alloc, body, f, args),
         FoundAll::Throws(exn) => Ok(StepResult::To(Active::Throw(exn))),
         FoundAll::Stuck => Ok(StepResult::Stuck),
@@ -265,7 +267,7 @@ pub fn do_perform(
     ensures { IfOk result (λ n. alone_of body.now n ≡ rules.on_values (run_all (trees_in (trees body.now.nodes) ids.now) (values_of env)) (λ us. just_part (performs (calls primitive us)))) }
 {
     let mut env = env;
-    match eval_all(alloc, &body.nodes, ids, &mut env)? {
+    match eval_all(alloc, &body.nodes, ids, &mut env, Items::new(alloc))? {
         FoundAll::Values(args) => Ok(StepResult::To(Active::Asks(primitive, args))),
         FoundAll::Throws(exn) => Ok(StepResult::To(Active::Throw(exn))),
         FoundAll::Stuck => Ok(StepResult::Stuck),

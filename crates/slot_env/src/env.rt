@@ -6,6 +6,7 @@ ghost use Rattle.hs_eval.specs.Founds.{out_of};
 ghost use Rattle.slot_env.specs.Envs.{base_of};
 
 use crate::copied::{copied, few, joined, shared};
+use crate::spare::Spare;
 use crate::waiting::Waiting;
 use hs_base::{NoMemory, Value, Values};
 use hs_eval::{Found, eval_at, test_at};
@@ -84,6 +85,28 @@ impl Env {
         ensures { result ≡ base_of base ++ own }
     {
         Env { base, own }
+    }
+
+    /// Takes these values in place of its own, whose memory is spare from then on: no copy shares it. Where memory runs out the
+    /// environment is as before.
+    pub fn refill(
+        &mut self,
+        alloc: Global,
+        values: Values,
+        spare: &mut Spare,
+    ) -> Result<(), NoMemory>
+        ensures ok { OnOk result (self.new ≡ values) }
+        ensures err { OnErr result (self.new ≡ self.old) }
+    {
+        let next = Env::of(alloc, values)?;
+        spare.keep(mem::replace(self, next).into_own());
+        Ok(())
+    }
+
+    /// The values that no copy shares.
+    fn into_own(self) -> Values {
+        let Env { base: _, own } = self;
+        own
     }
 
     /// The value of a slot.

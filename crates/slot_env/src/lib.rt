@@ -11,7 +11,9 @@
 
 mod copied;
 mod env;
+mod spare;
 mod waiting;
 
 pub use env::Env;
+pub use spare::Spare;
 pub use waiting::Waiting;
