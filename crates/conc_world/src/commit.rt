@@ -191,7 +191,7 @@ impl<O: Sink, E: Sink, K: Clock> Desk<O, E, K> {
 
     /// Appends the local rules of a slice that starts where its thread stands and is within the fuel, or sets the ending. Want
     /// of memory is left to the caller.
-    fn accept(&mut self, slice: Slice) -> Result<(), NoMemory>
+    pub(crate) fn accept(&mut self, slice: Slice) -> Result<(), NoMemory>
         requires none { self.old.course.end ≡ None }
         requires code { slice.of.value ≡ self.old.course.clocked.record.of.value }
         requires starts { Starts slice self.old.course.clocked.record.world }

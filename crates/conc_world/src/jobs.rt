@@ -1,19 +1,20 @@
 //! Jobs that are made, and that are overtaken.
-ghost use Rattle.std.specs.Prelude.{◌≡◌, ◌<◌, ◌+◌, ◌^◌, ◌↔◌, ◌⊎◌, ℕ, None, Some, IfOk, IfSome, IfNone, OnOk, OnErr, IsTrue, length, slice_get};
+ghost use Rattle.std.specs.Prelude.{◌≡◌, ◌<◌, ◌≤◌, ◌+◌, ◌^◌, ◌↔◌, ◌⊎◌, ℕ, None, Some, IfOk, IfSome, IfNone, OnOk, OnErr, IsTrue, length, slice_get};
 ghost use Rattle.hs_rules.specs.declared.entry.Entry.TheVariants as entry;
 ghost use Rattle.frame_stack.specs.Slicing.{IsDoing};
 ghost use Rattle.thread_table.specs.Listing.{Goes};
 ghost use Rattle.thread_table.specs.Table.{IsAt};
+ghost use Rattle.world_entries.specs.Worlds.{Starts};
 ghost use Rattle.run_record.specs.Records.{Same};
 ghost use Rattle.run_course.specs.declared.ends.RunEnd.TheVariants as end;
 ghost use Rattle.job_tickets.specs.declared.tickets.Out.{Out};
 ghost use Rattle.job_tickets.specs.Out.{job, ticket_of, is_overtaken, HasRoom, IsIdle};
-ghost use Rattle.conc_world.specs.Jobs.{Added, AllOut, IsJob, IsOvertaken, SameJobs, TakenBack};
+ghost use Rattle.conc_world.specs.Jobs.{Added, AllOut, IsJob, IsOvertaken, SameJobs, TakenBack, left};
 
 use crate::desk::Desk;
-use frame_stack::{Control, Job};
+use frame_stack::{Control, Job, Slice, slice};
 use hs_base::NoMemory;
-use hs_io::{Clock, Sink};
+use hs_io::{Clock, NeverCut, Sink};
 use hs_rules::{CodeBody, Entry};
 use job_tickets::Tickets;
 use run_course::Course;
@@ -125,7 +126,7 @@ impl<O: Sink, E: Sink, K: Clock> Desk<O, E, K> {
     }
 
     /// A thread that is to do an action and has no job out.
-    fn next_ready(&mut self) -> Option<u32>
+    pub(crate) fn next_ready(&mut self) -> Option<u32>
         requires none { self.old.course.end ≡ None }
         ensures some { IfSome result (λ t. IsAt t Goes self.new.course.clocked.record.world.threads.list.items × (ticket_of self.old.tickets t ≡ None)) }
         ensures none { IfNone result (AllOut self.old.tickets self.new.course.clocked.record) }
@@ -172,6 +173,22 @@ impl<O: Sink, E: Sink, K: Clock> Desk<O, E, K> {
             budget: left.min(MOST_STEPS) as u32,
             of: Snapshot::of(body),
         })
+    }
+
+    /// The slice of a thread that is to do an action, from where it stands.
+    pub(crate) fn slice_of(&self, t: u32, ticket: u64) -> Result<Slice, NoMemory>
+        requires none { self.now.course.end ≡ None }
+        requires goes { IsAt t Goes self.now.course.clocked.record.world.threads.list.items }
+        ensures of { IfOk result (λ s. (s.tid ≡ t) × (s.ticket ≡ ticket) × (s.of.value ≡ self.now.course.clocked.record.of.value)) }
+        ensures starts { IfOk result (λ s. Starts s self.now.course.clocked.record.world) }
+        ensures fuel { IfOk result (λ s. s.steps ≤ left self.now.course.clocked.record) }
+    {
+        let job = self.job_of(t, ticket)?;
+        let alloc = self.course.clocked.record.world.alloc;
+        match slice(alloc, &self.code, job, &mut NeverCut) {
+            Ok(slice) => Ok(slice),
+            Err(_) => Err(NoMemory),
+        }
     }
 
     /// Takes the ticket back where it is out, and changes nothing else.

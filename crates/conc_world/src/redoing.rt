@@ -1,16 +1,14 @@
 //! Slices that come back to a thread which holds large values.
-ghost use Rattle.std.specs.Prelude.{◌≡◌, ◌≤◌, None, IfOk};
+ghost use Rattle.std.specs.Prelude.{◌≡◌, None};
 ghost use Rattle.thread_table.specs.Listing.{Goes};
 ghost use Rattle.thread_table.specs.Table.{IsAt};
-ghost use Rattle.world_entries.specs.Worlds.{Starts};
-ghost use Rattle.conc_world.specs.Jobs.{left};
 ghost use Rattle.conc_world.specs.Committing.{IsCommittedAnew, TicketBack};
 
 use crate::answers::Committed;
 use crate::desk::Desk;
-use frame_stack::{Slice, slice};
+use frame_stack::Slice;
 use hs_base::NoMemory;
-use hs_io::{Clock, NeverCut, Sink};
+use hs_io::{Clock, Sink};
 use value_equality::Effort;
 
 /// A slice that comes back is compared in so many steps at most, ..
@@ -54,28 +52,12 @@ impl<O: Sink, E: Sink, K: Clock> Desk<O, E, K> {
         ensures given { self.new.given ≡ self.old.given }
         ensures code { self.new.code ≡ self.old.code }
     {
-        match self.made_anew(late.tid, late.ticket) {
+        match self.slice_of(late.tid, late.ticket) {
             Ok(slice) => self.commit_fresh(slice),
             Err(NoMemory) => {
                 self.no_memory();
                 Committed::NoMemory
             }
-        }
-    }
-
-    /// The slice of a thread that is to do an action, from where it stands.
-    fn made_anew(&self, t: u32, ticket: u64) -> Result<Slice, NoMemory>
-        requires none { self.now.course.end ≡ None }
-        requires goes { IsAt t Goes self.now.course.clocked.record.world.threads.list.items }
-        ensures of { IfOk result (λ s. (s.tid ≡ t) × (s.ticket ≡ ticket) × (s.of.value ≡ self.now.course.clocked.record.of.value)) }
-        ensures starts { IfOk result (λ s. Starts s self.now.course.clocked.record.world) }
-        ensures fuel { IfOk result (λ s. s.steps ≤ left self.now.course.clocked.record) }
-    {
-        let job = self.job_of(t, ticket)?;
-        let alloc = self.course.clocked.record.world.alloc;
-        match slice(alloc, &self.code, job, &mut NeverCut) {
-            Ok(slice) => Ok(slice),
-            Err(_) => Err(NoMemory),
         }
     }
 }

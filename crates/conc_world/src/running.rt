@@ -5,12 +5,11 @@ ghost use Rattle.run_course.specs.Settled.{Begins, GoesOn, KeepsPlan};
 ghost use Rattle.conc_world.specs.Jobs.{NoneOut};
 
 use crate::desk::Desk;
-use frame_stack::slice;
 use hs_base::NoMemory;
-use hs_io::{Clock, NeverCut, Sink};
+use hs_io::{Clock, Sink};
 
 /// Runs the desk to an ending with one capability, without waiting for another thread. Jobs that are out are taken back first.
-/// Each slice is committed right after its job was made, and starts where its thread stands: nothing is compared.
+/// Each slice is made where its thread stands and committed at once: no ticket is given, and nothing is compared.
 pub fn alone<O: Sink, E: Sink, K: Clock>(desk: &mut Desk<O, E, K>)
     ensures ended { IsSome desk.new.course.end }
     ensures goes { GoesOn desk.old.course.end desk.old.course.clocked.record.history.list desk.new.course.end desk.new.course.clocked.record.history.list }
@@ -27,26 +26,27 @@ pub fn alone<O: Sink, E: Sink, K: Clock>(desk: &mut Desk<O, E, K>)
     }
 }
 
-/// Settles, and runs and commits one slice.
+/// No job has this ticket.
+const NO_TICKET: u64 = 0;
+
+/// Settles, and appends the local rules of one slice, where there is no ending.
 fn turn<O: Sink, E: Sink, K: Clock>(desk: &mut Desk<O, E, K>) -> Result<(), NoMemory>
     requires none { desk.old.course.end ≡ None }
     requires idle { NoneOut desk.old.tickets }
-    ensures more { OnOk result (IsSome desk.new.course.end ⊎ (NoneOut desk.new.tickets × (steps_of desk.old.course.clocked.record.history.list < steps_of desk.new.course.clocked.record.history.list))) }
+    ensures more { OnOk result (IsSome desk.new.course.end ⊎ (steps_of desk.old.course.clocked.record.history.list < steps_of desk.new.course.clocked.record.history.list)) }
+    ensures tickets { desk.new.tickets ≡ desk.old.tickets }
     ensures begins { Begins desk.old.course.clocked.record.history.list desk.new.course.clocked.record.history.list }
     ensures plan { KeepsPlan desk.old.course.clocked.record desk.new.course.clocked.record }
     ensures lent { (desk.new.course.out_lent ≡ desk.old.course.out_lent) × (desk.new.course.err_lent ≡ desk.old.course.err_lent) × (desk.new.course.clocked.lent ≡ desk.old.course.clocked.lent) }
     ensures code { desk.new.code ≡ desk.old.code }
 {
     desk.settle()?;
-    let Some(job) = desk.next_job()? else {
+    if desk.course.end.is_some() {
         return Ok(());
-    };
-    let alloc = desk.course.clocked.record.world.alloc;
-    match slice(alloc, &desk.code, job, &mut NeverCut) {
-        Ok(slice) => {
-            let _ = desk.commit_fresh(slice);
-            Ok(())
-        }
-        Err(_) => Err(NoMemory),
     }
+    let Some(t) = desk.next_ready() else {
+        unreachable!()
+    };
+    let slice = desk.slice_of(t, NO_TICKET)?;
+    desk.accept(slice)
 }

@@ -1,6 +1,6 @@
-use Rattle.std.proofs.Common.{◌∙◌, sym}
+use Rattle.std.proofs.Common.{◌∙◌}
 use Rattle.conc_world.proofs.Turning.{job_starts, job_within}
-use Rattle.conc_world.proofs.desk.Desk.made_anew.Goals as goal
+use Rattle.conc_world.proofs.desk.Desk.slice_of.Goals as goal
 
 pub returns-in-Ok-clause-of : goal.returns-in-Ok-clause-of
 returns-in-Ok-clause-of g c =
