@@ -1,2 +1,2 @@
 pub mod Nexts
-pub mod Objects
+pub mod Halves

@@ -7,12 +7,9 @@ ghost use Rattle.conc_hands.specs.Hands.{IsHandOf, hands_code, hands_count};
 ghost use Rattle.caps_loop.specs.Nexts.{RunsOf};
 
 use crate::capability::Capability;
-use crate::jobs::steal_job;
 use crate::next::Decision;
-use crate::parkers::{Berth, Parkers};
 use crate::running::leave;
-use crate::runs::Runs;
-use crate::turns::visit;
+use caps_visits::{Berth, Parkers, Runs, steal_job, visit};
 use conc_hands::{Hand, Hands};
 use conc_turn::Turn;
 use hs_io::Gate;

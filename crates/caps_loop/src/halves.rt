@@ -9,11 +9,11 @@ ghost use Rattle.conc_turn.specs.Turns.{IsSeatOf, turn_plan};
 ghost use Rattle.conc_hands.specs.Hands.{IsHandOf, hands_code, hands_count};
 ghost use Rattle.conc_hands.specs.Lists.{hands_in};
 ghost use Rattle.conc_hands.specs.declared.hands.Hands.{Hands};
+ghost use Rattle.caps_loop.specs.Halves.{IsHalf};
 
 use crate::capability::Capability;
-use crate::parkers::{Parkers, parkers_for};
-use crate::runs::Runs;
 use crate::working::work;
+use caps_visits::{Parkers, Runs, parkers_for};
 use conc_hands::{HandList, Hands};
 use conc_turn::{Seat, Turn};
 use hs_base::NoMemory;
@@ -134,7 +134,7 @@ fn run<
     let mine = count - theirs;
     let (my_seat, their_seat) = turn.split(seat, theirs);
     let left = move || -> Seat
-        requires { IsSync R.row × IsSync G.row × IsSend D.row × IsSend J.row × IsSend S.row × IsSeatOf D.plan turn.now my_seat × (0 < mine) × (mine ≤ shares_of my_seat) × (length (hands_in list) ≡ mine) × All (IsHandOf hands.now) (hands_in list) × (hands_code hands.now ≡ (turn_plan D.plan turn.now).body) × (body_of code.now ≡ hands_code hands.now) × (vec_len parkers.now.berths ≡ hands_count hands.now) }
+        requires { IsSync R.row × IsSync G.row × IsSend D.row × IsSend J.row × IsSend S.row × IsHalf D.plan turn.now hands.now code.now parkers.now my_seat list mine }
         ensures { IsLater my_seat result }
     {
         run(
@@ -142,7 +142,7 @@ fn run<
         )
     };
     let right = move || -> Seat
-        requires { IsSync R.row × IsSync G.row × IsSend D.row × IsSend J.row × IsSend S.row × IsSeatOf D.plan turn.now their_seat × (0 < theirs) × (theirs ≤ shares_of their_seat) × (length (hands_in their_list) ≡ theirs) × All (IsHandOf hands.now) (hands_in their_list) × (hands_code hands.now ≡ (turn_plan D.plan turn.now).body) × (body_of code.now ≡ hands_code hands.now) × (vec_len parkers.now.berths ≡ hands_count hands.now) }
+        requires { IsSync R.row × IsSync G.row × IsSend D.row × IsSend J.row × IsSend S.row × IsHalf D.plan turn.now hands.now code.now parkers.now their_seat their_list theirs }
         ensures { IsLater their_seat result }
     {
         run(

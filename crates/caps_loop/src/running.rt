@@ -9,12 +9,10 @@ ghost use Rattle.conc_hands.specs.Hands.{IsHandOf, hands_code};
 ghost use Rattle.caps_loop.specs.Nexts.{RunsOf};
 
 use crate::capability::Capability;
-use crate::cutting::run_slice;
 use crate::next::Decision;
-use crate::parkers::Parkers;
-use crate::runs::{Runs, Unsliced};
-use crate::turns::{give_up, try_commit, try_visit, visit};
-use crate::visit::Visit;
+use caps_visits::{
+    Parkers, Runs, Unsliced, Visit, give_up, run_slice, try_commit, try_visit, visit,
+};
 use conc_hands::Hands;
 use conc_turn::Turn;
 use hs_io::Gate;

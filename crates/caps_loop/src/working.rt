@@ -9,11 +9,9 @@ ghost use Rattle.caps_loop.specs.Nexts.{RunsOf};
 
 use crate::asking::ask;
 use crate::capability::Capability;
-use crate::jobs::find_job;
 use crate::next::Decision;
-use crate::parkers::Parkers;
 use crate::running::run_job;
-use crate::runs::Runs;
+use caps_visits::{Parkers, Runs, find_job};
 use conc_hands::Hands;
 use conc_turn::Turn;
 use hs_io::Gate;

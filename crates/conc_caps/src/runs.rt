@@ -3,7 +3,7 @@ ghost use Rattle.std.specs.Prelude.{IsSome};
 
 use crate::lent::LentAs;
 use crate::lent_desk::LentDesk;
-use caps_loop::{Runs, Unsliced};
+use caps_visits::{Runs, Unsliced};
 use conc_world::{Committed, Desk, alone};
 use frame_stack::{Job, Slice, SliceFault, slice};
 use hs_base::NoMemory;

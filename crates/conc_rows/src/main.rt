@@ -6,7 +6,8 @@
 //! proof.
 #![tactic(auto)]
 
-use row_files::{Flaw, Misread, Row, read_rows};
+use row_answers::{Flaw, Row};
+use row_files::{Misread, read_rows};
 use row_trials::problem_of;
 use std::alloc::Global;
 use std::process::ExitCode;

@@ -1,8 +1,8 @@
 //! A row while its lines are read.
 
-use crate::flaw::Flaw;
-use crate::row::{Listing, Others, Outcome, Plan, Refusal, Row, Schedules, Told, Wanted};
-use crate::text::Text;
+use row_answers::{
+    Flaw, Listing, Others, Outcome, Plan, Refusal, Row, Schedules, Text, Told, Wanted,
+};
 use std::alloc::{AllocError, Global};
 
 /// What the lines of a row have said so far.

@@ -1,14 +1,12 @@
 //! The lines of a row.
 
 use crate::draft::Draft;
-use crate::flaw::Flaw;
 use crate::outcomes::{others_of, outcome_of, schedules_of};
 use crate::plans::{
     byte_ranges, entries_of, entry_of, number_of, numbers_of, refusal_of, sink_of, source_of,
     words_of,
 };
-use crate::row::{Cases, ClockPlan, Plan};
-use crate::text::Text;
+use row_answers::{Cases, ClockPlan, Flaw, Plan, Text};
 use std::alloc::Global;
 
 /// Adds what a line says to a row.

@@ -1,8 +1,6 @@
 //! What the lines of a row say of the outcomes that are to be listed.
 
-use crate::flaw::Flaw;
-use crate::row::{End, Others, Outcome, Schedules};
-use crate::text::{Text, texts_of};
+use row_answers::{End, Flaw, Others, Outcome, Schedules, Text, texts_of};
 use std::alloc::Global;
 
 const NO_OUTCOME: Flaw = Flaw::Says(

@@ -1,9 +1,8 @@
 //! What the values of a row's keys say.
 
-use crate::entry::EntryLine;
-use crate::flaw::Flaw;
-use crate::row::{Place, Refusal, SinkPlan, SourcePlan};
-use crate::text::{Letter, hex_digit, letters_of};
+use row_answers::{
+    EntryLine, Flaw, Letter, Place, Refusal, SinkPlan, SourcePlan, hex_digit, letters_of,
+};
 use std::alloc::Global;
 use std::str::FromStr;
 

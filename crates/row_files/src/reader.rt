@@ -1,10 +1,27 @@
 //! The reader of files of rows (docs/ROWS.md has the form).
 
 use crate::draft::Draft;
-use crate::flaw::{Flaw, Misread};
 use crate::keys::read_line;
-use crate::row::Row;
+use row_answers::{Flaw, Row};
 use std::alloc::Global;
+use std::fmt;
+
+/// Why a file gives no rows.
+#[derive(Clone, Copy)]
+pub enum Misread {
+    NoMemory,
+    /// The line of this number, from 1, is no line of a row.
+    Line(usize, &'static str),
+}
+
+impl fmt::Display for Misread {
+    fn fmt<W: fmt::Write>(&self, f: &mut fmt::Formatter<W>) -> fmt::Result {
+        match self {
+            Misread::NoMemory => write!(f, "out of memory"),
+            Misread::Line(number, says) => write!(f, "line {number}: {says}"),
+        }
+    }
+}
 
 /// The rows of a file, or the first line that is no line of a row.
 pub fn read_rows(alloc: Global, file: &str) -> Result<Vec<Row>, Misread> {

@@ -8,7 +8,7 @@ use hs_io::{
     Clock, MemSink, MemSource, OpenGate, PlainSource, Source, StandingClock, VirtualClock,
 };
 use hs_rules::{Entry, History};
-use row_files::{Answer, ClockPlan, Flaw, Plan};
+use row_answers::{Answer, ClockPlan, Flaw, Plan};
 use std::alloc::Global;
 use std::sync::Wait;
 use std::thread::Threads;

@@ -2,7 +2,7 @@
 
 use crate::came::Came;
 use hs_rules::{Entry, History};
-use row_files::{Case, EntryLine, Flaw, Told, Wanted, difference, says};
+use row_answers::{Case, EntryLine, Flaw, Told, Wanted, difference, says};
 use std::alloc::{AllocError, Global};
 
 /// The first difference between what is wanted and what came.

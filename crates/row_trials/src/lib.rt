@@ -2,7 +2,7 @@
 //!
 //! No clause says anything: the rows show that what is proved is what was meant. A row is called with a source, sinks and a
 //! clock in memory, once for each of its cases; where it says so, what ran is written, verified and reported, and so is the run
-//! of each outcome. What a row says, and what of it an answer lacks, is left to `row_files`.
+//! of each outcome. What a row says, and what of it an answer lacks, is left to `row_answers`.
 #![tactic(auto)]
 
 mod came;

@@ -2,7 +2,7 @@
 
 use crate::came::answer_to;
 use crate::written::{ample_plan, with_name};
-use row_files::{Answer, Flaw, Line, Listing, Outcome, head_of, says, shown};
+use row_answers::{Answer, Flaw, Line, Listing, Outcome, head_of, says, shown};
 use std::alloc::{AllocError, Global};
 use std::sync::Wait;
 use std::thread::Threads;

@@ -1,7 +1,7 @@
 //! The history of what a row runs: written, verified, and reported.
 
 use crate::came::answer_to;
-use row_files::{Answer, Flaw, Plan, Text};
+use row_answers::{Answer, Flaw, Plan, Text};
 use std::alloc::{AllocError, Global};
 use std::sync::Wait;
 use std::thread::Threads;

@@ -4,7 +4,7 @@ ghost use Rattle.std.specs.declared.option.Option.{Option};
 ghost use Rattle.rules_code.specs.Codes.{body_of};
 
 use crate::items::{Item, ticket_of};
-use caps_loop::{Runs, Unsliced};
+use caps_visits::{Runs, Unsliced};
 use hs_base::{Limits, NoMemory};
 use hs_io::Cutter;
 use hs_rules::{Code, Kept, Ticketed};

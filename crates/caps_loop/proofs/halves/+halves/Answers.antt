@@ -17,8 +17,8 @@ join-a-requires-after_bounds g t c κs within =
     let counts = cut_counts c.cut_list-list.result.0 c.args.list (c.args.count / 2) c.cut_list-list.result.1 c.in-Some.their_list c.in-Some.is c.cut_list-list.ensures.counts in
     let last = cut_last c.args.list c.cut_list-list.result.1 c.in-Some.their_list c.in-Some.is c.cut_list-list.ensures.last in
     let few = c.requires.count in (
-      (search rules, ((λ a m. m), ((λ a m. m), ((λ a m. m), ((λ a m. m), ((λ a m. m), ((search rules, search rules, search rules, search rules, search rules, first.0, omega (arith, few.0), omega (arith, few.1, first.1), omega (arith, counts.0, few.2), c.cut_list-list.ensures.first c.args.hands.now c.requires.list, c.requires.code.0, c.requires.code.1, c.requires.parkers), (search rules, search rules, search rules, search rules, search rules)))))))),
-      (search rules, ((λ a m. m), ((λ a m. m), ((λ a m. m), ((λ a m. m), ((λ a m. m), ((search rules, search rules, search rules, search rules, search rules, second.0, search rules, omega (arith, second.1), counts.1, last c.args.hands.now c.requires.list, c.requires.code.0, c.requires.code.1, c.requires.parkers), (search rules, search rules, search rules, search rules, search rules)))))))),
+      (search rules, ((λ a m. m), ((λ a m. m), ((λ a m. m), ((λ a m. m), ((λ a m. m), ((search rules, search rules, search rules, search rules, search rules, record { seated = first.0; some = omega (arith, few.0); shared = omega (arith, few.1, first.1); handed = omega (arith, counts.0, few.2); own = c.cut_list-list.ensures.first c.args.hands.now c.requires.list; planned = c.requires.code.0; coded = c.requires.code.1; berthed = c.requires.parkers }), (search rules, search rules, search rules, search rules, search rules)))))))),
+      (search rules, ((λ a m. m), ((λ a m. m), ((λ a m. m), ((λ a m. m), ((λ a m. m), ((search rules, search rules, search rules, search rules, search rules, record { seated = second.0; some = search rules; shared = omega (arith, second.1); handed = counts.1; own = last c.args.hands.now c.requires.list; planned = c.requires.code.0; coded = c.requires.code.1; berthed = c.requires.parkers }), (search rules, search rules, search rules, search rules, search rules)))))))),
     )
 
 pub join-requires : goal.join-requires
