@@ -2,6 +2,7 @@
 
 import os
 import re
+import shutil
 import statistics
 import subprocess
 import sys
@@ -13,6 +14,8 @@ from tools.rows import is_new, say
 from tools.sources import TOP, here, read
 
 FUEL = 4_000_000
+# What is no shape of scripts at three sizes.
+OTHERS = ("written", "search", "ghc")
 
 COUNT = """count (n :: Int) :: IO () = {{ if n == {n} then {{ return () }} else {{ count (n + 1) }} }};
 main :: IO () = {{ count 0 }};"""
@@ -39,6 +42,36 @@ main :: IO () = {{ d <- newEmptyMVar @Int;
   w <- takeMVar d; x <- takeMVar d; y <- takeMVar d; z <- takeMVar d; putStrLn (show (w + x + y + z)) }};"""
 
 SLEEPERS = """main :: IO () = {{ threadDelay {n} }};"""
+
+EMPTY = "main :: IO () = { return () };"
+
+# The same programs in Haskell, by their size as an argument.
+HASKELL = {
+    "empty": "main = return ()\n",
+    "count": """count :: Int -> Int -> IO ()
+count m n = if n == m then return () else count m (n + 1)
+main = do { [m] <- getArgs; count (read m) 0 }
+""",
+    "ring": """work :: Int -> MVar Int -> MVar Int -> IO ()
+work i a b = do { x <- takeMVar a; putMVar b (x + i) }
+start :: Int -> Int -> MVar Int -> MVar Int -> IO ()
+start m i a z = if i == m then do { x <- takeMVar a; putMVar z x } else do { b <- newEmptyMVar; _ <- forkIO (work i a b); start m (i + 1) b z }
+main = do { [m] <- getArgs; a <- newMVar 0; z <- newEmptyMVar; start (read m) 0 a z; r <- takeMVar z; print r }
+""",
+    "exchanges": """give :: Int -> Int -> MVar Int -> MVar Int -> MVar () -> IO ()
+give m n a b d = if n == m then putMVar d () else do { putMVar a n; _ <- takeMVar b; give m (n + 1) a b d }
+takes :: MVar Int -> MVar Int -> IO ()
+takes a b = do { x <- takeMVar a; putMVar b x; takes a b }
+main = do { [m] <- getArgs; a <- newEmptyMVar; b <- newEmptyMVar; d <- newEmptyMVar; _ <- forkIO (takes a b); _ <- forkIO (give (read m) 0 a b d); takeMVar d }
+""",
+    "with-main": """give :: Int -> Int -> MVar Int -> MVar Int -> MVar () -> IO ()
+give m n a b d = if n == m then putMVar d () else do { putMVar a n; _ <- takeMVar b; give m (n + 1) a b d }
+takes :: MVar Int -> MVar Int -> IO ()
+takes a b = do { x <- takeMVar a; putMVar b x; takes a b }
+main = do { [m] <- getArgs; a <- newEmptyMVar; b <- newEmptyMVar; d <- newEmptyMVar; _ <- forkIO (takes a b); give (read m) 0 a b d }
+""",
+}
+HASKELL_HEAD = "import Control.Concurrent\nimport System.Environment\n"
 
 # Five workers that add to one number, which by their order has very many values on the way.
 WORKERS = """work (n :: Int) (m :: MVar Int) (d :: MVar ()) :: IO () = {
@@ -143,6 +176,33 @@ def written(program, runs):
     print(f"the largest document has {len(document)} bytes")
 
 
+def compiled(work, name, text):
+    """A program that ghc makes of this text."""
+    path = os.path.join(work, name)
+    with open(f"{path}.hs", "w", encoding="utf-8") as file:
+        file.write(HASKELL_HEAD + text)
+    ran = subprocess.run(["ghc", "-v0", "-O1", "-threaded", "-rtsopts", f"{path}.hs", "-o", path], stdout=subprocess.PIPE, stderr=subprocess.STDOUT, text=True, check=False)
+    return path if not ran.returncode else sys.exit(f"bench: ghc makes no program of {name}: {ran.stdout[-500:]}")
+
+
+def beside_ghc(program, runs):
+    """The largest size of each shape that has a program in Haskell, beside `ghc -O1 -N1`, one run of each after the other."""
+    if not shutil.which("ghc"):
+        sys.exit("bench: no command ghc here")
+    known = {it.name: it for it in SHAPES}
+    print(f"{'':44}{'ours ms':>9}{'ghc ms':>9}{'times':>9}")
+    with tempfile.TemporaryDirectory() as work:
+        for name, text in HASKELL.items():
+            other, took = compiled(work, name, text), ([], [])
+            size = 4 * known[name].size if name in known else 0
+            words, script = next(known[name].calls(size))[1:] if name in known else (["run"], EMPTY.encode())
+            for _ in range(runs):
+                took[0].append(Took(program, words, script).clock * 1000)
+                took[1].append(Took(other, [str(size), "+RTS", "-N1"], b"").clock * 1000)
+            ours, theirs = map(statistics.median, took)
+            print(f"{name + (f', n = {size}' if size else ', which does nothing'):44}{ours:9.1f}{theirs:9.1f}{ours / theirs:9.2f}", flush=True)
+
+
 def states_of(told):
     """How many states a list of outcomes tells."""
     found = re.search(rb"^(\d+) states; ", told, re.M)
@@ -187,10 +247,10 @@ def main(words):
         else:
             names.append(word)
     known = {it.name: it for it in SHAPES}
-    if unknown := [it for it in names if it not in known and it not in ("written", "search")]:
-        sys.exit(f"bench: no shape {unknown[0]}; there are {' '.join(known)} written search")
+    if unknown := [it for it in names if it not in known and it not in OTHERS]:
+        sys.exit(f"bench: no shape {unknown[0]}; there are {' '.join((*known, *OTHERS))}")
     where = program_of(program)
-    if names != ["search"]:
+    if not names or set(names) - {"search", "ghc"}:
         head()
     for it in SHAPES:
         if not names or it.name in names:
@@ -199,4 +259,6 @@ def main(words):
         written(where, runs)
     if not names or "search" in names:
         search(where, runs)
+    if "ghc" in names:
+        beside_ghc(where, runs)
     return 0
