@@ -15,23 +15,6 @@ pub struct Index {
     pub count: usize,
 }
 
-/// Puts the place of a name, over the one that it had.
-fn put(
-    alloc: Global,
-    places: &mut BTreeMap<String, usize>,
-    name: &Txt,
-    place: usize,
-) -> Result<(), NoMemory>
-    ensures ok { OnOk result ((x : List ℕ) → get_by_text places.new x ≡ cond (bytes_eq name.now x) (Some place) (get_by_text places.old x)) }
-    ensures err { OnErr result (places.new.entries ≡ places.old.entries) }
-{
-    let name = String::from_str(alloc, name.as_str())?;
-    match places.insert(name, place) {
-        Ok(_) => Ok(()),
-        Err(_) => Err(NoMemory),
-    }
-}
-
 /// Puts the place of a name that has none yet.
 fn put_first(
     alloc: Global,
@@ -42,10 +25,14 @@ fn put_first(
     ensures ok { OnOk result ((x : List ℕ) → get_by_text places.new x ≡ option_or (get_by_text places.old x) (cond (bytes_eq name.now x) (Some place) None)) }
     ensures err { OnErr result (places.new.entries ≡ places.old.entries) }
 {
-    if places.contains_key(name.as_str()) {
-        return Ok(());
+    let name = String::from_str(alloc, name.as_str())?;
+    match places.entry(name) {
+        Ok(entry) => {
+            entry.or_insert(place);
+            Ok(())
+        }
+        Err(_) => Err(NoMemory),
     }
-    put(alloc, places, name, place)
 }
 
 impl Index {

@@ -1,12 +1,12 @@
 -- The spans of tokens.
-use Rattle.std.proofs.Common.{◌≡◌, ℕ, zero, suc, ◌+◌, ◌-◌, ◌<◌, ◌≤◌, List, [], ◌∷◌, ◌++◌, length, take, drop, Result, Ok, Err, refl, sym, ap, ◌∙◌, subst, arith, append_assoc, length-append}
+use Rattle.std.proofs.Common.{◌≡◌, ℕ, ◌-◌, ◌<◌, ◌≤◌, List, [], ◌∷◌, ◌++◌, length, take, drop, Result, Ok, Err, sym, ap, ◌∙◌, subst, arith, append_assoc, length-append}
 use Rattle.std.specs.Prelude.{IfOk, slice_range}
 use Rattle.std.specs.Str.{encode_utf8_all}
 use Rattle.std.proofs.lemmas.Str.{encodes-append, length-le-encodes}
 use Rattle.std.proofs.Math.Seq.{take-append_seam, drop-append_seam}
 use Rattle.rules_tokens.specs.declared.token.Token.{Token}
 use Rattle.rules_tokens.specs.declared.token.Tokens.{Tokens}
-use Rattle.rules_tokens.specs.Tokens.{dash, Piece, Blank, Comment, Lexeme, Read, Fits, text_then, tokens_behind, Spells, HasTokens}
+use Rattle.rules_tokens.specs.Tokens.{dash, Piece, Blank, Comment, Lexeme, Read, text_then, tokens_behind}
 use Rattle.hs_lex.specs.declared.fault.LexFault.{LexFault}
 use Rattle.hs_lex.specs.Answers.{IsRight, AreRising, AreSlices}
 use Rattle.hs_lex.proofs.Forms.{form_not_empty}

@@ -1,9 +1,19 @@
-ghost use Rattle.std.specs.Prelude.{List, ℕ, ◌<◌, MatchOption, IfSome, length};
+ghost use Rattle.std.specs.Prelude.{List, ℕ, ◌<◌, ◌++◌, ◌≢◌, IsFalse, MatchOption, IfSome, length};
 ghost use Rattle.rules_tokens.specs.Tokens.{BeginsComment};
 ghost use Rattle.hs_lex.specs.Fronts.{StandsAt, BeginsOther, IsCut, IsRow, NoneOf};
 
 use crate::front::{Flaw, Front};
 use rules_tokens::{Tok, symbol as symbols};
+
+/// Whether the text may begin with the symbol, by the first character of each: most symbols differ in theirs.
+fn may_begin(symbol: &[char], rest: &[char]) -> bool
+    ensures { IsFalse result → (after : List ℕ) → symbol.now ++ after ≢ rest.now }
+{
+    match (symbol.first(), rest.first()) {
+        (Some(a), Some(b)) => *a == *b,
+        _ => true,
+    }
+}
 
 /// The first text of the table that begins `rest`: its place, and how many characters it has.
 fn first_in(table: &[&[char]], rest: &[char]) -> Option<(usize, usize)>
@@ -12,7 +22,7 @@ fn first_in(table: &[&[char]], rest: &[char]) -> Option<(usize, usize)>
     ensures within { IfSome result (λ found. found.0 < length table.now) }
 {
     for (number, symbol) in table.iter().enumerate() {
-        if rest.starts_with(symbol) {
+        if may_begin(symbol, rest) && rest.starts_with(symbol) {
             return Some((number, symbol.len()));
         }
     }
