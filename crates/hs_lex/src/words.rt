@@ -1,4 +1,4 @@
-ghost use Rattle.std.specs.Prelude.{◌≡◌, ◌≢◌, ◌++◌, ◌∷◌, ◌↔◌, List, ℕ, IsTrue, IfOk, IfSome, MatchOption, slice_get, length, not, ◌<◌};
+ghost use Rattle.std.specs.Prelude.{◌≡◌, ◌≢◌, ◌++◌, ◌∷◌, ◌↔◌, List, ℕ, IsTrue, IsFalse, IfOk, IfSome, MatchOption, slice_get, length, not, ◌<◌};
 ghost use Rattle.std.specs.List.{position};
 ghost use Rattle.std.specs.Str.{encode_utf8_all};
 ghost use Rattle.rules_tokens.specs.Tokens.{IsWord, Spells, reserved_words};
@@ -30,14 +30,20 @@ fn text_of<'a>(text: &'a str, chars: &[char]) -> &'a str
     &text[..len]
 }
 
+/// Whether the word may be the text, by the length and the first byte of each: most words differ from it in one of them.
+fn may_be(word: &str, text: &str) -> bool
+    ensures { IsFalse result → word.now ≢ text.now }
+{
+    word.len() == text.len() && word.as_bytes().first() == text.as_bytes().first()
+}
+
 /// The place of the text in the table.
 fn place_in(table: &[&str], text: &str) -> Option<usize>
     ensures place { MatchOption result ((n : ℕ) → ¬ IsRow table.now n text.now) (λ n. IsRow table.now n text.now) }
     ensures within { IfSome result (λ n. n < length table.now) }
 {
     for (number, word) in table.iter().enumerate() {
-        // Most differ in length, by which no call is needed.
-        if word.len() == text.len() && *word == text {
+        if may_be(word, text) && *word == text {
             return Some(number);
         }
     }

@@ -6,7 +6,8 @@ use Rattle.std.proofs.Math.Seq.{get_or-append_seam}
 use Rattle.hs_base.specs.declared.value.Value.{Value}
 use Rattle.rules_waiting.specs.OneCell.{Place, Cell, Call, After, Reply, cell_of, after_of, made, call, stands_in}
 use Rattle.mvar_cell.specs.declared.cells.Stored.{Stored}
-use Rattle.mvar_cell.specs.Mvars.{Mvars, IsCell, AreCells, cells_of, no_content}
+use Rattle.mvar_cell.specs.Lined.{Lined}
+use Rattle.mvar_cell.specs.Mvars.{Mvars, IsCell, AreCells, cells_of, no_content, mvars}
 use Rattle.mvar_cell.specs.Calls.{cell_at, IsCall, stands_among}
 
 pub cells-length : (ss : List Stored) (ls : List (List (Place Value))) → length ss ≡ length ls → length (cells_of ss ls) ≡ length ss
@@ -34,17 +35,20 @@ cells-push [] (l ∷ ls) s ps e = let no : ⊥ = omega arith in absurd no
 cells-push (x ∷ ss) [] s ps e = let no : ⊥ = omega arith in absurd no
 cells-push (x ∷ ss) (l ∷ ls) s ps e = ap (λ cs. cell_of x.content l ∷ cs) (cells-push ss ls s ps (omega arith))
 
--- the number of a cell is within its parts
-pub record Within (m : ℕ) (ss : List Stored) (ls : List (List (Place Value))) : Type 0 where
+-- a cell of those that are seen, with its content and its line
+pub record Here (m : ℕ) (old : Mvars) (ss : List Stored) (ls : List (List (Place Value))) : Type 0 where
+  pub cells : AreCells ss ls
+  pub seen : cells_of ss ls ≡ old.cells
+  pub exists : m < length old.cells
   pub stored : m < length ss
   pub lines : m < length ls
 
 module _ (m : ℕ) (old : Mvars) (ss : List Stored) (ls : List (List (Place Value))) (h : AreCells ss ls) (seen : cells_of ss ls ≡ old.cells) where
-  pub within : m < length old.cells → Within m ss ls
-  within lt =
+  pub here : m < length old.cells → Here m old ss ls
+  here lt =
       let n = cells-length ss ls h.sizes in
       let e = ap (λ (cs : List (Cell Value)). length cs) seen in
-      record { stored = omega (arith, n, e, lt); lines = omega (arith, h.sizes, n, e, lt) }
+      record { cells = h; seen = seen; exists = lt; stored = omega (arith, n, e, lt); lines = omega (arith, h.sizes, n, e, lt) }
 
   pub cell_seen : cell_at m old ≡ cell_of (get_or ss m no_content).content (get_or ls m [])
   cell_seen = ap (λ (cs : List (Cell Value)). get_or cs m (made None)) (sym seen) ∙ cells-at ss ls m h.sizes
@@ -64,9 +68,13 @@ module _ (m : ℕ) (old : Mvars) (ss : List Stored) (ls : List (List (Place Valu
   is_call_on_line q new ls2 ps rs left lines e =
       is_call q new ss ls2 (get_or ss m no_content) ps rs left (sym (set-get_or ss m no_content)) lines e
 
--- what is found at a place, by what is found there with another default
-pub stored_at : (ss : List Stored) (m : ℕ) (r : Stored) → m < length ss → r ≡ get_or ss m r → r ≡ get_or ss m no_content
-stored_at ss m r lt at = at ∙ get_or_default ss m r no_content lt
+-- the content of the cell, by what is found there with itself as the default
+pub stored_at : {m : ℕ} {old : Mvars} {ss : List Stored} {ls : List (List (Place Value))} → Here m old ss ls → (r : Stored) → r ≡ get_or ss m r → r ≡ get_or ss m no_content
+stored_at {m} {old} {ss} i r at = at ∙ get_or_default ss m r no_content i.stored
+
+-- the cell where the object's own fields are known
+pub here_in : (m : ℕ) (old : Mvars) (ss : List Stored) (ls : Lined) (cap : ℕ) → AreCells ss ls.lines → mvars ss ls cap ≡ old → m < length old.cells → Here m old ss ls.lines
+here_in m old ss ls cap a e lt = here m old ss ls.lines a (ap (λ (x : Mvars). x.cells) e) lt
 
 -- a cell after a call
 pub after_call : (q : Call Value) (m : ℕ) (old new : Mvars) (rs : List (Reply Value)) → m < length old.cells → IsCall q m old new rs → cell_at m new ≡ (call q (cell_at m old)).cell
