@@ -1,4 +1,4 @@
-ghost use Rattle.std.specs.Prelude.{◌≡◌, ◌≤◌, IfOk, MatchResult, Some, map, string_bytes};
+ghost use Rattle.std.specs.Prelude.{◌≡◌, ◌≤◌, IfOk, MatchResult, Some};
 ghost use Rattle.std.specs.Io.KnownBytes.{Consumes};
 ghost use Rattle.hs_io.specs.Causes.{Rose};
 ghost use Rattle.rules_code.specs.Codes.{body_of};
@@ -6,7 +6,7 @@ ghost use Rattle.hs_compile.specs.Verdicts.{IsAccepted};
 ghost use Rattle.conc_gen.specs.Ring.{ring_text};
 ghost use Rattle.conc_words.specs.declared.command.Command.TheVariants.{Ask};
 ghost use Rattle.conc_words.specs.declared.command.Question.{Question as AQuestion};
-ghost use Rattle.conc_words.specs.Commands.{command_of, IsWithin};
+ghost use Rattle.conc_words.specs.Commands.{command_by, IsWithin};
 ghost use Rattle.conc_task.specs.Commands.{ReadsSource};
 ghost use Rattle.conc_task.specs.Inputs.{HadBytes, HadScript, HadSome, IsScript, IsWhole};
 ghost use Rattle.conc_task.specs.Stops.{Counted, HadNone, HasNone, IsDenied, IsUnclaimed, IsUnclear, IsUnread, stop_of};
@@ -84,8 +84,8 @@ pub enum Task {
 /// something of a document to the first that no document has; no other words read it. Want of memory is free.
 pub fn task_of<S: Source>(alloc: Global, words: &[String], source: &mut S) -> Result<Task, Stop>
     ensures comes { MatchResult result
-        (HasTask (command_of (map (λ word. string_bytes word) words.now)) (S.left source.old) (S.left source.new))
-        (HasNone (command_of (map (λ word. string_bytes word) words.now)) (Rose (S.faults source.old) (S.faults source.new)) (S.left source.old) (S.left source.new)) }
+        (HasTask (command_by words.now) (S.left source.old) (S.left source.new))
+        (HasNone (command_by words.now) (Rose (S.faults source.old) (S.faults source.new)) (S.left source.old) (S.left source.new)) }
 
     // There is fuel for what is run, and not too much; and so with its capabilities, and with the states of a search.
     ensures fuel { IfOk result HasFuel }
@@ -95,7 +95,7 @@ pub fn task_of<S: Source>(alloc: Global, words: &[String], source: &mut S) -> Re
 
     // A failed read is told, and nothing else raises the source's count of faults.
     ensures counts { MatchResult result (λ task. S.faults source.new ≡ S.faults source.old) (λ stop. Counted stop (S.faults source.old) (S.faults source.new)) }
-    ensures unread { ¬ ReadsSource (command_of (map (λ word. string_bytes word) words.now)) → source.new ≡ source.old }
+    ensures unread { ¬ ReadsSource (command_by words.now) → source.new ≡ source.old }
 {
     match understood(alloc, words)? {
         Command::Run {
@@ -169,8 +169,8 @@ pub fn task_of<S: Source>(alloc: Global, words: &[String], source: &mut S) -> Re
 // The command that the words are.
 fn understood(alloc: Global, words: &[String]) -> Result<Command, Stop>
     ensures exact { MatchResult result
-        (λ c. command_of (map (λ word. string_bytes word) words.now) ≡ Some c)
-        (IsUnclear (command_of (map (λ word. string_bytes word) words.now))) }
+        (λ c. command_by words.now ≡ Some c)
+        (IsUnclear (command_by words.now)) }
     ensures within { IfOk result IsWithin }
 {
     match read_words(alloc, words) {

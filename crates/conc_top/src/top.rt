@@ -1,10 +1,10 @@
-ghost use Rattle.std.specs.Prelude.{◌≡◌, ◌<◌, ◌≤◌, ◌⊎◌, ℕ, List, Some, IfSome, IsSome, map, string_bytes};
+ghost use Rattle.std.specs.Prelude.{◌≡◌, ◌<◌, ◌≤◌, ◌⊎◌, ℕ, List, Some, IfSome, IsSome};
 ghost use Rattle.hs_io.specs.Causes.{Rose};
 ghost use Rattle.rules_code.specs.Codes.{body_of};
 ghost use Rattle.hs_compile.specs.declared.refusal.Refusal.{Refusal};
 ghost use Rattle.hs_compile.specs.Verdicts.{IsAccepted, IsRefused};
 ghost use Rattle.conc_words.specs.declared.command.Question.{Question};
-ghost use Rattle.conc_words.specs.Commands.{command_of};
+ghost use Rattle.conc_words.specs.Commands.{command_by};
 ghost use Rattle.conc_task.specs.Commands.{Asks, IsChosen, IsInput, ReadsSource, Runs, Traces};
 ghost use Rattle.conc_task.specs.Inputs.{IsScript};
 ghost use Rattle.rules_traces.specs.Traces.{document_of};
@@ -62,42 +62,42 @@ pub fn run<
     ensures status { result.status ≡ status_of result.ending }
 
     // The table of answers and their causes. Want of memory alone is free.
-    ensures cause { (bytes : List ℕ) × IsInput (command_of (map (λ word. string_bytes word) words.now)) (S.left source.old) bytes
-        × IsDue (command_of (map (λ word. string_bytes word) words.now)) (S.left source.old) bytes
+    ensures cause { (bytes : List ℕ) × IsInput (command_by words.now) (S.left source.old) bytes
+        × IsDue (command_by words.now) (S.left source.old) bytes
         (Rose (S.faults source.old) (S.faults source.new))
         (Rose (O.faults out) (O.faults result.out) ⊎ Rose (E.faults err) (E.faults result.err)) result.ending }
 
     // Where nothing fails and the input is an accepted script, the answer is the run's ending, or `accepted`, or what the document
     // comes to, or want of memory.
-    ensures complete { (bytes : List ℕ) → IsSome (command_of (map (λ word. string_bytes word) words.now))
-        → (ReadsSource (command_of (map (λ word. string_bytes word) words.now)) → IsSome (S.left source.old))
-        → IsInput (command_of (map (λ word. string_bytes word) words.now)) (S.left source.old) bytes → IsScript bytes
+    ensures complete { (bytes : List ℕ) → IsSome (command_by words.now)
+        → (ReadsSource (command_by words.now) → IsSome (S.left source.old))
+        → IsInput (command_by words.now) (S.left source.old) bytes → IsScript bytes
         → ¬ Rose (S.faults source.old) (S.faults source.new) → ¬ Rose (O.faults out) (O.faults result.out) → ¬ Rose (E.faults err) (E.faults result.err)
-        → IsExpected (command_of (map (λ word. string_bytes word) words.now)) (S.left source.old) bytes result.ending }
+        → IsExpected (command_by words.now) (S.left source.old) bytes result.ending }
 
     // Where nothing fails and the input is refused, the answer is a refusal of it, or want of memory.
-    ensures refusal { (bytes : List ℕ) (r : Refusal) → IsSome (command_of (map (λ word. string_bytes word) words.now))
-        → (ReadsSource (command_of (map (λ word. string_bytes word) words.now)) → IsSome (S.left source.old))
-        → IsInput (command_of (map (λ word. string_bytes word) words.now)) (S.left source.old) bytes → IsRefused r bytes
+    ensures refusal { (bytes : List ℕ) (r : Refusal) → IsSome (command_by words.now)
+        → (ReadsSource (command_by words.now) → IsSome (S.left source.old))
+        → IsInput (command_by words.now) (S.left source.old) bytes → IsRefused r bytes
         → ¬ Rose (S.faults source.old) (S.faults source.new) → ¬ Rose (O.faults out) (O.faults result.out) → ¬ Rose (E.faults err) (E.faults result.err)
-        → IsRefusal (command_of (map (λ word. string_bytes word) words.now)) (S.left source.old) bytes result.ending }
+        → IsRefusal (command_by words.now) (S.left source.old) bytes result.ending }
 
     // Where nothing fails, what is asked of a document is answered by what it comes to, or there is want of memory.
-    ensures verdict { (question : Question) (document : List ℕ) → Asks (command_of (map (λ word. string_bytes word) words.now)) question → S.left source.old ≡ Some document
+    ensures verdict { (question : Question) (document : List ℕ) → Asks (command_by words.now) question → S.left source.old ≡ Some document
         → ¬ Rose (S.faults source.old) (S.faults source.new) → ¬ Rose (O.faults out) (O.faults result.out) → ¬ Rose (E.faults err) (E.faults result.err)
         → IsVerdict question document result.ending }
 
     // What `trace` writes: the document of the history and of the bytes that the source had.
-    ensures written { (bytes : List ℕ) → Traces (command_of (map (λ word. string_bytes word) words.now)) → S.left source.old ≡ Some bytes
+    ensures written { (bytes : List ℕ) → Traces (command_by words.now) → S.left source.old ≡ Some bytes
         → IsWritten (document_of result.history.list bytes) result.ending (O.told out) (O.told result.out) }
 
     // What `outcomes` tells where it has an answer: exactly the list of the outcomes of the bytes that the source had, or the document
     // of a run that comes to the one that is asked for.
     ensures listed { (bytes : List ℕ) (extent : Extent) → S.left source.old ≡ Some bytes → result.ending ≡ Outcomes extent
-        → TellsListing (command_of (map (λ word. string_bytes word) words.now)) bytes extent (O.told out) (O.told result.out) (E.told err) (E.told result.err) }
+        → TellsListing (command_by words.now) bytes extent (O.told out) (O.told result.out) (E.told err) (E.told result.err) }
 
     // The answer that the call came to, the run that it kept, and what it told.
-    ensures call { ∥ Call (command_of (map (λ word. string_bytes word) words.now)) (Rose (S.faults source.old) (S.faults source.new)) (S.faults source.old < S.faults source.new)
+    ensures call { ∥ Call (command_by words.now) (Rose (S.faults source.old) (S.faults source.new)) (S.faults source.old < S.faults source.new)
         (S.left source.old) (S.left source.new) (K.choice result.clock) result.ending result.history.list
         (record { output = O.told out; errors = E.told err; out_faults = O.faults out; err_faults = E.faults err; last = K.last clock; early = K.early_waits clock })
         (record { output = O.told result.out; errors = E.told result.err; out_faults = O.faults result.out; err_faults = E.faults result.err; last = K.last result.clock; early = K.early_waits result.clock }) ∥₁ }
@@ -107,16 +107,16 @@ pub fn run<
     ensures steady { ¬ IsFault result.ending → S.faults source.new ≡ S.faults source.old }
 
     // The source is not read where the words are no command that reads it.
-    ensures unread { ¬ ReadsSource (command_of (map (λ word. string_bytes word) words.now)) → source.new ≡ source.old }
+    ensures unread { ¬ ReadsSource (command_by words.now) → source.new ≡ source.old }
 
     // The clock is not looked at where the command runs nothing, and under an answer that comes without a run.
-    ensures unclocked { ¬ Runs (command_of (map (λ word. string_bytes word) words.now)) → result.clock ≡ clock }
+    ensures unclocked { ¬ Runs (command_by words.now) → result.clock ≡ clock }
     ensures unrun { IsUnrun result.ending → result.clock ≡ clock }
 
     // No sink's count of faults falls, nor that of early waits, and the clock keeps its choice or has that of the command.
     ensures counts { (O.faults out ≤ O.faults result.out) × (E.faults err ≤ E.faults result.err) × (K.early_waits clock ≤ K.early_waits result.clock) }
     ensures calm { (result.status ≡ 8 → ⊥) → (O.faults result.out ≡ O.faults out) × (E.faults result.err ≡ E.faults err) }
-    ensures choice { IsChosen (command_of (map (λ word. string_bytes word) words.now)) (K.choice clock) (K.choice result.clock) }
+    ensures choice { IsChosen (command_by words.now) (K.choice clock) (K.choice result.clock) }
 {
     match task_of(alloc, words, source) {
         Ok(Task::Run(program)) => play(alloc, rt, program, gate, out, err, clock),

@@ -1,5 +1,5 @@
 -- Which command the words are (own).
-use Rattle.std.specs.Prelude.{◌≡◌, ◌≤◌, ◌<◌, ◌⊎◌, ℕ, ◌^◌, ◌&&◌, List, Option, Some, None, codes, false, if◌then◌else◌, nat_lt, option_and_then, option_map}
+use Rattle.std.specs.Prelude.{◌≡◌, ◌≤◌, ◌<◌, ◌⊎◌, ℕ, ◌^◌, ◌&&◌, List, String, Option, Some, None, codes, false, map, string_bytes, if◌then◌else◌, nat_lt, option_and_then, option_map}
 use Rattle.std.specs.Str.{bytes_eq}
 use Rattle.std.specs.Str.Parse.{digits_value, without_leading_plus}
 use Rattle.clap.specs.ValueTests.{is_numeral}
@@ -81,6 +81,13 @@ command_in = option_and_then named
 -- the command that the words are: the program takes them, and the subcommand that they name says which it is
 abbrev pub command_of : List Text → Option Command
 command_of words = if takes program words then command_in (subcommand_of program words) else None
+
+-- the same of strings
+abbrev pub texts_of : {Y : Type 0} → List (String Y) → List Text
+texts_of words = map (λ word. string_bytes word) words
+
+abbrev pub command_by : {Y : Type 0} → List (String Y) → Option Command
+command_by words = command_of (texts_of words)
 
 -- P holds where the words were not understood. Want of memory alone is free
 abbrev pub WhenNotUnderstood : Type 0 → WordsFault → Type 0

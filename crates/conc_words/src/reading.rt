@@ -1,7 +1,7 @@
-ghost use Rattle.std.specs.Prelude.{◌≡◌, IfErr, IfOk, MatchResult, None, Some, codes, false, map, string_bytes, true};
+ghost use Rattle.std.specs.Prelude.{◌≡◌, IfErr, IfOk, MatchResult, None, Some, codes, false, true};
 ghost use Rattle.clap.specs.Words.{found_of, rows_of, subcommand_of, subcommand_rows_of, takes};
 ghost use Rattle.conc_words.specs.Program.{program};
-ghost use Rattle.conc_words.specs.Commands.{IsRefused, IsWithin, bench_of, command_in, command_of, number_of, outcomes_of, run_of, trace_of, WhenNotUnderstood, clock_of};
+ghost use Rattle.conc_words.specs.Commands.{IsRefused, IsWithin, bench_of, command_by, command_in, number_of, outcomes_of, run_of, texts_of, trace_of, WhenNotUnderstood, clock_of};
 
 use crate::program::{CAPABILITIES, CLOCK, FUEL, STATES, THREADS, WITNESS, program};
 use crate::{Command, Question, WordsFault};
@@ -15,12 +15,12 @@ use std::alloc::Global;
 pub fn read_words(alloc: Global, words: &[String]) -> Result<Command, WordsFault>
     // The command that the words are. Want of memory alone is free.
     ensures exact { MatchResult result
-        (λ c. command_of (map (λ word. string_bytes word) words.now) ≡ Some c)
-        (WhenNotUnderstood (command_of (map (λ word. string_bytes word) words.now) ≡ None)) }
+        (λ c. command_by words.now ≡ Some c)
+        (WhenNotUnderstood (command_by words.now ≡ None)) }
 
     // Its numbers lie in the ranges of the program, so that no reading of a number is refused.
     ensures within { IfOk result IsWithin }
-    ensures refused { IfErr result (WhenNotUnderstood (IsRefused (map (λ word. string_bytes word) words.now))) }
+    ensures refused { IfErr result (WhenNotUnderstood (IsRefused (texts_of words.now))) }
 {
     let matches = matches_of(alloc, words)?;
     command_in(&matches).ok_or(WordsFault::NotUnderstood)
@@ -28,8 +28,8 @@ pub fn read_words(alloc: Global, words: &[String]) -> Result<Command, WordsFault
 
 fn matches_of<'a>(alloc: Global, words: &'a [String]) -> Result<ArgMatches<'a>, WordsFault>
     ensures { MatchResult result
-        (λ m. (takes program (map (λ word. string_bytes word) words.entry.now) ≡ true) × (subcommand_rows_of m ≡ subcommand_of program (map (λ word. string_bytes word) words.entry.now)))
-        (WhenNotUnderstood (takes program (map (λ word. string_bytes word) words.entry.now) ≡ false)) }
+        (λ m. (takes program (texts_of words.entry.now) ≡ true) × (subcommand_rows_of m ≡ subcommand_of program (texts_of words.entry.now)))
+        (WhenNotUnderstood (takes program (texts_of words.entry.now) ≡ false)) }
 {
     let command = program(alloc)?;
     Ok(command.try_get_matches_from(words)?)

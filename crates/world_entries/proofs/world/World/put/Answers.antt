@@ -24,109 +24,72 @@ show-requires-clause-stand c = readers_still_stand c.args.m c.args.self.now c.co
 
 pub put-requires-clause-exists : goal.put-requires-clause-exists
 put-requires-clause-exists c =
-    let w = c.args.self.now in
-    let base = c.copies_for_readers.new.self in
-    let mid = c.show.new.self in
     let copied = c.in_ok-copies.ensures in
-    let h : AllShown c.args.v c.args.m w base mid =
-    were_shown c.args.v c.args.m w base mid (put_cell_is w c.requires.live c.args.t c.args.m c.args.v c.requires.stands) copied.full copied.state copied.cells copied.list (c.show.ensures.shown c.args.v copied.copies.0) c.show.ensures.rest in
-    mid_exists c.args.v c.args.m w base mid h
+    let h = were_shown (put_cell_is c.args.self.now c.requires.live c.args.t c.args.m c.args.v c.requires.stands) copied.full copied.state copied.cells copied.list (c.show.ensures.shown c.args.v copied.copies.0) c.show.ensures.rest in
+    mid_exists h
 
 pub put-requires-clause-alone : goal.put-requires-clause-alone
 put-requires-clause-alone c =
-    let w = c.args.self.now in
-    let base = c.copies_for_readers.new.self in
-    let mid = c.show.new.self in
     let copied = c.in_ok-copies.ensures in
-    let h : AllShown c.args.v c.args.m w base mid =
-    were_shown c.args.v c.args.m w base mid (put_cell_is w c.requires.live c.args.t c.args.m c.args.v c.requires.stands) copied.full copied.state copied.cells copied.list (c.show.ensures.shown c.args.v copied.copies.0) c.show.ensures.rest in
-    mid_alone c.args.v c.args.m w base mid h c.requires.live c.args.t (operation.PutMVar c.args.m c.args.v) c.requires.stands
+    let h = were_shown (put_cell_is c.args.self.now c.requires.live c.args.t c.args.m c.args.v c.requires.stands) copied.full copied.state copied.cells copied.list (c.show.ensures.shown c.args.v copied.copies.0) c.show.ensures.rest in
+    mid_alone h c.requires.live c.args.t (operation.PutMVar c.args.m c.args.v) c.requires.stands
 
 pub put-requires-clause-no_reader : goal.put-requires-clause-no_reader
 put-requires-clause-no_reader c =
-    let w = c.args.self.now in
-    let base = c.copies_for_readers.new.self in
-    let mid = c.show.new.self in
     let copied = c.in_ok-copies.ensures in
-    let h : AllShown c.args.v c.args.m w base mid =
-    were_shown c.args.v c.args.m w base mid (put_cell_is w c.requires.live c.args.t c.args.m c.args.v c.requires.stands) copied.full copied.state copied.cells copied.list (c.show.ensures.shown c.args.v copied.copies.0) c.show.ensures.rest in
-    mid_unread c.args.v c.args.m w base mid h
+    let h = were_shown (put_cell_is c.args.self.now c.requires.live c.args.t c.args.m c.args.v c.requires.stands) copied.full copied.state copied.cells copied.list (c.show.ensures.shown c.args.v copied.copies.0) c.show.ensures.rest in
+    mid_unread h
 
 pub block-requires-clause-there : goal.block-requires-clause-there
 block-requires-clause-there c =
-    let w = c.args.self.now in
-    let base = c.copies_for_readers.new.self in
-    let mid = c.show.new.self in
     let copied = c.in_ok-copies.ensures in
-    let h : AllShown c.args.v c.args.m w base mid =
-    were_shown c.args.v c.args.m w base mid (put_cell_is w c.requires.live c.args.t c.args.m c.args.v c.requires.stands) copied.full copied.state copied.cells copied.list (c.show.ensures.shown c.args.v copied.copies.0) c.show.ensures.rest in
-    caller_is_at c.args.v c.args.m w base mid h c.requires.live c.args.t (operation.PutMVar c.args.m c.args.v) c.requires.stands
+    let h = were_shown (put_cell_is c.args.self.now c.requires.live c.args.t c.args.m c.args.v c.requires.stands) copied.full copied.state copied.cells copied.list (c.show.ensures.shown c.args.v copied.copies.0) c.show.ensures.rest in
+    caller_is_at h c.requires.live c.args.t (operation.PutMVar c.args.m c.args.v) c.requires.stands
 
 pub answer-requires-clause-there : goal.answer-requires-clause-there
 answer-requires-clause-there c =
-    let w = c.args.self.now in
-    let base = c.copies_for_readers.new.self in
-    let mid = c.show.new.self in
     let copied = c.in_ok-copies.ensures in
-    let h : AllShown c.args.v c.args.m w base mid =
-    were_shown c.args.v c.args.m w base mid (put_cell_is w c.requires.live c.args.t c.args.m c.args.v c.requires.stands) copied.full copied.state copied.cells copied.list (c.show.ensures.shown c.args.v copied.copies.0) c.show.ensures.rest in
-    caller_is_at c.args.v c.args.m w base mid h c.requires.live c.args.t (operation.PutMVar c.args.m c.args.v) c.requires.stands
+    let h = were_shown (put_cell_is c.args.self.now c.requires.live c.args.t c.args.m c.args.v c.requires.stands) copied.full copied.state copied.cells copied.list (c.show.ensures.shown c.args.v copied.copies.0) c.show.ensures.rest in
+    caller_is_at h c.requires.live c.args.t (operation.PutMVar c.args.m c.args.v) c.requires.stands
 
 pub answer-requires-in-Served-clause-there : goal.answer-requires-in-Served-clause-there
 answer-requires-in-Served-clause-there c =
-    let w = c.args.self.now in
-    let base = c.copies_for_readers.new.self in
-    let mid = c.show.new.self in
     let copied = c.in_ok-copies.ensures in
-    let h : AllShown c.args.v c.args.m w base mid =
-    were_shown c.args.v c.args.m w base mid (put_cell_is w c.requires.live c.args.t c.args.m c.args.v c.requires.stands) copied.full copied.state copied.cells copied.list (c.show.ensures.shown c.args.v copied.copies.0) c.show.ensures.rest in
-    taker_is_at c.args.v c.args.m w base mid h c.requires.live c.args.t (operation.PutMVar c.args.m c.args.v) c.requires.stands c.in-Served.taker c.in-Served.ensures.to.1
+    let h = were_shown (put_cell_is c.args.self.now c.requires.live c.args.t c.args.m c.args.v c.requires.stands) copied.full copied.state copied.cells copied.list (c.show.ensures.shown c.args.v copied.copies.0) c.show.ensures.rest in
+    taker_is_at h c.requires.live c.args.t (operation.PutMVar c.args.m c.args.v) c.requires.stands c.in-Served.taker c.in-Served.ensures.to.1
 
 pub answer-requires-in-Served-2-clause-there : goal.answer-requires-in-Served-2-clause-there
 answer-requires-in-Served-2-clause-there c =
-    let w = c.args.self.now in
-    let base = c.copies_for_readers.new.self in
-    let mid = c.show.new.self in
     let copied = c.in_ok-copies.ensures in
-    let h : AllShown c.args.v c.args.m w base mid =
-    were_shown c.args.v c.args.m w base mid (put_cell_is w c.requires.live c.args.t c.args.m c.args.v c.requires.stands) copied.full copied.state copied.cells copied.list (c.show.ensures.shown c.args.v copied.copies.0) c.show.ensures.rest in
-    caller_still_at c.args.v c.args.m w base mid h c.requires.live c.args.t (operation.PutMVar c.args.m c.args.v) c.requires.stands c.in-Served.taker c.in-Served.ensures.to.1 c.answer-in-Served.new.self.list.items (with_control (control.Ret c.in-Served.value)) c.answer-in-Served.ensures.list
+    let h = were_shown (put_cell_is c.args.self.now c.requires.live c.args.t c.args.m c.args.v c.requires.stands) copied.full copied.state copied.cells copied.list (c.show.ensures.shown c.args.v copied.copies.0) c.show.ensures.rest in
+    caller_still_at h c.requires.live c.args.t (operation.PutMVar c.args.m c.args.v) c.requires.stands c.in-Served.taker c.in-Served.ensures.to.1 c.answer-in-Served.new.self.list.items (with_control (control.Ret c.in-Served.value)) c.answer-in-Served.ensures.list
 
 pub returns-in-Blocks-clause-ok : goal.returns-in-Blocks-clause-ok
 returns-in-Blocks-clause-ok c =
-    let w = c.args.self.now in
-    let base = c.copies_for_readers.new.self in
     let mid = c.show.new.self in
     let copied = c.in_ok-copies.ensures in
-    let h : AllShown c.args.v c.args.m w base mid =
-    were_shown c.args.v c.args.m w base mid (put_cell_is w c.requires.live c.args.t c.args.m c.args.v c.requires.stands) copied.full copied.state copied.cells copied.list (c.show.ensures.shown c.args.v copied.copies.0) c.show.ensures.rest in
-    waiting_makes c.args.v c.args.m w base mid h c.args.t (Put c.args.t c.args.v) (with_parts mid c.block.new.self c.put.new.self) (elsewhere mid c.block.new.self c.put.new.self c.block.ensures.flight) (λ b accepted. put_law w c.args.t c.args.m c.requires.goes b accepted c.args.v c.requires.stands) c.in-Blocks.ensures.to.0 c.in-Blocks.ensures.to.1
-    (put_whole c.args.m w.cells mid.cells c.put.new.self [] h.exists h.unread h.cells c.args.t c.args.v c.in-Blocks.ensures.call) c.block.ensures.list
+    let h = were_shown (put_cell_is c.args.self.now c.requires.live c.args.t c.args.m c.args.v c.requires.stands) copied.full copied.state copied.cells copied.list (c.show.ensures.shown c.args.v copied.copies.0) c.show.ensures.rest in
+    waiting_makes h c.args.t (Put c.args.t c.args.v) (with_parts mid c.block.new.self c.put.new.self) (elsewhere mid c.block.new.self c.put.new.self c.block.ensures.flight) (λ b accepted. put_law c.args.self.now c.args.t c.args.m c.requires.goes b accepted c.args.v c.requires.stands) c.in-Blocks.ensures.to.0 c.in-Blocks.ensures.to.1
+    (put_whole c.args.m c.args.self.now.cells mid.cells c.put.new.self [] h.exists h.unread h.cells c.args.t c.args.v c.in-Blocks.ensures.call) c.block.ensures.list
 
 pub returns-in-Done-clause-ok : goal.returns-in-Done-clause-ok
 returns-in-Done-clause-ok c =
-    let w = c.args.self.now in
-    let base = c.copies_for_readers.new.self in
     let mid = c.show.new.self in
     let copied = c.in_ok-copies.ensures in
-    let h : AllShown c.args.v c.args.m w base mid =
-    were_shown c.args.v c.args.m w base mid (put_cell_is w c.requires.live c.args.t c.args.m c.args.v c.requires.stands) copied.full copied.state copied.cells copied.list (c.show.ensures.shown c.args.v copied.copies.0) c.show.ensures.rest in
-    answered_makes c.args.v c.args.m w base mid h c.args.t (Put c.args.t c.args.v) (with_parts mid c.answer.new.self c.put.new.self) (elsewhere mid c.answer.new.self c.put.new.self c.answer.ensures.flight) (λ b accepted. put_law w c.args.t c.args.m c.requires.goes b accepted c.args.v c.requires.stands) (reply_of c.args.t Gave) []
-    (put_whole c.args.m w.cells mid.cells c.put.new.self (reply_of c.args.t Gave ∷ []) h.exists h.unread h.cells c.args.t c.args.v c.in-Done.ensures.call)
+    let h = were_shown (put_cell_is c.args.self.now c.requires.live c.args.t c.args.m c.args.v c.requires.stands) copied.full copied.state copied.cells copied.list (c.show.ensures.shown c.args.v copied.copies.0) c.show.ensures.rest in
+    answered_makes h c.args.t (Put c.args.t c.args.v) (with_parts mid c.answer.new.self c.put.new.self) (elsewhere mid c.answer.new.self c.put.new.self c.answer.ensures.flight) (λ b accepted. put_law c.args.self.now c.args.t c.args.m c.requires.goes b accepted c.args.v c.requires.stands) (reply_of c.args.t Gave) []
+    (put_whole c.args.m c.args.self.now.cells mid.cells c.put.new.self (reply_of c.args.t Gave ∷ []) h.exists h.unread h.cells c.args.t c.args.v c.in-Done.ensures.call)
     (λ b. ap (slots_of b) c.answer.ensures.list ∙ told_one b c.args.t c.args.m c.args.t raw.Unit Gave mid.threads.list.items value_of-Unit)
 
 pub returns-in-Served-clause-ok : goal.returns-in-Served-clause-ok
 returns-in-Served-clause-ok c =
-    let w = c.args.self.now in
-    let base = c.copies_for_readers.new.self in
     let mid = c.show.new.self in
     let copied = c.in_ok-copies.ensures in
-    let h : AllShown c.args.v c.args.m w base mid =
-    were_shown c.args.v c.args.m w base mid (put_cell_is w c.requires.live c.args.t c.args.m c.args.v c.requires.stands) copied.full copied.state copied.cells copied.list (c.show.ensures.shown c.args.v copied.copies.0) c.show.ensures.rest in
+    let h = were_shown (put_cell_is c.args.self.now c.requires.live c.args.t c.args.m c.args.v c.requires.stands) copied.full copied.state copied.cells copied.list (c.show.ensures.shown c.args.v copied.copies.0) c.show.ensures.rest in
     let first = c.answer-in-Served.ensures in
     let last = c.answer-in-Served-2.ensures in
-    answered_makes c.args.v c.args.m w base mid h c.args.t (Put c.args.t c.args.v) (with_parts mid c.answer-in-Served-2.new.self c.put.new.self) (elsewhere mid c.answer-in-Served-2.new.self c.put.new.self (last.flight ∙ first.flight)) (λ b accepted. put_law w c.args.t c.args.m c.requires.goes b accepted c.args.v c.requires.stands) (reply_of c.in-Served.taker (Took c.in-Served.value)) (reply_of c.args.t Gave ∷ [])
-    (put_whole c.args.m w.cells mid.cells c.put.new.self (reply_of c.in-Served.taker (Took c.in-Served.value) ∷ reply_of c.args.t Gave ∷ []) h.exists h.unread h.cells c.args.t c.args.v c.in-Served.ensures.call)
+    answered_makes h c.args.t (Put c.args.t c.args.v) (with_parts mid c.answer-in-Served-2.new.self c.put.new.self) (elsewhere mid c.answer-in-Served-2.new.self c.put.new.self (last.flight ∙ first.flight)) (λ b accepted. put_law c.args.self.now c.args.t c.args.m c.requires.goes b accepted c.args.v c.requires.stands) (reply_of c.in-Served.taker (Took c.in-Served.value)) (reply_of c.args.t Gave ∷ [])
+    (put_whole c.args.m c.args.self.now.cells mid.cells c.put.new.self (reply_of c.in-Served.taker (Took c.in-Served.value) ∷ reply_of c.args.t Gave ∷ []) h.exists h.unread h.cells c.args.t c.args.v c.in-Served.ensures.call)
     (λ b.
     ap (slots_of b) (last.list ∙ ap (changed c.args.t (with_control (control.Ret raw.Unit))) first.list)
     ∙ told_two b c.args.t c.args.m c.in-Served.taker c.args.t c.in-Served.value raw.Unit (Took c.in-Served.value) Gave mid.threads.list.items refl value_of-Unit)
