@@ -12,9 +12,9 @@ use hs_io::{Clock, Sink};
 use value_equality::Effort;
 
 /// A slice that comes back is compared in so many steps at most, ..
-const FEW: u64 = 256;
-/// .. and so many more for each of its rules, so that comparing it takes about as long as making it.
-const STEPS_A_RULE: u64 = 8;
+const FEW: u64 = 32;
+/// .. and so many more for each of its rules, so that comparing it takes less time than making it anew.
+const STEPS_A_RULE: u64 = 2;
 
 impl<O: Sink, E: Sink, K: Clock> Desk<O, E, K> {
     /// `commit` in a time that the steps of a slice bound, whatever values its thread holds.
