@@ -23,6 +23,10 @@ main :: IO () = {{ count 0 }};"""
 BUILD = """build (n :: Int) (l :: [Int]) :: IO () = {{ if n == {n} then {{ return () }} else {{ build (n + 1) (n : l) }} }};
 main :: IO () = {{ build 0 ([] @Int) }};"""
 
+PRINT = """build (n :: Int) (l :: [Int]) :: IO () = {{ if n == {n} then {{ each l }} else {{ build (n + 1) (n : l) }} }};
+each (l :: [Int]) :: IO () = {{ case l of {{ [] -> {{ return () }}; x : rest -> {{ putStrLn (show x); each rest }} }} }};
+main :: IO () = {{ build 0 ([] @Int) }};"""
+
 HAND = """give (n :: Int) (a :: MVar Int) (b :: MVar Int) (d :: MVar ()) :: IO () = {{
   if n == {n} then {{ putMVar d () }} else {{ putMVar a n; _ <- takeMVar b; give (n + 1) a b d }} }};
 take (a :: MVar Int) (b :: MVar Int) :: IO () = {{ x <- takeMVar a; putMVar b x; take a b }};
@@ -42,6 +46,11 @@ main :: IO () = {{ d <- newEmptyMVar @Int;
   w <- takeMVar d; x <- takeMVar d; y <- takeMVar d; z <- takeMVar d; putStrLn (show (w + x + y + z)) }};"""
 
 SLEEPERS = """main :: IO () = {{ threadDelay {n} }};"""
+
+# A list that holds one list twice, and so on as often as the line between stands here; two threads hand it to and fro.
+SHARED = ("main :: IO () = { let l0 = [1, 2, 3];", " let l{i} = [l{p}, l{p}];", """
+ m <- newMVar l{n}; _ <- forkIO { k <- takeMVar m; putMVar m k }; _ <- myThreadId; j <- takeMVar m;
+ case j of { [] -> { return () }; y : rest -> { putStrLn "first" } } };""")
 
 EMPTY = "main :: IO () = { return () };"
 
@@ -90,9 +99,16 @@ class Shape:
     def __init__(self, name, what, size, script, *words, each=()):
         self.name, self.what, self.size, self.script, self.words, self.each = name, what, size, script, words, each
 
+    def text(self, size):
+        if isinstance(self.script, str):
+            return self.script.format(n=size)
+        first, between, last = self.script
+        lines = (between.replace("{i}", str(it)).replace("{p}", str(it - 1)) for it in range(1, size + 1))
+        return "\n".join((first, *lines, last.replace("{n}", str(size))))
+
     def calls(self, size):
         """The words and the input of each call: one for each number of capabilities, or one."""
-        script = self.script.format(n=size).encode()
+        script = self.text(size).encode()
         words = [word.format(n=size) for word in self.words]
         for count in self.each or (None,):
             yield ("" if count is None else f", {count} capabilities"), [*words, *([] if count is None else ["--caps", str(count)])], script
@@ -102,6 +118,8 @@ RUN = ("run", "--fuel", str(FUEL))
 SHAPES = [
     Shape("count", "a loop that counts to n", 100_000, COUNT, *RUN),
     Shape("build", "a list of n numbers", 20_000, BUILD, *RUN, each=(1, 4)),
+    Shape("print", "a list of n numbers, printed one by one", 10_000, PRINT, *RUN, each=(1, 2, 4, 16)),
+    Shape("shared", "a list held twice, n times over", 14, SHARED, *RUN, each=(1, 2, 4, 16)),
     Shape("ring", "a ring of n threads", 250, "", "bench", "{n}", "--fuel", str(FUEL), each=(1, 4)),
     Shape("exchanges", "n exchanges of two forked threads", 25_000, EXCHANGES, *RUN, each=(1, 4, 16)),
     Shape("with-main", "n exchanges of main and a thread", 25_000, WITH_MAIN, *RUN, each=(1, 4)),
