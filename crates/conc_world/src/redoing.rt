@@ -12,7 +12,7 @@ use hs_io::{Clock, Sink};
 use value_equality::Effort;
 
 /// A slice that comes back is compared in so many steps at most, ..
-const FEW: u64 = 32;
+const FEW: u64 = 16;
 /// .. and so many more for each of its rules, so that comparing it takes less time than making it anew.
 const STEPS_A_RULE: u64 = 2;
 
