@@ -42,12 +42,12 @@ all_among [] = tt
 all_among (w ∷ ws) = (inl refl, each_changed (λ t r. Among t r ws) (λ t r. Among t r (w ∷ ws)) ws (λ t r a. inr a) (all_among ws))
 
 -- who is found first waits among them
-put_among : (c : ℕ) (ws : List (Waiting V)) (w : ℕ × V) → first_put (line_of c ws) ≡ Some w → (r : Reason V) × Among w.0 r ws
+pub put_among : (c : ℕ) (ws : List (Waiting V)) (w : ℕ × V) → first_put (line_of c ws) ≡ Some w → (r : Reason V) × Among w.0 r ws
 put_among c ws w e =
     let f : Found (λ t r. Among t r ws) (puts c) (Some w) = subst (Found (λ t r. Among t r ws) (puts c)) (sym (put_is_first c ws) ∙ e) (first_found (λ t r. Among t r ws) (puts c) ws (all_among ws)) in
     (f.0, f.1)
 
-take_among : (c : ℕ) (ws : List (Waiting V)) (w : ℕ) → first_take (line_of c ws) ≡ Some w → (r : Reason V) × Among w r ws
+pub take_among : (c : ℕ) (ws : List (Waiting V)) (w : ℕ) → first_take (line_of c ws) ≡ Some w → (r : Reason V) × Among w r ws
 take_among c ws w e = by (first_of_kind (takes c) ws) (first_found (λ t r. Among t r ws) (takes c) ws (all_among ws)) (sym (take_is_first c ws) ∙ e)
   where
     by : (o : Option (ℕ × Unit {0})) → Found (λ t r. Among t r ws) (takes c) o → only_thread o ≡ Some w → (r : Reason V) × Among w r ws

@@ -18,4 +18,5 @@ pub mod Growing
 pub mod Ticking
 pub mod HowItEnds
 pub mod Expanded
+pub mod SameCases
 pub mod Later

@@ -123,15 +123,6 @@ module _ (s r : State) (h : Alike s r) where
   pub same_threads : s.threads ≡ r.threads
   same_threads = ap (λ (q : State). q.threads) h
 
-  pub same_cells : s.cells ≡ r.cells
-  same_cells = ap (λ (q : State). q.cells) h
-
-  pub same_instance : s.next_instance ≡ r.next_instance
-  same_instance = ap (λ (q : State). q.next_instance) h
-
-  pub same_timeout : s.next_timeout ≡ r.next_timeout
-  same_timeout = ap (λ (q : State). q.next_timeout) h
-
   pub same_blocked : (t : ℕ) → is_blocked t s.blocked ≡ is_blocked t r.blocked
   same_blocked t = sym (blocked_still t s.blocked) ∙ (ap (λ (q : State). is_blocked t q.blocked) h ∙ blocked_still t r.blocked)
 
@@ -159,31 +150,3 @@ module _ (s r : State) (h : Alike s r) where
 pub all_alike : (ts : List ℕ) (p : Part) (s r : State) → Alike s r → Alike (resume_all ts p s) (resume_all ts p r)
 all_alike [] p s r h = h
 all_alike (t ∷ ts) p s r h = all_alike ts p (resume t p s) (resume t p r) (resume_alike s r h t p)
-
--- ---- states that may not be there
-
-abbrev pub without_time : Option State → Option State
-without_time None = None
-without_time (Some s) = Some (timeless s)
-
--- both are there and alike, or neither is there
-abbrev pub Alikes : Option State → Option State → Type 0
-Alikes x y = without_time x ≡ without_time y
-
-pub some_alike : (s r : State) → Alike s r → Alikes (Some s) (Some r)
-some_alike s r h = ap Some h
-
-pub cond_alike : (b c : Bool) (x y z w : Option State) → b ≡ c → Alikes x z → Alikes y w → Alikes (cond b x y) (cond c z w)
-cond_alike true true x y z w e h k = h
-cond_alike false false x y z w e h k = k
-cond_alike true false x y z w e h k = absurd (cc e)
-cond_alike false true x y z w e h k = absurd (cc e)
-
--- what is alike to a state that is there
-pub alike_there : (s : State) (x : Option State) → Alikes (Some s) x → (r : State) × (x ≡ Some r) × Alike s r
-alike_there s None h = absurd (cc h)
-alike_there s (Some r) h = (r, refl, cc h)
-
-pub alike_nowhere : (x : Option State) → Alikes None x → x ≡ None
-alike_nowhere None h = refl
-alike_nowhere (Some r) h = absurd (cc h)

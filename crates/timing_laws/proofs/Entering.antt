@@ -1,49 +1,66 @@
--- An entry that isn't a Tick, a Wake or a reading of the clock does alike in states that are alike.
-use Rattle.std.proofs.Common.{◌≡◌, ℕ, zero, suc, Bool, true, false, cond, not, ◌&&◌, List, [], ◌∷◌, ◌++◌, length, Option, Some, None, slice_get, slice_set, refl, sym, ap, ◌∙◌}
-use Rattle.hs_base.specs.declared.mask.Mask.{Mask}
+-- An entry that is no Tick and no Wake goes on in states that are alike, and where it doesn't read the clock it leaves such.
+use Rattle.std.proofs.Common.{◌≡◌, ℕ, zero, suc, Bool, true, false, cond, List, [], ◌∷◌, ◌++◌, length, Option, Some, None, slice_get, refl, sym, ap, ◌∙◌}
 use Rattle.hs_base.specs.declared.exn.Exn.TheVariants.{BlockedIndefinitely}
 use Rattle.hs_rules.specs.declared.entry.Entry.{Entry}
 use Rattle.hs_rules.specs.declared.entry.Entry.TheVariants as entry
-use Rattle.rules_meaning.specs.Values.{V, UnitValue}
+use Rattle.rules_meaning.specs.Values.{V}
 use Rattle.rules_meaning.specs.CoreMeaning.{Code}
-use Rattle.rules_waiting.specs.Waiting.{Reason, Taking, Reading, Putting, Throwing, Sleeping, Sleeper, Flying, is_blocked, reason_of, flight_of, flying_to, sleepers_of}
-use Rattle.hs_rules.specs.Terms.{Operation, Part, Ret, Throw, Do, Performs, Frame, Term, mask_at}
-use Rattle.hs_rules.specs.LocalRules.{locals}
-use Rattle.hs_rules.specs.State.{Thread, State, answer, resume_all}
-use Rattle.hs_rules.specs.Primitives.{operated}
-use Rattle.hs_rules.specs.Entries.{moved, local_entry, at_operation, op_entry, is_throw, is_open, is_receptive, received, receive_entry, uncaught_line, throwers, closed, finish_entry, is_stranded, stranded_below, stranded, strand, strand_entry, on_thread, next}
+use Rattle.rules_waiting.specs.Waiting.{Reason, Taking, Reading, Putting, Throwing, Sleeping, Waiting, reason_of, sleepers_of}
+use Rattle.hs_rules.specs.Terms.{Operation, Throw, Performs}
+use Rattle.hs_rules.specs.State.{Thread, State, resume_all}
+use Rattle.hs_rules.specs.Primitives.{due_in}
+use Rattle.hs_rules.specs.Entries.{is_stranded, stranded_below, stranded, strand, strand_entry, next}
 use Rattle.hs_rules.specs.Entries as entries
 use Rattle.hs_rules.specs.Endings.{IsTick}
+use Rattle.hs_cases.specs.Cases as row
+use Rattle.hs_cases.proofs.Entering.{case_of, all_are}
+use Rattle.hs_laws.proofs.Lists.{Each}
+use Rattle.hs_laws.proofs.SameCases.{with_rest, put_in, Likeness, ByOne, AtOp, goes_too}
 use Rattle.timing_laws.specs.WithoutTime.{timeless, part_reads_clock, thread_reads_clock, ReadsClock}
-use Rattle.timing_laws.proofs.Alike.{Alike, Alikes, without_time, timeless_option, reason_still, asleep_still, awake_still, same_threads, same_blocked, same_flight, resume_alike, move_alike, all_alike}
-use Rattle.timing_laws.proofs.Operating.{is_there, operated_alike, clock_there}
+use Rattle.timing_laws.proofs.Passing.{on_running}
+use Rattle.timing_laws.proofs.Alike.{Alike, timeless_option, reason_still, asleep_still, awake_still, same_threads, same_blocked, same_line, same_flight, resume_alike, block_alike, sleep_alike, move_alike, spawn_alike, all_alike}
 
 abbrev pub IsWake : Entry → Type 0
 IsWake (entry.Wake t) = Unit {0}
 IsWake _ = ⊥
 
-pub there_still : (x : Option State) → is_there (without_time x) ≡ is_there x
-there_still None = refl
-there_still (Some s) = refl
+abbrev AnyThread : ℕ → Type 0
+AnyThread t = Unit {0}
 
--- ---- states that may not be there, as seen by any function
+abbrev AnyOperation : Operation → Type 0
+AnyOperation op = Unit {0}
 
-module _ {X : Type 0} (see : Option State → X) where
-  cond_seen : (b c : Bool) (x y z w : Option State) → b ≡ c → see x ≡ see z → see y ≡ see w → see (cond b x y) ≡ see (cond c z w)
-  cond_seen true true x y z w e h k = h
-  cond_seen false false x y z w e h k = k
-  cond_seen true false x y z w e h k = absurd (cc e)
-  cond_seen false true x y z w e h k = absurd (cc e)
+-- an operation that doesn't read the clock
+abbrev ReadsNone : Operation → Type 0
+ReadsNone op = part_reads_clock (Performs op) ≡ false
 
-  on_seen : (o : Option Thread) (k l : Thread → Option State) → ((th : Thread) → o ≡ Some th → see (k th) ≡ see (l th)) → see (on_thread o k) ≡ see (on_thread o l)
-  on_seen None k l h = refl
-  on_seen (Some th) k l h = cond_seen th.finished th.finished None (k th) None (l th) refl refl (h th refl)
+each_any : (ws : List (Waiting V)) → Each (λ t r. AnyThread t) ws
+each_any [] = tt
+each_any (w ∷ ws) = (tt, each_any ws)
 
-  -- thread t of states that are alike
-  pub thread_seen : (s r : State) → Alike s r → (t : ℕ) (k : Thread → State → Option State) → ((th : Thread) → slice_get s.threads t ≡ Some th → see (k th s) ≡ see (k th r)) →
-      see (on_thread (slice_get s.threads t) (λ th. k th s)) ≡ see (on_thread (slice_get r.threads t) (λ th. k th r))
-  thread_seen s r h t k g =
-      on_seen (slice_get s.threads t) (λ th. k th s) (λ th. k th r) g ∙ ap (λ ths. see (on_thread (slice_get ths t) (λ th. k th r))) (same_threads s r h)
+same_thread : (s r : State) (t : ℕ) (th : Thread) → Alike s r → slice_get s.threads t ≡ Some th → slice_get r.threads t ≡ Some th
+same_thread s r t th h e = ap (λ ths. slice_get ths t) (sym (same_threads s r h)) ∙ e
+
+alike : Likeness Alike AnyThread AnyOperation ReadsNone
+alike = record {
+  same = λ s r h. sym (ap (λ q. with_rest q r) h);
+  lines = same_line;
+  flights = same_flight;
+  blocked = λ s r t m h. same_blocked s r h t;
+  waits = λ s r h. each_any s.blocked;
+  there = λ s r t th m h. same_thread s r t th h;
+  long = λ s r h. ap length (same_threads s r h);
+  main = λ s r h m. (m.0, (same_thread s r 0 m.0 h m.1.0, m.1.1));
+  rest = λ x s r h. ap (with_rest x) h;
+  resumes = λ s r t p m h. resume_alike s r h t p;
+  moves = λ s r t x m h. move_alike s r h t x;
+  blocks = λ s r t w m h. block_alike s r h t w;
+  spawns = λ s r x h. spawn_alike s r h x;
+  puts = λ s r t y m h. ap (put_in t y) h;
+  sleeps = λ s r t n z m h. sleep_alike s r h t (due_in n s) (due_in n r);
+  reads = λ s r z h. absurd (cc z);
+  throws = λ s r u e th g h q. (th, same_thread s r u th h q, refl);
+}
 
 -- ---- who is to be stranded
 
@@ -76,15 +93,13 @@ module _ (s r : State) (h : Alike s r) where
   asleep_alike : sleepers_of s.blocked ≡ [] → sleepers_of r.blocked ≡ []
   asleep_alike e = awake_still r.blocked (sym (ap (λ (q : State). sleepers_of q.blocked) h) ∙ asleep_still s.blocked e)
 
-  strand_alike : (ts : List ℕ) → Alikes (strand ts s) (strand ts r)
-  strand_alike [] = refl
-  strand_alike (t ∷ ts) = ap Some (all_alike (t ∷ ts) (Throw BlockedIndefinitely) s r h)
-
-  strand_entry_alike : (ss rs : List Sleeper) → (ss ≡ [] → rs ≡ []) → (rs ≡ [] → ss ≡ []) → Alikes (strand_entry ss s) (strand_entry rs r)
-  strand_entry_alike [] [] f g = strand_alike (stranded s) ∙ ap (λ ts. without_time (strand ts r)) all_stranded_alike
-  strand_entry_alike [] (x ∷ rs) f g = let z : x ∷ rs ≡ [] = f refl in absurd (cc z)
-  strand_entry_alike (x ∷ ss) [] f g = let z : x ∷ ss ≡ [] = g refl in absurd (cc z)
-  strand_entry_alike (x ∷ ss) (y ∷ rs) f g = refl
+strands_too : (code : Code) (s r : State) {u : State} → Alike s r → row.Enters code s entry.Stranded u → (w : State) × (next code r entry.Stranded ≡ Some w) × Alike u w
+strands_too code s r h (row.strands {t} {ts} m e a) = (
+  resume_all (t ∷ ts) (Throw BlockedIndefinitely) r,
+  on_running (slice_get r.threads 0) m.0 (λ th. entries.entered code r entry.Stranded) (same_thread s r 0 m.0 h m.1.0) m.1.1
+      ∙ (ap (λ ss. strand_entry ss r) (asleep_alike s r h e) ∙ ap (λ us. strand us r) (sym (all_stranded_alike s r h) ∙ all_are a)),
+  all_alike (t ∷ ts) (Throw BlockedIndefinitely) s r h,
+)
 
 -- ---- entries
 
@@ -92,96 +107,20 @@ false_of : (b : Bool) → ¬ (b ≡ true) → b ≡ false
 false_of true n = absurd (n refl)
 false_of false n = refl
 
+any_operation : (s : State) (e : Entry) → AtOp s e AnyOperation
+any_operation s (entry.Op t) = λ th op is p. tt
+any_operation s _ = tt
+
+reads_none : (s : State) (e : Entry) → ¬ ReadsClock s e → AtOp s e ReadsNone
+reads_none s (entry.Op t) n = λ th op is p. false_of (part_reads_clock (Performs op)) (λ q. n (ap thread_reads_clock is ∙ (ap part_reads_clock p ∙ q)))
+reads_none s _ n = tt
+
 module _ (code : Code) (s r : State) (h : Alike s r) where
-  moved_alike : (t : ℕ) (o : Option Term) → Alikes (moved t s o) (moved t r o)
-  moved_alike t None = refl
-  moved_alike t (Some u) = ap Some (move_alike s r h t u)
+  own_too : (u : State) (e : Entry) → ByOne AnyThread e → next code s e ≡ Some u → (w : State) × (next code r e ≡ Some w) × (¬ ReadsClock s e → Alike u w)
+  own_too u e y n = let k = goes_too alike code e s r u y (any_operation s e) h n in (k.0, k.1, λ c. k.2 (reads_none s e c))
 
-  local_alike : (t k : ℕ) (th : Thread) → Alikes (local_entry code t k th s) (local_entry code t k th r)
-  local_alike t zero th = refl
-  local_alike t (suc k) th = cond_seen without_time (is_blocked t s.blocked) (is_blocked t r.blocked) None _ None _ (same_blocked s r h t) refl (moved_alike t (locals code (suc k) th.term))
-
-  operation_alike : (t : ℕ) (m : Mask) (p : Part) → part_reads_clock p ≡ false → Alikes (at_operation p (λ q. operated t m q s)) (at_operation p (λ q. operated t m q r))
-  operation_alike t m (Ret u) n = refl
-  operation_alike t m (Throw e) n = refl
-  operation_alike t m (Do a env) n = refl
-  operation_alike t m (Performs q) n = operated_alike s r h t m q n
-
-  op_alike : (t : ℕ) (th : Thread) → part_reads_clock th.term.part ≡ false → Alikes (op_entry t th s) (op_entry t th r)
-  op_alike t th n = cond_seen without_time (is_blocked t s.blocked) (is_blocked t r.blocked) None _ None _ (same_blocked s r h t) refl (operation_alike t (mask_at th.term.frames) th.term.part n)
-
-  received_alike : (t : ℕ) (fs : List Flying) → Alikes (received t fs s) (received t fs r)
-  received_alike t [] = refl
-  received_alike t (f ∷ fs) = ap Some (resume_alike (answer f.thrower UnitValue s) (answer f.thrower UnitValue r) (resume_alike s r h f.thrower (Ret UnitValue)) t (Throw f.exn))
-
-  receive_alike : (t : ℕ) (th : Thread) → Alikes (receive_entry t th s) (receive_entry t th r)
-  receive_alike t th =
-      cond_seen without_time (is_receptive t th.term s) (is_receptive t th.term r) _ None _ None
-      (ap (λ b. not (is_throw th.term.part) && is_open b (mask_at th.term.frames)) (same_blocked s r h t))
-      (received_alike t (flying_to t (flight_of s.blocked)) ∙ ap (λ fs. without_time (received t (flying_to t fs) r)) (same_flight s r h))
-      refl
-
-  closed_alike : (t : ℕ) (th : Thread) (line : List ℕ) → Alike (closed t th line s) (closed t th line r)
-  closed_alike t th line =
-      ap (λ fs. timeless (resume_all (throwers (flying_to t fs)) (Ret UnitValue) (record s { threads = slice_set s.threads t (record { term = th.term; finished = true }); errors = s.errors ++ line }))) (same_flight s r h)
-      ∙ all_alike (throwers (flying_to t (flight_of r.blocked))) (Ret UnitValue) _ _
-      (ap (λ (q : State). record q { threads = slice_set q.threads t (record { term = th.term; finished = true }); errors = q.errors ++ line }) h)
-
-  finish_alike : (t : ℕ) (th : Thread) (fs : List Frame) (p : Part) → Alikes (finish_entry t th fs p s) (finish_entry t th fs p r)
-  finish_alike t th [] (Ret u) = ap Some (closed_alike t th [])
-  finish_alike t th [] (Throw e) = ap Some (closed_alike t th (uncaught_line t e))
-  finish_alike t th [] (Do a env) = refl
-  finish_alike t th [] (Performs p) = refl
-  finish_alike t th (f ∷ fs) p = refl
-
-  reads_none : (t : ℕ) (th : Thread) → slice_get s.threads t ≡ Some th → ¬ (thread_reads_clock (slice_get s.threads t) ≡ true) → part_reads_clock th.term.part ≡ false
-  reads_none t th is n = sym (ap thread_reads_clock is) ∙ false_of (thread_reads_clock (slice_get s.threads t)) n
-
-  entered_alike : (e : Entry) → ¬ IsTick e → ¬ IsWake e → ¬ ReadsClock s e → Alikes (entries.entered code s e) (entries.entered code r e)
-  entered_alike (entry.Local t k) a b c = thread_seen without_time s r h t (λ th q. local_entry code t k th q) (λ th is. local_alike t k th)
-  entered_alike (entry.Op t) a b c = thread_seen without_time s r h t (λ th q. op_entry t th q) (λ th is. op_alike t th (reads_none t th is c))
-  entered_alike (entry.Receive t) a b c = thread_seen without_time s r h t (λ th q. receive_entry t th q) (λ th is. receive_alike t th)
-  entered_alike (entry.Wake t) a b c = absurd (b tt)
-  entered_alike (entry.Finish t) a b c = thread_seen without_time s r h t (λ th q. finish_entry t th th.term.frames th.term.part q) (λ th is. finish_alike t th th.term.frames th.term.part)
-  entered_alike (entry.Tick at) a b c = absurd (a tt)
-  entered_alike entry.Stranded a b c =
-      strand_entry_alike s r h (sleepers_of s.blocked) (sleepers_of r.blocked) (asleep_alike s r h) (asleep_alike r s (sym h))
-
-  pub next_alike : (e : Entry) → ¬ IsTick e → ¬ IsWake e → ¬ ReadsClock s e → Alikes (next code s e) (next code r e)
-  next_alike e a b c = thread_seen without_time s r h 0 (λ th q. entries.entered code q e) (λ th is. entered_alike e a b c)
-
-  -- ---- and what is legal in the one is legal in the other
-
-  clock_seen : (t : ℕ) (m : Mask) (p : Operation) → part_reads_clock (Performs p) ≡ true → is_there (operated t m p s) ≡ is_there (operated t m p r)
-  clock_seen t m p e = clock_there t m p s r e
-
-  reading_seen : (t : ℕ) (m : Mask) (p : Part) → part_reads_clock p ≡ true → is_there (at_operation p (λ q. operated t m q s)) ≡ is_there (at_operation p (λ q. operated t m q r))
-  reading_seen t m (Ret u) n = refl
-  reading_seen t m (Throw e) n = refl
-  reading_seen t m (Do a env) n = refl
-  reading_seen t m (Performs q) n = clock_seen t m q n
-
-  op_seen : (t : ℕ) (th : Thread) → part_reads_clock th.term.part ≡ true → is_there (op_entry t th s) ≡ is_there (op_entry t th r)
-  op_seen t th n = cond_seen is_there (is_blocked t s.blocked) (is_blocked t r.blocked) None _ None _ (same_blocked s r h t) refl (reading_seen t (mask_at th.term.frames) th.term.part n)
-
-  reader_seen : (t : ℕ) → thread_reads_clock (slice_get s.threads t) ≡ true → is_there (entries.entered code s (entry.Op t)) ≡ is_there (entries.entered code r (entry.Op t))
-  reader_seen t n = thread_seen is_there s r h t (λ th q. op_entry t th q) (λ th is. op_seen t th (sym (ap thread_reads_clock is) ∙ n))
-
-  seen : (x y : Option State) → Alikes x y → is_there x ≡ is_there y
-  seen x y g = sym (there_still x) ∙ (ap is_there g ∙ there_still y)
-
-  op_there : (t : ℕ) (b : Bool) → thread_reads_clock (slice_get s.threads t) ≡ b → is_there (entries.entered code s (entry.Op t)) ≡ is_there (entries.entered code r (entry.Op t))
-  op_there t true e = reader_seen t e
-  op_there t false e = seen _ _ (entered_alike (entry.Op t) (λ n. n) (λ n. n) (λ n. let z : false ≡ true = sym e ∙ n in cc z))
-
-  entered_there : (e : Entry) → ¬ IsTick e → ¬ IsWake e → is_there (entries.entered code s e) ≡ is_there (entries.entered code r e)
-  entered_there (entry.Local t k) a b = seen _ _ (entered_alike (entry.Local t k) a b (λ n. n))
-  entered_there (entry.Op t) a b = op_there t (thread_reads_clock (slice_get s.threads t)) refl
-  entered_there (entry.Receive t) a b = seen _ _ (entered_alike (entry.Receive t) a b (λ n. n))
-  entered_there (entry.Wake t) a b = absurd (b tt)
-  entered_there (entry.Finish t) a b = seen _ _ (entered_alike (entry.Finish t) a b (λ n. n))
-  entered_there (entry.Tick at) a b = absurd (a tt)
-  entered_there entry.Stranded a b = seen _ _ (entered_alike entry.Stranded a b (λ n. n))
-
-  pub next_there : (e : Entry) → ¬ IsTick e → ¬ IsWake e → is_there (next code s e) ≡ is_there (next code r e)
-  next_there e a b = thread_seen is_there s r h 0 (λ th q. entries.entered code q e) (λ th is. entered_there e a b)
+  pub next_too : (u : State) (e : Entry) → ¬ IsTick e → ¬ IsWake e → next code s e ≡ Some u → (w : State) × (next code r e ≡ Some w) × (¬ ReadsClock s e → Alike u w)
+  next_too u (entry.Wake t) a b n = absurd (b tt)
+  next_too u (entry.Tick at) a b n = absurd (a tt)
+  next_too u entry.Stranded a b n = let k = strands_too code s r h (case_of code s entry.Stranded u n) in (k.0, k.1, λ c. k.2)
+  next_too u e a b n = own_too u e tt n

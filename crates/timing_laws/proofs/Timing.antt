@@ -7,16 +7,15 @@ use Rattle.rules_meaning.specs.CoreMeaning.{Code}
 use Rattle.rules_waiting.specs.Waiting.{Reason, Taking, Reading, Putting, Throwing, Sleeping, Sleeper, Waiting, reason_of, with_sleeper, sleepers_of}
 use Rattle.hs_rules.specs.Terms.{Ret}
 use Rattle.hs_rules.specs.State.{Thread, State, answer}
-use Rattle.hs_rules.specs.Entries.{woken, strand_entry, on_thread, next, IsIdle, IsTimely, Leads, IsLegal}
+use Rattle.hs_rules.specs.Entries.{woken, strand_entry, on_thread, next, IsWork, IsIdle, IsTimely, Leads, IsLegal}
 use Rattle.hs_rules.specs.Entries as entries
 use Rattle.hs_rules.specs.Endings.{IsTick, IsDeadlock}
 use Rattle.hs_rules.specs.Runs.{Run}
 use Rattle.timing_laws.specs.WithoutTime.{timeless, ReadsClock, LeadsTimeless, TimelessRun, NeverReadsClock, without_ticks, tick_until_due, with_its_tick, WithTheirTicks}
 use Rattle.hs_laws.proofs.RunParts.{run_join}
 use Rattle.timing_laws.proofs.Passing.{same_item, passed, thread_there, on_running}
-use Rattle.timing_laws.proofs.Alike.{Alike, without_time, timeless_option, reason_still, asleep_still, awake_still, timeless_twice, resume_alike, alike_there}
-use Rattle.timing_laws.proofs.Operating.{is_there}
-use Rattle.timing_laws.proofs.Entering.{IsWake, next_alike, next_there}
+use Rattle.timing_laws.proofs.Alike.{Alike, timeless_option, reason_still, asleep_still, awake_still, timeless_twice, resume_alike}
+use Rattle.timing_laws.proofs.Entering.{IsWake, next_too}
 
 -- ---- states that are there
 
@@ -26,20 +25,6 @@ none_or (Some u) h = absurd (h u refl)
 
 not_both : (x : Option State) (u : State) → x ≡ None → x ≡ Some u → ⊥
 not_both x u e f = let z : ◌≡◌ {A = Option State} None (Some u) = sym e ∙ f in cc z
-
-is_some : (x : Option State) → is_there x ≡ true → (u : State) × (x ≡ Some u)
-is_some None h = absurd (cc h)
-is_some (Some u) h = (u, refl)
-
-is_none : (x : Option State) → is_there x ≡ false → x ≡ None
-is_none None h = refl
-is_none (Some u) h = absurd (cc h)
-
-some_too : (x y : Option State) (u : State) → is_there x ≡ is_there y → x ≡ Some u → (w : State) × (y ≡ Some w)
-some_too x y u e f = is_some y (sym e ∙ ap is_there f)
-
-none_too : (x y : Option State) → is_there x ≡ is_there y → x ≡ None → y ≡ None
-none_too x y e f = is_none y (sym e ∙ ap is_there f)
 
 -- ---- who sleeps
 
@@ -142,28 +127,30 @@ module _ (code : Code) where
       let k = wakes_by t (reason_of t s.blocked) s u g.3 in
       none_sleeps t k.0 s.blocked e k.1)
 
+  -- ---- in the one and in the other
+
+  forth : (s u : State) (e : Entry) → ¬ IsTick e → next code s e ≡ Some u → (w : State) × (next code (timeless s) e ≡ Some w) × (¬ ReadsClock s e → Alike w u)
+  forth s u (entry.Wake t) a h = let k = wake_forth t s u h in (k.0, k.1, λ c. k.2)
+  forth s u e a h = let k = next_too code s (timeless s) (sym (timeless_twice s)) u e a (λ n. n) h in (k.0, k.1, λ c. sym (k.2 c))
+
+  back : (s w : State) (e : Entry) → ¬ IsTick e → ¬ IsWake e → next code (timeless s) e ≡ Some w → (u : State) × (next code s e ≡ Some u) × (¬ ReadsClock s e → Alike u w)
+  back s w e a b h = let k = next_too code (timeless s) s (timeless_twice s) w e a b h in (k.0, k.1, λ c. sym (k.2 c))
+
+  asleep_back : (s w : State) (e : Entry) → ¬ IsTick e → sleepers_of s.blocked ≡ [] → next code (timeless s) e ≡ Some w → (u : State) × (next code s e ≡ Some u)
+  asleep_back s w (entry.Wake t) a z h = absurd (not_both (next code (timeless s) (entry.Wake t)) w (none_wakes t (timeless s) (asleep_still s.blocked z)) h)
+  asleep_back s w e a z h = let k = back s w e a (λ n. n) h in (k.0, k.1)
+
   -- ---- where there is no work
 
-  there_in : (s : State) (e : Entry) → ¬ IsTick e → ¬ IsWake e → is_there (next code s e) ≡ is_there (next code (timeless s) e)
-  there_in s e a b = next_there code s (timeless s) (sym (timeless_twice s)) e a b
+  work_is_no_tick : (e : Entry) → IsWork e → ¬ IsTick e
+  work_is_no_tick (entry.Tick at) w n = w
+  work_is_no_tick _ w n = n
 
   idle_back : (s : State) → IsIdle code (timeless s) → IsIdle code s
-  idle_back s h (entry.Local t k) w = none_too _ _ (sym (there_in s (entry.Local t k) (λ n. n) (λ n. n))) (h (entry.Local t k) w)
-  idle_back s h (entry.Op t) w = none_too _ _ (sym (there_in s (entry.Op t) (λ n. n) (λ n. n))) (h (entry.Op t) w)
-  idle_back s h (entry.Receive t) w = none_too _ _ (sym (there_in s (entry.Receive t) (λ n. n) (λ n. n))) (h (entry.Receive t) w)
-  idle_back s h (entry.Wake t) w = none_or (next code s (entry.Wake t)) (λ u g. let k = wake_forth t s u g in not_both (next code (timeless s) (entry.Wake t)) k.0 (h (entry.Wake t) w) k.1)
-  idle_back s h (entry.Finish t) w = none_too _ _ (sym (there_in s (entry.Finish t) (λ n. n) (λ n. n))) (h (entry.Finish t) w)
-  idle_back s h (entry.Tick at) w = absurd w
-  idle_back s h entry.Stranded w = absurd w
+  idle_back s h e w = none_or (next code s e) (λ u g. let k = forth s u e (work_is_no_tick e w) g in not_both (next code (timeless s) e) k.0 (h e w) k.1)
 
   pub idle_forth : (s : State) → sleepers_of s.blocked ≡ [] → IsIdle code s → IsIdle code (timeless s)
-  idle_forth s a h (entry.Local t k) w = none_too _ _ (there_in s (entry.Local t k) (λ n. n) (λ n. n)) (h (entry.Local t k) w)
-  idle_forth s a h (entry.Op t) w = none_too _ _ (there_in s (entry.Op t) (λ n. n) (λ n. n)) (h (entry.Op t) w)
-  idle_forth s a h (entry.Receive t) w = none_too _ _ (there_in s (entry.Receive t) (λ n. n) (λ n. n)) (h (entry.Receive t) w)
-  idle_forth s a h (entry.Wake t) w = none_wakes t (timeless s) (asleep_still s.blocked a)
-  idle_forth s a h (entry.Finish t) w = none_too _ _ (there_in s (entry.Finish t) (λ n. n) (λ n. n)) (h (entry.Finish t) w)
-  idle_forth s a h (entry.Tick at) w = absurd w
-  idle_forth s a h entry.Stranded w = absurd w
+  idle_forth s a h e w = none_or (next code (timeless s) e) (λ u g. let k = asleep_back s u e (work_is_no_tick e w) a g in not_both (next code s e) k.0 (h e w) k.1)
 
   pub idle_either : (s : State) → sleepers_of s.blocked ≡ [] → IsIdle code s ↔ IsIdle code (timeless s)
   idle_either s a = (idle_forth s a, idle_back s)
@@ -179,59 +166,25 @@ module _ (code : Code) where
       asleep_by (sleepers_of s.blocked) s u g.3
 
   timely_forth : (s u : State) (e : Entry) → next code s e ≡ Some u → IsTimely code s e → IsTimely code (timeless s) e
-  timely_forth s u (entry.Local t k) h i = tt
-  timely_forth s u (entry.Op t) h i = tt
-  timely_forth s u (entry.Receive t) h i = tt
-  timely_forth s u (entry.Wake t) h i = tt
-  timely_forth s u (entry.Finish t) h i = tt
-  timely_forth s u (entry.Tick at) h i = tt
   timely_forth s u entry.Stranded h i = idle_forth s (strands_asleep s u h) i
+  timely_forth s u _ h i = tt
 
   timely_back : (s : State) (e : Entry) → IsTimely code (timeless s) e → IsTimely code s e
-  timely_back s (entry.Local t k) i = tt
-  timely_back s (entry.Op t) i = tt
-  timely_back s (entry.Receive t) i = tt
-  timely_back s (entry.Wake t) i = tt
-  timely_back s (entry.Finish t) i = tt
-  timely_back s (entry.Tick at) i = tt
   timely_back s entry.Stranded i = idle_back s i
+  timely_back s _ i = tt
 
   -- ---- one entry
 
-  next_forth : (s u : State) (e : Entry) → ¬ IsTick e → ¬ IsWake e → ¬ ReadsClock s e → next code s e ≡ Some u → (w : State) × (next code (timeless s) e ≡ Some w) × Alike w u
-  next_forth s u e a b c h =
-      let k = alike_there u (next code (timeless s) e) (sym (ap without_time h) ∙ next_alike code s (timeless s) (sym (timeless_twice s)) e a b c) in
-      (k.0, k.1, sym k.2)
-
-  next_back : (s w : State) (e : Entry) → ¬ IsTick e → ¬ IsWake e → ¬ ReadsClock s e → next code (timeless s) e ≡ Some w → (u : State) × (next code s e ≡ Some u) × Alike u w
-  next_back s w e a b c h =
-      let k = alike_there w (next code s e) (sym (ap without_time h) ∙ sym (next_alike code s (timeless s) (sym (timeless_twice s)) e a b c)) in
-      (k.0, k.1, sym k.2)
-
-  next_on : (s u : State) (e : Entry) → ¬ IsTick e → ¬ ReadsClock s e → next code s e ≡ Some u → (w : State) × (next code (timeless s) e ≡ Some w) × Alike w u
-  next_on s u (entry.Local t k) a c h = next_forth s u (entry.Local t k) a (λ n. n) c h
-  next_on s u (entry.Op t) a c h = next_forth s u (entry.Op t) a (λ n. n) c h
-  next_on s u (entry.Receive t) a c h = next_forth s u (entry.Receive t) a (λ n. n) c h
-  next_on s u (entry.Wake t) a c h = wake_forth t s u h
-  next_on s u (entry.Finish t) a c h = next_forth s u (entry.Finish t) a (λ n. n) c h
-  next_on s u (entry.Tick at) a c h = absurd (a tt)
-  next_on s u entry.Stranded a c h = next_forth s u entry.Stranded a (λ n. n) c h
-
   pub entry_forth : (s u : State) (e : Entry) → ¬ IsTick e → ¬ ReadsClock s e → Leads code s e u → LeadsTimeless code (timeless s) e (timeless u)
-  entry_forth s u e a c h = let k = next_on s u e a c h.0 in (k.0, (k.1, timely_forth s u e h.0 h.1), k.2, a, c)
+  entry_forth s u e a c h = let k = forth s u e a h.0 in (k.0, (k.1, timely_forth s u e h.0 h.1), k.2 c, a, c)
 
   -- an entry that needs no Tick before it
   alone_back : (s w : State) (e : Entry) → ¬ IsTick e → ¬ IsWake e → ¬ ReadsClock s e → Leads code (timeless s) e w → (u : State) × Run code s (e ∷ []) u × Alike u w
-  alone_back s w e a b c h = let k = next_back s w e a b c h.0 in (k.0, (k.0, (k.1, timely_back s e h.1), refl), k.2)
+  alone_back s w e a b c h = let k = back s w e a b h.0 in (k.0, (k.0, (k.1, timely_back s e h.1), refl), k.2 c)
 
   entry_at : (s w : State) (e : Entry) → ¬ IsTick e → ¬ ReadsClock s e → Leads code (timeless s) e w → (u : State) × Run code s (with_its_tick s e) u × Alike u w
-  entry_at s w (entry.Local t k) a c h = alone_back s w (entry.Local t k) a (λ n. n) c h
-  entry_at s w (entry.Op t) a c h = alone_back s w (entry.Op t) a (λ n. n) c h
-  entry_at s w (entry.Receive t) a c h = alone_back s w (entry.Receive t) a (λ n. n) c h
   entry_at s w (entry.Wake t) a c h = wake_back t s w h.0
-  entry_at s w (entry.Finish t) a c h = alone_back s w (entry.Finish t) a (λ n. n) c h
-  entry_at s w (entry.Tick at) a c h = absurd (a tt)
-  entry_at s w entry.Stranded a c h = alone_back s w entry.Stranded a (λ n. n) c h
+  entry_at s w e a c h = alone_back s w e a (λ n. n) c h
 
   pub entry_back : (s w : State) (e : Entry) → LeadsTimeless code (timeless s) e w → (u : State) × Run code s (with_its_tick s e) u × (timeless u ≡ w)
   entry_back s w e h = let k = entry_at s h.0 e h.3 h.4 h.1 in (k.0, k.1, k.2 ∙ h.2)
@@ -245,22 +198,10 @@ module _ (code : Code) where
   -- ---- what is legal
 
   pub legal_forth : (s : State) (e : Entry) → ¬ IsTick e → IsLegal code s e → IsLegal code (timeless s) e
-  legal_forth s (entry.Local t k) a h = let w = some_too _ _ h.0 (there_in s (entry.Local t k) a (λ n. n)) h.1.0 in (w.0, (w.1, tt))
-  legal_forth s (entry.Op t) a h = let w = some_too _ _ h.0 (there_in s (entry.Op t) a (λ n. n)) h.1.0 in (w.0, (w.1, tt))
-  legal_forth s (entry.Receive t) a h = let w = some_too _ _ h.0 (there_in s (entry.Receive t) a (λ n. n)) h.1.0 in (w.0, (w.1, tt))
-  legal_forth s (entry.Wake t) a h = let w = wake_forth t s h.0 h.1.0 in (w.0, (w.1, tt))
-  legal_forth s (entry.Finish t) a h = let w = some_too _ _ h.0 (there_in s (entry.Finish t) a (λ n. n)) h.1.0 in (w.0, (w.1, tt))
-  legal_forth s (entry.Tick at) a h = absurd (a tt)
-  legal_forth s entry.Stranded a h = let w = some_too _ _ h.0 (there_in s entry.Stranded a (λ n. n)) h.1.0 in (w.0, (w.1, timely_forth s h.0 entry.Stranded h.1.0 h.1.1))
+  legal_forth s e a h = let w = forth s h.0 e a h.1.0 in (w.0, (w.1, timely_forth s h.0 e h.1.0 h.1.1))
 
   legal_back : (s : State) (e : Entry) → ¬ IsTick e → sleepers_of s.blocked ≡ [] → IsLegal code (timeless s) e → IsLegal code s e
-  legal_back s (entry.Local t k) a z h = let w = some_too _ _ h.0 (sym (there_in s (entry.Local t k) a (λ n. n))) h.1.0 in (w.0, (w.1, tt))
-  legal_back s (entry.Op t) a z h = let w = some_too _ _ h.0 (sym (there_in s (entry.Op t) a (λ n. n))) h.1.0 in (w.0, (w.1, tt))
-  legal_back s (entry.Receive t) a z h = let w = some_too _ _ h.0 (sym (there_in s (entry.Receive t) a (λ n. n))) h.1.0 in (w.0, (w.1, tt))
-  legal_back s (entry.Wake t) a z h = absurd (not_both (next code (timeless s) (entry.Wake t)) h.0 (none_wakes t (timeless s) (asleep_still s.blocked z)) h.1.0)
-  legal_back s (entry.Finish t) a z h = let w = some_too _ _ h.0 (sym (there_in s (entry.Finish t) a (λ n. n))) h.1.0 in (w.0, (w.1, tt))
-  legal_back s (entry.Tick at) a z h = absurd (a tt)
-  legal_back s entry.Stranded a z h = let w = some_too _ _ h.0 (sym (there_in s entry.Stranded a (λ n. n))) h.1.0 in (w.0, (w.1, timely_back s entry.Stranded h.1.1))
+  legal_back s e a z h = let w = asleep_back s h.0 e a z h.1.0 in (w.0, (w.1, timely_back s e h.1.1))
 
   -- ---- endings
 
@@ -284,15 +225,10 @@ module _ (code : Code) where
 
   pub run_forth : (s u : State) (es : List Entry) → NeverReadsClock code (timeless s) → Run code s es u → TimelessRun code (timeless s) (without_ticks es) (timeless u)
   run_forth s u [] n h = ap timeless h
-  run_forth s u (entry.Local t k ∷ es) n h = let g = timeless_entry s h.0 (entry.Local t k) (λ z. z) n h.1 in (timeless h.0, g, run_forth h.0 u es (never_on (timeless s) (timeless h.0) (entry.Local t k) g n) h.2)
-  run_forth s u (entry.Op t ∷ es) n h = let g = timeless_entry s h.0 (entry.Op t) (λ z. z) n h.1 in (timeless h.0, g, run_forth h.0 u es (never_on (timeless s) (timeless h.0) (entry.Op t) g n) h.2)
-  run_forth s u (entry.Receive t ∷ es) n h = let g = timeless_entry s h.0 (entry.Receive t) (λ z. z) n h.1 in (timeless h.0, g, run_forth h.0 u es (never_on (timeless s) (timeless h.0) (entry.Receive t) g n) h.2)
-  run_forth s u (entry.Wake t ∷ es) n h = let g = timeless_entry s h.0 (entry.Wake t) (λ z. z) n h.1 in (timeless h.0, g, run_forth h.0 u es (never_on (timeless s) (timeless h.0) (entry.Wake t) g n) h.2)
-  run_forth s u (entry.Finish t ∷ es) n h = let g = timeless_entry s h.0 (entry.Finish t) (λ z. z) n h.1 in (timeless h.0, g, run_forth h.0 u es (never_on (timeless s) (timeless h.0) (entry.Finish t) g n) h.2)
   run_forth s u (entry.Tick at ∷ es) n h =
       let e = tick_alike s h.0 at h.1 in
       subst (λ r. TimelessRun code r (without_ticks es) (timeless u)) e (run_forth h.0 u es (subst (NeverReadsClock code) (sym e) n) h.2)
-  run_forth s u (entry.Stranded ∷ es) n h = let g = timeless_entry s h.0 entry.Stranded (λ z. z) n h.1 in (timeless h.0, g, run_forth h.0 u es (never_on (timeless s) (timeless h.0) entry.Stranded g n) h.2)
+  run_forth s u (e ∷ es) n h = let g = timeless_entry s h.0 e (λ z. z) n h.1 in (timeless h.0, g, run_forth h.0 u es (never_on (timeless s) (timeless h.0) e g n) h.2)
 
   due_ticks : (t : ℕ) (b : Bool) (due : ℕ) (fs : List Entry) → without_ticks (cond b (entry.Wake t ∷ []) (entry.Tick due ∷ entry.Wake t ∷ []) ++ fs) ≡ entry.Wake t ∷ without_ticks fs
   due_ticks t true due fs = refl
@@ -307,13 +243,9 @@ module _ (code : Code) where
   wake_ticks t now (Some (Sleeping due)) fs = due_ticks t (nat_le due now) due fs
 
   pub time_ticks : (s : State) (e : Entry) (fs : List Entry) → ¬ IsTick e → without_ticks (with_its_tick s e ++ fs) ≡ e ∷ without_ticks fs
-  time_ticks s (entry.Local t k) fs a = refl
-  time_ticks s (entry.Op t) fs a = refl
-  time_ticks s (entry.Receive t) fs a = refl
   time_ticks s (entry.Wake t) fs a = wake_ticks t s.clock (reason_of t s.blocked) fs
-  time_ticks s (entry.Finish t) fs a = refl
   time_ticks s (entry.Tick at) fs a = absurd (a tt)
-  time_ticks s entry.Stranded fs a = refl
+  time_ticks s _ fs a = refl
 
   pub run_back : (s w : State) (es : List Entry) → TimelessRun code (timeless s) es w → (fs : List Entry) × (u : State) × Run code s fs u × (timeless u ≡ w) × (without_ticks fs ≡ es) × WithTheirTicks code s es fs u
   run_back s w [] h = ([], s, refl, h, refl, (refl, refl))
