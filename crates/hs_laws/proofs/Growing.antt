@@ -18,7 +18,7 @@ use Rattle.hs_laws.proofs.Lists.{those}
 use Rattle.hs_laws.proofs.Changes as change
 use Rattle.hs_laws.proofs.Changes.{Changes, all_kept, changes}
 
-set_length : {A : Type 0} (xs : List A) (n : ℕ) (y : A) → length (slice_set xs n y) ≡ length xs
+pub set_length : {A : Type 0} (xs : List A) (n : ℕ) (y : A) → length (slice_set xs n y) ≡ length xs
 set_length [] n y = refl
 set_length (x ∷ xs) zero y = refl
 set_length (x ∷ xs) (suc n) y = let k = set_length xs n y in omega arith

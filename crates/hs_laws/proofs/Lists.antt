@@ -277,7 +277,7 @@ blocked_found P t (w ∷ ws) b h =
     (equal_or w.thread t)
 
 -- ---- no thread waits two times
-not_blocked_left : (t u : ℕ) (ws : List (Waiting V)) → is_blocked u ws ≡ false → is_blocked u (leaves t ws) ≡ false
+pub not_blocked_left : (t u : ℕ) (ws : List (Waiting V)) → is_blocked u ws ≡ false → is_blocked u (leaves t ws) ≡ false
 not_blocked_left t u [] h = refl
 not_blocked_left t u (w ∷ ws) h =
     ⊎_elim
@@ -292,7 +292,7 @@ once_left t [] h = tt
 once_left t (w ∷ ws) h =
     cond_cases Once (w.thread == t) (leaves t ws) (w ∷ leaves t ws) (λ k. once_left t ws h.1) (λ k. (not_blocked_left t w.thread ws h.0, once_left t ws h.1))
 
-not_blocked_more : (u : ℕ) (ws : List (Waiting V)) (w : Waiting V) → is_blocked u ws ≡ false → w.thread ≢ u → is_blocked u (ws ++ w ∷ []) ≡ false
+pub not_blocked_more : (u : ℕ) (ws : List (Waiting V)) (w : Waiting V) → is_blocked u ws ≡ false → w.thread ≢ u → is_blocked u (ws ++ w ∷ []) ≡ false
 not_blocked_more u [] w h n = ⊎_elim (λ e. absurd (n e.1)) (λ e. cond_false (w.thread == u) true false e.0) (equal_or w.thread u)
 not_blocked_more u (v ∷ ws) w h n =
     ⊎_elim

@@ -185,6 +185,10 @@ AtOp s (entry.Wake t) P = Unit {0}
 AtOp s (entry.Tick at) P = Unit {0}
 AtOp s entry.Stranded P = Unit {0}
 
+pub at_any : (P : Operation → Type 0) → ((op : Operation) → P op) → (s : State) (e : Entry) → AtOp s e P
+at_any P f s (entry.Op t) = λ th op is p. f op
+at_any P f s _ = tt
+
 module _ {R : State → State → Type 0} {May : ℕ → Type 0} {Ok Keeps : Operation → Type 0} (k : Likeness R May Ok Keeps) (code : Code) where
   -- who throws first may go on
   thrower_may : (t : ℕ) (f : Flying) (fs : List Flying) (s r : State) → R s r → flying_to t (flight_of s.blocked) ≡ f ∷ fs → May f.thrower

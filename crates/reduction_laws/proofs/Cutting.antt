@@ -19,7 +19,8 @@ use Rattle.outcome_laws.proofs.Going.{count_more}
 use Rattle.reduction_laws.specs.Paths.{IsTaken, Move, Counted, entries_of, Path, counted, MainRuns}
 use Rattle.reduction_laws.proofs.Ranks.{non_ticks}
 use Rattle.reduction_laws.proofs.Lists.{set_twice}
-use Rattle.reduction_laws.proofs.Apart.{put_in, Stands, flags}
+use Rattle.hs_laws.proofs.SameCases.{put_in}
+use Rattle.reduction_laws.proofs.Apart.{Stands, flags}
 use Rattle.reduction_laws.proofs.Own.{main_same, gone}
 
 local_next : (code : Code) (t k : ℕ) (s : State) (th : Thread) (y : Term) → MainRuns s → Stands t th s → th.finished ≡ false → locals code (suc k) th.term ≡ Some y →

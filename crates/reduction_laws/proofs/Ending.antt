@@ -13,7 +13,8 @@ use Rattle.hs_laws.proofs.Lists.{item_other}
 use Rattle.hs_laws.proofs.HowItEnds.{done_is_over}
 use Rattle.timing_laws.proofs.Passing.{same_item}
 use Rattle.reduction_laws.specs.Paths.{MainRuns, HasEnded, ShowsSame, EndsLike}
-use Rattle.reduction_laws.proofs.Apart.{put_in, Stands, Both, IsApart, both_next}
+use Rattle.hs_laws.proofs.SameCases.{put_in}
+use Rattle.reduction_laws.proofs.Apart.{IsApart, apart_next}
 use Rattle.reduction_laws.proofs.Own.{main_runs, Poised, gone, stands, poised_on}
 
 -- ---- where a run ends
@@ -61,25 +62,13 @@ like_then a b c (inr l) (inr k) = inr (l.0, record { main = l.1.main ∙ k.1.mai
 
 -- ---- what both states have
 
-pub both_out : (t : ℕ) (th y : Thread) (o q : Option State) (m : State) → Both t th y o q → o ≡ Some m → (q ≡ Some (put_in t y m)) × Stands t th m
-both_out t th y None q m b e = absurd (cc e)
-both_out t th y (Some u) None m b e = absurd b
-both_out t th y (Some u) (Some w) m b e =
-    let same : u ≡ m = same_item e in
-    (ap Some (b.0 ∙ ap (put_in t y) same), subst (Stands t th) same b.1)
-
 pub timely : (code : Code) (t : ℕ) (s : State) (e : Entry) → IsApart t e → IsTimely code s e
-timely code t s (entry.Local v k) n = tt
-timely code t s (entry.Op v) n = tt
-timely code t s (entry.Receive v) n = tt
-timely code t s (entry.Wake v) n = tt
-timely code t s (entry.Finish v) n = tt
-timely code t s (entry.Tick at) n = tt
 timely code t s entry.Stranded n = absurd n
+timely code t s _ n = tt
 
 -- an entry of another thread leads on from both
 pub apart_leads : (code : Code) (t : ℕ) (s : State) (th : Thread) (x : Term) (e : Entry) (m : State) → Poised code t s th x → IsApart t e → Leads code s e m →
     Leads code (put_in t (gone th x) s) e (put_in t (gone th x) m) × Poised code t m th x
 apart_leads code t s th x e m h n l =
-    let b = both_out t th (gone th x) (next code s e) (next code (put_in t (gone th x) s) e) m (both_next t th (gone th x) (inl refl) code s e n (inl refl) (stands h)) l.0 in
+    let b = apart_next t th (gone th x) (inl refl) code s e m n (inl refl) (stands h) l.0 in
     ((b.0, timely code t (put_in t (gone th x) s) e n), poised_on h e m l.0 b.1)

@@ -19,8 +19,9 @@ use Rattle.reduction_laws.specs.EagerRules.{has_value, EagerFinish}
 use Rattle.reduction_laws.specs.Paths.{MainRuns, ShowsSame, CommutesWithFinish}
 use Rattle.reduction_laws.proofs.Tests.{there_is}
 use Rattle.reduction_laws.proofs.NobodyThrows.{nobody_throws_kept, none_receives}
-use Rattle.reduction_laws.proofs.Apart.{put_in, IsApart, both_next}
-use Rattle.reduction_laws.proofs.Ending.{runs_or, both_out, timely}
+use Rattle.hs_laws.proofs.SameCases.{put_in}
+use Rattle.reduction_laws.proofs.Apart.{IsApart, apart_next}
+use Rattle.reduction_laws.proofs.Ending.{runs_or, timely}
 
 -- a thread that is to close
 pub record Finishing (code : Code) (t : ℕ) (s : State) (th : Thread) : Type 0 where
@@ -106,8 +107,7 @@ finish_commutes code t s u e m c l = let k = finish_of c in subst (λ q. Commute
     apart : (k : KnownFinish code t s u) (e : Entry) → IsApart t e → Leads code s e m → CommutesWithFinish code t (put_in t (over k.thread) s) e m
     apart k e n l =
         let th : Thread = k.thread in
-        let b = both_out t th (over th) (next code s e) (next code (put_in t (over th) s) e) m
-        (both_next t th (over th) (inr k.finishing.other) code s e n (inr k.finishing.nobody_throws.1) (record { is = k.finishing.is; free = k.finishing.free })) l.0 in
+        let b = apart_next t th (over th) (inr k.finishing.other) code s e m n (inr k.finishing.nobody_throws.1) (record { is = k.finishing.is; free = k.finishing.free }) l.0 in
         let h : Finishing code t m th = record { other = k.finishing.other; is = b.1.is; unfinished = k.finishing.unfinished; free = b.1.free; frames = k.finishing.frames; value = k.finishing.value; part = k.finishing.part; nobody_throws = nobody_throws_kept code s e m k.finishing.nobody_throws l.0 } in
         inr (put_in t (over th) m, (b.0, timely code t (put_in t (over th) s) e n), ⊎_elim (λ r. inl (eager_finish_of code t m th r h)) (λ r. inr (r, alike_finished t m (over th) k.finishing.other)) (runs_or m))
 

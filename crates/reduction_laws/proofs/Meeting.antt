@@ -15,7 +15,8 @@ use Rattle.rules_waiting.specs.Waiting.{Reason, Taking, Reading, Putting, Throwi
 use Rattle.timing_laws.proofs.Passing.{thread_there, same_item}
 use Rattle.reduction_laws.specs.EagerRules.{passes, passes_all, EagerRule}
 use Rattle.reduction_laws.specs.Paths.{LocalsLead, MainRuns, EndsLike, IsOther, Commutes, CommutesWithReceive, NamesThread}
-use Rattle.reduction_laws.proofs.Apart.{put_in, Stands, IsApart}
+use Rattle.hs_laws.proofs.SameCases.{put_in}
+use Rattle.reduction_laws.proofs.Apart.{Stands, IsApart}
 use Rattle.reduction_laws.proofs.Tests.{both_true}
 use Rattle.reduction_laws.proofs.Own.{main_runs, gone, Known, known, poised_next, eager_of, no_op, no_finish, Near, hit, main_hit, passing, frame_passed, Hit, own_receive}
 use Rattle.reduction_laws.proofs.Ending.{runs_or, alike_gone, apart_leads}

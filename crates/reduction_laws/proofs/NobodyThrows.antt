@@ -1,5 +1,5 @@
 -- Where nobody throws at a thread nobody ever does.
-use Rattle.std.proofs.Common.{◌≡◌, ℕ, zero, suc, ◌==◌, ℤ, pos, negsuc, List, [], ◌∷◌, ◌++◌, length, slice_get, slice_set, Bool, true, false, cond, nat_le, Option, Some, None, refl, sym, ap, ◌∙◌, subst, bytes_eq, ⊎_elim}
+use Rattle.std.proofs.Common.{◌≡◌, ℕ, zero, suc, ◌==◌, List, [], ◌∷◌, ◌++◌, length, slice_get, slice_set, Bool, true, false, cond, Option, Some, None, refl, sym, ap, ◌∙◌, subst, bytes_eq, ⊎_elim}
 use Rattle.hs_base.specs.declared.mask.Mask.{Mask}
 use Rattle.hs_base.specs.declared.mask.Mask.TheVariants.{Unmasked}
 use Rattle.hs_base.specs.declared.exn.Exn.{Exn}
@@ -10,22 +10,24 @@ use Rattle.rules_expansion.specs.Names.{Name}
 use Rattle.rules_meaning.specs.Values as val
 use Rattle.rules_meaning.specs.Values.{V, UnitValue, Int, Truth, Text, Nothing, Just, Left, Right, Pair, Nil, Cons, Exception, Restore, Inst, Env, with_name, value_at, Outcome, Gives, Throws, Stuck, Outcomes, AllGive, OneThrows, OneStuck}
 use Rattle.rules_expansion.specs.Core.{Core, Return, ThrowIo, Let, Bind, If, CaseMaybe, CaseEither, CaseList, CasePair, Call, Perform, Fork, ForkUnmask, Catch, MaskWith, MaskHard, ActionFunction, action_named}
-use Rattle.rules_expansion.specs.declared.primitive.Primitive.{Primitive}
-use Rattle.rules_expansion.specs.declared.primitive.Primitive.TheVariants.{PutStr, PutStrLn, HPutStrLn, NewMVar, NewEmptyMVar, TakeMVar, PutMVar, ReadMVar, TryTakeMVar, TryPutMVar, MyThreadId, GetMaskingState, ClockMicros, ThreadDelay, ThrowTo, NewTimeout, Acquired, Release}
 use Rattle.rules_expansion.specs.Core as core
 use Rattle.rules_meaning.specs.CoreMeaning.{Code, value_of_core, values_of_core}
 use Rattle.rules_meaning.specs.Meaning.{values_of_exs}
-use Rattle.hs_rules.specs.Terms.{Operation, Calls, Forks, ForksUnmask, Part, Ret, Throw, Do, Performs, Frame, BindTo, CatchBy, MaskIn, Term, term, mask_at}
+use Rattle.hs_rules.specs.Terms.{Operation, Part, Ret, Throw, Do, Performs, Frame, BindTo, CatchBy, MaskIn, Term, term, mask_at}
 use Rattle.hs_rules.specs.LocalRules.{on_value, on_values, thrown, chosen, chosen_maybe, chosen_either, chosen_list, chosen_pair, with_params, entered, called, restored, first_step, ret_step, throw_step, on_top, local, on_term, locals}
-use Rattle.rules_waiting.specs.OneCell.{first_put, first_take, readers}
-use Rattle.rules_waiting.specs.Waiting.{Reason, Taking, Reading, Putting, Throwing, Sleeping, Waiting, Flying, Sleeper, leaves, is_blocked, reason_of, line_of, with_flying, flight_of, flying_to, sleepers_of}
+use Rattle.rules_waiting.specs.Waiting.{Reason, Taking, Reading, Putting, Throwing, Sleeping, Waiting, Flying, leaves, with_flying, flight_of, flying_to}
 use Rattle.hs_rules.specs.State.{AcquiredBy, ReleasedBy, Thread, State, with_term, move, frames_of, resume, answer, resume_all, block, thread_with, spawn, first}
-use Rattle.hs_rules.specs.Primitives.{on_none, on_one, on_two, as_text, as_number, as_cell, as_instance, moves_in, taken, goes_in, read_by_all, given, take, read, put, try_take, try_put, due_in, delay, clock_value, masking_text, line_feed, performed, operated}
-use Rattle.hs_rules.specs.Entries.{moved, local_entry, at_operation, is_receptive, received, receive_entry, woken, uncaught_line, throwers, closed, finish_entry, stranded, strand, strand_entry, on_thread, next}
-use Rattle.hs_rules.specs.Entries as entries
-use Rattle.hs_laws.proofs.Lists.{cond_cases, equal_or, item_same, item_other, item_more}
-use Rattle.timing_laws.proofs.Passing.{passed, thread_there}
-use Rattle.reduction_laws.specs.NoThrowTo.{IsNotThrowTo, NoThrowTo, NoThrowToOperation, NoThrowToPart, NoThrowToFrames, NoThrowToTerm, NoThrowToThread, NoThrowToActions, NoThrowToState, NobodyThrows}
+use Rattle.hs_rules.specs.Primitives.{line_feed}
+use Rattle.hs_rules.specs.Entries.{stranded, next}
+use Rattle.hs_cases.specs.Cases as row
+use Rattle.hs_cases.specs.Cases.{with_cell, printed, told}
+use Rattle.hs_cases.proofs.Entering.{case_of}
+use Rattle.hs_laws.specs.BracketPhases.{Blocks}
+use Rattle.hs_laws.specs.Standing.{IsResult}
+use Rattle.hs_laws.proofs.Lists.{cond_cases, equal_or, item_same, item_other, item_more, those}
+use Rattle.hs_laws.proofs.Changes as change
+use Rattle.hs_laws.proofs.Changes.{Stands, Changes, changes}
+use Rattle.reduction_laws.specs.NoThrowTo.{NoThrowTo, NoThrowToOperation, NoThrowToPart, NoThrowToFrames, NoThrowToTerm, NoThrowToThread, NoThrowToActions, NoThrowToState, NobodyThrows}
 
 -- ---- local rules
 
@@ -216,196 +218,68 @@ block_keeps v r s n h = record { threads = h.threads; flight = flight_more (reco
 spawn_keeps : (x : Term) (s : State) → NoThrowToTerm x → NoThrowToState s → NoThrowToState (spawn x s)
 spawn_keeps x s g h = record { threads = λ t. item_more NoThrowToThread s.threads (thread_with x) t (h.threads t) (λ e. g); flight = h.flight }
 
--- ---- cells
-
-moves_in_keeps : (m : ℕ) (o : Option (ℕ × V)) (s : State) → NoThrowToState s → NoThrowToState (moves_in m o s)
-moves_in_keeps m None s h = record { threads = h.threads; flight = h.flight }
-moves_in_keeps m (Some w) s h = answer_keeps w.0 UnitValue (record s { cells = slice_set s.cells m (Some w.1) }) (record { threads = h.threads; flight = h.flight })
-
-taken_keeps : (m : ℕ) (s : State) → NoThrowToState s → NoThrowToState (taken m s)
-taken_keeps m s h = moves_in_keeps m (first_put (line_of m s.blocked)) s h
-
-goes_in_keeps : (m : ℕ) (a : V) (o : Option ℕ) (s : State) → NoThrowToState s → NoThrowToState (goes_in m a o s)
-goes_in_keeps m a None s h = record { threads = h.threads; flight = h.flight }
-goes_in_keeps m a (Some t) s h = answer_keeps t a s h
-
-given_keeps : (m : ℕ) (a : V) (s : State) → NoThrowToState s → NoThrowToState (given m a s)
-given_keeps m a s h =
-    let r : State = read_by_all m a s in
-    goes_in_keeps m a (first_take (line_of m r.blocked)) r (resumed_keeps (readers (line_of m s.blocked)) (Ret a) s tt h)
-
 -- ---- an entry
 
-abbrev Keeps : Option State → Type 0
-Keeps None = Unit {0}
-Keeps (Some s) = NoThrowToState s
+-- who blocks without a throw at a thread sends no exception
+none_sent : (t : ℕ) (r : Reason V) (op : Operation) → Blocks r op → NoThrowToOperation op → with_flying t r [] ≡ []
+none_sent t (Taking m) op b n = refl
+none_sent t (Reading m) op b n = refl
+none_sent t (Putting m a) op b n = refl
+none_sent t (Throwing u e) op b n = absurd (subst NoThrowToOperation b n)
+none_sent t (Sleeping due) op b n = refl
 
-keeps_cond : (b : Bool) (x y : Option State) → Keeps x → Keeps y → Keeps (cond b x y)
-keeps_cond true x y f g = f
-keeps_cond false x y f g = g
+result_none : (p : Part) → IsResult p → NoThrowToPart p
+result_none (Ret v) i = tt
+result_none (Throw e) i = tt
+result_none (Do a env) i = absurd i
+result_none (Performs op) i = absurd i
 
-keeps_none : (vs : List V) (o : Option State) → Keeps o → Keeps (on_none vs o)
-keeps_none [] o h = h
-keeps_none (a ∷ vs) o h = tt
+module _ (code : Code) (c : NoThrowToActions code.actions) (s : State) (h : NoThrowToState s) where
+  stands_none : {t : ℕ} {op : Operation} → Stands s t op → NoThrowToOperation op
+  stands_none {t} a = subst NoThrowToPart a.part (at_thread s.threads t a.th a.is h.threads).0
 
-keeps_one : (vs : List V) (k : V → Option State) → ((a : V) → Keeps (k a)) → Keeps (on_one vs k)
-keeps_one [] k h = tt
-keeps_one (a ∷ []) k h = h a
-keeps_one (a ∷ b ∷ vs) k h = tt
+  -- a thread is answered in a state with the same threads, of whom the same wait
+  answered : (t : ℕ) (v : V) (u : State) → u.threads ≡ s.threads → u.blocked ≡ s.blocked → NoThrowToState (answer t v u)
+  answered t v u e f = answer_keeps t v u (record { threads = λ i. subst (λ ths. NoThrowToThread (slice_get ths i)) (sym e) (h.threads i); flight = ap flight_of f ∙ h.flight })
 
-keeps_two : (vs : List V) (k : V → V → Option State) → ((a b : V) → Keeps (k a b)) → Keeps (on_two vs k)
-keeps_two [] k h = tt
-keeps_two (a ∷ vs) k h = keeps_one vs (k a) (h a)
+  forked : (t : ℕ) (m : Mask) (a : Core) (env : Env) → NoThrowTo a → NoThrowToState (spawn (term (Do a env) (MaskIn m ∷ [])) (answer t (val.Thread (length s.threads)) s))
+  forked t m a env n = spawn_keeps (term (Do a env) (MaskIn m ∷ [])) (answer t (val.Thread (length s.threads)) s) (n, tt) (answer_keeps t (val.Thread (length s.threads)) s h)
 
-keeps_text : (a : V) (k : List ℕ → Option State) → ((x : List ℕ) → Keeps (k x)) → Keeps (as_text a k)
-keeps_text (Text x) k h = h x
-keeps_text _ k h = tt
-
-keeps_number : (a : V) (k : ℤ → Option State) → ((x : ℤ) → Keeps (k x)) → Keeps (as_number a k)
-keeps_number (Int x) k h = h x
-keeps_number _ k h = tt
-
-keeps_cell : (a : V) (k : ℕ → Option State) → ((x : ℕ) → Keeps (k x)) → Keeps (as_cell a k)
-keeps_cell (val.Cell x) k h = h x
-keeps_cell _ k h = tt
-
-keeps_instance : (a : V) (k : ℕ → Option State) → ((x : ℕ) → Keeps (k x)) → Keeps (as_instance a k)
-keeps_instance (Inst x) k h = h x
-keeps_instance _ k h = tt
-
-module _ (v : ℕ) (s : State) (h : NoThrowToState s) where
-  keeps_take : (m : ℕ) (o : Option (Option V)) → Keeps (take v m o s)
-  keeps_take m None = tt
-  keeps_take m (Some None) = block_keeps v (Taking m) s refl h
-  keeps_take m (Some (Some a)) = taken_keeps m (answer v a s) (answer_keeps v a s h)
-
-  keeps_read : (m : ℕ) (o : Option (Option V)) → Keeps (read v m o s)
-  keeps_read m None = tt
-  keeps_read m (Some None) = block_keeps v (Reading m) s refl h
-  keeps_read m (Some (Some a)) = answer_keeps v a s h
-
-  keeps_put : (m : ℕ) (a : V) (o : Option (Option V)) → Keeps (put v m a o s)
-  keeps_put m a None = tt
-  keeps_put m a (Some (Some b)) = block_keeps v (Putting m a) s refl h
-  keeps_put m a (Some None) = given_keeps m a (answer v UnitValue s) (answer_keeps v UnitValue s h)
-
-  keeps_try_take : (m : ℕ) (o : Option (Option V)) → Keeps (try_take v m o s)
-  keeps_try_take m None = tt
-  keeps_try_take m (Some None) = answer_keeps v Nothing s h
-  keeps_try_take m (Some (Some a)) = taken_keeps m (answer v (Just a) s) (answer_keeps v (Just a) s h)
-
-  keeps_try_put : (m : ℕ) (a : V) (o : Option (Option V)) → Keeps (try_put v m a o s)
-  keeps_try_put m a None = tt
-  keeps_try_put m a (Some (Some b)) = answer_keeps v (Truth false) s h
-  keeps_try_put m a (Some None) = given_keeps m a (answer v (Truth true) s) (answer_keeps v (Truth true) s h)
-
-  keeps_delay : (x : ℤ) → Keeps (delay v x s)
-  keeps_delay (pos k) = keeps_cond (k == 0) _ _ (answer_keeps v UnitValue s h) (block_keeps v (Sleeping (due_in k s)) s refl h)
-  keeps_delay (negsuc k) = answer_keeps v UnitValue s h
-
-  keeps_performed : (m : Mask) (p : Primitive) (vs : List V) → IsNotThrowTo p → Keeps (performed v m p vs s)
-  keeps_performed m PutStr vs n = keeps_one vs _ (λ a. keeps_text a _ (λ x. answer_keeps v UnitValue (record s { output = s.output ++ x }) (record { threads = h.threads; flight = h.flight })))
-  keeps_performed m PutStrLn vs n = keeps_one vs _ (λ a. keeps_text a _ (λ x. answer_keeps v UnitValue (record s { output = s.output ++ x ++ line_feed }) (record { threads = h.threads; flight = h.flight })))
-  keeps_performed m HPutStrLn vs n = keeps_one vs _ (λ a. keeps_text a _ (λ x. answer_keeps v UnitValue (record s { errors = s.errors ++ x ++ line_feed }) (record { threads = h.threads; flight = h.flight })))
-  keeps_performed m NewMVar vs n = keeps_one vs _ (λ a. answer_keeps v (val.Cell (length s.cells)) (record s { cells = s.cells ++ Some a ∷ [] }) (record { threads = h.threads; flight = h.flight }))
-  keeps_performed m NewEmptyMVar vs n = keeps_none vs _ (answer_keeps v (val.Cell (length s.cells)) (record s { cells = s.cells ++ None ∷ [] }) (record { threads = h.threads; flight = h.flight }))
-  keeps_performed m TakeMVar vs n = keeps_one vs _ (λ a. keeps_cell a _ (λ c. keeps_take c (slice_get s.cells c)))
-  keeps_performed m PutMVar vs n = keeps_two vs _ (λ a b. keeps_cell a _ (λ c. keeps_put c b (slice_get s.cells c)))
-  keeps_performed m ReadMVar vs n = keeps_one vs _ (λ a. keeps_cell a _ (λ c. keeps_read c (slice_get s.cells c)))
-  keeps_performed m TryTakeMVar vs n = keeps_one vs _ (λ a. keeps_cell a _ (λ c. keeps_try_take c (slice_get s.cells c)))
-  keeps_performed m TryPutMVar vs n = keeps_two vs _ (λ a b. keeps_cell a _ (λ c. keeps_try_put c b (slice_get s.cells c)))
-  keeps_performed m MyThreadId vs n = keeps_none vs _ (answer_keeps v (val.Thread v) s h)
-  keeps_performed m GetMaskingState vs n = keeps_none vs _ (answer_keeps v (Text (masking_text m)) s h)
-  keeps_performed m ClockMicros vs n = keeps_none vs _ (answer_keeps v (clock_value s) s h)
-  keeps_performed m ThreadDelay vs n = keeps_one vs _ (λ a. keeps_number a _ (λ x. keeps_delay x))
-  keeps_performed m ThrowTo vs n = absurd n
-  keeps_performed m NewTimeout vs n = keeps_none vs _ (answer_keeps v (Exception (Timeout s.next_timeout)) (record s { next_timeout = suc s.next_timeout }) (record { threads = h.threads; flight = h.flight }))
-  keeps_performed m Acquired vs n =
-      keeps_none vs _ (answer_keeps v (Inst s.next_instance) (record s { marks = AcquiredBy s.next_instance v ∷ s.marks; next_instance = suc s.next_instance }) (record { threads = h.threads; flight = h.flight }))
-  keeps_performed m Release vs n = keeps_one vs _ (λ a. keeps_instance a _ (λ i. answer_keeps v UnitValue (record s { marks = ReleasedBy i v ∷ s.marks }) (record { threads = h.threads; flight = h.flight })))
-
-  keeps_operated : (m : Mask) (o : Operation) → NoThrowToOperation o → Keeps (operated v m o s)
-  keeps_operated m (Calls p vs) n = keeps_performed m p vs n
-  keeps_operated m (Forks a env) n = spawn_keeps (term (Do a env) (MaskIn m ∷ [])) (answer v (val.Thread (length s.threads)) s) (n, tt) (answer_keeps v (val.Thread (length s.threads)) s h)
-  keeps_operated m (ForksUnmask r a env) n =
-      spawn_keeps (term (Do a (with_name r (Restore Unmasked) env)) (MaskIn m ∷ [])) (answer v (val.Thread (length s.threads)) s) (n, tt) (answer_keeps v (val.Thread (length s.threads)) s h)
-
-  keeps_at : (p : Part) (k : Operation → Option State) → NoThrowToPart p → ((o : Operation) → NoThrowToOperation o → Keeps (k o)) → Keeps (at_operation p k)
-  keeps_at (Ret a) k n f = tt
-  keeps_at (Throw e) k n f = tt
-  keeps_at (Do a env) k n f = tt
-  keeps_at (Performs o) k n f = f o n
-
-  keeps_moved : (o : Option Term) → NoThrowToResult o → Keeps (moved v s o)
-  keeps_moved None g = tt
-  keeps_moved (Some x) g = move_keeps v x s g h
-
-  keeps_local : (code : Code) → NoThrowToActions code.actions → (k : ℕ) (z : Thread) → NoThrowToTerm z.term → Keeps (local_entry code v k z s)
-  keeps_local code c zero z g = tt
-  keeps_local code c (suc k) z g = keeps_cond (is_blocked v s.blocked) _ _ tt (keeps_moved (locals code (suc k) z.term) (locals_go code c (suc k) z.term g))
-
-  keeps_received : (fs : List Flying) → Keeps (received v fs s)
-  keeps_received [] = tt
-  keeps_received (w ∷ ws) = resume_keeps v (Throw w.exn) (answer w.thrower UnitValue s) tt (answer_keeps w.thrower UnitValue s h)
-
-  keeps_woken : (o : Option (Reason V)) → Keeps (woken v o s)
-  keeps_woken None = tt
-  keeps_woken (Some (Taking m)) = tt
-  keeps_woken (Some (Reading m)) = tt
-  keeps_woken (Some (Putting m a)) = tt
-  keeps_woken (Some (Throwing u e)) = tt
-  keeps_woken (Some (Sleeping due)) = keeps_cond (nat_le due s.clock) _ _ (answer_keeps v UnitValue s h) tt
-
-  keeps_closed : (z : Thread) (line : List ℕ) → slice_get s.threads v ≡ Some z → NoThrowToState (closed v z line s)
-  keeps_closed z line e =
-      resumed_keeps (throwers (flying_to v (flight_of s.blocked))) (Ret UnitValue)
-      (record s { threads = slice_set s.threads v (record { term = z.term; finished = true }); errors = s.errors ++ line }) tt
-      (record { threads = set_threads s.threads v z (record { term = z.term; finished = true }) e h.threads (at_thread s.threads v z e h.threads); flight = h.flight })
-
-  keeps_finish : (z : Thread) (fs : List Frame) (p : Part) → slice_get s.threads v ≡ Some z → Keeps (finish_entry v z fs p s)
-  keeps_finish z [] (Ret a) e = keeps_closed z [] e
-  keeps_finish z [] (Throw x) e = keeps_closed z (uncaught_line v x) e
-  keeps_finish z [] (Do a env) e = tt
-  keeps_finish z [] (Performs o) e = tt
-  keeps_finish z (f ∷ fs) p e = tt
-
-  keeps_on : (o : Option Thread) (k : Thread → Option State) → slice_get s.threads v ≡ o → ((z : Thread) → slice_get s.threads v ≡ Some z → NoThrowToTerm z.term → Keeps (k z)) → Keeps (on_thread o k)
-  keeps_on None k e f = tt
-  keeps_on (Some z) k e f = keeps_cond z.finished None (k z) tt (f z e (at_thread s.threads v z e h.threads))
-
-keeps_strand : (ts : List ℕ) (s : State) → NoThrowToState s → Keeps (strand ts s)
-keeps_strand [] s h = tt
-keeps_strand (t ∷ ts) s h = resumed_keeps (t ∷ ts) (Throw BlockedIndefinitely) s tt h
-
-keeps_stranded : (ss : List Sleeper) (s : State) → NoThrowToState s → Keeps (strand_entry ss s)
-keeps_stranded [] s h = keeps_strand (stranded s) s h
-keeps_stranded (r ∷ rs) s h = tt
-
-keeps_entered : (code : Code) (s : State) → NoThrowToActions code.actions → NoThrowToState s → (e : Entry) → Keeps (entries.entered code s e)
-keeps_entered code s c h (entry.Local v k) = keeps_on v s h (slice_get s.threads v) _ refl (λ z e g. keeps_local v s h code c k z g)
-keeps_entered code s c h (entry.Op v) = keeps_on v s h (slice_get s.threads v) _ refl (λ z e g. keeps_cond (is_blocked v s.blocked) _ _ tt (keeps_at v s h z.term.part _ g.0 (λ o n. keeps_operated v s h (mask_at z.term.frames) o n)))
-keeps_entered code s c h (entry.Receive v) = keeps_on v s h (slice_get s.threads v) _ refl (λ z e g. keeps_cond (is_receptive v z.term s) _ _ (keeps_received v s h (flying_to v (flight_of s.blocked))) tt)
-keeps_entered code s c h (entry.Wake v) = keeps_woken v s h (reason_of v s.blocked)
-keeps_entered code s c h (entry.Finish v) = keeps_on v s h (slice_get s.threads v) _ refl (λ z e g. keeps_finish v s h z z.term.frames z.term.part e)
-keeps_entered code s c h (entry.Tick at) = keeps_cond (nat_le s.clock at) _ _ (record { threads = h.threads; flight = h.flight }) tt
-keeps_entered code s c h entry.Stranded = keeps_stranded (sleepers_of s.blocked) s h
-
-keeps_main : (o : Option Thread) (x : Option State) → Keeps x → Keeps (on_thread o (λ main. x))
-keeps_main None x h = tt
-keeps_main (Some z) x h = keeps_cond z.finished None x tt h
+  changed_keeps : {e : Entry} {u : State} → Changes code s e u → NoThrowToState u
+  changed_keeps (change.moves {t} {k} {th} {x} a b l) = move_keeps t x s (subst NoThrowToResult l (locals_go code c (suc k) th.term (at_thread s.threads t th a.0 h.threads))) h
+  changed_keeps (change.blocks {t} {op} r a k b n) = block_keeps t r s (none_sent t r op b (stands_none a)) h
+  changed_keeps (change.ends {t} p a k i) = resume_keeps t p s (result_none p i) h
+  changed_keeps (change.prints {t} {x} a) = answered t UnitValue (printed x s) refl refl
+  changed_keeps (change.prints_a_line {t} {x} a) = answered t UnitValue (printed line_feed (printed x s)) refl refl
+  changed_keeps (change.tells_a_line {t} {x} a) = answered t UnitValue (told line_feed (told x s)) refl refl
+  changed_keeps (change.makes {t} v o a m) = answered t v (with_cell o s) refl refl
+  changed_keeps (change.makes_a_timeout {t} a) = answered t (Exception (Timeout s.next_timeout)) (record s { next_timeout = suc s.next_timeout }) refl refl
+  changed_keeps (change.acquires {t} a) = answered t (Inst s.next_instance) (record s { marks = AcquiredBy s.next_instance t ∷ s.marks; next_instance = suc s.next_instance }) refl refl
+  changed_keeps (change.releases {t} {i} a) = answered t UnitValue (record s { marks = ReleasedBy i t ∷ s.marks }) refl refl
+  changed_keeps (change.forks {t} m {a} {env} k) = forked t m a env (stands_none k)
+  changed_keeps (change.forks_unmasked {t} m {r} {a} {env} k) = forked t m a (with_name r (Restore Unmasked) env) (stands_none k)
+  changed_keeps (change.receives {t} {f} a o q) = resume_keeps t (Throw f.exn) (answer f.thrower UnitValue s) tt (answer_keeps f.thrower UnitValue s h)
+  changed_keeps (change.wakes {t} q) = answer_keeps t UnitValue s h
+  changed_keeps (change.finishes {t} {th} line a f b) = record {
+    threads = set_threads s.threads t th (record { term = th.term; finished = true }) a.0 h.threads (at_thread s.threads t th a.0 h.threads);
+    flight = h.flight;
+  }
+  changed_keeps (change.ticks q) = record { threads = h.threads; flight = h.flight }
+  changed_keeps change.strands = resumed_keeps (stranded s) (Throw BlockedIndefinitely) s tt h
+  changed_keeps (change.holds i o u k) = let g = changed_keeps k in record { threads = g.threads; flight = g.flight }
+  changed_keeps (change.serves w v u r a k) = answer_keeps w v u (changed_keeps k)
+  changed_keeps (change.all p v u k) = resumed_keeps (those p u.blocked) (Ret v) u tt (changed_keeps k)
 
 pub nobody_throws_kept : (code : Code) (s : State) (e : Entry) (u : State) → NobodyThrows code s → next code s e ≡ Some u → NobodyThrows code u
-nobody_throws_kept code s e u h l =
-    let k : Keeps (Some u) = subst Keeps l (keeps_main (slice_get s.threads 0) (entries.entered code s e) (keeps_entered code s h.0 h.1 e)) in
-    (h.0, k)
+nobody_throws_kept code s e u h l = (h.0, changed_keeps code h.0 s h.1 (changes code s e u l))
+
+-- an exception that is received was in flight
+was_flying : {code : Code} {s u : State} {t : ℕ} → row.Enters code s (entry.Receive t) u → flight_of s.blocked ≡ [] → ⊥
+was_flying {t} (row.receives_while_it_runs {f} {fs} m h n b k e) q = let z : [] ≡ f ∷ fs = ap (flying_to t) (sym q) ∙ e in cc z
+was_flying {t} (row.receives_while_it_waits {f} {fs} m h n b k e) q = let z : [] ≡ f ∷ fs = ap (flying_to t) (sym q) ∙ e in cc z
 
 pub none_receives : (code : Code) (s : State) (t : ℕ) (u : State) → NobodyThrows code s → next code s (entry.Receive t) ≡ Some u → ⊥
-none_receives code s t u h l =
-    let a = thread_there (slice_get s.threads 0) (λ main. entries.entered code s (entry.Receive t)) u l in
-    let b = thread_there (slice_get s.threads t) (λ z. receive_entry t z s) u a.3 in
-    let c = passed (is_receptive t b.0.term s) (received t (flying_to t (flight_of s.blocked)) s) u b.3 in
-    let d : None ≡ Some u = ap (λ fs. received t (flying_to t fs) s) (sym h.1.flight) ∙ c.1 in
-    cc d
+none_receives code s t u h l = was_flying (case_of code s (entry.Receive t) u l) h.1.flight
 
 pub first_throws_none : (code : Code) (main : Core) → NoThrowToActions code.actions → NoThrowTo main → NobodyThrows code (first main)
 first_throws_none code main c m = (c, record { threads = by; flight = refl })

@@ -12,15 +12,16 @@ use Rattle.hs_rules.specs.State.{Thread, State, with_term, frames_of, resume, an
 use Rattle.hs_rules.specs.Primitives.{operated}
 use Rattle.hs_rules.specs.Entries.{moved, local_entry, at_operation, op_entry, is_throw, is_unmasked, is_open, is_receptive, received, receive_entry, finish_entry, on_thread, next}
 use Rattle.hs_rules.specs.Entries as entries
-use Rattle.hs_laws.proofs.Lists.{cond_true, cond_false, equal_or, item_same, item_other, Found, first_found, throws, throw_is_first}
+use Rattle.hs_laws.proofs.Lists.{cond_true, cond_false, equal_or, item_same, item_other, Found, first_found, throws, throw_is_first, not_blocked_left}
 use Rattle.timing_laws.proofs.Passing.{same_item, passed_not, passed, thread_there, on_running}
 use Rattle.reduction_laws.specs.EagerRules.{passes, passes_all, step_is_eager, leaving_is_eager, is_eager_though_open, is_eager, thread_is_eager, EagerRule}
 use Rattle.reduction_laws.specs.Paths.{MainRuns}
-use Rattle.reduction_laws.proofs.Lists.{set_twice, free_left}
+use Rattle.reduction_laws.proofs.Lists.{set_twice}
 use Rattle.reduction_laws.proofs.Tests.{both_true, not_true, there_is}
 use Rattle.reduction_laws.proofs.NobodyThrows.{nobody_throws_kept, none_receives}
 use Rattle.reduction_laws.specs.NoThrowTo.{NobodyThrows}
-use Rattle.reduction_laws.proofs.Apart.{put_in, Stands, SameFlag, same_flag, flags, resumed, Other, all_other}
+use Rattle.hs_laws.proofs.SameCases.{put_in}
+use Rattle.reduction_laws.proofs.Apart.{Stands, SameFlag, same_flag, flags, resumed, Other, all_other}
 
 -- ---- main
 
@@ -191,7 +192,7 @@ pub passing : (code : Code) (t : ℕ) (th : Thread) (e : Exn) (f : Frame) (fs : 
 passing code t th e f fs a un h p = record {
   is = item_same a.threads t th (record { term = term (Throw e) (f ∷ fs); finished = th.finished }) h.is;
   unfinished = un;
-  free = free_left t t a.blocked h.free;
+  free = not_blocked_left t t a.blocked h.free;
   rule = by f p;
   eager = inl refl;
 }

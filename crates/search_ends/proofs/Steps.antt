@@ -5,7 +5,7 @@ use Rattle.std.proofs.lemmas.List.{get_or-replicate, length-replicate}
 use Rattle.std.proofs.lemmas.Bool.{cases_lt}
 use Rattle.hs_laws.proofs.Lists.{cond_true, cond_false, equal_or, item_same, item_other}
 use Rattle.number_tables.proofs.Indexes.{get_old, get_last, get_among}
-use Rattle.reduction_laws.proofs.Lists.{set_length}
+use Rattle.hs_laws.proofs.Growing.{set_length}
 use Rattle.search_laws.specs.Found.{Edge, AreInOrder}
 use Rattle.ends_laws.specs.Rounds.{LeadOn, IsRound}
 use Rattle.search_ends.specs.declared.marks.Mark.{Mark}

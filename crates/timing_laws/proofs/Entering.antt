@@ -15,7 +15,7 @@ use Rattle.hs_rules.specs.Endings.{IsTick}
 use Rattle.hs_cases.specs.Cases as row
 use Rattle.hs_cases.proofs.Entering.{case_of, all_are}
 use Rattle.hs_laws.proofs.Lists.{Each}
-use Rattle.hs_laws.proofs.SameCases.{with_rest, put_in, Likeness, ByOne, AtOp, goes_too}
+use Rattle.hs_laws.proofs.SameCases.{with_rest, put_in, Likeness, ByOne, AtOp, at_any, goes_too}
 use Rattle.timing_laws.specs.WithoutTime.{timeless, part_reads_clock, thread_reads_clock, ReadsClock}
 use Rattle.timing_laws.proofs.Passing.{on_running}
 use Rattle.timing_laws.proofs.Alike.{Alike, timeless_option, reason_still, asleep_still, awake_still, same_threads, same_blocked, same_line, same_flight, resume_alike, block_alike, sleep_alike, move_alike, spawn_alike, all_alike}
@@ -107,17 +107,13 @@ false_of : (b : Bool) → ¬ (b ≡ true) → b ≡ false
 false_of true n = absurd (n refl)
 false_of false n = refl
 
-any_operation : (s : State) (e : Entry) → AtOp s e AnyOperation
-any_operation s (entry.Op t) = λ th op is p. tt
-any_operation s _ = tt
-
 reads_none : (s : State) (e : Entry) → ¬ ReadsClock s e → AtOp s e ReadsNone
 reads_none s (entry.Op t) n = λ th op is p. false_of (part_reads_clock (Performs op)) (λ q. n (ap thread_reads_clock is ∙ (ap part_reads_clock p ∙ q)))
 reads_none s _ n = tt
 
 module _ (code : Code) (s r : State) (h : Alike s r) where
   own_too : (u : State) (e : Entry) → ByOne AnyThread e → next code s e ≡ Some u → (w : State) × (next code r e ≡ Some w) × (¬ ReadsClock s e → Alike u w)
-  own_too u e y n = let k = goes_too alike code e s r u y (any_operation s e) h n in (k.0, k.1, λ c. k.2 (reads_none s e c))
+  own_too u e y n = let k = goes_too alike code e s r u y (at_any AnyOperation (λ op. tt) s e) h n in (k.0, k.1, λ c. k.2 (reads_none s e c))
 
   pub next_too : (u : State) (e : Entry) → ¬ IsTick e → ¬ IsWake e → next code s e ≡ Some u → (w : State) × (next code r e ≡ Some w) × (¬ ReadsClock s e → Alike u w)
   next_too u (entry.Wake t) a b n = absurd (b tt)
