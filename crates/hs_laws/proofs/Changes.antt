@@ -19,12 +19,12 @@ use Rattle.hs_rules.specs.Terms.{Operation, Calls, Forks, ForksUnmask, Part, Ret
 use Rattle.hs_rules.specs.LocalRules.{locals}
 use Rattle.hs_rules.specs.State.{AcquiredBy, ReleasedBy, Thread, State, move, resume, answer, resume_all, block, spawn}
 use Rattle.hs_rules.specs.Primitives.{due_in, clock_value, masking_text, line_feed}
-use Rattle.hs_rules.specs.Entries.{is_silent, uncaught_line, closed, stranded, next}
+use Rattle.hs_rules.specs.Entries.{is_throw, is_silent, uncaught_line, closed, stranded, next}
 use Rattle.hs_cases.specs.Cases as row
 use Rattle.hs_cases.specs.Cases.{holding, with_cell, printed, told, read_there, Unfinished}
 use Rattle.hs_cases.proofs.Entering.{case_of, all_are, quietly}
 use Rattle.hs_laws.specs.BracketPhases.{Blocks, OpPart, At}
-use Rattle.hs_laws.specs.Standing.{IsResult}
+use Rattle.hs_laws.specs.Standing.{IsResult, IsBare}
 use Rattle.hs_laws.proofs.Lists.{cond_true, cond_false, puts, takes, throws_at, reads_at, those, put_is_first, take_is_first, readers_are, throwers_are, only_thread, first_of_kind, Each, each_changed, Found, first_found}
 
 -- ---- one that waits among these
@@ -105,6 +105,12 @@ EndsBy t (Ret v) line = line ≡ []
 EndsBy t (Throw e) line = line ≡ uncaught_line t e
 EndsBy t (Do a env) line = ⊥
 EndsBy t (Performs op) line = ⊥
+
+pub ends_result : (t : ℕ) (line : List ℕ) (p : Part) → EndsBy t p line → IsResult p
+ends_result t line (Ret v) b = tt
+ends_result t line (Throw e) b = tt
+ends_result t line (Do a env) b = absurd b
+ends_result t line (Performs op) b = absurd b
 
 -- ---- the updates
 pub data Changes (code : Code) (s : State) : Entry → State → Type 0 where
@@ -210,3 +216,36 @@ module _ (code : Code) where
 -- a legal entry changes a state so
 pub changes : (code : Code) (s : State) (e : Entry) (u : State) → next code s e ≡ Some u → Changes code s e u
 changes code s e u h = enters code (case_of code s e u h)
+
+-- ---- entries that have several cases
+
+-- thread t receives the first exception that flies to it
+pub record Receives (t : ℕ) (s u : State) : Type 0 where
+  pub thread : Thread
+  pub is : slice_get s.threads t ≡ Some thread
+  pub unfinished : thread.finished ≡ false
+  pub no_throw : is_throw thread.term.part ≡ false
+  pub open_now : Open s t thread
+  pub first : Flying
+  pub others : List Flying
+  pub flying : flying_to t (flight_of s.blocked) ≡ first ∷ others
+  pub leaves : resume t (Throw first.exn) (answer first.thrower UnitValue s) ≡ u
+
+pub receiving : {code : Code} {t : ℕ} {s u : State} → row.Enters code s (entry.Receive t) u → Receives t s u
+receiving (row.receives_while_it_runs {th} {f} {fs} m h n b k e) = record { thread = th; is = h.0; unfinished = h.1; no_throw = n; open_now = inr (b, k); first = f; others = fs; flying = e; leaves = refl }
+receiving (row.receives_while_it_waits {th} {f} {fs} m h n b k e) = record { thread = th; is = h.0; unfinished = h.1; no_throw = n; open_now = inl (b, k); first = f; others = fs; flying = e; leaves = refl }
+
+-- thread t finishes, with this line on error output
+pub record Closes (t : ℕ) (s u : State) : Type 0 where
+  pub thread : Thread
+  pub is : slice_get s.threads t ≡ Some thread
+  pub unfinished : thread.finished ≡ false
+  pub bare : IsBare thread
+  pub line : List ℕ
+  pub leaves : closed t thread line s ≡ u
+
+pub closing : {code : Code} {t : ℕ} {s u : State} → row.Enters code s (entry.Finish t) u → Closes t s u
+closing {t} {s} (row.finishes_by_a_value {th} m h f q) = record { thread = th; is = h.0; unfinished = h.1; bare = (subst IsResult (sym q) tt, f); line = []; leaves = quietly t th s }
+closing (row.main_finishes_by_an_exception {th} h f q) = record { thread = th; is = h.0; unfinished = h.1; bare = (subst IsResult (sym q) tt, f); line = _; leaves = refl }
+closing {t} {s} (row.finishes_silently {th} m h f q i) = record { thread = th; is = h.0; unfinished = h.1; bare = (subst IsResult (sym q) tt, f); line = []; leaves = quietly t th s }
+closing (row.finishes_with_a_line {th} m h f q i) = record { thread = th; is = h.0; unfinished = h.1; bare = (subst IsResult (sym q) tt, f); line = _; leaves = refl }

@@ -1,19 +1,15 @@
 -- What is legal stays legal when the clock goes on, and where the first sleeper is due it may wake.
-use Rattle.std.proofs.Common.{◌≡◌, ◌≢◌, ℕ, ◌≤◌, List, [], ◌∷◌, ◌++◌, length, slice_get, true, false, Option, Some, refl, sym, ap, ◌∙◌, subst, arith, ◌⊎◌, inl, inr, ⊎_elim, append_assoc}
+use Rattle.std.proofs.Common.{◌≡◌, ◌≢◌, ℕ, ◌≤◌, List, [], ◌∷◌, ◌++◌, length, slice_get, false, Some, refl, sym, ap, ◌∙◌, subst, arith, ◌⊎◌, inl, inr, ⊎_elim, append_assoc}
 use Rattle.std.specs.Prelude.{Contains}
 use Rattle.std.proofs.lemmas.Option.{same_Some}
-use Rattle.hs_base.specs.declared.mask.Mask.{Mask}
 use Rattle.hs_rules.specs.declared.entry.Entry.{Entry}
 use Rattle.hs_rules.specs.declared.entry.Entry.TheVariants as entry
 use Rattle.rules_trees.specs.Programs.{Fn}
-use Rattle.rules_meaning.specs.Values as val
-use Rattle.rules_meaning.specs.Values.{V, UnitValue, Int, Text, Exception, Inst}
+use Rattle.rules_meaning.specs.Values.{V, UnitValue}
 use Rattle.rules_meaning.specs.CoreMeaning.{Code, code_of}
-use Rattle.hs_rules.specs.Terms.{Operation, Part, Ret}
-use Rattle.rules_waiting.specs.Waiting.{Reason, Taking, Reading, Putting, Throwing, Sleeping, Waiting, Sleeper, reason_of, line_of, with_sleeper, sleepers_of, sleeper_before, sleeper_added, sorted_sleepers, earliest}
-use Rattle.hs_rules.specs.State.{Thread, State, resume, answer, resume_all}
-use Rattle.rules_waiting.specs.OneCell.{readers}
-use Rattle.hs_rules.specs.Entries.{next, IsWork, IsTimely, IsLegal}
+use Rattle.rules_waiting.specs.Waiting.{Reason, Taking, Reading, Putting, Throwing, Sleeping, Waiting, Sleeper, reason_of, line_of, with_sleeper, sleepers_of, sleeper_before, sleeper_added, sorted_sleepers, earliest, flight_of, is_blocked}
+use Rattle.hs_rules.specs.State.{Thread, State, resume, answer, move, block, spawn}
+use Rattle.hs_rules.specs.Entries.{next, IsWork, IsLegal}
 use Rattle.hs_cases.specs.Cases as row
 use Rattle.hs_cases.specs.Cases.{MainRuns}
 use Rattle.hs_cases.proofs.Entering.{case_of, entered_is}
@@ -21,7 +17,8 @@ use Rattle.hs_rules.specs.Endings.{IsTick, IsQuiet}
 use Rattle.hs_rules.specs.Runs.{Run, IsRun, after}
 use Rattle.hs_laws.specs.Standing.{Once}
 use Rattle.hs_laws.specs.ClockLaw.{IsFrom, TickStands, IsPunctual, ClockKept}
-use Rattle.hs_laws.proofs.Lists.{cond_cases, Each, once_reason}
+use Rattle.hs_laws.proofs.Lists.{cond_cases, Each, once_reason, each_any}
+use Rattle.hs_laws.proofs.SameCases.{with_rest, put_in, Likeness, ByOne, at_any, goes_too}
 use Rattle.hs_laws.proofs.RunParts.{is_after, run_before, run_more}
 use Rattle.hs_laws.proofs.Expanded.{standing_of}
 
@@ -77,78 +74,41 @@ some_first (s ∷ ss) n = by (sorted_sleepers ss)
 abbrev pub at_time : ℕ → State → State
 at_time n s = record s { clock = n }
 
--- an operation is performed at another time by the same case
-there : {t : ℕ} {m : Mask} {op : Operation} {s u : State} → row.Performs t m op s u → (v : State) × row.Performs t m op s v
-there {u} c = (u, c)
+-- another time keeps the case of every entry of a thread
+later_alike : (n : ℕ) → Likeness (λ s r. r ≡ at_time n s) (λ t. Unit {0}) (λ op. Unit {0}) (λ op. ⊥)
+later_alike n = record {
+  same = λ s r h. h ∙ ap (with_rest s) (sym h);
+  lines = λ s r h c. ap (λ (q : State). line_of c q.blocked) (sym h);
+  flights = λ s r h. ap (λ (q : State). flight_of q.blocked) (sym h);
+  blocked = λ s r t m h. ap (λ (q : State). is_blocked t q.blocked) (sym h);
+  waits = λ s r h. each_any s.blocked;
+  there = λ s r t th m h e. ap (λ (q : State). slice_get q.threads t) h ∙ e;
+  long = λ s r h. ap (λ (q : State). length q.threads) (sym h);
+  main = λ s r h m. (m.0, (ap (λ (q : State). slice_get q.threads 0) h ∙ m.1.0, m.1.1));
+  rest = λ x s r h. ap (with_rest x) h;
+  resumes = λ s r t p m h. ap (resume t p) h;
+  moves = λ s r t x m h. ap (move t x) h;
+  blocks = λ s r t w m h. ap (block t w) h;
+  spawns = λ s r x h. ap (spawn x) h;
+  puts = λ s r t y m h. ap (put_in t y) h;
+  sleeps = λ s r t i z m h. absurd z;
+  reads = λ s r z h. absurd z;
+  throws = λ s r u e th g h q. (th, ap (λ (x : State). slice_get x.threads u) h ∙ q, refl);
+}
 
-all_later : (n : ℕ) (p : Part) (ts : List ℕ) (s : State) → resume_all ts p (at_time n s) ≡ at_time n (resume_all ts p s)
-all_later n p [] s = refl
-all_later n p (t ∷ ts) s = all_later n p ts (resume t p s)
-
-taker_later : (n c : ℕ) (a : V) (s : State) {w : Option ℕ} → row.taker c (row.read_there c a s) ≡ w → row.taker c (row.read_there c a (at_time n s)) ≡ w
-taker_later n c a s q = ap (row.taker c) (all_later n (Ret a) (readers (line_of c s.blocked)) s) ∙ q
-
-performs_later : (n : ℕ) {t : ℕ} {m : Mask} {op : Operation} {s u : State} → row.Performs t m op s u → (v : State) × row.Performs t m op (at_time n s) v
-performs_later n row.prints = there row.prints
-performs_later n row.prints_a_line = there row.prints_a_line
-performs_later n row.tells_a_line = there row.tells_a_line
-performs_later n row.makes_a_full_cell = there row.makes_a_full_cell
-performs_later n row.makes_an_empty_cell = there row.makes_an_empty_cell
-performs_later n (row.take_waits q) = there (row.take_waits q)
-performs_later n (row.takes_and_empties q r) = there (row.takes_and_empties q r)
-performs_later n (row.takes_and_serves q r) = there (row.takes_and_serves q r)
-performs_later n (row.read_waits q) = there (row.read_waits q)
-performs_later n (row.reads q) = there (row.reads q)
-performs_later n (row.put_waits q) = there (row.put_waits q)
-performs_later n {t} (row.puts_and_fills {c} {a} {s = o} q r) = there (row.puts_and_fills {s = at_time n o} q (taker_later n c a (answer t UnitValue o) r))
-performs_later n {t} (row.puts_and_serves {c} {a} {s = o} q r) = there (row.puts_and_serves {s = at_time n o} q (taker_later n c a (answer t UnitValue o) r))
-performs_later n (row.try_take_finds_nothing q) = there (row.try_take_finds_nothing q)
-performs_later n (row.try_takes_and_empties q r) = there (row.try_takes_and_empties q r)
-performs_later n (row.try_takes_and_serves q r) = there (row.try_takes_and_serves q r)
-performs_later n (row.try_put_finds_a_value q) = there (row.try_put_finds_a_value q)
-performs_later n {t} (row.try_puts_and_fills {c} {a} {s = o} q r) = there (row.try_puts_and_fills {s = at_time n o} q (taker_later n c a (answer t (val.Truth true) o) r))
-performs_later n {t} (row.try_puts_and_serves {c} {a} {s = o} q r) = there (row.try_puts_and_serves {s = at_time n o} q (taker_later n c a (answer t (val.Truth true) o) r))
-performs_later n row.names_itself = there row.names_itself
-performs_later n row.names_its_masking = there row.names_its_masking
-performs_later n row.reads_the_clock = there row.reads_the_clock
-performs_later n (row.sleeps q) = there (row.sleeps q)
-performs_later n row.sleep_of_nothing = there row.sleep_of_nothing
-performs_later n row.sleep_of_less = there row.sleep_of_less
-performs_later n (row.throws_at_itself q) = there (row.throws_at_itself q)
-performs_later n (row.throws_at_finished q r w) = there (row.throws_at_finished q r w)
-performs_later n (row.throw_waits q r w) = there (row.throw_waits q r w)
-performs_later n row.makes_a_timeout = there row.makes_a_timeout
-performs_later n row.acquires = there row.acquires
-performs_later n row.releases = there row.releases
-performs_later n row.forks = there row.forks
-performs_later n row.forks_unmasked = there row.forks_unmasked
-
-module _ (code : Code) where
-  entered : {e : Entry} {s u : State} → row.Enters code s e u → (v : State) × row.Enters code s e v
-  entered {u} c = (u, c)
-
-  -- and work goes on by the same case
-  enters_later : (n : ℕ) {e : Entry} {s u : State} → s.clock ≤ n → IsWork e → row.Enters code s e u → (v : State) × row.Enters code (at_time n s) e v
-  enters_later n le w (row.local m h b l) = entered (row.local m h b l)
-  enters_later n le w (row.operation m h b q c) = let k = performs_later n c in entered (row.operation m h b q k.1)
-  enters_later n le w (row.receives_while_it_runs m h o b k q) = entered (row.receives_while_it_runs m h o b k q)
-  enters_later n le w (row.receives_while_it_waits m h o b k q) = entered (row.receives_while_it_waits m h o b k q)
-  enters_later n {s = r} le w (row.wakes {due} m h d) = let k : due ≤ n = omega (arith, le, d) in entered (row.wakes m h k)
-  enters_later n le w (row.finishes_by_a_value m h f q) = entered (row.finishes_by_a_value m h f q)
-  enters_later n le w (row.main_finishes_by_an_exception h f q) = entered (row.main_finishes_by_an_exception h f q)
-  enters_later n le w (row.finishes_silently m h f q i) = entered (row.finishes_silently m h f q i)
-  enters_later n le w (row.finishes_with_a_line m h f q i) = entered (row.finishes_with_a_line m h f q i)
-  enters_later n le w (row.ticks m h) = absurd w
-  enters_later n le w (row.strands m q a) = absurd w
+wakes_later : {code : Code} (n t : ℕ) {s u : State} → s.clock ≤ n → row.Enters code s (entry.Wake t) u → row.Enters code (at_time n s) (entry.Wake t) (answer t UnitValue (at_time n s))
+wakes_later n t le (row.wakes {due} m h d) = let k : due ≤ n = omega (arith, le, d) in row.wakes m h k
 
 module _ (s : State) (n : ℕ) (later : s.clock ≤ n) where
+  own_later : (code : Code) (e : Entry) → ByOne (λ t. Unit {0}) e → IsLegal code s e → (u : State) × (next code (at_time n s) e ≡ Some u)
+  own_later code e y l = let k = goes_too (later_alike n) code e s (at_time n s) l.0 y (at_any (λ op. Unit {0}) (λ op. tt) s e) refl l.1.0 in (k.0, k.1)
+
   -- work that is legal stays legal when the clock goes on
   pub legal_later : (code : Code) (e : Entry) → IsWork e → IsLegal code s e → IsLegal code (at_time n s) e
-  legal_later code e w l = let k = enters_later code n later w (case_of code s e l.0 l.1.0) in (k.0, (entered_is k.1, timely e w))
-    where
-      timely : (e : Entry) → IsWork e → IsTimely code (at_time n s) e
-      timely entry.Stranded w = absurd w
-      timely _ w = tt
+  legal_later code (entry.Wake t) w l = (answer t UnitValue (at_time n s), (entered_is (wakes_later n t later (case_of code s (entry.Wake t) l.0 l.1.0)), tt))
+  legal_later code (entry.Tick at) w l = absurd w
+  legal_later code entry.Stranded w l = absurd w
+  legal_later code e w l = let k = own_later code e tt l in (k.0, (k.1, tt))
 
 -- ---- no Tick follows a punctual one
 

@@ -243,6 +243,10 @@ pub each_changed : (P Q : ℕ → Reason V → Type 0) (ws : List (Waiting V)) �
 each_changed P Q [] f h = tt
 each_changed P Q (w ∷ ws) f h = (f w.thread w.reason h.0, each_changed P Q ws f h.1)
 
+pub each_any : (ws : List (Waiting V)) → Each (λ t r. Unit {0}) ws
+each_any [] = tt
+each_any (w ∷ ws) = (tt, each_any ws)
+
 -- ---- looking for one that waits
 abbrev pub Found : {A : Type 0} → (ℕ → Reason V → Type 0) → (Reason V → Option A) → Option (ℕ × A) → Type 0
 Found {A} P f None = Unit {0}

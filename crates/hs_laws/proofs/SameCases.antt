@@ -9,7 +9,7 @@ use Rattle.hs_rules.specs.declared.entry.Entry.{Entry}
 use Rattle.hs_rules.specs.declared.entry.Entry.TheVariants as entry
 use Rattle.rules_expansion.specs.declared.primitive.Primitive.TheVariants.{ClockMicros, ThreadDelay, ThrowTo}
 use Rattle.rules_meaning.specs.Values as val
-use Rattle.rules_meaning.specs.Values.{V, Env, UnitValue, Int, Text, Cell, Exception, Restore, Inst, with_name}
+use Rattle.rules_meaning.specs.Values.{V, UnitValue, Int, Text, Cell, Exception, Restore, Inst, with_name}
 use Rattle.rules_meaning.specs.CoreMeaning.{Code}
 use Rattle.rules_waiting.specs.OneCell.{first_put, first_take, readers}
 use Rattle.rules_waiting.specs.Waiting.{Reason, Taking, Reading, Putting, Throwing, Sleeping, Flying, is_blocked, line_of, flight_of, flying_to, first_thrown}

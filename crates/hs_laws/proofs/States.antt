@@ -29,7 +29,7 @@ use Rattle.hs_laws.proofs.Owes.{held_owes, held_here, held_catches}
 use Rattle.hs_laws.proofs.Ends.{below_of_op, instance_kept, release_kept, open_kept, ret_owes_nothing, throw_owes_nothing, fork_fine, fork_unmask_fine}
 use Rattle.hs_laws.proofs.Steps.{Goes, locals_kept}
 use Rattle.hs_laws.proofs.Changes as change
-use Rattle.hs_laws.proofs.Changes.{each_among, Stands, stands_blocks, Apart, Makes, Calm, Open, EndsBy, Changes, changes}
+use Rattle.hs_laws.proofs.Changes.{each_among, Stands, stands_blocks, Apart, Makes, Calm, Open, ends_result, Changes, changes}
 
 -- ---- the invariant
 abbrev pub HeldThread : Option Thread → List ℕ → Type 0
@@ -348,11 +348,14 @@ ended_holds s t th line h is bare none =
       numbered = h.numbered;
     }
 
-owes_nothing : (t : ℕ) (line : List ℕ) (p : Part) {m : List ℕ} → EndsBy t p line → Held p [] m → IsResult p × (m ≡ [])
-owes_nothing t line (Ret v) b k = (tt, ret_owes_nothing k)
-owes_nothing t line (Throw e) b k = (tt, throw_owes_nothing k)
-owes_nothing t line (Do a env) b k = absurd b
-owes_nothing t line (Performs op) b k = absurd b
+result_owes_nothing : (p : Part) {m : List ℕ} → IsResult p → Held p [] m → m ≡ []
+result_owes_nothing (Ret v) i k = ret_owes_nothing k
+result_owes_nothing (Throw e) i k = throw_owes_nothing k
+result_owes_nothing (Do a env) i k = absurd i
+result_owes_nothing (Performs op) i k = absurd i
+
+pub bare_owes_nothing : (s : State) (t : ℕ) (th : Thread) → Holds s → slice_get s.threads t ≡ Some th → IsBare th → mine t s.marks ≡ []
+bare_owes_nothing s t th h is b = result_owes_nothing th.term.part b.0 (subst (λ fs. Held th.term.part fs (mine t s.marks)) b.1 (thread_held s t th h is))
 
 -- ---- Stranded
 
@@ -416,9 +419,7 @@ module _ (code : Code) (fc : FineCode code.actions) (s : State) (h : Holds s) wh
       hit_holds s t th f h a.0 a.1 o
       (subst (λ gs. Found (Waits s.threads) (throws t) (first_thrown gs)) q (subst (Found (Waits s.threads) (throws t)) (sym (throw_is_first t s.blocked)) (first_found (Waits s.threads) (throws t) s.blocked h.waits)))
   changed_holds (change.wakes {t} {due} q) = answer_holds s t UnitValue h (wait_stopped s.threads t (Sleeping due) (subst (OnReason (Waits s.threads t)) q (reason_found (Waits s.threads) t s.blocked h.waits)))
-  changed_holds (change.finishes {t} {th} line a f b) =
-      let k = owes_nothing t line th.term.part b (subst (λ fs. Held th.term.part fs (mine t s.marks)) f (thread_held s t th h a.0)) in
-      ended_holds s t th line h a.0 (k.0, f) k.1
+  changed_holds (change.finishes {t} {th} line a f b) = let i : IsBare th = (ends_result t line th.term.part b, f) in ended_holds s t th line h a.0 i (bare_owes_nothing s t th h a.0 i)
   changed_holds (change.ticks q) = h
   changed_holds change.strands = resume_all_holds (stranded s) (Throw BlockedIndefinitely) s tt h (stranded_distinct (length s.threads) s) (stranded_stop s h)
   changed_holds (change.holds c o u k) = changed_holds k

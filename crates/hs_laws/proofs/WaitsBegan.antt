@@ -5,7 +5,7 @@ use Rattle.hs_base.specs.declared.exn.Exn.TheVariants.{BlockedIndefinitely}
 use Rattle.hs_rules.specs.declared.entry.Entry.{Entry}
 use Rattle.hs_rules.specs.declared.entry.Entry.TheVariants as entry
 use Rattle.rules_meaning.specs.Values as val
-use Rattle.rules_meaning.specs.Values.{V, UnitValue, Int, Truth, Text, Nothing, Just, Left, Right, Pair, Nil, Cons, Exception, Restore, Inst, Env, with_name, value_at, Outcome, Gives, Throws, Stuck, Outcomes, AllGive, OneThrows, OneStuck}
+use Rattle.rules_meaning.specs.Values.{V, UnitValue, Exception}
 use Rattle.rules_expansion.specs.Core.{Core}
 use Rattle.rules_expansion.specs.declared.primitive.Primitive.TheVariants.{ThrowTo}
 use Rattle.rules_meaning.specs.CoreMeaning.{Code}
@@ -23,7 +23,7 @@ use Rattle.hs_laws.specs.BracketPhases.{Fine, FineCode}
 use Rattle.hs_laws.proofs.Lists.{Each, each_more, each_left, each_changed, Found, first_found, OnReason, reason_found, first_of_kind, throws, throws_means, those, throw_is_first, once_reason}
 use Rattle.hs_laws.specs.BracketPhases.{Blocks, OpPart, At}
 use Rattle.hs_laws.proofs.Changes as change
-use Rattle.hs_laws.proofs.Changes.{Open, Changes, stands_blocks, all_kept, changes}
+use Rattle.hs_laws.proofs.Changes.{Open, Changes, stands_blocks, all_kept, changes, receiving}
 use Rattle.hs_laws.proofs.States.{Holds, Keeps, next_kept, first_holds}
 
 -- ---- an entry's waits are earlier ones, whose thread didn't receive, or that of its own Operation
@@ -107,8 +107,7 @@ run_from code fc (e ∷ es) s u r g =
 -- what goes to whom, and where
 received_by : {code : Code} {u v : State} {t : ℕ} → row.Enters code u (entry.Receive t) v →
     (th : Thread) × (slice_get u.threads t ≡ Some th) × Open u t th × ((w : ℕ × Exn) × (first_thrown (flying_to t (flight_of u.blocked)) ≡ Some w))
-received_by (row.receives_while_it_runs {th} {f} m h n b k e) = (th, h.0, inr (b, k), ((f.thrower, f.exn), ap first_thrown e))
-received_by (row.receives_while_it_waits {th} {f} m h n b k e) = (th, h.0, inl (b, k), ((f.thrower, f.exn), ap first_thrown e))
+received_by c = let r = receiving c in (r.thread, r.is, r.open_now, ((r.first.thrower, r.first.exn), ap first_thrown r.flying))
 
 stood_at : (code : Code) (s : State) (es : List Entry) (w t : ℕ) (e : Exn) → Began code s es w (Throwing t e) → ThrownBy code s es w t e
 stood_at code s es w t e b = by (slice_get b.state.threads w) refl b.stood

@@ -1,30 +1,32 @@
 -- Every entry keeps a state typed, and a thread of a typed state that runs has a legal entry.
-use Rattle.std.proofs.Common.{◌≡◌, ◌≢◌, ◌==◌, ⊎_elim, ℕ, zero, suc, ◌≤◌, List, [], ◌∷◌, length, slice_get, nat_le, true, false, Option, Some, None, refl, sym, ap, ◌∙◌, subst, arith}
+use Rattle.std.proofs.Common.{◌≡◌, ◌≢◌, ◌==◌, ⊎_elim, ℕ, zero, suc, ◌≤◌, List, [], ◌∷◌, length, slice_get, true, false, Option, Some, None, refl, sym, ap, ◌∙◌, subst, arith}
 use Rattle.hs_base.specs.declared.tree.script.Script.{Script}
 use Rattle.hs_rules.specs.declared.entry.Entry.{Entry}
 use Rattle.hs_rules.specs.declared.entry.Entry.TheVariants as entry
 use Rattle.rules_trees.specs.Trees.{unit}
 use Rattle.rules_trees.specs.Programs.{Fn, script_of}
-use Rattle.rules_meaning.specs.Values.{V, UnitValue}
+use Rattle.rules_meaning.specs.Values.{UnitValue}
 use Rattle.rules_expansion.specs.Core.{Core}
 use Rattle.rules_meaning.specs.CoreMeaning.{Code, code_of}
 use Rattle.rules_sorts.specs.Sorts.{a_value}
 use Rattle.rules_typing.specs.TypingScripts.{Accepted}
 use Rattle.hs_rules.specs.Terms.{Operation, Part, Ret, Throw, Do, Performs, Frame, Term, mask_at}
 use Rattle.hs_rules.specs.LocalRules.{local, on_term, locals}
-use Rattle.rules_waiting.specs.Waiting.{Reason, Sleeping, Sleeper, Flying, is_blocked, reason_of, flight_of, flying_to, first_thrown, sleepers_of}
+use Rattle.rules_waiting.specs.Waiting.{Sleeping, Flying, is_blocked, flight_of, flying_to, first_thrown}
 use Rattle.hs_rules.specs.State.{Thread, State, move, resume, answer, resume_all, first}
 use Rattle.hs_rules.specs.Primitives.{operated}
-use Rattle.hs_rules.specs.Entries.{moved, local_entry, at_operation, op_entry, is_receptive, received, receive_entry, woken, uncaught_line, closed, finish_entry, stranded, strand, strand_entry, on_thread, next, IsTimely, IsLegal}
+use Rattle.hs_rules.specs.Entries.{moved, local_entry, at_operation, op_entry, uncaught_line, closed, finish_entry, on_thread, next, IsTimely, IsLegal}
 use Rattle.hs_rules.specs.Entries as entries
 use Rattle.hs_rules.specs.Runs.{Run, IsRun}
+use Rattle.hs_cases.specs.Cases as row
+use Rattle.hs_cases.proofs.Entering.{case_of}
+use Rattle.hs_cases.proofs.Performing.{performed_is}
+use Rattle.hs_laws.proofs.Changes.{receiving, closing}
 use Rattle.hs_base.specs.declared.exn.Exn.TheVariants.{BlockedIndefinitely}
 use Rattle.hs_laws.specs.BracketLaw.{mine}
-use Rattle.hs_laws.specs.Standing.{IsResult, IsBare}
-use Rattle.hs_laws.specs.BracketPhases.{Held}
-use Rattle.hs_laws.proofs.Lists.{cond_cases, cond_false, equal_or, Found, first_found, OnReason, reason_found, throws, throws_at, those, throw_is_first, throwers_are, some_item}
-use Rattle.hs_laws.proofs.States.{Holds, Waits, thread_held, ended, ended_holds, run_kept, first_holds}
-use Rattle.hs_laws.proofs.Ends.{ret_owes_nothing, throw_owes_nothing}
+use Rattle.hs_laws.specs.Standing.{IsBare}
+use Rattle.hs_laws.proofs.Lists.{cond_false, equal_or, Found, first_found, OnReason, reason_found, throws, throws_at, those, throw_is_first, throwers_are, some_item}
+use Rattle.hs_laws.proofs.States.{Holds, Waits, ended, ended_holds, bare_owes_nothing, run_kept, first_holds}
 use Rattle.hs_laws.proofs.Expanded.{fine_actions, fine_main, run_from_main, run_holds}
 use Rattle.hs_progress.specs.TypedStates.{HeadsKept, stored, Runs, PartTyped, throw_typed, do_typed, no_frames, TermTyped, ThreadTyped, Store, has, with_sort, Sound, TypedState, Follows, Stays}
 use Rattle.hs_progress.specs.GoingOn.{MainRuns, IsRunning, own_entry, Stops, StepsOrStops}
@@ -40,17 +42,8 @@ module _ (script : Script) (accepted : Accepted script) (heads : HeadsKept (scri
   abbrev code : Code
   code = code_of (script_of script)
 
-  -- a state that is left is typed by a store that follows
-  abbrev pub Keeps : Store → (ℕ → Type 0) → Option State → Type 0
-  Keeps st stays None = Unit {0}
-  Keeps st stays (Some s) = Follows ds st stays s
-
   abbrev All : ℕ → Type 0
   All u = Unit {0}
-
-  ok_keeps : (st : Store) (o : Option State) → Ok ds st o → Keeps st All o
-  ok_keeps st None h = tt
-  ok_keeps st (Some s) h = h
 
   module _ (s : State) (g : Holds s) (st : Store) (d : Sound ds st s.threads s.cells) where
     typed_at : (t : ℕ) (th : Thread) → slice_get s.threads t ≡ Some th → ThreadTyped (has st) ds (st.sorts t) (Some th)
@@ -59,23 +52,18 @@ module _ (script : Script) (accepted : Accepted script) (heads : HeadsKept (scri
     term_at : (t : ℕ) (th : Thread) → slice_get s.threads t ≡ Some th → TermTyped (has st) ds th.term
     term_at t th is = let h = typed_at t th is in record { sort = st.sorts t; part = h.0; frames = h.1 }
 
-    -- ---- Local
-
-    moved_typed : (o : Option Term) (t : ℕ) (th : Thread) → slice_get s.threads t ≡ Some th → KeepsTyped (has st) script accepted heads o → Keeps st (λ u. u ≢ t) (moved t s o)
-    moved_typed None t th is h = tt
-    moved_typed (Some u) t th is h = record {
+    -- ---- an entry leaves a state that is typed by a store that follows
+    move_typed : (t : ℕ) (th : Thread) (x : Term) → slice_get s.threads t ≡ Some th → TermTyped (has st) ds x → Follows ds st (λ u. u ≢ t) (move t x s)
+    move_typed t th x is h = record {
       store = with_sort t h.sort st;
-      sound = moved_sound ds st s t th u is d h;
+      sound = moved_sound ds st s t th x is d h;
       cells = λ m v q. q;
       count = omega arith;
       sorts = λ u lt q. ⊎_elim (λ y. absurd (q y.1)) (λ y. cond_false (u == t) h.sort (st.sorts u) y.0) (equal_or u t);
     }
 
-    local_typed : (t k : ℕ) (th : Thread) → slice_get s.threads t ≡ Some th → Keeps st (λ u. u ≢ t) (local_entry code t k th s)
-    local_typed t zero th is = tt
-    local_typed t (suc k) th is =
-        cond_cases (Keeps st (λ u. u ≢ t)) (is_blocked t s.blocked) None (moved t s (locals code (suc k) th.term)) (λ b. tt)
-        (λ b. moved_typed (locals code (suc k) th.term) t th is (locals_go (has st) script accepted heads (suc k) th.term (term_at t th is)))
+    local_typed : {t k : ℕ} {u : State} → row.Enters code s (entry.Local t k) u → Follows ds st (λ v. v ≢ t) u
+    local_typed (row.local {t} {k} {th} {x} m i b l) = move_typed t th x i.0 (subst (KeepsTyped (has st) script accepted heads) l (locals_go (has st) script accepted heads (suc k) th.term (term_at t th i.0)))
 
     -- ---- Op: an operation of a thread that isn't blocked goes on
     op_goes : (t : ℕ) (th : Thread) (op : Operation) → slice_get s.threads t ≡ Some th → th.term.part ≡ Performs op → th.finished ≡ false → is_blocked t s.blocked ≡ false → Ok ds st (operated t (mask_at th.term.frames) op s)
@@ -84,40 +72,24 @@ module _ (script : Script) (accepted : Accepted script) (heads : HeadsKept (scri
         operated_ok ds st s t (mask_at th.term.frames) d (part_op ds st (subst (λ q. PartTyped (has st) ds q (st.sorts t)) p k.0))
         (record { th = th; is = is; part = p; unfinished = f; running = b; holds = g }) refl
 
-    at_op_typed : (t : ℕ) (th : Thread) (p : Part) → slice_get s.threads t ≡ Some th → th.term.part ≡ p → th.finished ≡ false → is_blocked t s.blocked ≡ false → Keeps st All (at_operation p (λ op. operated t (mask_at th.term.frames) op s))
-    at_op_typed t th (Ret v) is p f b = tt
-    at_op_typed t th (Throw e) is p f b = tt
-    at_op_typed t th (Do a env) is p f b = tt
-    at_op_typed t th (Performs op) is p f b = ok_keeps st (operated t (mask_at th.term.frames) op s) (op_goes t th op is p f b)
+    op_typed : {t : ℕ} {u : State} → row.Enters code s (entry.Op t) u → Follows ds st All u
+    op_typed (row.operation {t} {th} {p} m i b q c) = subst (Ok ds st) (performed_is c) (op_goes t th p i.0 q i.1 b)
 
-    op_typed : (t : ℕ) (th : Thread) → slice_get s.threads t ≡ Some th → th.finished ≡ false → Keeps st All (op_entry t th s)
-    op_typed t th is f =
-        cond_cases (Keeps st All) (is_blocked t s.blocked) None (at_operation th.term.part (λ op. operated t (mask_at th.term.frames) op s)) (λ b. tt) (λ b. at_op_typed t th th.term.part is refl f b)
+    receive_typed : (t : ℕ) (f : Flying) (fs : List Flying) → flying_to t (flight_of s.blocked) ≡ f ∷ fs → Follows ds st All (resume t (Throw f.exn) (answer f.thrower UnitValue s))
+    receive_typed t f fs e =
+        let w = subst (λ gs. Found (Waits s.threads) (throws t) (first_thrown gs)) e (subst (Found (Waits s.threads) (throws t)) (sym (throw_is_first t s.blocked)) (first_found (Waits s.threads) (throws t) s.blocked g.waits)) in
+        let h1 : SoundAt ds st (answer f.thrower UnitValue s) =
+        resume_sound ds st s f.thrower (Ret UnitValue) d
+        (fit_at ds st f.thrower w.0 (Ret UnitValue) (slice_get s.threads f.thrower) w.1.0 (d.threads f.thrower) (λ k a. unit_answer ds st k (thrown_reason ds st t w.0 f.exn k w.2 a))) in
+        pack ds st All (resume t (Throw f.exn) (answer f.thrower UnitValue s))
+        (resume_sound ds st (answer f.thrower UnitValue s) t (Throw f.exn) h1 throw_typed)
 
-    -- ---- Receive
-    received_typed : (t : ℕ) (fs : List Flying) → Found (Waits s.threads) (throws t) (first_thrown fs) → Keeps st All (received t fs s)
-    received_typed t [] f = tt
-    received_typed t (w ∷ ws) f =
-        let h1 : SoundAt ds st (answer w.thrower UnitValue s) =
-        resume_sound ds st s w.thrower (Ret UnitValue) d
-        (fit_at ds st w.thrower f.0 (Ret UnitValue) (slice_get s.threads w.thrower) f.1.0 (d.threads w.thrower) (λ k a. unit_answer ds st k (thrown_reason ds st t f.0 w.exn k f.2 a))) in
-        pack ds st All (resume t (Throw w.exn) (answer w.thrower UnitValue s))
-        (resume_sound ds st (answer w.thrower UnitValue s) t (Throw w.exn) h1 throw_typed)
+    wake_typed : {t : ℕ} {u : State} → row.Enters code s (entry.Wake t) u → Follows ds st All u
+    wake_typed (row.wakes {t} {due} m q l) =
+        let w : Waits s.threads t (Sleeping due) = subst (OnReason (Waits s.threads t)) q (reason_found (Waits s.threads) t s.blocked g.waits) in
+        pack ds st All (answer t UnitValue s)
+        (resume_sound ds st s t (Ret UnitValue) d (fit_at ds st t (Sleeping due) (Ret UnitValue) (slice_get s.threads t) w.0 (d.threads t) (λ k a. unit_answer ds st k a)))
 
-    receive_typed : (t : ℕ) (th : Thread) → Keeps st All (receive_entry t th s)
-    receive_typed t th =
-        cond_cases (Keeps st All) (is_receptive t th.term s) (received t (flying_to t (flight_of s.blocked)) s) None
-        (λ b. received_typed t (flying_to t (flight_of s.blocked)) (subst (Found (Waits s.threads) (throws t)) (sym (throw_is_first t s.blocked)) (first_found (Waits s.threads) (throws t) s.blocked g.waits))) (λ b. tt)
-
-    -- ---- Wake
-    woken_typed : (t : ℕ) (o : Option (Reason V)) → OnReason (Waits s.threads t) o → Keeps st All (woken t o s)
-    woken_typed t (Some (Sleeping due)) w =
-        cond_cases (Keeps st All) (nat_le due s.clock) (Some (answer t UnitValue s)) None
-        (λ b. pack ds st All (answer t UnitValue s)
-        (resume_sound ds st s t (Ret UnitValue) d (fit_at ds st t (Sleeping due) (Ret UnitValue) (slice_get s.threads t) w.0 (d.threads t) (λ k a. unit_answer ds st k a)))) (λ b. tt)
-    woken_typed t _ w = tt
-
-    -- ---- Finish
     close_typed : (t : ℕ) (th : Thread) (line : List ℕ) → slice_get s.threads t ≡ Some th → IsBare th → mine t s.marks ≡ [] → Follows ds st All (closed t th line s)
     close_typed t th line is bare none =
         subst (λ us. Follows ds st All (resume_all us (Ret UnitValue) (ended s t th line))) (sym (throwers_are t s.blocked))
@@ -125,38 +97,20 @@ module _ (script : Script) (accepted : Accepted script) (heads : HeadsKept (scri
         (throwers_sound ds st t (ended s t th line) (ended_holds s t th line g is bare none)
         (set_sound ds st s.threads s.cells t th (record { term = th.term; finished = true }) is d (typed_at t th is))))
 
-    finish_typed : (t : ℕ) (th : Thread) (fs : List Frame) (p : Part) → slice_get s.threads t ≡ Some th → th.term.frames ≡ fs → th.term.part ≡ p → Held p fs (mine t s.marks) → Keeps st All (finish_entry t th fs p s)
-    finish_typed t th [] (Ret v) is a b k = close_typed t th [] is (subst IsResult (sym b) tt, a) (ret_owes_nothing k)
-    finish_typed t th [] (Throw e) is a b k = close_typed t th (uncaught_line t e) is (subst IsResult (sym b) tt, a) (throw_owes_nothing k)
-    finish_typed t th [] (Do x env) is a b k = tt
-    finish_typed t th [] (Performs op) is a b k = tt
-    finish_typed t th (f ∷ fs) p is a b k = tt
+    tick_typed : {at : ℕ} {u : State} → row.Enters code s (entry.Tick at) u → Follows ds st All u
+    tick_typed (row.ticks {at} m l) = pack ds st All (record s { clock = at }) d
 
-    -- ---- Stranded
-    strand_typed : (ts : List ℕ) → Keeps st All (strand ts s)
-    strand_typed [] = tt
-    strand_typed (t ∷ ts) = pack ds st All (resume_all (t ∷ ts) (Throw BlockedIndefinitely) s) (all_throw_sound ds st (t ∷ ts) BlockedIndefinitely s d)
+    strand_typed : {u : State} → row.Enters code s entry.Stranded u → Follows ds st All u
+    strand_typed (row.strands {t} {ts} m q a) = pack ds st All (resume_all (t ∷ ts) (Throw BlockedIndefinitely) s) (all_throw_sound ds st (t ∷ ts) BlockedIndefinitely s d)
 
-    stranded_typed : (ss : List Sleeper) → Keeps st All (strand_entry ss s)
-    stranded_typed [] = strand_typed (stranded s)
-    stranded_typed (r ∷ rs) = tt
-
-    -- ---- every entry
-    on_thread_typed : (stays : ℕ → Type 0) (o : Option Thread) (k : Thread → Option State) → ((th : Thread) → o ≡ Some th → th.finished ≡ false → Keeps st stays (k th)) → Keeps st stays (on_thread o k)
-    on_thread_typed stays None k h = tt
-    on_thread_typed stays (Some th) k h = cond_cases (Keeps st stays) th.finished None (k th) (λ f. tt) (λ f. h th refl f)
-
-    entered_typed : (e : Entry) → Keeps st (Stays e) (entries.entered code s e)
-    entered_typed (entry.Local t k) = on_thread_typed (λ u. u ≢ t) (slice_get s.threads t) _ (λ th is f. local_typed t k th is)
-    entered_typed (entry.Op t) = on_thread_typed All (slice_get s.threads t) _ (λ th is f. op_typed t th is f)
-    entered_typed (entry.Receive t) = on_thread_typed All (slice_get s.threads t) _ (λ th is f. receive_typed t th)
-    entered_typed (entry.Wake t) = woken_typed t (reason_of t s.blocked) (reason_found (Waits s.threads) t s.blocked g.waits)
-    entered_typed (entry.Finish t) = on_thread_typed All (slice_get s.threads t) _ (λ th is f. finish_typed t th th.term.frames th.term.part is refl refl (thread_held s t th g is))
-    entered_typed (entry.Tick at) = cond_cases (Keeps st All) (nat_le s.clock at) (Some (record s { clock = at })) None (λ b. pack ds st All (record s { clock = at }) d) (λ b. tt)
-    entered_typed entry.Stranded = stranded_typed (sleepers_of s.blocked)
-
-    pub next_typed : (e : Entry) → Keeps st (Stays e) (next code s e)
-    next_typed e = on_thread_typed (Stays e) (slice_get s.threads 0) (λ th. entries.entered code s e) (λ th is f. entered_typed e)
+    pub next_typed : (e : Entry) (u : State) → next code s e ≡ Some u → Follows ds st (Stays e) u
+    next_typed (entry.Local t k) u n = local_typed (case_of code s (entry.Local t k) u n)
+    next_typed (entry.Op t) u n = op_typed (case_of code s (entry.Op t) u n)
+    next_typed (entry.Receive t) u n = let r = receiving (case_of code s (entry.Receive t) u n) in subst (Follows ds st All) r.leaves (receive_typed t r.first r.others r.flying)
+    next_typed (entry.Wake t) u n = wake_typed (case_of code s (entry.Wake t) u n)
+    next_typed (entry.Finish t) u n = let r = closing (case_of code s (entry.Finish t) u n) in subst (Follows ds st All) r.leaves (close_typed t r.thread r.line r.is r.bare (bare_owes_nothing s t r.thread g r.is r.bare))
+    next_typed (entry.Tick at) u n = tick_typed (case_of code s (entry.Tick at) u n)
+    next_typed entry.Stranded u n = strand_typed (case_of code s entry.Stranded u n)
 
     -- ---- a thread that runs goes on
     on_running : (o : Option Thread) (th : Thread) (k : Thread → Option State) (u : State) → o ≡ Some th → th.finished ≡ false → k th ≡ Some u → on_thread o k ≡ Some u
@@ -209,7 +163,7 @@ module _ (script : Script) (accepted : Accepted script) (heads : HeadsKept (scri
   run_typed [] s u r g d = subst (TypedState ds) r d
   run_typed (e ∷ es) s u r g d =
       let k : Holds r.0 = run_kept code (fine_actions ds) (e ∷ []) s r.0 (r.0, r.1, refl) g in
-      let f : Follows ds d.store (Stays e) r.0 = subst (Keeps d.store (Stays e)) r.1.0 (next_typed s g d.store d.sound e) in
+      let f : Follows ds d.store (Stays e) r.0 = next_typed s g d.store d.sound e r.0 r.1.0 in
       run_typed es r.0 u r.2 k (record { store = f.store; sound = f.sound })
 
   -- no thread is lost
@@ -217,7 +171,7 @@ module _ (script : Script) (accepted : Accepted script) (heads : HeadsKept (scri
   run_lasts [] s u r g d = subst (λ z. length s.threads ≤ length z.threads) r (omega arith)
   run_lasts (e ∷ es) s u r g d =
       let k : Holds r.0 = run_kept code (fine_actions ds) (e ∷ []) s r.0 (r.0, r.1, refl) g in
-      let f : Follows ds d.store (Stays e) r.0 = subst (Keeps d.store (Stays e)) r.1.0 (next_typed s g d.store d.sound e) in
+      let f : Follows ds d.store (Stays e) r.0 = next_typed s g d.store d.sound e r.0 r.1.0 in
       let rest : length r.0.threads ≤ length u.threads = run_lasts es r.0 u r.2 k (record { store = f.store; sound = f.sound }) in
       let old : d.store.count ≡ length s.threads = d.sound.counted in
       let new : f.store.count ≡ length r.0.threads = f.sound.counted in
@@ -254,7 +208,7 @@ main_is_there script accepted es u r =
 
 pub types_follow : (script : Script) → Accepted script → (es : List Entry) (u v : State) (e : Entry) → IsRun (script_of script) es u → next (code_of (script_of script)) u e ≡ Some v → (d : TypedState (script_of script) u) → Follows (script_of script) d.store (Stays e) v
 types_follow script accepted es u v e r n d =
-    subst (Keeps script accepted (heads_kept script accepted) d.store (Stays e)) n (next_typed script accepted (heads_kept script accepted) u (run_holds (script_of script) es u r) d.store d.sound e)
+    next_typed script accepted (heads_kept script accepted) u (run_holds (script_of script) es u r) d.store d.sound e v n
 
 pub runs_go_on : (script : Script) → Accepted script → (es : List Entry) (u : State) → IsRun (script_of script) es u → MainRuns u → (t : ℕ) (th : Thread) → IsRunning u t th → IsLegal (code_of (script_of script)) u (own_entry t th.term.part th.term.frames)
 runs_go_on script accepted es u r m t th k =

@@ -6,7 +6,7 @@ use Rattle.rules_meaning.specs.CoreMeaning.{Code}
 use Rattle.hs_rules.specs.Terms.{Term}
 use Rattle.rules_waiting.specs.Waiting.{sleepers_of}
 use Rattle.hs_rules.specs.State.{Thread, State}
-use Rattle.hs_rules.specs.Entries.{next, IsTimely, Leads}
+use Rattle.hs_rules.specs.Entries.{IsTimely, Leads}
 use Rattle.hs_rules.specs.Entries as entries
 use Rattle.hs_rules.specs.Endings.{IsTick, IsDone, IsUncaught, ended_by, result_of}
 use Rattle.hs_laws.proofs.Lists.{item_other}

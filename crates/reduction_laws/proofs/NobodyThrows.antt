@@ -8,7 +8,7 @@ use Rattle.hs_rules.specs.declared.entry.Entry.{Entry}
 use Rattle.hs_rules.specs.declared.entry.Entry.TheVariants as entry
 use Rattle.rules_expansion.specs.Names.{Name}
 use Rattle.rules_meaning.specs.Values as val
-use Rattle.rules_meaning.specs.Values.{V, UnitValue, Int, Truth, Text, Nothing, Just, Left, Right, Pair, Nil, Cons, Exception, Restore, Inst, Env, with_name, value_at, Outcome, Gives, Throws, Stuck, Outcomes, AllGive, OneThrows, OneStuck}
+use Rattle.rules_meaning.specs.Values.{V, UnitValue, Truth, Nothing, Just, Left, Right, Pair, Nil, Cons, Exception, Restore, Inst, Env, with_name, value_at, Outcome, Gives, Throws, Stuck, Outcomes, AllGive, OneThrows, OneStuck}
 use Rattle.rules_expansion.specs.Core.{Core, Return, ThrowIo, Let, Bind, If, CaseMaybe, CaseEither, CaseList, CasePair, Call, Perform, Fork, ForkUnmask, Catch, MaskWith, MaskHard, ActionFunction, action_named}
 use Rattle.rules_expansion.specs.Core as core
 use Rattle.rules_meaning.specs.CoreMeaning.{Code, value_of_core, values_of_core}
@@ -19,14 +19,13 @@ use Rattle.rules_waiting.specs.Waiting.{Reason, Taking, Reading, Putting, Throwi
 use Rattle.hs_rules.specs.State.{AcquiredBy, ReleasedBy, Thread, State, with_term, move, frames_of, resume, answer, resume_all, block, thread_with, spawn, first}
 use Rattle.hs_rules.specs.Primitives.{line_feed}
 use Rattle.hs_rules.specs.Entries.{stranded, next}
-use Rattle.hs_cases.specs.Cases as row
 use Rattle.hs_cases.specs.Cases.{with_cell, printed, told}
 use Rattle.hs_cases.proofs.Entering.{case_of}
 use Rattle.hs_laws.specs.BracketPhases.{Blocks}
 use Rattle.hs_laws.specs.Standing.{IsResult}
 use Rattle.hs_laws.proofs.Lists.{cond_cases, equal_or, item_same, item_other, item_more, those}
 use Rattle.hs_laws.proofs.Changes as change
-use Rattle.hs_laws.proofs.Changes.{Stands, Changes, changes}
+use Rattle.hs_laws.proofs.Changes.{Stands, Changes, changes, receiving}
 use Rattle.reduction_laws.specs.NoThrowTo.{NoThrowTo, NoThrowToOperation, NoThrowToPart, NoThrowToFrames, NoThrowToTerm, NoThrowToThread, NoThrowToActions, NoThrowToState, NobodyThrows}
 
 -- ---- local rules
@@ -273,13 +272,8 @@ module _ (code : Code) (c : NoThrowToActions code.actions) (s : State) (h : NoTh
 pub nobody_throws_kept : (code : Code) (s : State) (e : Entry) (u : State) → NobodyThrows code s → next code s e ≡ Some u → NobodyThrows code u
 nobody_throws_kept code s e u h l = (h.0, changed_keeps code h.0 s h.1 (changes code s e u l))
 
--- an exception that is received was in flight
-was_flying : {code : Code} {s u : State} {t : ℕ} → row.Enters code s (entry.Receive t) u → flight_of s.blocked ≡ [] → ⊥
-was_flying {t} (row.receives_while_it_runs {f} {fs} m h n b k e) q = let z : [] ≡ f ∷ fs = ap (flying_to t) (sym q) ∙ e in cc z
-was_flying {t} (row.receives_while_it_waits {f} {fs} m h n b k e) q = let z : [] ≡ f ∷ fs = ap (flying_to t) (sym q) ∙ e in cc z
-
 pub none_receives : (code : Code) (s : State) (t : ℕ) (u : State) → NobodyThrows code s → next code s (entry.Receive t) ≡ Some u → ⊥
-none_receives code s t u h l = was_flying (case_of code s (entry.Receive t) u l) h.1.flight
+none_receives code s t u h l = let r = receiving (case_of code s (entry.Receive t) u l) in let z : [] ≡ r.first ∷ r.others = ap (flying_to t) (sym h.1.flight) ∙ r.flying in cc z
 
 pub first_throws_none : (code : Code) (main : Core) → NoThrowToActions code.actions → NoThrowTo main → NobodyThrows code (first main)
 first_throws_none code main c m = (c, record { threads = by; flight = refl })

@@ -8,7 +8,7 @@ use Rattle.rules_waiting.specs.Waiting.{Reason, Taking, Reading, Putting, Throwi
 use Rattle.hs_rules.specs.Terms.{Operation, Ret}
 use Rattle.hs_rules.specs.State.{State, answer, block}
 use Rattle.hs_rules.specs.Primitives.{due_in}
-use Rattle.hs_cases.specs.Cases.{Performs, read_there, prints, prints_a_line, tells_a_line, makes_a_full_cell, makes_an_empty_cell, take_waits, takes_and_empties, takes_and_serves, read_waits, reads, put_waits, puts_and_fills, puts_and_serves, try_take_finds_nothing, try_takes_and_empties, try_takes_and_serves, try_put_finds_a_value, try_puts_and_fills, try_puts_and_serves, names_itself, names_its_masking, reads_the_clock, sleeps, sleep_of_nothing, sleep_of_less, throws_at_itself, throws_at_finished, throw_waits, makes_a_timeout, acquires, releases, forks, forks_unmasked}
+use Rattle.hs_cases.specs.Cases.{Performs, read_there, makes_a_full_cell, makes_an_empty_cell, take_waits, takes_and_empties, takes_and_serves, read_waits, reads, put_waits, puts_and_fills, puts_and_serves, try_take_finds_nothing, try_takes_and_empties, try_takes_and_serves, try_put_finds_a_value, try_puts_and_fills, try_puts_and_serves, sleeps, throw_waits}
 use Rattle.hs_laws.specs.CellLaw.{operation_calls, after_calls, outs_by}
 use Rattle.hs_laws.proofs.Lists.{cond_false, equal_or, item_same}
 use Rattle.hs_laws.proofs.CellSteps.{line_more}
@@ -124,11 +124,6 @@ module _ (t : ℕ) (s : State) (free : Free t s) where
   kept_there c o u e cells = there_on c s u o o e (ap (λ xs. slice_get xs c) cells ∙ e)
 
 pub performs : {t : ℕ} {a : Mask} {p : Operation} {s u : State} → Performs t a p s u → Free t s → Performed t (touch_of p) s u
-performs {t} {u} (prints {s = r}) f = calm t r f u (lost_one t r.blocked)
-performs {t} {u} (prints_a_line {s = r}) f = calm t r f u (lost_one t r.blocked)
-performs {t} {u} (tells_a_line {s = r}) f = calm t r f u (lost_one t r.blocked)
-performs {t} {u} (makes_a_full_cell {s = r}) f = calm t r f u (lost_one t r.blocked)
-performs {t} {u} (makes_an_empty_cell {s = r}) f = calm t r f u (lost_one t r.blocked)
 performs {t} {u} (take_waits {c} {s = r} e) f = waits t r f (touch.Takes c) c To_take (Taking c) (λ m. refl) (λ m. refl) (λ m. test_on c m r not None true e refl) (kept_there t r f c None u e refl)
 performs {t} {u} (takes_and_empties {c} {a} {s = r} e w) f = quiet t r f (touch.Takes c) u (answered t r f a) (λ m. still_on t r f c m not (Some a) e refl) (set_there t r f c (Some a) None u e refl)
 performs {t} {u} (takes_and_serves {c} {w} {a} {b} {s = r} e x) f = quiet t r f (touch.Takes c) u (both_answered t r f a w) (λ m. still_on t r f c m not (Some a) e refl) (set_there t r f c (Some a) (Some b) u e refl)
@@ -145,20 +140,9 @@ performs {t} {u} (try_put_finds_a_value {c} {a} {b} {s = r} e) f = quiet t r f (
 performs {t} {u} (try_puts_and_fills {c} {a} {s = r} e w) f =
     quiet t r f (touch.TriesToPut c) u (all_read t r f c a (Truth true)) (λ m. and_false (c == m)) (set_there t r f c None (Some a) u e (ap (λ xs. slice_set xs c (Some a)) (read_cells t r f c a (Truth true))))
 performs {t} {u} (try_puts_and_serves {c} {w} {a} {s = r} e x) f = quiet t r f (touch.TriesToPut c) u (read_and_served t r f c w a (Truth true)) (λ m. and_false (c == m)) (kept_there t r f c None u e (read_cells t r f c a (Truth true)))
-performs {t} {u} (names_itself {s = r}) f = calm t r f u (lost_one t r.blocked)
-performs {t} {u} (names_its_masking {s = r}) f = calm t r f u (lost_one t r.blocked)
-performs {t} {u} (reads_the_clock {s = r}) f = calm t r f u (lost_one t r.blocked)
 performs {t} {u} (sleeps {n} {s = r} h) f = waits_elsewhere t r f (Sleeping (due_in n r)) (λ m. refl)
-performs {t} {u} (sleep_of_nothing {s = r}) f = calm t r f u (lost_one t r.blocked)
-performs {t} {u} (sleep_of_less {s = r}) f = calm t r f u (lost_one t r.blocked)
-performs {t} {u} (throws_at_itself {s = r} h) f = calm t r f u (lost_one t r.blocked)
-performs {t} {u} (throws_at_finished {s = r} n h x) f = calm t r f u (lost_one t r.blocked)
 performs {t} {u} (throw_waits {u = w} {e} {s = r} n h x) f = waits_elsewhere t r f (Throwing w e) (λ m. refl)
-performs {t} {u} (makes_a_timeout {s = r}) f = calm t r f u (lost_one t r.blocked)
-performs {t} {u} (acquires {s = r}) f = calm t r f u (lost_one t r.blocked)
-performs {t} {u} (releases {s = r}) f = calm t r f u (lost_one t r.blocked)
-performs {t} {u} (forks {s = r}) f = calm t r f u (lost_one t r.blocked)
-performs {t} {u} (forks_unmasked {s = r}) f = calm t r f u (lost_one t r.blocked)
+performs {t} {s} {u} _ f = calm t s f u (lost_one t s.blocked)
 
 -- ---- what comes out
 
@@ -193,20 +177,4 @@ comes_out {t} {u} (try_takes_and_serves {c = k} {s = r} e w) m n c sees = touche
 comes_out {t} {u} (try_put_finds_a_value {c = k} {a} {s = r} e) m n c sees = touched m (touch.TriesToPut k) (Try_put t a) r u c (one.tries_to_put k t a) (k == m) sees
 comes_out {t} {u} (try_puts_and_fills {c = k} {a} {s = r} e w) m n c sees = touched m (touch.TriesToPut k) (Try_put t a) r u c (one.tries_to_put k t a) (k == m) sees
 comes_out {t} {u} (try_puts_and_serves {c = k} {a} {s = r} e w) m n c sees = touched m (touch.TriesToPut k) (Try_put t a) r u c (one.tries_to_put k t a) (k == m) sees
-comes_out prints m n c sees = refl
-comes_out prints_a_line m n c sees = refl
-comes_out tells_a_line m n c sees = refl
-comes_out names_itself m n c sees = refl
-comes_out names_its_masking m n c sees = refl
-comes_out reads_the_clock m n c sees = refl
-comes_out (sleeps h) m n c sees = refl
-comes_out sleep_of_nothing m n c sees = refl
-comes_out sleep_of_less m n c sees = refl
-comes_out (throws_at_itself h) m n c sees = refl
-comes_out (throws_at_finished w h x) m n c sees = refl
-comes_out (throw_waits w h x) m n c sees = refl
-comes_out makes_a_timeout m n c sees = refl
-comes_out acquires m n c sees = refl
-comes_out releases m n c sees = refl
-comes_out forks m n c sees = refl
-comes_out forks_unmasked m n c sees = refl
+comes_out _ m n c sees = refl

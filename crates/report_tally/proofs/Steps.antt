@@ -126,21 +126,13 @@ leave_all m (t ∷ ts) ws = both_leave (leave_call m t (reason_of t ws)) (leave_
 
 others_leave : (m : ℕ) (s : State) (e : Entry) → IsNoOp e → OnlyLeaves (calls_of m s e)
 others_leave m s (entry.Op t) n = absurd n
-others_leave m s (entry.Local t k) n = tt
 others_leave m s (entry.Receive t) n = leave_by m t (reason_of t s.blocked)
-others_leave m s (entry.Wake t) n = tt
-others_leave m s (entry.Finish t) n = tt
-others_leave m s (entry.Tick at) n = tt
 others_leave m s entry.Stranded n = leave_all m (stranded s) s.blocked
+others_leave m s _ n = tt
 
 no_wait : (m : ℕ) (e : Entry) (u : State) → IsNoOp e → cell_wait_by m e u ≡ 0
 no_wait m (entry.Op t) u n = absurd n
-no_wait m (entry.Local t k) u n = refl
-no_wait m (entry.Receive t) u n = refl
-no_wait m (entry.Wake t) u n = refl
-no_wait m (entry.Finish t) u n = refl
-no_wait m (entry.Tick at) u n = refl
-no_wait m entry.Stranded u n = refl
+no_wait m _ u n = refl
 
 -- the numbers of cell m stay as they are
 pub record AddsNothing (ds : List Fn) (es : List Entry) (e : Entry) (m : ℕ) : Type 0 where

@@ -1,7 +1,7 @@
 -- The counts after one more entry.
 use Rattle.std.proofs.Common.{◌≡◌, ℕ, ◌+◌, ◌==◌, max, List, [], ◌∷◌, ◌++◌, length, true, false, cond, ◌&&◌, sym, ap, ◌∙◌, subst, arith, ⊎_elim}
 use Rattle.hs_rules.specs.declared.entry.Entry.{Entry}
-use Rattle.hs_rules.specs.declared.entry.Entry.TheVariants.{Local, Op, Receive, Wake, Finish, Tick, Stranded}
+use Rattle.hs_rules.specs.declared.entry.Entry.TheVariants.{Local, Op, Receive}
 use Rattle.hs_rules.specs.Entries.{Leads}
 use Rattle.hs_rules.specs.Histories.{cost_of}
 use Rattle.hs_rules.proofs.Histories.{steps_of_last}
@@ -59,10 +59,7 @@ module _ (ds : List Fn) (es : List Entry) (s u : State) (t : ℕ) (run : IsRun d
       cond_cases (Becomes (Receive k)) (k == t) (record before { receives = before.receives + 1 }) before
       (λ on. by_adding (Receive k) _ leads (omega arith) (omega arith) (omega arith) (ap (λ z. before.receives + z) (sym (ap one_if on))))
       (λ off. by_adding (Receive k) _ leads (omega arith) (omega arith) (omega arith) (let z = ap one_if off in omega (arith, z)))
-  thread_goes_on (Wake k) seen leads sees = by_adding (Wake k) _ leads (omega arith) (omega arith) (omega arith) (omega arith)
-  thread_goes_on (Finish k) seen leads sees = by_adding (Finish k) _ leads (omega arith) (omega arith) (omega arith) (omega arith)
-  thread_goes_on (Tick k) seen leads sees = by_adding (Tick k) _ leads (omega arith) (omega arith) (omega arith) (omega arith)
-  thread_goes_on Stranded seen leads sees = by_adding Stranded _ leads (omega arith) (omega arith) (omega arith) (omega arith)
+  thread_goes_on e seen leads sees = by_adding e _ leads (omega arith) (omega arith) (omega arith) (omega arith)
 
 -- ---- of a cell
 module _ (ds : List Fn) (es : List Entry) (s u : State) (m : ℕ) (run : IsRun ds es s) where
@@ -89,12 +86,7 @@ module _ (ds : List Fn) (es : List Entry) (s u : State) (m : ℕ) (run : IsRun d
 
   cell_goes_on : (e : Entry) (seen : Seen) → Leads (code_of ds) s e u → Sees e s u seen → CellBecomes e (cell_after e seen m cell_before)
   cell_goes_on (Op t) seen leads sees = op_goes_on t seen sees (subst (λ h. OpAdds ds es t h s u m) (sym sees.touch) (op_adds ds es s u t m run leads.0))
-  cell_goes_on (Local k n) seen leads sees = other_goes_on (Local k n) tt leads
-  cell_goes_on (Receive k) seen leads sees = other_goes_on (Receive k) tt leads
-  cell_goes_on (Wake k) seen leads sees = other_goes_on (Wake k) tt leads
-  cell_goes_on (Finish k) seen leads sees = other_goes_on (Finish k) tt leads
-  cell_goes_on (Tick k) seen leads sees = other_goes_on (Tick k) tt leads
-  cell_goes_on Stranded seen leads sees = other_goes_on Stranded tt leads
+  cell_goes_on e seen leads sees = other_goes_on e tt leads
 
 pub tallied : (ds : List Fn) (es : List Entry) (s u : State) (e : Entry) (seen : Seen) (old new : Tally) → IsRun ds es s → Leads (code_of ds) s e u → Sees e s u seen → Tallies ds es old → IsCounted e seen old new → Tallies ds (es ++ e ∷ []) new
 tallied ds es s u e seen old new run leads sees h k = record {

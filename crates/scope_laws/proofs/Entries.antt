@@ -1,5 +1,5 @@
 -- Every entry of a typed state keeps a book that fits, or leads to one; and what follows for the runs of an accepted script.
-use Rattle.std.proofs.Common.{◌≡◌, ◌≢◌, ◌==◌, ℕ, zero, suc, List, [], ◌∷◌, length, slice_get, slice_set, nat_le, Bool, true, false, cond, not, ◌&&◌, Option, Some, None, refl, sym, ap, ◌∙◌, subst, ◌⊎◌, inl, inr, ⊎_elim}
+use Rattle.std.proofs.Common.{◌≡◌, ◌≢◌, ◌==◌, ℕ, zero, suc, List, [], ◌∷◌, length, slice_get, slice_set, Bool, true, false, cond, ◌&&◌, Option, Some, None, refl, sym, ap, ◌∙◌, subst, ⊎_elim}
 use Rattle.hs_base.specs.declared.tree.script.Script.{Script}
 use Rattle.hs_base.specs.declared.exn.Exn.{Exn}
 use Rattle.hs_base.specs.declared.exn.Exn.TheVariants.{BlockedIndefinitely}
@@ -11,21 +11,16 @@ use Rattle.rules_expansion.specs.Core.{Core}
 use Rattle.rules_meaning.specs.Values.{V, Cell, UnitValue}
 use Rattle.rules_meaning.specs.CoreMeaning.{Code, code_of}
 use Rattle.rules_typing.specs.TypingScripts.{Accepted}
-use Rattle.rules_waiting.specs.Waiting.{Reason, Taking, Reading, Putting, Throwing, Sleeping, Waiting, Flying, Sleeper, is_blocked, reason_of, at_cell, flight_of, flying_to, first_thrown, sleepers_of}
-use Rattle.hs_rules.specs.Terms.{Operation, Calls, Part, Ret, Throw, Do, Performs, Frame, Term, mask_at}
+use Rattle.rules_waiting.specs.Waiting.{Reason, Taking, Reading, Putting, Throwing, Sleeping, Waiting, Flying, reason_of, at_cell, flight_of, flying_to, first_thrown}
+use Rattle.hs_rules.specs.Terms.{Operation, Calls, Ret, Throw, Term, mask_at}
 use Rattle.hs_rules.specs.LocalRules.{local, on_term, locals}
 use Rattle.hs_rules.specs.State.{Thread, State, move, resume, answer, resume_all, first}
-use Rattle.hs_rules.specs.Primitives.{operated}
-use Rattle.hs_rules.specs.Entries.{moved, local_entry, at_operation, op_entry, is_throw, is_unmasked, is_interruptible, is_open, is_receptive, received, receive_entry, woken, uncaught_line, closed, finish_entry, mask_of, is_stranded, stranded, strand, strand_entry, on_thread, next}
-use Rattle.hs_rules.specs.Entries as entries
+use Rattle.hs_rules.specs.Entries.{is_throw, is_unmasked, is_interruptible, closed, mask_of, is_stranded, next}
 use Rattle.hs_rules.specs.Runs.{Run, IsRun}
-use Rattle.hs_laws.specs.BracketLaw.{count, mine}
-use Rattle.hs_laws.specs.BracketPhases.{Blocks, OpPart, At}
-use Rattle.hs_laws.specs.BracketPhases as brackets
-use Rattle.hs_laws.specs.Standing.{IsResult}
-use Rattle.hs_laws.proofs.Lists.{cond_cases, cond_true, cond_false, equal_or, item_same, item_other, Each, Found, first_found, OnReason, reason_found, blocked_found, throws, throws_at, those, throw_is_first, throwers_are, Ones, ones_changed, ones_those_if}
-use Rattle.hs_laws.proofs.States.{Holds, Waits, Strands, strands_each, throws_apart, ended, ended_holds, thread_held, run_kept}
-use Rattle.hs_laws.proofs.Ends.{ret_owes_nothing, throw_owes_nothing}
+use Rattle.hs_laws.specs.BracketLaw.{count}
+use Rattle.hs_laws.specs.BracketPhases.{Blocks}
+use Rattle.hs_laws.proofs.Lists.{cond_true, cond_false, equal_or, item_same, item_other, Each, Found, first_found, OnReason, reason_found, blocked_found, throws, throws_at, those, throw_is_first, throwers_are, Ones, ones_changed, ones_those_if}
+use Rattle.hs_laws.proofs.States.{Holds, Waits, Strands, strands_each, throws_apart, ended, ended_holds, bare_owes_nothing, run_kept}
 use Rattle.hs_laws.proofs.Expanded.{fine_actions, run_from_main, run_holds}
 use Rattle.hs_progress.specs.TypedStates.{HeadsKept, Purpose, Store, has, PartTyped, TermTyped, ThreadTyped, Sound, TypedState, Follows, Stays}
 use Rattle.hs_progress.specs.GoingOn.{StepsOrStops}
@@ -33,7 +28,6 @@ use Rattle.hs_progress.proofs.Heads.{heads_kept}
 use Rattle.hs_progress.proofs.Moves.{local_goes}
 use Rattle.hs_progress.proofs.Sounds.{part_op}
 use Rattle.hs_progress.proofs.Entries.{runs_are_typed, next_typed}
-use Rattle.hs_progress.proofs.Entries as typed
 use Rattle.scope_laws.specs.ScopePhases.{Role, Plain, Fresh, Running, Ended, Fine, Held, held_do, no_frames}
 use Rattle.scope_laws.specs.ScopesKept.{IsForValues, IsForEnd, at_values, CellFits, WaitsFor, AllWaitFor, Book, HeldThread, Fits, Scoped}
 use Rattle.scope_laws.proofs.Forms as forms
@@ -44,8 +38,11 @@ use Rattle.scope_laws.proofs.Threads.{each_both, put_waits, lines_each, plain_at
 use Rattle.scope_laws.proofs.Typed.{Kept, part_sure}
 use Rattle.scope_laws.proofs.Books.{held_thread}
 use Rattle.scope_laws.proofs.Plain.{stands}
-use Rattle.scope_laws.proofs.Operations as operations
-use Rattle.scope_laws.proofs.Operations.{KeptAt, operated_kept}
+use Rattle.scope_laws.proofs.Operations.{KeptAt, performed_kept}
+use Rattle.hs_cases.specs.Cases as row
+use Rattle.hs_cases.proofs.Entering.{case_of, all_are, interruptible}
+use Rattle.hs_laws.proofs.Changes.{Open, receiving, closing}
+use Rattle.hs_laws.specs.Standing.{IsBare}
 
 -- ---- what a store says of cells stays
 
@@ -85,11 +82,6 @@ module _ (cells cells' : List Purpose) (kept : (m : ℕ) (p : Purpose) → slice
     lines = lines_stay s.blocked h.lines;
   }
 
-open_cases : (p b h u : Bool) → not p && cond b h u ≡ true → (p ≡ false) × (((b ≡ true) × (h ≡ true)) ⊎ (u ≡ true))
-open_cases true b h u e = absurd (cc e)
-open_cases false true h u e = (refl, inl (refl, e))
-open_cases false false h u e = (refl, inr e)
-
 both_true : (a c : Bool) → a && c ≡ true → c ≡ true
 both_true true c e = e
 both_true false c e = absurd (cc e)
@@ -107,10 +99,11 @@ module _ (script : Script) (accepted : Accepted script) (st st' : Store) (kept :
   abbrev values : ℕ → Type 0
   values m = at_values st'.cells m
 
-  abbrev pub Left : Option State → Type 0
-  Left o = operations.Keeps ds st st' kept b o
+  -- the state that is left has a book
+  abbrev pub Left : State → Type 0
+  Left u = KeptAt ds st st' kept b u
 
-  by_same : (v : State) → Fits st'.cells b v → Left (Some v)
+  by_same : (v : State) → Fits st'.cells b v → Left v
   by_same v h d = (b, h)
 
   -- ---- local rules
@@ -179,60 +172,31 @@ module _ (script : Script) (accepted : Accepted script) (st st' : Store) (kept :
           lines = h.lines;
         }
 
-      moved_kept : (q : Option Term) → Goes values b.roles t (b.owed t) q (b.guarded t) → Left (moved t s q)
-      moved_kept None k = tt
-      moved_kept (Some x) k = λ d'. (later k.0 k.1, move_fits k.0 k.1 x k.2)
-
-      local_entry_kept : (k : ℕ) → Left (local_entry code t k th s)
-      local_entry_kept zero = tt
-      local_entry_kept (suc k) =
-          cond_cases Left (is_blocked t s.blocked) None (moved t s (locals code (suc k) th.term)) (λ e. tt)
-          (λ e. let ty = typed_at t th is in moved_kept (locals code (suc k) th.term) (locals_kept t (suc k) th.term (record { sort = st.sorts t; part = ty.0; frames = ty.1 }) (held_at t th is)))
-
-      -- ---- Op
-      module _ (f : th.finished ≡ false) where
-        at_op_kept : (p : Part) → th.term.part ≡ p → is_blocked t s.blocked ≡ false → Left (at_operation p (λ op. operated t (mask_at th.term.frames) op s))
-        at_op_kept (Ret v) q e = tt
-        at_op_kept (Throw x) q e = tt
-        at_op_kept (Do a env) q e = tt
-        at_op_kept (Performs op) q e =
-            let ty = typed_at t th is in
-            operated_kept ds st st' kept b s t th is g h (λ op q. record { th = th; is = is; part = q; unfinished = f; running = e; holds = g }) (held_at t th is) op q (part_op ds st (subst (λ z. PartTyped (has st) ds z (st.sorts t)) q ty.0))
-
-        op_entry_kept : Left (op_entry t th s)
-        op_entry_kept = cond_cases Left (is_blocked t s.blocked) None (at_operation th.term.part (λ op. operated t (mask_at th.term.frames) op s)) (λ e. tt) (λ e. at_op_kept th.term.part refl e)
+      move_kept : (x : Term) → Goes values b.roles t (b.owed t) (Some x) (b.guarded t) → Left (move t x s)
+      move_kept x k d' = (later k.0 k.1, move_fits k.0 k.1 x k.2)
 
       -- ---- Receive
-      hit : (e : Exn) → is_receptive t th.term s ≡ true → FitsIn st'.cells b (Throw e) t (slice_get s.threads t)
-      hit e o =
-          let k = open_cases (is_throw th.term.part) (is_blocked t s.blocked) (is_interruptible (mask_at th.term.frames)) (is_unmasked (mask_at th.term.frames)) o in
+      hit : (e : Exn) → is_throw th.term.part ≡ false → Open s t th → FitsIn st'.cells b (Throw e) t (slice_get s.threads t)
+      hit e n o =
           ⊎_elim
           (λ c. let w = blocked_found (λ u r. Waits s.threads u r × WaitsFor st'.cells r) t s.blocked c.0 waits_both in
           fits_blocked st'.cells b t w.0 (Throw e) (slice_get s.threads t) w.1.0.0 (h.threads t)
-          (λ x same op q p. interrupted values b.roles t (b.owed t) w.0 e q (no_put t w.0 q w.1.1) (let y : ◌≡◌ {A = Option Thread} (Some th) (Some x) = sym is ∙ same in let z : th ≡ x = cc y in subst (λ v. is_interruptible (mask_at v.term.frames) ≡ true) z c.1) p))
-          (λ c. subst (FitsIn st'.cells b (Throw e) t) (sym is) (unmasked values b.roles t (b.owed t) e c k.0 (held_at t th is)))
-          k.1
+          (λ x same op q p. interrupted values b.roles t (b.owed t) w.0 e q (no_put t w.0 q w.1.1) (let y : ◌≡◌ {A = Option Thread} (Some th) (Some x) = sym is ∙ same in let z : th ≡ x = cc y in subst (λ v. is_interruptible (mask_at v.term.frames) ≡ true) z (interruptible (mask_at th.term.frames) c.1)) p))
+          (λ c. subst (FitsIn st'.cells b (Throw e) t) (sym is) (unmasked values b.roles t (b.owed t) e (ap is_unmasked c.1) n (held_at t th is)))
+          o
 
-      received_kept : (fs : List Flying) → is_receptive t th.term s ≡ true → Found (Waits s.threads) (throws t) (first_thrown fs) → Left (received t fs s)
-      received_kept [] o f = tt
-      received_kept (w ∷ ws) o f =
+      received_kept : (w : Flying) (ws : List Flying) → is_throw th.term.part ≡ false → Open s t th → flying_to t (flight_of s.blocked) ≡ w ∷ ws → Left (resume t (Throw w.exn) (answer w.thrower UnitValue s))
+      received_kept w ws n o e =
+          let f = subst (λ gs. Found (Waits s.threads) (throws t) (first_thrown gs)) e (subst (Found (Waits s.threads) (throws t)) (sym (throw_is_first t s.blocked)) (first_found (Waits s.threads) (throws t) s.blocked g.waits)) in
           let apart : t ≢ w.thrower = λ same. throws_apart t w.thrower f.0 w.exn f.1.1 f.2 (sym same) in
           by_same (resume t (Throw w.exn) (answer w.thrower UnitValue s))
           (resume_fits st'.cells b (answer w.thrower UnitValue s) t (Throw w.exn)
           (resume_fits st'.cells b s w.thrower (Ret UnitValue) h (fits_patient st'.cells b s w.thrower f.0 UnitValue h (patient f.0 w.exn f.2) f.1.0))
-          (fits_still st'.cells b s w.thrower t (Ret UnitValue) (Throw w.exn) apart (hit w.exn o)))
+          (fits_still st'.cells b s w.thrower t (Ret UnitValue) (Throw w.exn) apart (hit w.exn n o)))
         where
           patient : (r : Reason V) (e : Exn) → throws t r ≡ Some e → IsPatient r
-          patient (Taking m) e q = absurd (cc q)
-          patient (Reading m) e q = absurd (cc q)
-          patient (Putting m v) e q = absurd (cc q)
           patient (Throwing u x) e q = tt
-          patient (Sleeping due) e q = tt
-
-      receive_kept : Left (receive_entry t th s)
-      receive_kept =
-          cond_cases Left (is_receptive t th.term s) (received t (flying_to t (flight_of s.blocked)) s) None
-          (λ o. received_kept (flying_to t (flight_of s.blocked)) o (subst (Found (Waits s.threads) (throws t)) (sym (throw_is_first t s.blocked)) (first_found (Waits s.threads) (throws t) s.blocked g.waits))) (λ o. tt)
+          patient _ e q = absurd (cc q)
 
       -- ---- Finish
       ended_fits : (line : List ℕ) → Fits st'.cells b (ended s t th line)
@@ -250,33 +214,17 @@ module _ (script : Script) (accepted : Accepted script) (st st' : Store) (kept :
           }
 
       throwers_fit : (r : Reason V) (u : ℕ) → throws_at t r ≡ true → IsPatient r
-      throwers_fit (Taking m) u e = absurd (cc e)
-      throwers_fit (Reading m) u e = absurd (cc e)
-      throwers_fit (Putting m v) u e = absurd (cc e)
       throwers_fit (Throwing w x) u e = tt
-      throwers_fit (Sleeping due) u e = tt
+      throwers_fit _ u e = absurd (cc e)
 
-      closed_kept : (line : List ℕ) → Holds (ended s t th line) → Left (Some (closed t th line s))
-      closed_kept line k =
+      closed_kept : (line : List ℕ) → IsBare th → Left (closed t th line s)
+      closed_kept line i =
+          let k = ended_holds s t th line g is i (bare_owes_nothing s t th g is i) in
           by_same (closed t th line s)
           (subst (λ us. Fits st'.cells b (resume_all us (Ret UnitValue) (ended s t th line))) (sym (throwers_are t s.blocked))
           (resume_all_fits st'.cells b (those (λ u. throws_at t) s.blocked) (Ret UnitValue) (ended s t th line) (ended_fits line)
           (ones_those_if (Waits (ended s t th line).threads) (λ u. FitsIn st'.cells b (Ret UnitValue) u (slice_get (ended s t th line).threads u)) (λ u. throws_at t) s.blocked
           (λ u r q w. fits_patient st'.cells b (ended s t th line) u r UnitValue (ended_fits line) (throwers_fit r u q) w.0) k.waits)))
-
-      finish_kept : (fs : List Frame) (p : Part) → th.term.frames ≡ fs → th.term.part ≡ p → brackets.Held p fs (mine t s.marks) → Left (finish_entry t th fs p s)
-      finish_kept [] (Ret v) a c k = closed_kept [] (ended_holds s t th [] g is (subst IsResult (sym c) tt, a) (ret_owes_nothing k))
-      finish_kept [] (Throw e) a c k = closed_kept (uncaught_line t e) (ended_holds s t th (uncaught_line t e) g is (subst IsResult (sym c) tt, a) (throw_owes_nothing k))
-      finish_kept [] (Do x env) a c k = tt
-      finish_kept [] (Performs op) a c k = tt
-      finish_kept (f ∷ fs) p a c k = tt
-
-    -- ---- Wake
-    woken_kept : (t : ℕ) (o : Option (Reason V)) → OnReason (Waits s.threads t) o → Left (woken t o s)
-    woken_kept t (Some (Sleeping due)) w =
-        cond_cases Left (nat_le due s.clock) (Some (answer t UnitValue s)) None
-        (λ e. by_same (answer t UnitValue s) (resume_fits st'.cells b s t (Ret UnitValue) h (fits_patient st'.cells b s t (Sleeping due) UnitValue h tt w.0))) (λ e. tt)
-    woken_kept t _ w = tt
 
     -- ---- Stranded
     strands_fit : (t : ℕ) (o : Option (Reason V)) → OnReason (λ r. Waits s.threads t r × WaitsFor st'.cells r) o → is_stranded (slice_get s.threads t) o ≡ true → FitsIn st'.cells b (Throw BlockedIndefinitely) t (slice_get s.threads t)
@@ -285,36 +233,42 @@ module _ (script : Script) (accepted : Accepted script) (st st' : Store) (kept :
         fits_blocked st'.cells b t r (Throw BlockedIndefinitely) (slice_get s.threads t) w.0.0 (h.threads t)
         (λ x same op q p. interrupted values b.roles t (b.owed t) r BlockedIndefinitely q (no_put t r q w.1) (subst (λ o. is_interruptible (mask_of o) ≡ true) same (both_true (at_cell r) (is_interruptible (mask_of (slice_get s.threads t))) e)) p)
 
-    strand_kept : (ts : List ℕ) → Ones (λ t. FitsIn st'.cells b (Throw BlockedIndefinitely) t (slice_get s.threads t)) ts → Left (strand ts s)
-    strand_kept [] w = tt
-    strand_kept (t ∷ ts) w = by_same (resume_all (t ∷ ts) (Throw BlockedIndefinitely) s) (resume_all_fits st'.cells b (t ∷ ts) (Throw BlockedIndefinitely) s h w)
-
-    stranded_kept : (ss : List Sleeper) → Left (strand_entry ss s)
-    stranded_kept [] =
-        strand_kept (stranded s)
-        (ones_changed (Strands s) (λ t. FitsIn st'.cells b (Throw BlockedIndefinitely) t (slice_get s.threads t)) (stranded s)
-        (λ t e. strands_fit t (reason_of t s.blocked) (reason_found (λ u r. Waits s.threads u r × WaitsFor st'.cells r) t s.blocked waits_both) e) (strands_each (length s.threads) s))
-    stranded_kept (r ∷ rs) = tt
-
     -- ---- every entry
-    clock_fits : (at : ℕ) → Fits st'.cells b (record s { clock = at })
-    clock_fits at = record { threads = h.threads; contents = h.contents; once = h.once; child = h.child; lines = h.lines }
+    local_kept_so : {t k : ℕ} {u : State} → row.Enters code s (entry.Local t k) u → Left u
+    local_kept_so (row.local {t} {k} {th} {x} m i n l) =
+        let ty = typed_at t th i.0 in
+        move_kept t th i.0 x (subst (λ q. Goes values b.roles t (b.owed t) q (b.guarded t)) l (locals_kept t (suc k) th.term (record { sort = st.sorts t; part = ty.0; frames = ty.1 }) (held_at t th i.0)))
 
-    on_thread_kept : (o : Option Thread) (k : Thread → Option State) → ((th : Thread) → o ≡ Some th → th.finished ≡ false → Left (k th)) → Left (on_thread o k)
-    on_thread_kept None k f = tt
-    on_thread_kept (Some th) k f = cond_cases Left th.finished None (k th) (λ e. tt) (λ e. f th refl e)
+    op_kept : {t : ℕ} {u : State} → row.Enters code s (entry.Op t) u → Left u
+    op_kept (row.operation {t} {th} {p = op} m i n q c) =
+        performed_kept ds st st' kept b s t th i.0 g h (record { th = th; is = i.0; part = q; unfinished = i.1; running = n; holds = g })
+        (subst (λ z. Held values b.roles t (b.owed t) z th.term.frames (b.guarded t)) q (held_at t th i.0))
+        (part_op ds st (subst (λ z. PartTyped (has st) ds z (st.sorts t)) q (typed_at t th i.0).0)) c
 
-    entered_kept : (e : Entry) → Left (entries.entered code s e)
-    entered_kept (entry.Local t k) = on_thread_kept (slice_get s.threads t) _ (λ th is f. local_entry_kept t th is k)
-    entered_kept (entry.Op t) = on_thread_kept (slice_get s.threads t) _ (λ th is f. op_entry_kept t th is f)
-    entered_kept (entry.Receive t) = on_thread_kept (slice_get s.threads t) _ (λ th is f. receive_kept t th is)
-    entered_kept (entry.Wake t) = woken_kept t (reason_of t s.blocked) (reason_found (Waits s.threads) t s.blocked g.waits)
-    entered_kept (entry.Finish t) = on_thread_kept (slice_get s.threads t) _ (λ th is f. finish_kept t th is th.term.frames th.term.part refl refl (thread_held s t th g is))
-    entered_kept (entry.Tick at) = cond_cases Left (nat_le s.clock at) (Some (record s { clock = at })) None (λ e. by_same (record s { clock = at }) (clock_fits at)) (λ e. tt)
-    entered_kept entry.Stranded = stranded_kept (sleepers_of s.blocked)
+    wake_kept : {t : ℕ} {u : State} → row.Enters code s (entry.Wake t) u → Left u
+    wake_kept (row.wakes {t} {due} m q l) =
+        let w : Waits s.threads t (Sleeping due) = subst (OnReason (Waits s.threads t)) q (reason_found (Waits s.threads) t s.blocked g.waits) in
+        by_same (answer t UnitValue s) (resume_fits st'.cells b s t (Ret UnitValue) h (fits_patient st'.cells b s t (Sleeping due) UnitValue h tt w.0))
 
-    pub next_left : (e : Entry) → Left (next code s e)
-    next_left e = on_thread_kept (slice_get s.threads 0) (λ th. entries.entered code s e) (λ th is f. entered_kept e)
+    tick_kept : {at : ℕ} {u : State} → row.Enters code s (entry.Tick at) u → Left u
+    tick_kept (row.ticks {at} m l) = by_same (record s { clock = at }) (record { threads = h.threads; contents = h.contents; once = h.once; child = h.child; lines = h.lines })
+
+    strand_kept : {u : State} → row.Enters code s entry.Stranded u → Left u
+    strand_kept (row.strands {t} {ts} m e a) =
+        by_same (resume_all (t ∷ ts) (Throw BlockedIndefinitely) s)
+        (resume_all_fits st'.cells b (t ∷ ts) (Throw BlockedIndefinitely) s h
+        (ones_changed (Strands s) (λ t. FitsIn st'.cells b (Throw BlockedIndefinitely) t (slice_get s.threads t)) (t ∷ ts)
+        (λ t e. strands_fit t (reason_of t s.blocked) (reason_found (λ u r. Waits s.threads u r × WaitsFor st'.cells r) t s.blocked waits_both) e)
+        (subst (Ones (Strands s)) (all_are a) (strands_each (length s.threads) s))))
+
+    pub next_left : (e : Entry) (u : State) → next code s e ≡ Some u → Left u
+    next_left (entry.Local t k) u n = local_kept_so (case_of code s (entry.Local t k) u n)
+    next_left (entry.Op t) u n = op_kept (case_of code s (entry.Op t) u n)
+    next_left (entry.Receive t) u n = let r = receiving (case_of code s (entry.Receive t) u n) in subst Left r.leaves (received_kept t r.thread r.is r.first r.others r.no_throw r.open_now r.flying)
+    next_left (entry.Wake t) u n = wake_kept (case_of code s (entry.Wake t) u n)
+    next_left (entry.Finish t) u n = let r = closing (case_of code s (entry.Finish t) u n) in subst Left r.leaves (closed_kept t r.thread r.is r.line r.bare)
+    next_left (entry.Tick at) u n = tick_kept (case_of code s (entry.Tick at) u n)
+    next_left entry.Stranded u n = strand_kept (case_of code s entry.Stranded u n)
 
 -- ---- runs
 
@@ -325,10 +279,8 @@ module _ (script : Script) (accepted : Accepted script) where
   -- an entry leads to a typed state and a book that fits it
   leads : (s v : State) (e : Entry) → Holds s → (d : TypedState (script_of script) s) → (b : Book) → Fits d.store.cells b s → next (code_of (script_of script)) s e ≡ Some v → Scoped (script_of script) v
   leads s v e g d b h n =
-      let f : Follows (script_of script) d.store (Stays e) v =
-      subst (typed.Keeps script accepted (heads_kept script accepted) d.store (Stays e)) n (next_typed script accepted (heads_kept script accepted) s g d.store d.sound e) in
-      let k : KeptAt (script_of script) d.store f.store f.cells b v =
-      subst (Left script accepted d.store f.store f.cells b) n (next_left script accepted d.store f.store f.cells b s g d.sound (grown d.store.cells f.store.cells f.cells b s h) e) in
+      let f : Follows (script_of script) d.store (Stays e) v = next_typed script accepted (heads_kept script accepted) s g d.store d.sound e v n in
+      let k = next_left script accepted d.store f.store f.cells b s g d.sound (grown d.store.cells f.store.cells f.cells b s h) e v n in
       let r = k f.sound in
       with_stands v (record { store = f.store; sound = f.sound }) r.0 r.1
 

@@ -1,6 +1,5 @@
 -- Each operation of a typed thread keeps a book that fits, or leads to one.
-use Rattle.std.proofs.Common.{◌≡◌, ◌≢◌, ◌==◌, ℕ, suc, ◌<◌, ℤ, pos, negsuc, List, [], ◌∷◌, ◌++◌, length, slice_get, slice_set, true, false, cond, Option, Some, None, refl, sym, ap, ◌∙◌, subst, arith, ⊎_elim}
-use Rattle.hs_base.specs.declared.exn.Exn.{Exn}
+use Rattle.std.proofs.Common.{◌≡◌, ◌≢◌, ◌==◌, ℕ, suc, ◌<◌, List, [], ◌∷◌, ◌++◌, length, slice_get, slice_set, true, false, cond, Option, Some, None, refl, sym, ap, ◌∙◌, subst, arith, ⊎_elim}
 use Rattle.hs_base.specs.declared.exn.Exn.TheVariants.{Timeout}
 use Rattle.hs_base.specs.declared.mask.Mask.{Mask}
 use Rattle.hs_base.specs.declared.mask.Mask.TheVariants.{Unmasked}
@@ -11,21 +10,24 @@ use Rattle.rules_expansion.specs.declared.primitive.Primitive.{Primitive}
 use Rattle.rules_expansion.specs.declared.primitive.Primitive.TheVariants.{PutStr, PutStrLn, HPutStrLn, NewMVar, NewEmptyMVar, TakeMVar, PutMVar, ReadMVar, TryTakeMVar, TryPutMVar, MyThreadId, GetMaskingState, ClockMicros, ThreadDelay, ThrowTo, NewTimeout, Acquired, Release}
 use Rattle.rules_expansion.specs.Core.{Core, MaskWith}
 use Rattle.rules_expansion.specs.Expansion.{scope_masked, scope_named, child_block}
-use Rattle.rules_meaning.specs.Values.{V, UnitValue, Int, Truth, Text, Nothing, Just, Cell, Exception, Restore, Inst, Env, with_name}
+use Rattle.rules_meaning.specs.Values.{V, UnitValue, Truth, Text, Nothing, Just, Cell, Exception, Restore, Inst, Env, with_name}
 use Rattle.rules_meaning.specs.Values as val
 use Rattle.rules_waiting.specs.OneCell.{first_take, readers}
-use Rattle.rules_waiting.specs.Waiting.{Taking, Reading, Putting, Throwing, Sleeping, line_of}
+use Rattle.rules_waiting.specs.Waiting.{Reason, Taking, Reading, Putting, Throwing, Sleeping, line_of}
 use Rattle.hs_rules.specs.Terms.{Operation, Calls, Forks, ForksUnmask, Part, Ret, Throw, Do, Performs, Frame, BindTo, MaskIn, Term, term, mask_at}
 use Rattle.hs_rules.specs.State.{Mark, AcquiredBy, ReleasedBy, Thread, State, with_term, frames_of, resume, answer, resume_all, block, spawn}
-use Rattle.hs_rules.specs.Primitives.{on_none, on_one, on_two, as_text, as_number, as_cell, as_thread, as_exn, as_instance, taken, goes_in, read_by_all, given, take, read, put, try_take, try_put, throw_at, due_in, delay, clock_value, masking_text, line_feed, performed, operated}
+use Rattle.hs_rules.specs.Primitives.{moves_in, goes_in, read_by_all, given, due_in, clock_value, masking_text, line_feed}
+use Rattle.hs_cases.specs.Cases as row
+use Rattle.hs_cases.specs.Cases.{read_there}
+use Rattle.hs_laws.specs.BracketPhases.{FineOp}
 use Rattle.hs_laws.specs.BracketLaw.{count, IsMasked}
-use Rattle.hs_laws.proofs.Lists.{cond_cases, cond_true, cond_false, equal_or, item_same, item_other, item_below}
+use Rattle.hs_laws.proofs.Lists.{cond_true, cond_false, equal_or, item_same, item_other, item_below}
 use Rattle.hs_laws.proofs.States.{Holds, Ready, ready_stopped, answer_holds}
 use Rattle.hs_progress.specs.TypedStates.{Store, has, OpTyped, FramesTyped, ThreadTyped, Sound}
 use Rattle.hs_progress.proofs.Sounds.{length_with_term}
 use Rattle.scope_laws.specs.ScopePhases.{Role, Plain, Fresh, Running, Ended, IsOf, IsChild, IsCell, IsCommon, Fine, OfValues, Clean, Below, no_frames, below_mask}
 use Rattle.scope_laws.specs.ScopePhases.{stop_throwing, stop_reading, Held, held_ret, held_do, held_op, held_new_op, held_new_cell, held_fork_op, held_forked, held_stop, held_child, held_put_op}
-use Rattle.scope_laws.specs.ScopesKept.{IsForEnd, at_values, CellFits, AllWaitFor, Book, HeldThread, Fits}
+use Rattle.scope_laws.specs.ScopesKept.{IsForEnd, at_values, CellFits, WaitsFor, AllWaitFor, Book, HeldThread, Fits}
 use Rattle.scope_laws.proofs.Phases.{same_own_cell, below_owned}
 use Rattle.scope_laws.proofs.Later.{Nearly, Later, below_more}
 use Rattle.scope_laws.proofs.Answers.{stop_part, throw_answered, read_answered, throws_itself}
@@ -55,9 +57,6 @@ got ts t th p is =
     subst (λ o. slice_get (with_term t o (term p (frames_of o)) ts) t ≡ Some (record { term = term p th.term.frames; finished = th.finished })) (sym is)
     (item_same ts t th (record { term = term p th.term.frames; finished = th.finished }) is)
 
-same_number : (a c : ℕ) → a == c ≡ true → a ≡ c
-same_number a c e = ⊎_elim (λ q. q.1) (λ q. let x : true ≡ false = sym e ∙ q.0 in absurd (cc x)) (equal_or a c)
-
 role_clash : {A : Type 0} {r : Role} {p c q : ℕ} → r ≡ Fresh q → r ≡ Running p c → A
 role_clash e f = let x = sym e ∙ f in absurd (cc x)
 
@@ -69,52 +68,9 @@ module _ (ds : List Fn) (st st' : Store) (kept : Kept st st'.cells) (b : Book) w
   abbrev pub KeptAt : State → Type 0
   KeptAt v = Sound ds st' v.threads v.cells → (b' : Book) × Fits st'.cells b' v
 
-  abbrev pub Keeps : Option State → Type 0
-  Keeps None = Unit {0}
-  Keeps (Some v) = KeptAt v
-
   -- by the same book
   same : (v : State) → Fits st'.cells b v → KeptAt v
   same v h d = (b, h)
-
-  -- ---- the values of a primitive
-
-  one_kept : (vs : List V) (k : V → Option State) → ((v : V) → vs ≡ v ∷ [] → Keeps (k v)) → Keeps (on_one vs k)
-  one_kept [] k h = tt
-  one_kept (v ∷ []) k h = h v refl
-  one_kept (v ∷ w ∷ ws) k h = tt
-
-  two_kept : (vs : List V) (k : V → V → Option State) → ((v w : V) → vs ≡ v ∷ w ∷ [] → Keeps (k v w)) → Keeps (on_two vs k)
-  two_kept [] k h = tt
-  two_kept (v ∷ vs) k h = one_kept vs (k v) (λ w e. h v w (ap (λ q. v ∷ q) e))
-
-  none_kept : (vs : List V) (o : Option State) → Keeps o → Keeps (on_none vs o)
-  none_kept [] o h = h
-  none_kept (v ∷ vs) o h = tt
-
-  text_kept : (v : V) (k : List ℕ → Option State) → ((x : List ℕ) → Keeps (k x)) → Keeps (as_text v k)
-  text_kept (Text x) k h = h x
-  text_kept _ k h = tt
-
-  number_kept : (v : V) (k : ℤ → Option State) → ((x : ℤ) → v ≡ Int x → Keeps (k x)) → Keeps (as_number v k)
-  number_kept (Int x) k h = h x refl
-  number_kept _ k h = tt
-
-  cell_kept : (v : V) (k : ℕ → Option State) → ((x : ℕ) → v ≡ Cell x → Keeps (k x)) → Keeps (as_cell v k)
-  cell_kept (Cell x) k h = h x refl
-  cell_kept _ k h = tt
-
-  thread_kept : (v : V) (k : ℕ → Option State) → ((x : ℕ) → v ≡ val.Thread x → Keeps (k x)) → Keeps (as_thread v k)
-  thread_kept (val.Thread x) k h = h x refl
-  thread_kept _ k h = tt
-
-  exn_kept : (v : V) (k : Exn → Option State) → ((x : Exn) → v ≡ Exception x → Keeps (k x)) → Keeps (as_exn v k)
-  exn_kept (Exception x) k h = h x refl
-  exn_kept _ k h = tt
-
-  instance_kept : (v : V) (k : ℕ → Option State) → ((x : ℕ) → Keeps (k x)) → Keeps (as_instance v k)
-  instance_kept (Inst x) k h = h x
-  instance_kept _ k h = tt
 
   -- ---- where neither threads nor cells change
 
@@ -126,59 +82,27 @@ module _ (ds : List Fn) (st st' : Store) (kept : Kept st st'.cells) (b : Book) w
     answer_fits : (v : V) → Held values b.roles t (b.owed t) (Ret v) th.term.frames (b.guarded t) → Fits st'.cells b (answer t v s)
     answer_fits v k = resume_fits st'.cells b s t (Ret v) h (subst (FitsIn st'.cells b (Ret v) t) (sym is) k)
 
-    answered : (v : V) → Held values b.roles t (b.owed t) (Ret v) th.term.frames (b.guarded t) → Keeps (Some (answer t v s))
+    answered : (v : V) → Held values b.roles t (b.owed t) (Ret v) th.term.frames (b.guarded t) → KeptAt (answer t v s)
     answered v k = same (answer t v s) (answer_fits v k)
 
-    -- ---- calls on a cell for values
+    -- ---- calls on a cell for values, by who is served
 
-    module _ (m : ℕ) (f : values m) (k : (v : V) → Held values b.roles t (b.owed t) (Ret v) th.term.frames (b.guarded t)) (a : (v : V) → Holds (answer t v s)) where
-      take_kept : (c : Option (Option V)) → Keeps (take t m c s)
-      take_kept None = tt
-      take_kept (Some None) = same (block t (Taking m) s) (block_fits st'.cells b s t (Taking m) h f)
-      take_kept (Some (Some v)) = same (taken m (answer t v s)) (taken_fits st'.cells b m (answer t v s) (a v) (answer_fits v (k v)) f)
+    took : (m : ℕ) (v : V) (o : Option (ℕ × V)) → row.putter m (answer t v s) ≡ o → values m → Held values b.roles t (b.owed t) (Ret v) th.term.frames (b.guarded t) → Holds (answer t v s) → KeptAt (moves_in m o (answer t v s))
+    took m v o q f k a = same (moves_in m o (answer t v s)) (subst (λ x. Fits st'.cells b (moves_in m x (answer t v s))) q (taken_fits st'.cells b m (answer t v s) a (answer_fits v k) f))
 
-      try_take_kept : (c : Option (Option V)) → Keeps (try_take t m c s)
-      try_take_kept None = tt
-      try_take_kept (Some None) = answered Nothing (k Nothing)
-      try_take_kept (Some (Some v)) = same (taken m (answer t (Just v) s)) (taken_fits st'.cells b m (answer t (Just v) s) (a (Just v)) (answer_fits (Just v) (k (Just v))) f)
+    gave : (m : ℕ) (v w : V) (o : Option ℕ) → row.taker m (read_there m v (answer t w s)) ≡ o → values m → Held values b.roles t (b.owed t) (Ret w) th.term.frames (b.guarded t) → Holds (answer t w s) → KeptAt (goes_in m v o (read_there m v (answer t w s)))
+    gave m v w o q f k a =
+        same (goes_in m v o (read_there m v (answer t w s))) (subst (λ x. Fits st'.cells b (goes_in m v x (read_there m v (answer t w s)))) q (given_fits st'.cells b m v (answer t w s) a (answer_fits w k) f))
 
-      put_kept : (v : V) (c : Option (Option V)) → Keeps (put t m v c s)
-      put_kept v None = tt
-      put_kept v (Some (Some w)) = same (block t (Putting m v) s) (block_fits st'.cells b s t (Putting m v) h f)
-      put_kept v (Some None) = same (given m v (answer t UnitValue s)) (given_fits st'.cells b m v (answer t UnitValue s) (a UnitValue) (answer_fits UnitValue (k UnitValue)) f)
-
-      try_put_kept : (v : V) (c : Option (Option V)) → Keeps (try_put t m v c s)
-      try_put_kept v None = tt
-      try_put_kept v (Some (Some w)) = answered (Truth false) (k (Truth false))
-      try_put_kept v (Some None) = same (given m v (answer t (Truth true) s)) (given_fits st'.cells b m v (answer t (Truth true) s) (a (Truth true)) (answer_fits (Truth true) (k (Truth true))) f)
-
-    read_kept : (m : ℕ) (c : Option (Option V)) → ((v : V) → c ≡ Some (Some v) → Held values b.roles t (b.owed t) (Ret v) th.term.frames (b.guarded t)) → Keeps (read t m c s)
-    read_kept m None k = tt
-    read_kept m (Some None) k = same (block t (Reading m) s) (block_fits st'.cells b s t (Reading m) h tt)
-    read_kept m (Some (Some v)) k = answered v (k v refl)
-
-    throw_kept : (u : ℕ) (e : Exn) (o : Option Thread) → Held values b.roles t (b.owed t) (Performs (Calls ThrowTo (val.Thread u ∷ Exception e ∷ []))) th.term.frames (b.guarded t) → Keeps (throw_at t u e o s)
-    throw_kept u e None k = tt
-    throw_kept u e (Some x) k =
-        cond_cases Keeps (u == t) (Some (resume t (Throw e) s)) (cond x.finished (Some (answer t UnitValue s)) (Some (block t (Throwing u e) s)))
-        (λ q. same (resume t (Throw e) s) (resume_fits st'.cells b s t (Throw e) h (subst (FitsIn st'.cells b (Throw e) t) (sym is) (throws_itself values b.roles t (b.owed t) e (same_number u t q) k))))
-        (λ q. cond_cases Keeps x.finished (Some (answer t UnitValue s)) (Some (block t (Throwing u e) s))
-        (λ f. answered UnitValue (throw_answered values b.roles t (b.owed t) UnitValue k))
-        (λ f. same (block t (Throwing u e) s) (block_fits st'.cells b s t (Throwing u e) h tt)))
-
-    delay_kept : (z : ℤ) → Held values b.roles t (b.owed t) (Ret UnitValue) th.term.frames (b.guarded t) → Keeps (delay t z s)
-    delay_kept (pos n) k =
-        cond_cases Keeps (n == 0) (Some (answer t UnitValue s)) (Some (block t (Sleeping (due_in n s)) s))
-        (λ q. answered UnitValue k)
-        (λ q. same (block t (Sleeping (due_in n s)) s) (block_fits st'.cells b s t (Sleeping (due_in n s)) h tt))
-    delay_kept (negsuc n) k = answered UnitValue k
+    waits : (r : Reason V) → WaitsFor st'.cells r → KeptAt (block t r s)
+    waits r f = same (block t r s) (block_fits st'.cells b s t r h f)
 
     -- ---- a new cell that is no scope's
 
     more_fits : (c : Option V) → Fits st'.cells b (record s { cells = s.cells ++ c ∷ [] })
     more_fits c = record { threads = h.threads; contents = contents_more st'.cells b.roles s.cells c h.contents; once = h.once; child = h.child; lines = h.lines }
 
-    new_kept : (c : Option V) → Held values b.roles t (b.owed t) (Ret (Cell (length s.cells))) th.term.frames (b.guarded t) → Keeps (Some (answer t (Cell (length s.cells)) (record s { cells = s.cells ++ c ∷ [] })))
+    new_kept : (c : Option V) → Held values b.roles t (b.owed t) (Ret (Cell (length s.cells))) th.term.frames (b.guarded t) → KeptAt (answer t (Cell (length s.cells)) (record s { cells = s.cells ++ c ∷ [] }))
     new_kept c k =
         same (answer t (Cell (length s.cells)) (record s { cells = s.cells ++ c ∷ [] }))
         (resume_fits st'.cells b (record s { cells = s.cells ++ c ∷ [] }) t (Ret (Cell (length s.cells))) (more_fits c) (subst (FitsIn st'.cells b (Ret (Cell (length s.cells))) t) (sym is) k))
@@ -226,9 +150,9 @@ module _ (ds : List Fn) (st st' : Store) (kept : Kept st st'.cells) (b : Book) w
                 (made_contents i) made_once made_child,
           )
 
-    new_empty_kept : {vs : List V} {fs : List Frame} {o : List ℕ} → th.term.frames ≡ fs → b.guarded t ≡ o → Held values b.roles t (b.owed t) (Performs (Calls NewEmptyMVar vs)) fs o
-        → Keeps (on_none vs (Some (answer t (Cell (length s.cells)) (record s { cells = s.cells ++ None ∷ [] }))))
-    new_empty_kept {vs} q r (held_op f e) = none_kept vs _ (new_kept None (back b.roles (b.owed t) (Ret (Cell (length s.cells))) q r (held_ret e)))
+    new_empty_kept : {fs : List Frame} {o : List ℕ} → th.term.frames ≡ fs → b.guarded t ≡ o → Held values b.roles t (b.owed t) (Performs (Calls NewEmptyMVar [])) fs o
+        → KeptAt (answer t (Cell (length s.cells)) (record s { cells = s.cells ++ None ∷ [] }))
+    new_empty_kept q r (held_op f e) = new_kept None (back b.roles (b.owed t) (Ret (Cell (length s.cells))) q r (held_ret e))
     new_empty_kept q r (held_new_op k f w z e) =
         scope_made (no_cell_is (b.roles (length s.cells)) (slice_get st'.cells (length s.cells)) (subst (λ o. CellFits (b.roles (length s.cells)) o (slice_get st'.cells (length s.cells))) (none_at_end s.cells) (h.contents (length s.cells)))) q r k f w z e
     new_empty_kept q r (held_stop k z a) = absurd (stop_part values b.roles t (b.owed t) z)
@@ -295,10 +219,16 @@ module _ (ds : List Fn) (st st' : Store) (kept : Kept st st'.cells) (b : Book) w
           let k : Fits st'.cells ended all_read = readers_fit a q r in
           (ended, subst (Fits st'.cells ended) (sym (is_all_read k.lines)) k)
 
-    put_op_kept : ((v : V) → Holds (answer t v s)) → {m : ℕ} {v : V} {fs : List Frame} {o : List ℕ} → th.term.frames ≡ fs → b.guarded t ≡ o → Held values b.roles t (b.owed t) (Performs (Calls PutMVar (Cell m ∷ v ∷ []))) fs o → Keeps (put t m v (slice_get s.cells m) s)
-    put_op_kept a {m} {v} q r (held_op f e) = put_kept m f (λ w. back b.roles (b.owed t) (Ret w) q r (held_ret e)) a v (slice_get s.cells m)
-    put_op_kept a q r (held_stop k z e) = absurd (stop_part values b.roles t (b.owed t) z)
-    put_op_kept a {m} {v} q r (held_put_op {p = p} e w) = subst (λ c. Keeps (put t m v c s)) (sym (empty m p v e.0 e.1).0) (ending_kept m p v e.0 e.1 (a UnitValue) q r)
+    put_waits_kept : {m : ℕ} {v w : V} {fs : List Frame} {o : List ℕ} → slice_get s.cells m ≡ Some (Some w) → Held values b.roles t (b.owed t) (Performs (Calls PutMVar (Cell m ∷ v ∷ []))) fs o → KeptAt (block t (Putting m v) s)
+    put_waits_kept {m} {v} i (held_op f e) = waits (Putting m v) f
+    put_waits_kept i (held_stop k z e) = absurd (stop_part values b.roles t (b.owed t) z)
+    put_waits_kept {m} {v} {w} i (held_put_op {p = p} e x) = let z : ◌≡◌ {A = Option (Option V)} (Some None) (Some (Some w)) = sym (empty m p v e.0 e.1).0 ∙ i in absurd (cc z)
+
+    put_kept : ((v : V) → Holds (answer t v s)) → {m : ℕ} {v : V} {fs : List Frame} {o : List ℕ} (x : Option ℕ) → row.taker m (read_there m v (answer t UnitValue s)) ≡ x → th.term.frames ≡ fs → b.guarded t ≡ o
+        → Held values b.roles t (b.owed t) (Performs (Calls PutMVar (Cell m ∷ v ∷ []))) fs o → KeptAt (goes_in m v x (read_there m v (answer t UnitValue s)))
+    put_kept a {m} {v} x i q r (held_op f e) = gave m v UnitValue x i f (back b.roles (b.owed t) (Ret UnitValue) q r (held_ret e)) (a UnitValue)
+    put_kept a x i q r (held_stop k z e) = absurd (stop_part values b.roles t (b.owed t) z)
+    put_kept a {m} {v} x i q r (held_put_op {p = p} e w) = subst (λ y. KeptAt (goes_in m v y (read_there m v (answer t UnitValue s)))) i (ending_kept m p v e.0 e.1 (a UnitValue) q r)
 
     -- ---- forks
 
@@ -403,52 +333,49 @@ module _ (ds : List Fn) (st st' : Store) (kept : Kept st st'.cells) (b : Book) w
 
     -- ---- the table
 
-    module _ (r : (op : Operation) → th.term.part ≡ Performs op → Ready s t op) (held : Held values b.roles t (b.owed t) th.term.part th.term.frames (b.guarded t)) where
-      held_call : (w : Primitive) (vs us : List V) → th.term.part ≡ Performs (Calls w vs) → vs ≡ us → Held values b.roles t (b.owed t) (Performs (Calls w us)) th.term.frames (b.guarded t)
-      held_call w vs us p e = subst (λ z. Held values b.roles t (b.owed t) z th.term.frames (b.guarded t)) (p ∙ ap (λ z. Performs (Calls w z)) e) held
+    others_answered : (x y : List ℕ) (i n : ℕ) (ms : List Mark) (v : V) → Held values b.roles t (b.owed t) (Ret v) th.term.frames (b.guarded t)
+        → KeptAt (answer t v (record s { output = x; errors = y; next_timeout = i; next_instance = n; marks = ms }))
+    others_answered x y i n ms v k =
+        same (answer t v (record s { output = x; errors = y; next_timeout = i; next_instance = n; marks = ms }))
+        (resume_fits st'.cells b (record s { output = x; errors = y; next_timeout = i; next_instance = n; marks = ms }) t (Ret v) (same_fits s x y i n ms h) (subst (FitsIn st'.cells b (Ret v) t) (sym is) k))
 
-      typed_call : (w : Primitive) (vs us : List V) → OpTyped (has st) ds (Calls w vs) (st.sorts t) → vs ≡ us → OpTyped (has st) ds (Calls w us) (st.sorts t)
-      typed_call w vs us ty e = subst (λ z. OpTyped (has st) ds (Calls w z) (st.sorts t)) e ty
+    gives : (w : Primitive) {vs : List V} → IsSimple w → Held values b.roles t (b.owed t) (Performs (Calls w vs)) th.term.frames (b.guarded t) → (v : V) → Held values b.roles t (b.owed t) (Ret v) th.term.frames (b.guarded t)
+    gives w i k v = simple_answered values b.roles t (b.owed t) w v i k
 
-      gives : (w : Primitive) (vs : List V) → IsSimple w → th.term.part ≡ Performs (Calls w vs) → (v : V) → Held values b.roles t (b.owed t) (Ret v) th.term.frames (b.guarded t)
-      gives w vs i p v = simple_answered values b.roles t (b.owed t) w v i (held_call w vs vs p refl)
+    stopped : {op : Operation} → Ready s t op → FineOp op → (v : V) → Holds (answer t v s)
+    stopped r f v = answer_holds s t v g (ready_stopped r f)
 
-      others_answered : (x y : List ℕ) (i n : ℕ) (ms : List Mark) (v : V) → Held values b.roles t (b.owed t) (Ret v) th.term.frames (b.guarded t)
-          → Keeps (Some (answer t v (record s { output = x; errors = y; next_timeout = i; next_instance = n; marks = ms })))
-      others_answered x y i n ms v k =
-          same (answer t v (record s { output = x; errors = y; next_timeout = i; next_instance = n; marks = ms }))
-          (resume_fits st'.cells b (record s { output = x; errors = y; next_timeout = i; next_instance = n; marks = ms }) t (Ret v) (same_fits s x y i n ms h) (subst (FitsIn st'.cells b (Ret v) t) (sym is) k))
-
-      primitive_kept : (m : Mask) (w : Primitive) (vs : List V) → th.term.part ≡ Performs (Calls w vs) → OpTyped (has st) ds (Calls w vs) (st.sorts t) → Keeps (performed t m w vs s)
-      primitive_kept m PutStr vs p ty = one_kept vs _ (λ v e. text_kept v _ (λ x. others_answered (s.output ++ x) s.errors s.next_timeout s.next_instance s.marks UnitValue (gives PutStr vs tt p UnitValue)))
-      primitive_kept m PutStrLn vs p ty = one_kept vs _ (λ v e. text_kept v _ (λ x. others_answered (s.output ++ x ++ line_feed) s.errors s.next_timeout s.next_instance s.marks UnitValue (gives PutStrLn vs tt p UnitValue)))
-      primitive_kept m HPutStrLn vs p ty = one_kept vs _ (λ v e. text_kept v _ (λ x. others_answered s.output (s.errors ++ x ++ line_feed) s.next_timeout s.next_instance s.marks UnitValue (gives HPutStrLn vs tt p UnitValue)))
-      primitive_kept m NewMVar vs p ty = one_kept vs _ (λ v e. new_kept (Some v) (gives NewMVar vs tt p (Cell (length s.cells))))
-      primitive_kept m NewEmptyMVar vs p ty = new_empty_kept refl refl (held_call NewEmptyMVar vs vs p refl)
-      primitive_kept m TakeMVar vs p ty =
-          one_kept vs _ (λ v e. cell_kept v _ (λ c f. take_kept c (take_at st st'.cells kept ds c (typed_call TakeMVar vs (Cell c ∷ []) ty (e ∙ ap (λ q. q ∷ []) f))) (gives TakeMVar vs tt p) (λ w. answer_holds s t w g (ready_stopped (r (Calls TakeMVar vs) p) tt)) (slice_get s.cells c)))
-      primitive_kept m PutMVar vs p ty =
-          two_kept vs _ (λ v w e. cell_kept v _ (λ c f. put_op_kept (λ x. answer_holds s t x g (ready_stopped (r (Calls PutMVar vs) p) tt)) refl refl (held_call PutMVar vs (Cell c ∷ w ∷ []) p (e ∙ ap (λ q. q ∷ w ∷ []) f))))
-      primitive_kept m ReadMVar vs p ty =
-          one_kept vs _ (λ v e. cell_kept v _ (λ c f. read_kept c (slice_get s.cells c) (λ x q. read_answered values b.roles t (b.owed t) x (full_is (b.roles c) (slice_get s.cells c) x (slice_get st'.cells c) t q (h.contents c)) (held_call ReadMVar vs (Cell c ∷ []) p (e ∙ ap (λ q. q ∷ []) f)))))
-      primitive_kept m TryTakeMVar vs p ty =
-          one_kept vs _ (λ v e. cell_kept v _ (λ c f. try_take_kept c (try_take_at st st'.cells kept ds c (typed_call TryTakeMVar vs (Cell c ∷ []) ty (e ∙ ap (λ q. q ∷ []) f))) (gives TryTakeMVar vs tt p) (λ w. answer_holds s t w g (ready_stopped (r (Calls TryTakeMVar vs) p) tt)) (slice_get s.cells c)))
-      primitive_kept m TryPutMVar vs p ty =
-          two_kept vs _ (λ v w e. cell_kept v _ (λ c f. try_put_kept c (try_put_at st st'.cells kept ds c w (typed_call TryPutMVar vs (Cell c ∷ w ∷ []) ty (e ∙ ap (λ q. q ∷ w ∷ []) f))) (gives TryPutMVar vs tt p) (λ x. answer_holds s t x g (ready_stopped (r (Calls TryPutMVar vs) p) tt)) w (slice_get s.cells c)))
-      primitive_kept m MyThreadId vs p ty = none_kept vs _ (answered (val.Thread t) (gives MyThreadId vs tt p (val.Thread t)))
-      primitive_kept m GetMaskingState vs p ty = none_kept vs _ (answered (Text (masking_text m)) (gives GetMaskingState vs tt p (Text (masking_text m))))
-      primitive_kept m ClockMicros vs p ty = none_kept vs _ (answered (clock_value s) (gives ClockMicros vs tt p (clock_value s)))
-      primitive_kept m ThreadDelay vs p ty = one_kept vs _ (λ v e. number_kept v _ (λ n f. delay_kept n (gives ThreadDelay vs tt p UnitValue)))
-      primitive_kept m ThrowTo vs p ty =
-          two_kept vs _ (λ v w e. thread_kept v _ (λ u f. exn_kept w _ (λ x q. throw_kept u x (slice_get s.threads u) (held_call ThrowTo vs (val.Thread u ∷ Exception x ∷ []) p (e ∙ (ap (λ z. z ∷ w ∷ []) f ∙ ap (λ z. val.Thread u ∷ z ∷ []) q))))))
-      primitive_kept m NewTimeout vs p ty =
-          none_kept vs _ (others_answered s.output s.errors (suc s.next_timeout) s.next_instance s.marks (Exception (Timeout s.next_timeout)) (gives NewTimeout vs tt p (Exception (Timeout s.next_timeout))))
-      primitive_kept m Acquired vs p ty =
-          none_kept vs _ (others_answered s.output s.errors s.next_timeout (suc s.next_instance) (AcquiredBy s.next_instance t ∷ s.marks) (Inst s.next_instance) (gives Acquired vs tt p (Inst s.next_instance)))
-      primitive_kept m Release vs p ty =
-          one_kept vs _ (λ v e. instance_kept v _ (λ i. others_answered s.output s.errors s.next_timeout s.next_instance (ReleasedBy i t ∷ s.marks) UnitValue (gives Release vs tt p UnitValue)))
-
-      pub operated_kept : (op : Operation) → th.term.part ≡ Performs op → OpTyped (has st) ds op (st.sorts t) → Keeps (operated t (mask_at th.term.frames) op s)
-      operated_kept (Calls w vs) p ty = primitive_kept (mask_at th.term.frames) w vs p ty
-      operated_kept (Forks a env) p ty = forks_kept refl refl (subst (λ z. Held values b.roles t (b.owed t) z th.term.frames (b.guarded t)) p held)
-      operated_kept (ForksUnmask x a env) p ty = forks_unmask_kept refl refl (subst (λ z. Held values b.roles t (b.owed t) z th.term.frames (b.guarded t)) p held)
+    pub performed_kept : {op : Operation} {u : State} → Ready s t op → Held values b.roles t (b.owed t) (Performs op) th.term.frames (b.guarded t) → OpTyped (has st) ds op (st.sorts t) → row.Performs t (mask_at th.term.frames) op s u → KeptAt u
+    performed_kept r k ty (row.prints {x}) = others_answered (s.output ++ x) s.errors s.next_timeout s.next_instance s.marks UnitValue (gives PutStr tt k UnitValue)
+    performed_kept r k ty (row.prints_a_line {x}) = others_answered ((s.output ++ x) ++ line_feed) s.errors s.next_timeout s.next_instance s.marks UnitValue (gives PutStrLn tt k UnitValue)
+    performed_kept r k ty (row.tells_a_line {x}) = others_answered s.output ((s.errors ++ x) ++ line_feed) s.next_timeout s.next_instance s.marks UnitValue (gives HPutStrLn tt k UnitValue)
+    performed_kept r k ty (row.makes_a_full_cell {a}) = new_kept (Some a) (gives NewMVar tt k (Cell (length s.cells)))
+    performed_kept r k ty row.makes_an_empty_cell = new_empty_kept refl refl k
+    performed_kept r k ty (row.take_waits {c} q) = waits (Taking c) (take_at st st'.cells kept ds c ty)
+    performed_kept r k ty (row.takes_and_empties {c} {a} q w) = took c a None w (take_at st st'.cells kept ds c ty) (gives TakeMVar tt k a) (stopped r tt a)
+    performed_kept r k ty (row.takes_and_serves {c} {w} {a} {b = d} q e) = took c a (Some (w, d)) e (take_at st st'.cells kept ds c ty) (gives TakeMVar tt k a) (stopped r tt a)
+    performed_kept r k ty (row.read_waits {c} q) = waits (Reading c) tt
+    performed_kept r k ty (row.reads {c} {a} q) = answered a (read_answered values b.roles t (b.owed t) a (full_is (b.roles c) (slice_get s.cells c) a (slice_get st'.cells c) t q (h.contents c)) k)
+    performed_kept r k ty (row.put_waits q) = put_waits_kept q k
+    performed_kept r k ty (row.puts_and_fills q w) = put_kept (stopped r tt) None w refl refl k
+    performed_kept r k ty (row.puts_and_serves {w} q e) = put_kept (stopped r tt) (Some w) e refl refl k
+    performed_kept r k ty (row.try_take_finds_nothing q) = answered Nothing (gives TryTakeMVar tt k Nothing)
+    performed_kept r k ty (row.try_takes_and_empties {c} {a} q w) = took c (Just a) None w (try_take_at st st'.cells kept ds c ty) (gives TryTakeMVar tt k (Just a)) (stopped r tt (Just a))
+    performed_kept r k ty (row.try_takes_and_serves {c} {w} {a} {b = d} q e) = took c (Just a) (Some (w, d)) e (try_take_at st st'.cells kept ds c ty) (gives TryTakeMVar tt k (Just a)) (stopped r tt (Just a))
+    performed_kept r k ty (row.try_put_finds_a_value q) = answered (Truth false) (gives TryPutMVar tt k (Truth false))
+    performed_kept r k ty (row.try_puts_and_fills {c} {a} q w) = gave c a (Truth true) None w (try_put_at st st'.cells kept ds c a ty) (gives TryPutMVar tt k (Truth true)) (stopped r tt (Truth true))
+    performed_kept r k ty (row.try_puts_and_serves {c} {w} {a} q e) = gave c a (Truth true) (Some w) e (try_put_at st st'.cells kept ds c a ty) (gives TryPutMVar tt k (Truth true)) (stopped r tt (Truth true))
+    performed_kept r k ty row.names_itself = answered (val.Thread t) (gives MyThreadId tt k (val.Thread t))
+    performed_kept r k ty row.names_its_masking = answered (Text (masking_text (mask_at th.term.frames))) (gives GetMaskingState tt k (Text (masking_text (mask_at th.term.frames))))
+    performed_kept r k ty row.reads_the_clock = answered (clock_value s) (gives ClockMicros tt k (clock_value s))
+    performed_kept r k ty (row.sleeps {n} q) = waits (Sleeping (due_in n s)) tt
+    performed_kept r k ty row.sleep_of_nothing = answered UnitValue (gives ThreadDelay tt k UnitValue)
+    performed_kept r k ty row.sleep_of_less = answered UnitValue (gives ThreadDelay tt k UnitValue)
+    performed_kept r k ty (row.throws_at_itself {e} q) = same (resume t (Throw e) s) (resume_fits st'.cells b s t (Throw e) h (subst (FitsIn st'.cells b (Throw e) t) (sym is) (throws_itself values b.roles t (b.owed t) e refl k)))
+    performed_kept r k ty (row.throws_at_finished n q f) = answered UnitValue (throw_answered values b.roles t (b.owed t) UnitValue k)
+    performed_kept r k ty (row.throw_waits {u = w} {e} n q f) = waits (Throwing w e) tt
+    performed_kept r k ty row.makes_a_timeout = others_answered s.output s.errors (suc s.next_timeout) s.next_instance s.marks (Exception (Timeout s.next_timeout)) (gives NewTimeout tt k (Exception (Timeout s.next_timeout)))
+    performed_kept r k ty row.acquires = others_answered s.output s.errors s.next_timeout (suc s.next_instance) (AcquiredBy s.next_instance t ∷ s.marks) (Inst s.next_instance) (gives Acquired tt k (Inst s.next_instance))
+    performed_kept r k ty (row.releases {i}) = others_answered s.output s.errors s.next_timeout s.next_instance (ReleasedBy i t ∷ s.marks) UnitValue (gives Release tt k UnitValue)
+    performed_kept r k ty row.forks = forks_kept refl refl k
+    performed_kept r k ty row.forks_unmasked = forks_unmask_kept refl refl k

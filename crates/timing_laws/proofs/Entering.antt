@@ -5,7 +5,7 @@ use Rattle.hs_rules.specs.declared.entry.Entry.{Entry}
 use Rattle.hs_rules.specs.declared.entry.Entry.TheVariants as entry
 use Rattle.rules_meaning.specs.Values.{V}
 use Rattle.rules_meaning.specs.CoreMeaning.{Code}
-use Rattle.rules_waiting.specs.Waiting.{Reason, Taking, Reading, Putting, Throwing, Sleeping, Waiting, reason_of, sleepers_of}
+use Rattle.rules_waiting.specs.Waiting.{Reason, Taking, Reading, Putting, Throwing, Sleeping, reason_of, sleepers_of}
 use Rattle.hs_rules.specs.Terms.{Operation, Throw, Performs}
 use Rattle.hs_rules.specs.State.{Thread, State, resume_all}
 use Rattle.hs_rules.specs.Primitives.{due_in}
@@ -14,7 +14,7 @@ use Rattle.hs_rules.specs.Entries as entries
 use Rattle.hs_rules.specs.Endings.{IsTick}
 use Rattle.hs_cases.specs.Cases as row
 use Rattle.hs_cases.proofs.Entering.{case_of, all_are}
-use Rattle.hs_laws.proofs.Lists.{Each}
+use Rattle.hs_laws.proofs.Lists.{each_any}
 use Rattle.hs_laws.proofs.SameCases.{with_rest, put_in, Likeness, ByOne, AtOp, at_any, goes_too}
 use Rattle.timing_laws.specs.WithoutTime.{timeless, part_reads_clock, thread_reads_clock, ReadsClock}
 use Rattle.timing_laws.proofs.Passing.{on_running}
@@ -33,10 +33,6 @@ AnyOperation op = Unit {0}
 -- an operation that doesn't read the clock
 abbrev ReadsNone : Operation → Type 0
 ReadsNone op = part_reads_clock (Performs op) ≡ false
-
-each_any : (ws : List (Waiting V)) → Each (λ t r. AnyThread t) ws
-each_any [] = tt
-each_any (w ∷ ws) = (tt, each_any ws)
 
 same_thread : (s r : State) (t : ℕ) (th : Thread) → Alike s r → slice_get s.threads t ≡ Some th → slice_get r.threads t ≡ Some th
 same_thread s r t th h e = ap (λ ths. slice_get ths t) (sym (same_threads s r h)) ∙ e

@@ -7,7 +7,7 @@ use Rattle.rules_meaning.specs.CoreMeaning.{Code}
 use Rattle.rules_waiting.specs.Waiting.{Reason, Taking, Reading, Putting, Throwing, Sleeping, Sleeper, Waiting, reason_of, with_sleeper, sleepers_of}
 use Rattle.hs_rules.specs.Terms.{Ret}
 use Rattle.hs_rules.specs.State.{Thread, State, answer}
-use Rattle.hs_rules.specs.Entries.{woken, strand_entry, on_thread, next, IsWork, IsIdle, IsTimely, Leads, IsLegal}
+use Rattle.hs_rules.specs.Entries.{woken, strand_entry, next, IsWork, IsIdle, IsTimely, Leads, IsLegal}
 use Rattle.hs_rules.specs.Entries as entries
 use Rattle.hs_rules.specs.Endings.{IsTick, IsDeadlock}
 use Rattle.hs_rules.specs.Runs.{Run}
