@@ -7,7 +7,7 @@ use Rattle.hs_rules.specs.declared.entry.Entry.TheVariants as entry
 use Rattle.rules_trees.specs.Programs.{Fn}
 use Rattle.rules_meaning.specs.Values.{V}
 use Rattle.rules_meaning.specs.CoreMeaning.{Code, code_of}
-use Rattle.rules_waiting.specs.Waiting.{Reason, Taking, Reading, Putting, Throwing, Sleeping, Waiting, Sleeper, is_blocked, reason_of, with_sleeper, sleepers_of}
+use Rattle.rules_waiting.specs.Waiting.{Reason, Sleeping, Waiting, Sleeper, is_blocked, reason_of, with_sleeper, sleepers_of}
 use Rattle.hs_rules.specs.Terms.{Part, Term}
 use Rattle.hs_rules.specs.LocalRules.{local, locals, on_term}
 use Rattle.hs_rules.specs.State.{Thread, State}
@@ -133,11 +133,8 @@ local_rests code t k s h =
     (λ main e. none_too (slice_get s.threads t) (λ th. local_entry code t 1 th s) (λ th. local_entry code t k th s) (λ th x. no_locals code t k th s x) e) h
 
 wakes_not : (t v : ℕ) (r : Reason V) (s : State) (rs : List Sleeper) → with_sleeper v r rs ≡ [] → (woken t (Some r) s ≡ None) × (rs ≡ [])
-wakes_not t v (Taking c) s rs h = (refl, h)
-wakes_not t v (Reading c) s rs h = (refl, h)
-wakes_not t v (Putting c a) s rs h = (refl, h)
-wakes_not t v (Throwing w e) s rs h = (refl, h)
 wakes_not t v (Sleeping due) s rs h = absurd (cc h)
+wakes_not t v _ s rs h = (refl, h)
 
 none_wakes : (t : ℕ) (s : State) (ws : List (Waiting V)) → sleepers_of ws ≡ [] → woken t (reason_of t ws) s ≡ None
 none_wakes t s [] h = refl

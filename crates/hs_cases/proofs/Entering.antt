@@ -8,7 +8,7 @@ use Rattle.hs_rules.specs.declared.entry.Entry.{Entry}
 use Rattle.hs_rules.specs.declared.entry.Entry.TheVariants as entry
 use Rattle.rules_meaning.specs.Values.{V, UnitValue}
 use Rattle.rules_meaning.specs.CoreMeaning.{Code}
-use Rattle.rules_waiting.specs.Waiting.{Reason, Taking, Reading, Putting, Throwing, Sleeping, Sleeper, Flying, is_blocked, reason_of, at_cell, flight_of, flying_to, sleepers_of}
+use Rattle.rules_waiting.specs.Waiting.{Reason, Sleeping, Sleeper, Flying, is_blocked, reason_of, at_cell, flight_of, flying_to, sleepers_of}
 use Rattle.hs_rules.specs.Terms.{Operation, Part, Ret, Throw, Do, Frame, Term, mask_at}
 use Rattle.hs_rules.specs.Terms as part
 use Rattle.hs_rules.specs.LocalRules.{locals}
@@ -23,12 +23,12 @@ use Rattle.hs_cases.proofs.Performing as performing
 
 -- ---- tests and their words
 
-both_true : (a b : Bool) → a && b ≡ true → (a ≡ true) × (b ≡ true)
+pub both_true : (a b : Bool) → a && b ≡ true → (a ≡ true) × (b ≡ true)
 both_true true true e = (refl, refl)
 both_true true false e = absurd (cc e)
 both_true false b e = absurd (cc e)
 
-not_true : (b : Bool) → not b ≡ true → b ≡ false
+pub not_true : (b : Bool) → not b ≡ true → b ≡ false
 not_true true e = absurd (cc e)
 not_true false e = refl
 
@@ -189,10 +189,8 @@ module _ (code : Code) (s u : State) (m : MainRuns s) where
       tested (Case (entry.Local t (suc k))) (is_blocked t s.blocked) None _ u (λ b x. absurd (cc x)) (λ b x. is_moved t k th h b (locals code (suc k) th.term) refl x) g
 
   is_operation : (t : ℕ) (th : Thread) → Unfinished t th s → is_blocked t s.blocked ≡ false → (p : Part) → th.term.part ≡ p → at_operation p (λ r. operated t (mask_at th.term.frames) r s) ≡ Some u → Case (entry.Op t)
-  is_operation t th h b (Ret a) e g = absurd (cc g)
-  is_operation t th h b (Throw x) e g = absurd (cc g)
-  is_operation t th h b (Do a env) e g = absurd (cc g)
   is_operation t th h b (part.Performs p) e g = operation m h b e (performing.case_of t (mask_at th.term.frames) p s u g)
+  is_operation t th h b _ e g = absurd (cc g)
 
   is_op : (t : ℕ) (th : Thread) → Unfinished t th s → op_entry t th s ≡ Some u → Case (entry.Op t)
   is_op t th h g = tested (Case (entry.Op t)) (is_blocked t s.blocked) None _ u (λ b x. absurd (cc x)) (λ b x. is_operation t th h b th.term.part refl x) g
@@ -212,12 +210,8 @@ module _ (code : Code) (s u : State) (m : MainRuns s) where
       tested (Case (entry.Receive t)) (is_receptive t th.term s) _ None u (λ r x. is_received t th h r (flying_to t (flight_of s.blocked)) refl x) (λ r x. absurd (cc x)) g
 
   is_wake : (t : ℕ) (o : Option (Reason V)) → reason_of t s.blocked ≡ o → woken t o s ≡ Some u → Case (entry.Wake t)
-  is_wake t None e g = absurd (cc g)
-  is_wake t (Some (Taking c)) e g = absurd (cc g)
-  is_wake t (Some (Reading c)) e g = absurd (cc g)
-  is_wake t (Some (Putting c a)) e g = absurd (cc g)
-  is_wake t (Some (Throwing w x)) e g = absurd (cc g)
   is_wake t (Some (Sleeping due)) e g = tested (Case (entry.Wake t)) (nat_le due s.clock) _ None u (λ d x. is (wakes m e (now_due due s.clock d)) x) (λ d x. absurd (cc x)) g
+  is_wake t _ e g = absurd (cc g)
 
   is_uncaught : (t : ℕ) (th : Thread) (e : Exn) → Unfinished t th s → th.term.frames ≡ [] → th.term.part ≡ Throw e → Some (closed t th (uncaught_line t e) s) ≡ Some u → Case (entry.Finish t)
   is_uncaught zero th e h f p g = is (main_finishes_by_an_exception h f p) g

@@ -18,15 +18,15 @@ free_stays t (w ∷ ws) h = by (free_stays t ws) (w.thread == t) refl
         cond_false (w.thread == t) (leaves t ws) (w ∷ leaves t ws) e
         ∙ ap (λ vs. w ∷ vs) (rest (sym (cond_false (w.thread == t) true (is_blocked t ws) e) ∙ h))
 
-left_place : (t v : ℕ) (o : Option (Want V)) (ps : List (Place V)) → v == t ≡ true → leaves_line t ps ≡ leaves_line t (with_place v o ps)
+pub left_place : (t v : ℕ) (o : Option (Want V)) (ps : List (Place V)) → v == t ≡ true → leaves_line t ps ≡ leaves_line t (with_place v o ps)
 left_place t v None ps e = refl
 left_place t v (Some w) ps e = sym (cond_true (v == t) (leaves_line t ps) _ e)
 
-kept_place : (t v : ℕ) (o : Option (Want V)) (ps : List (Place V)) → v == t ≡ false → with_place v o (leaves_line t ps) ≡ leaves_line t (with_place v o ps)
+pub kept_place : (t v : ℕ) (o : Option (Want V)) (ps : List (Place V)) → v == t ≡ false → with_place v o (leaves_line t ps) ≡ leaves_line t (with_place v o ps)
 kept_place t v None ps e = refl
 kept_place t v (Some w) ps e = sym (cond_false (v == t) (leaves_line t ps) _ e)
 
-line_left : (k t : ℕ) (ws : List (Waiting V)) → line_of k (leaves t ws) ≡ leaves_line t (line_of k ws)
+pub line_left : (k t : ℕ) (ws : List (Waiting V)) → line_of k (leaves t ws) ≡ leaves_line t (line_of k ws)
 line_left k t [] = refl
 line_left k t (w ∷ ws) = by (line_left k t ws) (w.thread == t) refl
   where
@@ -36,7 +36,7 @@ line_left k t (w ∷ ws) = by (line_left k t ws) (w.thread == t) refl
         ap (line_of k) (cond_false (w.thread == t) (leaves t ws) (w ∷ leaves t ws) e)
         ∙ (ap (with_place w.thread (want_at k w.reason)) rest ∙ kept_place t w.thread (want_at k w.reason) (line_of k ws) e)
 
-all_left : (k : ℕ) (ts : List ℕ) (p : Part) (s : State) → line_of k (resume_all ts p s).blocked ≡ leave_line ts (line_of k s.blocked)
+pub all_left : (k : ℕ) (ts : List ℕ) (p : Part) (s : State) → line_of k (resume_all ts p s).blocked ≡ leave_line ts (line_of k s.blocked)
 all_left k [] p s = refl
 all_left k (t ∷ ts) p s = all_left k ts p (resume t p s) ∙ ap (leave_line ts) (line_left k t s.blocked)
 

@@ -34,11 +34,6 @@ slept : (t n : ℕ) (s : State) → 0 < n → delay t (pos n) s ≡ Some (block 
 slept t n s h = cond_false (n == 0) _ _ (grind arith)
 
 pub performed_is : {t : ℕ} {m : Mask} {p : Operation} {s u : State} → Performs t m p s u → operated t m p s ≡ Some u
-performed_is prints = refl
-performed_is prints_a_line = refl
-performed_is tells_a_line = refl
-performed_is makes_a_full_cell = refl
-performed_is makes_an_empty_cell = refl
 performed_is {t} (take_waits {c} {s = r} e) = ap (λ o. take t c o r) e
 performed_is {t} (takes_and_empties {c} {a} {s = r} e w) = ap (λ o. take t c o r) e ∙ ap (λ o. Some (moves_in c o (answer t a r))) w
 performed_is {t} (takes_and_serves {c} {a} {s = r} e w) = ap (λ o. take t c o r) e ∙ ap (λ o. Some (moves_in c o (answer t a r))) w
@@ -53,20 +48,11 @@ performed_is {t} (try_takes_and_serves {c} {a} {s = r} e w) = ap (λ o. try_take
 performed_is {t} (try_put_finds_a_value {c} {a} {s = r} e) = ap (λ o. try_put t c a o r) e
 performed_is {t} (try_puts_and_fills {c} {a} {s = r} e w) = ap (λ o. try_put t c a o r) e ∙ ap (λ o. Some (goes_in c a o (read_there c a (answer t (Truth true) r)))) w
 performed_is {t} (try_puts_and_serves {c} {a} {s = r} e w) = ap (λ o. try_put t c a o r) e ∙ ap (λ o. Some (goes_in c a o (read_there c a (answer t (Truth true) r)))) w
-performed_is names_itself = refl
-performed_is names_its_masking = refl
-performed_is reads_the_clock = refl
 performed_is {t} (sleeps {n} {s = r} h) = slept t n r h
-performed_is sleep_of_nothing = refl
-performed_is sleep_of_less = refl
 performed_is {t} (throws_at_itself {th} {e} {s = r} h) = itself t e r (slice_get r.threads t) th h
 performed_is {t} (throws_at_finished {u = w} {th} {e} {s = r} n h f) = at_finished t w e r (slice_get r.threads w) th n h f
 performed_is {t} (throw_waits {u = w} {th} {e} {s = r} n h f) = waits t w e r (slice_get r.threads w) th n h f
-performed_is makes_a_timeout = refl
-performed_is acquires = refl
-performed_is releases = refl
-performed_is forks = refl
-performed_is forks_unmasked = refl
+performed_is _ = refl
 
 -- ---- the values of a primitive
 

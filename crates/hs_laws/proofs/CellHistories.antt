@@ -10,7 +10,7 @@ use Rattle.hs_rules.specs.State.{State, first}
 use Rattle.hs_rules.specs.Entries.{next}
 use Rattle.hs_rules.specs.Runs.{Run, first_of}
 use Rattle.rules_waiting.specs.OneCell as one
-use Rattle.rules_waiting.specs.OneCell.{Place, Cell, Call, Make, Take, Read, Put, Try_take, Try_put, Leave, Took, Saw, Gave, Tried_take, Tried_put, Reply, cell_of, reply_of, first_put, first_take, readers, leave_line, shown, comes_on, comes_in, made, call}
+use Rattle.rules_waiting.specs.OneCell.{Place, Cell, Call, Make, Take, Read, Put, Try_take, Try_put, Leave, Took, Gave, Tried_take, Tried_put, Reply, cell_of, reply_of, first_put, first_take, readers, leave_line, shown, comes_on, comes_in, made, call}
 use Rattle.hs_laws.specs.BracketPhases.{FineCode}
 use Rattle.hs_laws.specs.CellLaw.{Shows, calls_of, after_calls, AnswersCalls, held, put_in, came_in, taken_by, went_out, ins_by, outs_by, calls_from, calls_after, calls, unmade, alone, IsMake, NoMake, KeptCell}
 use Rattle.hs_laws.proofs.States.{Holds, Keeps, next_kept}
@@ -26,7 +26,7 @@ out_moves (Some w) ps rs = ap (λ z. z ++ w.1 ∷ []) (sym (append-nil (went_out
     went_more (x ∷ rs) r = ap (λ z. taken_by x.answer ++ z) (went_more rs r) ∙ sym (append_assoc (taken_by x.answer) (went_out rs) (taken_by r.answer ++ []))
 
 -- who reads takes nothing out
-went_shown : (a : V) (ts : List ℕ) (rs : List (Reply V)) → went_out (shown a ts ++ rs) ≡ went_out rs
+pub went_shown : (a : V) (ts : List ℕ) (rs : List (Reply V)) → went_out (shown a ts ++ rs) ≡ went_out rs
 went_shown a [] rs = refl
 went_shown a (t ∷ ts) rs = went_shown a ts rs
 
@@ -77,7 +77,7 @@ abbrev pub Tracks : ℕ → State → Option (Cell V) → List (Call V) → Type
 Tracks m u (Some c) qs = Shows m u (after_calls qs c) × NoMake qs
 Tracks m u None qs = (Present m u None × (qs ≡ [])) ⊎ ((t : ℕ) × (o : Option V) × (rest : List (Call V)) × (qs ≡ Make t o ∷ rest) × Shows m u (after_calls rest (made o)) × NoMake rest)
 
-more_calls : (code : Code) (m : ℕ) (s v : State) (e : Entry) (es : List Entry) → next code s e ≡ Some v → calls_from code m s (e ∷ es) ≡ calls_of m s e ++ calls_from code m v es
+pub more_calls : (code : Code) (m : ℕ) (s v : State) (e : Entry) (es : List Entry) → next code s e ≡ Some v → calls_from code m s (e ∷ es) ≡ calls_of m s e ++ calls_from code m v es
 more_calls code m s v e es n = ap (λ o. calls_of m s e ++ elim o [ None ↦ [] | Some u ↦ calls_from code m u es ]) n
 
 cells_run : (code : Code) → FineCode code.actions → (m : ℕ) (es : List Entry) (s u : State) (c : Option (Cell V)) → Run code s es u → Holds s → Present m s c → Tracks m u c (calls_from code m s es)

@@ -8,11 +8,11 @@ use Rattle.std.specs.Prelude.{codes}
 use Rattle.std.specs.Fmt.{decimal}
 use Rattle.hs_rules.specs.declared.entry.Entry.{Entry}
 use Rattle.rules_meaning.specs.Values as val
-use Rattle.rules_meaning.specs.Values.{V, UnitValue, Int, Text, Exception, Inst, with_name}
+use Rattle.rules_meaning.specs.Values.{V, UnitValue, Text, Exception, Inst, with_name}
 use Rattle.rules_expansion.specs.declared.primitive.Primitive.TheVariants.{TakeMVar, PutMVar, ReadMVar, TryTakeMVar, TryPutMVar}
 use Rattle.rules_meaning.specs.CoreMeaning.{Code}
 use Rattle.hs_rules.specs.Terms.{Operation, Calls, Part, Ret, Throw, Do, MaskIn, Term, term}
-use Rattle.rules_waiting.specs.Waiting.{want_at, with_place, Reason, Taking, Reading, Putting, Throwing, Sleeping, Waiting, Flying, leaves, is_blocked, reason_of, line_of, flight_of, flying_to, first_thrown}
+use Rattle.rules_waiting.specs.Waiting.{want_at, with_place, Reason, Throwing, Sleeping, Waiting, Flying, leaves, is_blocked, reason_of, line_of, flight_of, flying_to, first_thrown}
 use Rattle.hs_rules.specs.State.{AcquiredBy, ReleasedBy, Thread, State, move, resume, answer, resume_all, block, spawn}
 use Rattle.hs_rules.specs.Primitives.{take, read, put, try_take, try_put, due_in, clock_value, masking_text, line_feed}
 use Rattle.hs_rules.specs.Entries.{uncaught_line, stranded, next}
@@ -104,11 +104,11 @@ make_done m t s c h b once o =
 
 -- ---- who leaves
 
-abbrev IsLeave : Call V → Type 0
+abbrev pub IsLeave : Call V → Type 0
 IsLeave (Leave t) = Unit {0}
 IsLeave _ = ⊥
 
-abbrev OnlyLeaves : List (Call V) → Type 0
+abbrev pub OnlyLeaves : List (Call V) → Type 0
 OnlyLeaves [] = Unit {0}
 OnlyLeaves (q ∷ qs) = IsLeave q × OnlyLeaves qs
 
@@ -117,11 +117,11 @@ leaves_tell m [] c s u h = (tt, tt)
 leaves_tell m (Leave t ∷ qs) c s u h = let k = leaves_tell m qs (call (Leave t) c).cell s u h.1 in ((tt, k.0), ((λ x. x), k.1))
 leaves_tell m (q ∷ qs) c s u h = absurd h.0
 
-only_both : (qs rs : List (Call V)) → OnlyLeaves qs → OnlyLeaves rs → OnlyLeaves (qs ++ rs)
+pub only_both : (qs rs : List (Call V)) → OnlyLeaves qs → OnlyLeaves rs → OnlyLeaves (qs ++ rs)
 only_both [] rs h g = g
 only_both (q ∷ qs) rs h g = (h.0, only_both qs rs h.1 g)
 
-leave_only : (m t : ℕ) (o : Option (Reason V)) → OnlyLeaves (leave_call m t o)
+pub leave_only : (m t : ℕ) (o : Option (Reason V)) → OnlyLeaves (leave_call m t o)
 leave_only m t None = tt
 leave_only m t (Some r) = by (want_at m r)
   where
@@ -129,7 +129,7 @@ leave_only m t (Some r) = by (want_at m r)
     by None = tt
     by (Some w) = (tt, tt)
 
-leaves_only : (m : ℕ) (ts : List ℕ) (ws : List (Waiting V)) → OnlyLeaves (leave_calls m ts ws)
+pub leaves_only : (m : ℕ) (ts : List ℕ) (ws : List (Waiting V)) → OnlyLeaves (leave_calls m ts ws)
 leaves_only m [] ws = tt
 leaves_only m (t ∷ ts) ws = only_both (leave_call m t (reason_of t ws)) (leave_calls m ts ws) (leave_only m t (reason_of t ws)) (leaves_only m ts ws)
 
@@ -266,16 +266,14 @@ module _ (m : ℕ) (s : State) (c : Option (Cell V)) (h : Present m s c) (g : Ho
     performs_done {a} row.names_its_masking = goes s (Ret (Text (masking_text a))) refl refl
     performs_done row.reads_the_clock = goes s (Ret (clock_value s)) refl refl
     performs_done (row.sleeps {n} q) = waits_away (Sleeping (due_in n s)) refl
-    performs_done row.sleep_of_nothing = goes s (Ret UnitValue) refl refl
-    performs_done row.sleep_of_less = goes s (Ret UnitValue) refl refl
     performs_done (row.throws_at_itself {e} q) = goes s (Throw e) refl refl
-    performs_done (row.throws_at_finished n q f) = goes s (Ret UnitValue) refl refl
     performs_done (row.throw_waits {u = w} {e} n q f) = waits_away (Throwing w e) refl
     performs_done row.makes_a_timeout = goes (record s { next_timeout = suc s.next_timeout }) (Ret (Exception (Timeout s.next_timeout))) refl refl
     performs_done row.acquires = goes (record s { marks = AcquiredBy s.next_instance t ∷ s.marks; next_instance = suc s.next_instance }) (Ret (Inst s.next_instance)) refl refl
     performs_done (row.releases {i}) = goes (record s { marks = ReleasedBy i t ∷ s.marks }) (Ret UnitValue) refl refl
     performs_done {a} (row.forks {a = x} {env}) = forked_done (term (Do x env) (MaskIn a ∷ []))
     performs_done {a} (row.forks_unmasked {r} {a = x} {env}) = forked_done (term (Do x (with_name r (val.Restore Unmasked) env)) (MaskIn a ∷ []))
+    performs_done _ = goes s (Ret UnitValue) refl refl
 
   -- each waits for its reason, and nobody throws at itself
   abbrev Apartly : ℕ → Reason V → Type 0
@@ -300,11 +298,8 @@ module _ (m : ℕ) (s : State) (c : Option (Cell V)) (h : Present m s c) (g : Ho
       still_present (Some c) h a = record { content = a.0 ∙ h.content; line = a.1 ∙ h.line }
 
   throw_away : (t u : ℕ) (r : Reason V) → throws_at t r ≡ true → want_at m r ≡ None
-  throw_away t u (Taking k) q = absurd (cc q)
-  throw_away t u (Reading k) q = absurd (cc q)
-  throw_away t u (Putting k v) q = absurd (cc q)
   throw_away t u (Throwing w x) q = refl
-  throw_away t u (Sleeping d) q = absurd (cc q)
+  throw_away t u _ q = absurd (cc q)
 
   close_done : (t : ℕ) (th : Thread) (u : State) → Still m s u → Done m s c [] (finished t th u)
   close_done t th u a =

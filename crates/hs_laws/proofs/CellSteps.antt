@@ -3,32 +3,21 @@ use Rattle.std.proofs.Common.{◌≡◌, ◌≢◌, ℕ, zero, suc, ◌==◌, Li
 use Rattle.std.proofs.Common.{append-nil}
 use Rattle.rules_meaning.specs.Values.{V, UnitValue, Truth, Nothing, Just}
 use Rattle.hs_rules.specs.Terms.{Part, Ret, Term, term}
-use Rattle.rules_waiting.specs.Waiting.{want_at, with_place, Reason, Taking, Reading, Putting, Throwing, Sleeping, Waiting, leaves, is_blocked, reason_of, line_of}
+use Rattle.rules_waiting.specs.Waiting.{want_at, with_place, Reason, Taking, Reading, Putting, Waiting, leaves, is_blocked, reason_of, line_of}
 use Rattle.hs_rules.specs.State.{Thread, State, with_term, frames_of, resume, answer, resume_all, block}
 use Rattle.hs_rules.specs.Primitives.{moves_in, taken, goes_in, goes_on, read_by_all, given, take, read, put, try_take, try_put}
 use Rattle.rules_waiting.specs.OneCell as one
-use Rattle.rules_waiting.specs.OneCell.{Want, To_take, To_read, To_put, Place, Cell, Call, Make, Take, Read, Put, Try_take, Try_put, Leave, Answer, Made, Took, Saw, Gave, Tried_take, Tried_put, Reply, After, cell_of, reply_of, after_of, leaves_line, joins_line, put_of, takes_it, first_put, first_take, readers, leave_line, shown, comes_on, comes_in, call}
+use Rattle.rules_waiting.specs.OneCell.{Want, To_take, To_read, To_put, Place, Take, Read, Put, Try_take, Try_put, Answer, Took, Saw, Gave, Tried_take, Tried_put, Reply, After, cell_of, reply_of, after_of, leaves_line, joins_line, first_put, first_take, readers, leave_line, shown, comes_on, comes_in, call}
+use Rattle.hs_cases.proofs.Lines.{free_stays, kept_place, line_left}
+use Rattle.hs_cases.proofs.Lines as lines
 use Rattle.hs_laws.specs.CellLaw.{told, answered, replied}
 use Rattle.hs_laws.specs.Standing.{Once}
 use Rattle.hs_laws.proofs.Lists.{cond_cases, cond_true, cond_false, equal_or, item_same, item_other, Found, first_found, once_left, once_more, Absent_in, Distinct, Ones, ones_apart, absent_those, distinct_those, ones_those_if, first_of_kind, those, takes, puts, reads_at, readers_are, only_thread, put_is_first, take_is_first, once_reason}
 use Rattle.hs_laws.proofs.States.{other_thread}
 
 -- ---- the line of a cell within all that wait
-line_placed : (t u : ℕ) (o : Option (Want V)) (ps : List (Place V)) → u == t ≡ false → with_place u o (leaves_line t ps) ≡ leaves_line t (with_place u o ps)
-line_placed t u None ps e = refl
-line_placed t u (Some w) ps e = sym (cond_false (u == t) (leaves_line t ps) (record { thread = u; want = w } ∷ leaves_line t ps) e)
-
-gone_placed : (t u : ℕ) (o : Option (Want V)) (ps : List (Place V)) → u == t ≡ true → leaves_line t ps ≡ leaves_line t (with_place u o ps)
-gone_placed t u None ps e = refl
-gone_placed t u (Some w) ps e = sym (cond_true (u == t) (leaves_line t ps) (record { thread = u; want = w } ∷ leaves_line t ps) e)
-
 pub line_leaves : (m t : ℕ) (ws : List (Waiting V)) → line_of m (leaves t ws) ≡ leaves_line t (line_of m ws)
-line_leaves m t [] = refl
-line_leaves m t (w ∷ ws) =
-    ⊎_elim
-    (λ e. ap (line_of m) (cond_true (w.thread == t) (leaves t ws) (w ∷ leaves t ws) e.0) ∙ (line_leaves m t ws ∙ gone_placed t w.thread (want_at m w.reason) (line_of m ws) e.0))
-    (λ e. ap (line_of m) (cond_false (w.thread == t) (leaves t ws) (w ∷ leaves t ws) e.0) ∙ (ap (with_place w.thread (want_at m w.reason)) (line_leaves m t ws) ∙ line_placed t w.thread (want_at m w.reason) (line_of m ws) e.0))
-    (equal_or w.thread t)
+line_leaves = line_left
 
 append_placed : (u : ℕ) (o : Option (Want V)) (ps qs : List (Place V)) → with_place u o (ps ++ qs) ≡ with_place u o ps ++ qs
 append_placed u None ps qs = refl
@@ -43,7 +32,7 @@ not_blocked_line m t [] h = refl
 not_blocked_line m t (w ∷ ws) h =
     ⊎_elim
     (λ e. let b : true ≡ false = sym (cond_true (w.thread == t) true (is_blocked t ws) e.0) ∙ h in absurd (cc b))
-    (λ e. sym (line_placed t w.thread (want_at m w.reason) (line_of m ws) e.0) ∙ ap (with_place w.thread (want_at m w.reason)) (not_blocked_line m t ws (sym (cond_false (w.thread == t) true (is_blocked t ws) e.0) ∙ h)))
+    (λ e. sym (kept_place t w.thread (want_at m w.reason) (line_of m ws) e.0) ∙ ap (with_place w.thread (want_at m w.reason)) (not_blocked_line m t ws (sym (cond_false (w.thread == t) true (is_blocked t ws) e.0) ∙ h)))
     (equal_or w.thread t)
 
 -- ---- why the others wait
@@ -65,10 +54,8 @@ not_blocked_reason t (w ∷ ws) h =
 
 -- who waits in a line is blocked
 taker_placed : (t u : ℕ) (o : Option (Want V)) (ps : List (Place V)) → first_take (with_place t o ps) ≡ Some u → (t ≡ u) ⊎ (first_take ps ≡ Some u)
-taker_placed t u None ps e = inr e
 taker_placed t u (Some To_take) ps e = let same : t ≡ u = cc e in inl same
-taker_placed t u (Some To_read) ps e = inr e
-taker_placed t u (Some (To_put a)) ps e = inr e
+taker_placed t u _ ps e = inr e
 
 taker_blocked : (m u : ℕ) (ws : List (Waiting V)) → first_take (line_of m ws) ≡ Some u → is_blocked u ws ≡ true
 taker_blocked m u [] e = absurd (cc e)
@@ -83,12 +70,7 @@ apart_taker m t u ws b e same = let x : true ≡ false = sym (taker_blocked m u 
 
 -- ---- who leaves and isn't of a kind changes nothing for the first of that kind
 pub leaves_absent : (t : ℕ) (ws : List (Waiting V)) → is_blocked t ws ≡ false → leaves t ws ≡ ws
-leaves_absent t [] h = refl
-leaves_absent t (w ∷ ws) h =
-    ⊎_elim
-    (λ e. let b : true ≡ false = sym (cond_true (w.thread == t) true (is_blocked t ws) e.0) ∙ h in absurd (cc b))
-    (λ e. cond_false (w.thread == t) (leaves t ws) (w ∷ leaves t ws) e.0 ∙ ap (λ vs. w ∷ vs) (leaves_absent t ws (sym (cond_false (w.thread == t) true (is_blocked t ws) e.0) ∙ h)))
-    (equal_or w.thread t)
+leaves_absent = free_stays
 
 module _ {A : Type 0} (f : Reason V → Option A) where
   abbrev Unlike : Option (Reason V) → Type 0
@@ -121,10 +103,7 @@ module _ {A : Type 0} (f : Reason V → Option A) where
 
 reader_takes_not : (m : ℕ) (r : Reason V) → reads_at m r ≡ true → takes m r ≡ None
 reader_takes_not m (Taking k) e = absurd (cc e)
-reader_takes_not m (Reading k) e = refl
-reader_takes_not m (Putting k v) e = refl
-reader_takes_not m (Throwing u x) e = refl
-reader_takes_not m (Sleeping d) e = refl
+reader_takes_not m _ e = refl
 
 -- after all that read a cell were answered, the same thread is the first that takes
 same_taker : (m : ℕ) (v : V) (u : State) → Once u.blocked → first_take (line_of m (read_by_all m v u).blocked) ≡ first_take (line_of m u.blocked)
@@ -205,13 +184,12 @@ goes_follow m t s u ps rs a x (Some v) n f = record {
 }
 
 -- ---- all that read are answered
-all_cells : (ts : List ℕ) (p : Part) (u : State) → (resume_all ts p u).cells ≡ u.cells
+pub all_cells : (ts : List ℕ) (p : Part) (u : State) → (resume_all ts p u).cells ≡ u.cells
 all_cells [] p u = refl
 all_cells (t ∷ ts) p u = all_cells ts p (resume t p u)
 
 pub all_line : (m : ℕ) (ts : List ℕ) (p : Part) (u : State) → line_of m (resume_all ts p u).blocked ≡ leave_line ts (line_of m u.blocked)
-all_line m [] p u = refl
-all_line m (t ∷ ts) p u = all_line m ts p (resume t p u) ∙ ap (leave_line ts) (line_leaves m t u.blocked)
+all_line = lines.all_left
 
 all_threads : (m : ℕ) (v : V) (ts : List ℕ) (u : State) → (resume_all ts (Ret v) u).threads ≡ replied m (shown v ts) u.threads
 all_threads m v [] u = refl
@@ -304,7 +282,7 @@ away_line m t (w ∷ ws) o h =
     let a : want_at m w.reason ≡ None = subst (Away m) (cond_true (w.thread == t) (Some w.reason) (reason_of t ws) e.0) h in
     let b : is_blocked t ws ≡ false = subst (λ u. is_blocked u ws ≡ false) e.1 o.0 in
     ap (λ q. leaves_line t (with_place w.thread q (line_of m ws))) a ∙ (not_blocked_line m t ws b ∙ ap (λ q. with_place w.thread q (line_of m ws)) (sym a)))
-    (λ e. sym (line_placed t w.thread (want_at m w.reason) (line_of m ws) e.0) ∙ ap (with_place w.thread (want_at m w.reason)) (away_line m t ws o.1 (subst (Away m) (cond_false (w.thread == t) (Some w.reason) (reason_of t ws) e.0) h)))
+    (λ e. sym (kept_place t w.thread (want_at m w.reason) (line_of m ws) e.0) ∙ ap (with_place w.thread (want_at m w.reason)) (away_line m t ws o.1 (subst (Away m) (cond_false (w.thread == t) (Some w.reason) (reason_of t ws) e.0) h)))
     (equal_or w.thread t)
 
 pub away_leaves : (m t : ℕ) (ws : List (Waiting V)) → Once ws → Away m (reason_of t ws) → line_of m (leaves t ws) ≡ line_of m ws
@@ -343,37 +321,28 @@ first_away m ws q once f = found_away m ws q f (first_of_kind q ws) (first_found
 
 -- ---- an operation on another cell
 other_put : (m k : ℕ) → m ≢ k → (r : Reason V) (v : V) → puts k r ≡ Some v → want_at m r ≡ None
-other_put m k n (Taking j) v e = absurd (cc e)
-other_put m k n (Reading j) v e = absurd (cc e)
-other_put m k n (Throwing u x) v e = absurd (cc e)
-other_put m k n (Sleeping d) v e = absurd (cc e)
 other_put m k n (Putting j w) v e =
     ⊎_elim
     (λ q. ⊎_elim (λ f. absurd (n (sym f.1 ∙ q.1))) (λ f. cond_false (j == m) (Some (To_put w)) None f.0) (equal_or j m))
     (λ q. let f : ◌≡◌ {A = Option V} None (Some v) = sym (cond_false (j == k) (Some w) None q.0) ∙ e in absurd (cc f))
     (equal_or j k)
+other_put m k n _ v e = absurd (cc e)
 
 other_take : (m k : ℕ) → m ≢ k → (r : Reason V) (v : Unit {0}) → takes k r ≡ Some v → want_at m r ≡ None
-other_take m k n (Putting j w) v e = absurd (cc e)
-other_take m k n (Reading j) v e = absurd (cc e)
-other_take m k n (Throwing u x) v e = absurd (cc e)
-other_take m k n (Sleeping d) v e = absurd (cc e)
 other_take m k n (Taking j) v e =
     ⊎_elim
     (λ q. ⊎_elim (λ f. absurd (n (sym f.1 ∙ q.1))) (λ f. cond_false (j == m) (Some To_take) None f.0) (equal_or j m))
     (λ q. let f : ◌≡◌ {A = Option (Unit {0})} None (Some v) = sym (cond_false (j == k) (Some tt) None q.0) ∙ e in absurd (cc f))
     (equal_or j k)
+other_take m k n _ v e = absurd (cc e)
 
 other_read : (m k : ℕ) → m ≢ k → (r : Reason V) → reads_at k r ≡ true → want_at m r ≡ None
-other_read m k n (Taking j) e = absurd (cc e)
-other_read m k n (Putting j w) e = absurd (cc e)
-other_read m k n (Throwing u x) e = absurd (cc e)
-other_read m k n (Sleeping d) e = absurd (cc e)
 other_read m k n (Reading j) e =
     ⊎_elim
     (λ q. ⊎_elim (λ f. absurd (n (sym f.1 ∙ q.1))) (λ f. cond_false (j == m) (Some To_read) None f.0) (equal_or j m))
     (λ q. let f : true ≡ false = sym e ∙ q.0 in absurd (cc f))
     (equal_or j k)
+other_read m k n _ e = absurd (cc e)
 
 set_still : (m k : ℕ) (s u : State) (c : Option V) → m ≢ k → Still m s u → Still m s (record u { cells = slice_set u.cells k c })
 set_still m k s u c n h = (item_other u.cells k m c n ∙ h.0, h.1, h.2)

@@ -12,9 +12,7 @@ use Rattle.hs_laws.specs.BracketPhases.{FineOp, Below, no_frames, below_bind, be
 
 pub below_of_op : {op : Operation} {fs : List Frame} {o : List ℕ} → FineOp op → Held (Performs op) fs o → Below fs o
 below_of_op k (held_op f r) = r
-below_of_op k (held_acquired f g m r) = absurd k
-below_of_op k (held_leave_op f m r) = absurd k
-below_of_op k (held_handle_op f m w r) = absurd k
+below_of_op k _ = absurd k
 
 pub instance_kept : {vs : List V} {fs : List Frame} {o : List ℕ} (i : ℕ) → Held (Performs (Calls Acquired vs)) fs o → Held (Ret (Inst i)) fs (i ∷ o)
 instance_kept i (held_op f r) = absurd f

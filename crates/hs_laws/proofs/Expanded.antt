@@ -106,17 +106,9 @@ fine_bare z.GetMaskingState = fine_primitive tt
 
 fine_unary : (w : UnaryAction) (e : CoreEx) → Fine (unary_core w e)
 fine_unary u.Return e = fine_return
-fine_unary u.PutStr e = fine_primitive tt
-fine_unary u.PutStrLn e = fine_primitive tt
-fine_unary u.HPutStrLn e = fine_primitive tt
-fine_unary u.NewMVar e = fine_primitive tt
-fine_unary u.TakeMVar e = fine_primitive tt
-fine_unary u.ReadMVar e = fine_primitive tt
-fine_unary u.TryTakeMVar e = fine_primitive tt
-fine_unary u.KillThread e = fine_primitive tt
-fine_unary u.ThreadDelay e = fine_primitive tt
 fine_unary u.Wait e = fine_wait e
 fine_unary u.Cancel e = fine_let (fine_bind tt (fine_primitive tt) (fine_bind tt (fine_primitive tt) fine_return))
+fine_unary _ e = fine_primitive tt
 
 fine_binary : (w : BinaryAction) (e f : CoreEx) → Fine (binary_core w e f)
 fine_binary b.PutMVar e f = fine_primitive tt

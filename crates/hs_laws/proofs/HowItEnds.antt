@@ -8,7 +8,7 @@ use Rattle.hs_rules.specs.declared.entry.LimitKind.TheVariants.{Threads, Cells, 
 use Rattle.rules_trees.specs.Programs.{Fn}
 use Rattle.rules_meaning.specs.CoreMeaning.{Code, code_of}
 use Rattle.hs_rules.specs.State.{Thread, State}
-use Rattle.hs_rules.specs.Entries.{local_entry, on_thread, next, Leads}
+use Rattle.hs_rules.specs.Entries.{on_thread, next, Leads}
 use Rattle.hs_rules.specs.Entries as entries
 use Rattle.hs_rules.specs.Runs.{after}
 use Rattle.hs_rules.specs.Histories.{steps_of, cost_of}
@@ -120,9 +120,7 @@ within_more limits ds es e u h is w front back s split a =
 -- what a Tick leaves uses as much of each limit
 tick_uses : (kind : LimitKind) (limits : Limits) (s : State) (at : ℕ) → Exceeds kind limits (record s { clock = at }) → Exceeds kind limits s
 tick_uses Threads limits s at h = h
-tick_uses Cells limits s at h = h
-tick_uses Frames limits s at h = h
-tick_uses Output limits s at h = h
+tick_uses _ limits s at h = h
 
 first_exceeds : (kind : LimitKind) (limits : Limits) (s : State) → FirstExceeded kind limits s → Exceeds kind limits s
 first_exceeds Threads limits s h = h
@@ -139,13 +137,8 @@ entry_costs : (code : Code) (s u : State) (e : Entry) → next code s e ≡ Some
 entry_costs code s u e n = costs (case_of code s e u n)
 
 tick_or : (e : Entry) → ((at : ℕ) × (e ≡ entry.Tick at)) ⊎ ¬ IsTick e
-tick_or (entry.Local t k) = inr (λ z. z)
-tick_or (entry.Op t) = inr (λ z. z)
-tick_or (entry.Receive t) = inr (λ z. z)
-tick_or (entry.Wake t) = inr (λ z. z)
-tick_or (entry.Finish t) = inr (λ z. z)
 tick_or (entry.Tick at) = inl (at, refl)
-tick_or entry.Stranded = inr (λ z. z)
+tick_or _ = inr (λ z. z)
 
 still_exceeds : (code : Code) (kind : LimitKind) (limits : Limits) (s u : State) (at : ℕ) → next code s (entry.Tick at) ≡ Some u → Exceeds kind limits u → Exceeds kind limits s
 still_exceeds code kind limits s u at n = by (case_of code s (entry.Tick at) u n)

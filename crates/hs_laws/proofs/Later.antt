@@ -117,13 +117,9 @@ wake_legal : (code : Code) (s : State) (n t due : ℕ) (main : Thread) → slice
 wake_legal code s n t due main is f e le = (answer t UnitValue (at_time n s), (entered_is {code = code} (row.wakes (main, (is, f)) e le), tt))
 
 work_or : (e : Entry) → ¬ IsTick e → IsWork e ⊎ (e ≡ entry.Stranded)
-work_or (entry.Local t k) n = inl tt
-work_or (entry.Op t) n = inl tt
-work_or (entry.Receive t) n = inl tt
-work_or (entry.Wake t) n = inl tt
-work_or (entry.Finish t) n = inl tt
 work_or (entry.Tick at) n = absurd (n tt)
 work_or entry.Stranded n = inr refl
+work_or _ n = inl tt
 
 strand_asleep : {code : Code} {s u : State} → row.Enters code s entry.Stranded u → sleepers_of s.blocked ≡ []
 strand_asleep (row.strands m e a) = e

@@ -1,7 +1,7 @@
 mod TermTrees
 pub mod Lists
 pub mod Marks
-mod Held
+pub mod Held
 mod Owes
 mod Steps
 pub mod Ends
@@ -11,8 +11,8 @@ pub mod RunParts
 pub mod Stranding
 pub mod WaitsBegan
 pub mod CellSteps
-mod CellRuns
-mod CellHistories
+pub mod CellRuns
+pub mod CellHistories
 pub mod NothingLegal
 pub mod Growing
 pub mod Ticking

@@ -72,15 +72,12 @@ throws t (Throwing u e) = cond (u == t) (Some e) None
 throws t (Sleeping due) = None
 
 pub throws_means : (t : ℕ) (r : Reason V) (e : Exn) → throws t r ≡ Some e → r ≡ Throwing t e
-throws_means t (Taking k) e q = absurd (cc q)
-throws_means t (Reading k) e q = absurd (cc q)
-throws_means t (Putting k v) e q = absurd (cc q)
-throws_means t (Sleeping d) e q = absurd (cc q)
 throws_means t (Throwing u x) e q =
     ⊎_elim
     (λ f. let z : ◌≡◌ {A = Option Exn} (Some x) (Some e) = sym (cond_true (u == t) (Some x) None f.0) ∙ q in let y : x ≡ e = cc z in ap (λ j. Throwing j x) f.1 ∙ ap (Throwing t) y)
     (λ f. let z : ◌≡◌ {A = Option Exn} None (Some e) = sym (cond_false (u == t) (Some x) None f.0) ∙ q in absurd (cc z))
     (equal_or u t)
+throws_means t _ e q = absurd (cc q)
 
 abbrev pub throws_at : ℕ → Reason V → Bool
 throws_at t (Taking n) = false
@@ -181,15 +178,12 @@ readers_are m (w ∷ ws) = read_at m w.thread w.reason ws (readers_are m ws)
 
 throw_at_is : (t : ℕ) (w : ℕ) (r : Reason V) (ws : List (Waiting V)) → first_thrown (flying_to t (flight_of ws)) ≡ first_of_kind (throws t) ws
     → first_thrown (flying_to t (flight_of (record { thread = w; reason = r } ∷ ws))) ≡ first_of_kind (throws t) (record { thread = w; reason = r } ∷ ws)
-throw_at_is t w (Taking n) ws e = e
-throw_at_is t w (Reading n) ws e = e
-throw_at_is t w (Putting n a) ws e = e
 throw_at_is t w (Throwing u x) ws e = at (u == t)
   where
     at : (b : Bool) → first_thrown (cond b (record { thrower = w; target = u; exn = x } ∷ flying_to t (flight_of ws)) (flying_to t (flight_of ws))) ≡ elim (cond b (Some x) None) [ None ↦ first_of_kind (throws t) ws | Some c ↦ Some (w, c) ]
     at true = refl
     at false = e
-throw_at_is t w (Sleeping due) ws e = e
+throw_at_is t w _ ws e = e
 
 pub throw_is_first : (t : ℕ) (ws : List (Waiting V)) → first_thrown (flying_to t (flight_of ws)) ≡ first_of_kind (throws t) ws
 throw_is_first t [] = refl
@@ -197,15 +191,12 @@ throw_is_first t (w ∷ ws) = throw_at_is t w.thread w.reason ws (throw_is_first
 
 throwers_at : (t : ℕ) (w : ℕ) (r : Reason V) (ws : List (Waiting V)) → throwers (flying_to t (flight_of ws)) ≡ those (λ u. throws_at t) ws
     → throwers (flying_to t (flight_of (record { thread = w; reason = r } ∷ ws))) ≡ those (λ u. throws_at t) (record { thread = w; reason = r } ∷ ws)
-throwers_at t w (Taking n) ws e = e
-throwers_at t w (Reading n) ws e = e
-throwers_at t w (Putting n a) ws e = e
 throwers_at t w (Throwing u x) ws e = at (u == t)
   where
     at : (b : Bool) → throwers (cond b (record { thrower = w; target = u; exn = x } ∷ flying_to t (flight_of ws)) (flying_to t (flight_of ws))) ≡ cond b (w ∷ those (λ v. throws_at t) ws) (those (λ v. throws_at t) ws)
     at true = ap (λ us. w ∷ us) e
     at false = e
-throwers_at t w (Sleeping due) ws e = e
+throwers_at t w _ ws e = e
 
 -- those that throw at a thread
 pub throwers_are : (t : ℕ) (ws : List (Waiting V)) → throwers (flying_to t (flight_of ws)) ≡ those (λ u. throws_at t) ws

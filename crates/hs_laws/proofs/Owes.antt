@@ -1,6 +1,6 @@
 -- A held term owes what its facts say, and what owes stands masked.
 use Rattle.std.proofs.Common.{◌≡◌, ◌≢◌, ℕ, List, [], ◌∷◌, ◌++◌, Option, Some, refl, ap, ◌∙◌}
-use Rattle.rules_expansion.specs.Names.{Name, Written, Added, Unread}
+use Rattle.rules_expansion.specs.Names.{Name, Added}
 use Rattle.rules_expansion.specs.declared.hidden.Hidden.TheVariants.{Instance, BracketResult, BracketFault}
 use Rattle.rules_meaning.specs.Values.{V, Inst, Env, value_at}
 use Rattle.rules_expansion.specs.Core.{Core}
@@ -8,32 +8,26 @@ use Rattle.rules_expansion.specs.declared.primitive.Primitive.{Primitive}
 use Rattle.rules_expansion.specs.declared.primitive.Primitive.TheVariants.{Release}
 use Rattle.hs_rules.specs.Terms.{Operation, Calls, Forks, ForksUnmask, Part, Frame, mask_at}
 use Rattle.hs_laws.specs.BracketLaw.{instance_of, owed_word, owed_start, owed_bind, owed_catch, owed_do, owed_to, owed_ret, owed_op, owed_here, owed_frames, owed, IsMasked, MaskedCatches}
-use Rattle.hs_laws.specs.BracketPhases.{IsCommon, IsOrdinary, Fine, fine_return, fine_throw, fine_let, fine_bind, fine_if, fine_maybe, fine_either, fine_list, fine_pair, fine_call, fine_primitive, fine_fork, fine_fork_unmask, fine_catch, fine_mask, fine_mask_hard, fine_restore, fine_bracket}
+use Rattle.hs_laws.specs.BracketPhases.{IsCommon, IsOrdinary, Fine, fine_bind, fine_primitive, fine_catch}
 use Rattle.hs_laws.specs.BracketPhases.{FineOp, Below, no_frames, below_bind, below_catch, below_mask, below_number, below_guarded, below_throw, below_last, Held, held_ret, held_throw, held_do, held_op, held_masked, held_number, held_acquire, held_acquired, held_instance, held_keep, held_guarded, held_result, held_leave, held_leave_release, held_leave_op, held_handle, held_handle_release, held_handle_op, held_then_throw, held_last, held_thrown, held_passing}
 
 common_catch : (x : Name) (env : Env) → IsCommon x → owed_catch x env ≡ []
-common_catch (Written x) env c = refl
 common_catch (Added Instance) env c = absurd c
 common_catch (Added BracketResult) env c = absurd c
 common_catch (Added BracketFault) env c = absurd c
-common_catch (Added h) env c = refl
-common_catch Unread env c = refl
+common_catch _ env c = refl
 
 common_to : (x : Name) (v : V) (env : Env) → IsCommon x → owed_to x v env ≡ []
-common_to (Written x) v env c = refl
 common_to (Added Instance) v env c = absurd c
 common_to (Added BracketResult) v env c = absurd c
 common_to (Added BracketFault) v env c = absurd c
-common_to (Added h) v env c = refl
-common_to Unread v env c = refl
+common_to _ v env c = refl
 
 common_bind : (x : Name) (a : Core) (env : Env) → IsCommon x → owed_bind x a env ≡ owed_start a env
-common_bind (Written x) a env c = refl
 common_bind (Added Instance) a env c = absurd c
 common_bind (Added BracketResult) a env c = absurd c
 common_bind (Added BracketFault) a env c = absurd c
-common_bind (Added h) a env c = refl
-common_bind Unread a env c = refl
+common_bind _ a env c = refl
 
 written_word : (w : Primitive) (env : Env) → IsOrdinary w → owed_word w env ≡ []
 written_word Release env h = absurd h
@@ -49,44 +43,14 @@ fine_op (Forks a env) h = refl
 fine_op (ForksUnmask r a env) h = refl
 
 fine_start : {a : Core} (env : Env) → Fine a → owed_start a env ≡ []
-fine_start env fine_return = refl
-fine_start env fine_throw = refl
-fine_start env (fine_let f) = refl
-fine_start env (fine_bind c f g) = refl
-fine_start env (fine_if f g) = refl
-fine_start env (fine_maybe f g) = refl
-fine_start env (fine_either f g) = refl
-fine_start env (fine_list f g) = refl
-fine_start env (fine_pair g) = refl
-fine_start env fine_call = refl
 fine_start env (fine_primitive {w} h) = written_word w env h
-fine_start env (fine_fork f) = refl
-fine_start env (fine_fork_unmask f) = refl
-fine_start env (fine_catch c f g) = refl
-fine_start env (fine_mask f) = refl
-fine_start env (fine_mask_hard f) = refl
-fine_start env (fine_restore f) = refl
-fine_start env (fine_bracket c f g h) = refl
+fine_start env _ = refl
 
 fine_do : {a : Core} (env : Env) → Fine a → owed_do a env ≡ []
-fine_do env fine_return = refl
-fine_do env fine_throw = refl
-fine_do env (fine_let f) = refl
 fine_do env (fine_bind {x} {a} c f g) = common_bind x a env c ∙ fine_start env f
-fine_do env (fine_if f g) = refl
-fine_do env (fine_maybe f g) = refl
-fine_do env (fine_either f g) = refl
-fine_do env (fine_list f g) = refl
-fine_do env (fine_pair g) = refl
-fine_do env fine_call = refl
 fine_do env (fine_primitive {w} h) = written_word w env h
-fine_do env (fine_fork f) = refl
-fine_do env (fine_fork_unmask f) = refl
 fine_do env (fine_catch {x} c f g) = common_catch x env c
-fine_do env (fine_mask f) = refl
-fine_do env (fine_mask_hard f) = refl
-fine_do env (fine_restore f) = refl
-fine_do env (fine_bracket c f g h) = refl
+fine_do env _ = refl
 
 -- ---- frames
 pub below_owes : {fs : List Frame} {o : List ℕ} → Below fs o → owed_frames fs ≡ o
@@ -111,14 +75,9 @@ below_masked (below_last w r) = below_masked r
 
 -- a value that comes to frames that may get any value
 ret_below : {fs : List Frame} {o : List ℕ} (v : V) → Below fs o → owed_ret v fs ≡ []
-ret_below v no_frames = refl
 ret_below v (below_bind {x} {b} {env} c f r) = common_to x v env c
-ret_below v (below_catch c f r) = refl
-ret_below v (below_mask r) = refl
 ret_below v (below_number {x} {b} {c} {env} k f g m r) = common_to x v env k
-ret_below v (below_guarded at f m r) = refl
-ret_below v (below_throw f w r) = refl
-ret_below v (below_last w r) = refl
+ret_below v _ = refl
 
 -- nothing here, and the frames' debts
 none_here : {fs : List Frame} {o : List ℕ} (here : List ℕ) → here ≡ [] → Below fs o → here ++ owed_frames fs ≡ o
@@ -153,7 +112,6 @@ held_owes (held_passing w r) = below_owes r
 
 pub held_here : {p : Part} {fs : List Frame} {o : List ℕ} → Held p fs o → owed_here p fs ≢ [] → IsMasked (mask_at fs)
 held_here (held_ret {v} r) n = absurd (n (ret_below v r))
-held_here (held_throw r) n = absurd (n refl)
 held_here (held_do {a} {env} f r) n = absurd (n (fine_do env f))
 held_here (held_op {op} f r) n = absurd (n (fine_op op f))
 held_here (held_masked k f g h m r) n = m
@@ -171,9 +129,7 @@ held_here (held_handle at f m w r) n = m
 held_here (held_handle_release at f m w r) n = m
 held_here (held_handle_op f m w r) n = m
 held_here (held_then_throw {b} {b'} {env} f w r) n = absurd (n (fine_start env f))
-held_here (held_last w r) n = absurd (n refl)
-held_here (held_thrown w r) n = absurd (n refl)
-held_here (held_passing w r) n = absurd (n refl)
+held_here _ n = absurd (n refl)
 
 pub held_catches : {p : Part} {fs : List Frame} {o : List ℕ} → Held p fs o → MaskedCatches fs
 held_catches (held_ret r) = below_masked r

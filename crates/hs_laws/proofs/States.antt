@@ -6,12 +6,12 @@ use Rattle.hs_base.specs.declared.exn.Exn.{Exn}
 use Rattle.hs_base.specs.declared.exn.Exn.TheVariants.{Timeout, BlockedIndefinitely}
 use Rattle.hs_rules.specs.declared.entry.Entry.{Entry}
 use Rattle.rules_meaning.specs.Values as val
-use Rattle.rules_meaning.specs.Values.{V, UnitValue, Int, Truth, Text, Nothing, Just, Left, Right, Pair, Nil, Cons, Exception, Restore, Inst, Env, with_name, value_at, Outcome, Gives, Throws, Stuck, Outcomes, AllGive, OneThrows, OneStuck}
+use Rattle.rules_meaning.specs.Values.{V, UnitValue, Exception, Restore, Inst, Env, with_name}
 use Rattle.rules_expansion.specs.Core.{Core}
 use Rattle.rules_expansion.specs.declared.primitive.Primitive.TheVariants.{NewMVar, NewEmptyMVar, Acquired, Release}
 use Rattle.rules_meaning.specs.CoreMeaning.{Code}
 use Rattle.hs_rules.specs.Terms.{Operation, Calls, Forks, ForksUnmask, Part, Ret, Throw, Do, Performs, Frame, MaskIn, Term, term}
-use Rattle.rules_waiting.specs.Waiting.{Reason, Taking, Reading, Putting, Throwing, Sleeping, Waiting, Flying, leaves, is_blocked, reason_of}
+use Rattle.rules_waiting.specs.Waiting.{Reason, Throwing, Sleeping, Waiting, Flying, leaves, is_blocked, reason_of}
 use Rattle.hs_rules.specs.State.{Mark, AcquiredBy, ReleasedBy, Thread, State, with_term, move, frames_of, resume, answer, resume_all, block, spawn, first}
 use Rattle.hs_rules.specs.Primitives.{read_by_all, line_feed}
 use Rattle.hs_rules.specs.Entries.{is_stranded, stranded_below, stranded, next}
@@ -113,17 +113,12 @@ resume_holds s t p h ok =
     resume_fits s.threads s.blocked s.marks s.marks s.next_instance s.next_instance t p h (λ u n. refl) h.proper h.numbered (ok_at p (slice_get s.threads t) (mine t s.marks) (h.threads t) ok)
 
 blocks_fine : (r : Reason V) (op : Operation) → Blocks r op → FineOp op
-blocks_fine (Taking m) op e = subst FineOp (sym e) tt
-blocks_fine (Reading m) op e = subst FineOp (sym e) tt
-blocks_fine (Putting m v) op e = subst FineOp (sym e) tt
-blocks_fine (Throwing u x) op e = subst FineOp (sym e) tt
 blocks_fine (Sleeping due) op e = subst FineOp (sym e.1) tt
+blocks_fine _ op e = subst FineOp (sym e) tt
 
 part_stopped : (r : Reason V) (p : Part) → OpPart (Blocks r) p → OpPart FineOp p
-part_stopped r (Ret v) h = h
-part_stopped r (Throw e) h = h
-part_stopped r (Do a env) h = h
 part_stopped r (Performs op) h = blocks_fine r op h
+part_stopped r _ h = h
 
 stopped_by : (r : Reason V) (o : Option Thread) → At (Blocks r) o → Stopped o
 stopped_by r None h = h
@@ -152,10 +147,8 @@ unfinished_at P th h e = by th.finished refl
     by true q = absurd (not_bare P th.term.part h (e (sym q)).1.0)
 
 free_part : (p : Part) {fs : List Frame} {m : List ℕ} → Held p fs m → OpPart FineOp p → Below fs m
-free_part (Ret v) h w = absurd w
-free_part (Throw e) h w = absurd w
-free_part (Do a env) h w = absurd w
 free_part (Performs op) h w = below_of_op w h
+free_part _ h w = absurd w
 
 free_of : (o : Option Thread) (m : List ℕ) → HeldThread o m → Stopped o → Free o m
 free_of None m h w = absurd w

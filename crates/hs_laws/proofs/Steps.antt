@@ -144,25 +144,22 @@ pub local_kept : (code : Code) → FineCode code.actions → {p : Part} {fs : Li
 local_kept code fc (held_ret {v} r) = ret_kept v r
 local_kept code fc (held_throw {e} r) = throw_kept e r
 local_kept code fc (held_do {a} {env} f r) = first_kept code fc f env r
-local_kept code fc (held_op f r) = tt
 local_kept code fc (held_masked c f g h m r) = held_do f (below_number c g h m r)
 local_kept code fc (held_number f g m r) = held_acquire f g m r
 local_kept code fc (held_acquire f g m r) = held_acquired f g m r
-local_kept code fc (held_acquired f g m r) = tt
 local_kept code fc (held_instance f g m r) = held_keep refl f g m r
 local_kept code fc (held_keep at f g m r) = held_guarded at f g m r
 local_kept code fc (held_guarded at f g m r) = held_do (fine_restore g) (below_guarded at f m r)
 local_kept code fc (held_result at f m r) = held_leave at f m r
 local_kept code fc (held_leave at f m r) = held_leave_release at f m r
 local_kept code fc (held_leave_release {env = env} at f m r) = release_step env code at (held_leave_op f m r)
-local_kept code fc (held_leave_op f m r) = tt
 local_kept code fc (held_handle at f m w r) = held_handle_release at f m w r
 local_kept code fc (held_handle_release {env = env} at f m w r) = release_step env code at (held_handle_op f m w r)
-local_kept code fc (held_handle_op f m w r) = tt
 local_kept code fc (held_then_throw f w r) = held_do f (below_last w r)
 local_kept code fc (held_last {b'} {env} {env'} {s} w r) = last_kept b' env' s w r (value_of_core code.functions env (Read (Added BracketFault)))
 local_kept code fc (held_thrown w r) = held_passing w r
 local_kept code fc (held_passing w r) = held_throw r
+local_kept code fc _ = tt
 
 on_term_kept : (u : Option Term) (k : Term → Option Term) {o : List ℕ} → Goes u o → ((t : Term) → Held t.part t.frames o → Goes (k t) o) → Goes (on_term u k) o
 on_term_kept None k h g = tt

@@ -122,9 +122,7 @@ active_around (MaskIn s ∷ fs) t = active_around fs (TreeMask s t)
 
 active_leaf : (p : Part) → active (leaf p) ≡ p
 active_leaf (Ret v) = refl
-active_leaf (Throw e) = refl
-active_leaf (Do a env) = refl
-active_leaf (Performs op) = refl
+active_leaf _ = refl
 
 pub same_part : (t : Term) → active (tree_of t) ≡ t.part
 same_part t = active_around t.frames (leaf t.part) ∙ active_leaf t.part
@@ -137,9 +135,7 @@ mask_around (MaskIn m ∷ fs) t s = mask_around fs (TreeMask m t) s
 
 mask_leaf : (p : Part) (s : Mask) → mask_within s (leaf p) ≡ s
 mask_leaf (Ret v) s = refl
-mask_leaf (Throw e) s = refl
-mask_leaf (Do a env) s = refl
-mask_leaf (Performs op) s = refl
+mask_leaf _ s = refl
 
 pub same_mask : (t : Term) → mask_of (tree_of t) ≡ mask_at t.frames
 same_mask t = mask_around t.frames (leaf t.part) Unmasked ∙ (mask_leaf t.part (mask_from t.frames Unmasked) ∙ mask_from_open t.frames)
@@ -152,9 +148,7 @@ replace_around (MaskIn s ∷ fs) t u = replace_around fs (TreeMask s t) u
 
 replace_leaf : (p : Part) (u : Tree) → replace (leaf p) u ≡ u
 replace_leaf (Ret v) u = refl
-replace_leaf (Throw e) u = refl
-replace_leaf (Do a env) u = refl
-replace_leaf (Performs op) u = refl
+replace_leaf _ u = refl
 
 pub same_place : (t : Term) (p : Part) → replace (tree_of t) (leaf p) ≡ tree_of (term p t.frames)
 same_place t p = replace_around t.frames (leaf t.part) (leaf p) ∙ ap (around t.frames) (replace_leaf t.part (leaf p))
@@ -174,13 +168,10 @@ abbrev term_of : Tree → Term
 term_of t = term (active t) (frames_onto [] t)
 
 back : (fs : List Frame) (t : Tree) → around (frames_onto fs t) (leaf (active t)) ≡ around fs t
-back fs (TreeRet v) = refl
-back fs (TreeThrow e) = refl
-back fs (TreeDo a env) = refl
-back fs (TreeOp op) = refl
 back fs (TreeBind t x b env) = back (BindTo x b env ∷ fs) t
 back fs (TreeCatch t x b env) = back (CatchBy x b env ∷ fs) t
 back fs (TreeMask m t) = back (MaskIn m ∷ fs) t
+back fs _ = refl
 
 pub each_tree : (t : Tree) → (u : Term) × (tree_of u ≡ t)
 each_tree t = (term_of t, back [] t)
@@ -193,9 +184,7 @@ frames_around (MaskIn m ∷ fs) gs t = frames_around fs gs (TreeMask m t)
 
 frames_leaf : (p : Part) (fs : List Frame) → frames_onto fs (leaf p) ≡ fs
 frames_leaf (Ret v) fs = refl
-frames_leaf (Throw e) fs = refl
-frames_leaf (Do a env) fs = refl
-frames_leaf (Performs op) fs = refl
+frames_leaf _ fs = refl
 
 same_frames : (t : Term) → frames_onto [] (tree_of t) ≡ t.frames
 same_frames t = frames_around t.frames [] (leaf t.part) ∙ (frames_leaf t.part (t.frames ++ []) ∙ append-nil t.frames)

@@ -19,7 +19,7 @@ use Rattle.hs_rules.specs.Runs.{IsRun}
 use Rattle.hs_soundness.specs.CoreSorts.{written_in, FitsScope, GoodSort}
 use Rattle.hs_soundness.proofs.CoreExpressions.{accepted_good}
 use Rattle.hs_soundness.proofs.Growing.{scope_more}
-use Rattle.hs_progress.specs.CoreTyping.{CoreAllHave, no_more, one_more, Does, does_return, does_throw, does_let, does_bind, does_then, does_if, does_maybe, does_either, does_list, does_pair, does_call, does_perform, does_fork, does_fork_unmask, does_catch, does_mask, does_mask_hard, does_restore}
+use Rattle.hs_progress.specs.CoreTyping.{CoreAllHave, no_more, one_more, Does, does_return, does_throw, does_let, does_if, does_maybe, does_either, does_list, does_pair, does_call, does_perform}
 use Rattle.hs_progress.specs.TypedStates.{ctx_of, Runs, PartTyped, do_typed, TermTyped, ThreadTyped, has}
 use Rattle.hs_progress.specs.Evaluated.{of_script, evaluated, HaveSorts, MayEvaluate, AllAnswer}
 use Rattle.hs_progress.proofs.Heads.{heads_kept}
@@ -39,8 +39,6 @@ module _ (c : typing.Ctx) where
   does_have (does_return {k} h) = ((k, h), tt)
   does_have (does_throw h) = ((_, h), tt)
   does_have (does_let {j} p h d) = ((j, h), tt)
-  does_have (does_bind p d w) = tt
-  does_have (does_then d w) = tt
   does_have (does_if h d w) = ((_, h), tt)
   does_have (does_maybe p h d w) = ((_, h), tt)
   does_have (does_either p q h d w) = ((_, h), tt)
@@ -48,12 +46,7 @@ module _ (c : typing.Ctx) where
   does_have (does_pair p q h d) = ((_, h), tt)
   does_have {g} (does_call {es} sig e w l h) = args_have g es sig.params l h
   does_have (does_perform p h) = all_have h
-  does_have (does_fork d) = tt
-  does_have (does_fork_unmask p d) = tt
-  does_have (does_catch p d w) = tt
-  does_have (does_mask p d) = tt
-  does_have (does_mask_hard p d) = tt
-  does_have (does_restore h d) = tt
+  does_have _ = tt
 
 runs_evaluate : (cells : ℕ → T → Type 0) (ds : List Fn) (a : Core) (env : Env) (k : Sort) → Runs cells ds a env k → MayEvaluate ds a env
 runs_evaluate cells ds a env k r = record {

@@ -7,7 +7,7 @@ use Rattle.hs_base.specs.declared.mask.Mask.TheVariants.{Unmasked}
 use Rattle.rules_trees.specs.Trees.{T, unit, int, bool, text, thread, exn, maybe, either, cell}
 use Rattle.rules_trees.specs.Programs.{Fn}
 use Rattle.rules_meaning.specs.Values as val
-use Rattle.rules_meaning.specs.Values.{V, UnitValue, Int, Truth, Text, Nothing, Just, Exception, Restore, Inst, Env, with_name}
+use Rattle.rules_meaning.specs.Values.{V, UnitValue, Int, Truth, Text, Nothing, Just, Exception, Restore, Inst, with_name}
 use Rattle.rules_expansion.specs.declared.primitive.Primitive.{Primitive}
 use Rattle.rules_sorts.specs.Sorts.{Sort, a_value, a_masking_name, an_instance, a_scope_cell}
 use Rattle.rules_sorts.specs.TypedMeaning.{of_int, of_text, of_exn, of_thread, of_cell, HasV}

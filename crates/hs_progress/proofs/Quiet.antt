@@ -38,22 +38,12 @@ own_is_work t (Throw e) [] = tt
 own_is_work t (Throw e) (f ∷ fs) = tt
 
 work_isnt_tick : (e : Entry) → IsWork e → ¬ IsTick e
-work_isnt_tick (entry.Local t k) w h = h
-work_isnt_tick (entry.Op t) w h = h
-work_isnt_tick (entry.Receive t) w h = h
-work_isnt_tick (entry.Wake t) w h = h
-work_isnt_tick (entry.Finish t) w h = h
 work_isnt_tick (entry.Tick at) w h = w
-work_isnt_tick entry.Stranded w h = h
+work_isnt_tick _ w h = h
 
 work_is_timely : (code : Code) (s : State) (e : Entry) → IsWork e → IsTimely code s e
-work_is_timely code s (entry.Local t k) w = tt
-work_is_timely code s (entry.Op t) w = tt
-work_is_timely code s (entry.Receive t) w = tt
-work_is_timely code s (entry.Wake t) w = tt
-work_is_timely code s (entry.Finish t) w = tt
-work_is_timely code s (entry.Tick at) w = tt
 work_is_timely code s entry.Stranded w = absurd w
+work_is_timely code s _ w = tt
 
 -- where nothing but a Tick is legal there is no work
 quiet_is_idle : (code : Code) (s : State) → IsQuiet code s → IsIdle code s

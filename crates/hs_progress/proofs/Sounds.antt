@@ -4,11 +4,11 @@ use Rattle.hs_base.specs.declared.exn.Exn.{Exn}
 use Rattle.rules_trees.specs.Trees.{unit}
 use Rattle.rules_trees.specs.Programs.{Fn}
 use Rattle.rules_meaning.specs.Values as val
-use Rattle.rules_meaning.specs.Values.{V, UnitValue, Exception, Int, Env}
+use Rattle.rules_meaning.specs.Values.{V, UnitValue}
 use Rattle.rules_expansion.specs.declared.primitive.Primitive.TheVariants.{TakeMVar, ReadMVar, PutMVar, ThreadDelay, ThrowTo}
 use Rattle.rules_sorts.specs.Sorts.{Sort, a_value}
 use Rattle.rules_sorts.specs.TypedMeaning.{HasV}
-use Rattle.hs_rules.specs.Terms.{Operation, Calls, Part, Ret, Throw, Do, Performs, Term, term}
+use Rattle.hs_rules.specs.Terms.{Operation, Calls, Part, Ret, Throw, Performs, Term, term}
 use Rattle.rules_waiting.specs.OneCell.{first_put}
 use Rattle.rules_waiting.specs.Waiting.{Reason, Taking, Reading, Putting, Throwing, Sleeping, line_of}
 use Rattle.hs_rules.specs.State.{Thread, State, with_term, move, frames_of, resume, resume_all}
@@ -18,49 +18,35 @@ use Rattle.hs_laws.proofs.Lists.{equal_or, cond_true, cond_false, item_same, ite
 use Rattle.hs_laws.proofs.States.{Holds, Waits, reads_hold}
 use Rattle.hs_progress.specs.CoreTyping.{asks_take, asks_put, asks_put_end, asks_read, asks_read_end, asks_throw_to, asks_delay}
 use Rattle.hs_progress.specs.TypedStates.{one_value, no_values, OpTyped, calls_typed, PartTyped, ret_typed, throw_typed, op_typed, FramesTyped, ThreadTyped, ContentTyped, CellTyped, TermTyped, Purpose, for_values, for_end, held_by, Store, has, with_sort, Sound, Follows}
-
-length_set : {A : Type 0} (xs : List A) (k : ℕ) (y : A) → length (slice_set xs k y) ≡ length xs
-length_set [] k y = refl
-length_set (x ∷ xs) zero y = refl
-length_set (x ∷ xs) (suc k) y = ap suc (length_set xs k y)
+use Rattle.hs_laws.proofs.Growing.{set_length, term_length}
 
 pub length_with_term : (t : ℕ) (o : Option Thread) (u : Term) (ts : List Thread) → length (with_term t o u ts) ≡ length ts
-length_with_term t None u ts = refl
-length_with_term t (Some th) u ts = length_set ts t (record { term = u; finished = th.finished })
+length_with_term = term_length
 
 pub length_ended : (ts : List Thread) (t : ℕ) (th : Thread) → length (slice_set ts t th) ≡ length ts
-length_ended ts t th = length_set ts t th
+length_ended ts t th = set_length ts t th
 
 -- ---- the reasons that are looked for
 
-puts_is : (m : ℕ) (r : Reason V) (v : V) → puts m r ≡ Some v → r ≡ Putting m v
-puts_is m (Taking k) v e = absurd (cc e)
-puts_is m (Reading k) v e = absurd (cc e)
-puts_is m (Throwing u x) v e = absurd (cc e)
-puts_is m (Sleeping d) v e = absurd (cc e)
+pub puts_is : (m : ℕ) (r : Reason V) (v : V) → puts m r ≡ Some v → r ≡ Putting m v
 puts_is m (Putting k w) v e =
     ⊎_elim
     (λ q. let f : ◌≡◌ {A = Option V} (Some w) (Some v) = sym (cond_true (k == m) (Some w) None q.0) ∙ e in let g : w ≡ v = cc f in ap (λ j. Putting j w) q.1 ∙ ap (Putting m) g)
     (λ q. let f : ◌≡◌ {A = Option V} None (Some v) = sym (cond_false (k == m) (Some w) None q.0) ∙ e in absurd (cc f))
     (equal_or k m)
+puts_is m _ v e = absurd (cc e)
 
-takes_is : (m : ℕ) (r : Reason V) (v : Unit {0}) → takes m r ≡ Some v → r ≡ Taking m
-takes_is m (Reading k) v e = absurd (cc e)
-takes_is m (Putting k w) v e = absurd (cc e)
-takes_is m (Throwing u x) v e = absurd (cc e)
-takes_is m (Sleeping d) v e = absurd (cc e)
+pub takes_is : (m : ℕ) (r : Reason V) (v : Unit {0}) → takes m r ≡ Some v → r ≡ Taking m
 takes_is m (Taking k) v e =
     ⊎_elim
     (λ q. ap Taking q.1)
     (λ q. let f : ◌≡◌ {A = Option (Unit {0})} None (Some v) = sym (cond_false (k == m) (Some tt) None q.0) ∙ e in absurd (cc f))
     (equal_or k m)
+takes_is m _ v e = absurd (cc e)
 
-reads_is : (m : ℕ) (r : Reason V) → reads_at m r ≡ true → r ≡ Reading m
-reads_is m (Taking k) e = absurd (cc e)
-reads_is m (Putting k w) e = absurd (cc e)
-reads_is m (Throwing u x) e = absurd (cc e)
-reads_is m (Sleeping d) e = absurd (cc e)
+pub reads_is : (m : ℕ) (r : Reason V) → reads_at m r ≡ true → r ≡ Reading m
 reads_is m (Reading k) e = ⊎_elim (λ q. ap Reading q.1) (λ q. let f : true ≡ false = sym e ∙ q.0 in absurd (cc f)) (equal_or k m)
+reads_is m _ e = absurd (cc e)
 
 -- what holds of each number holds of those of a list
 each_one : (P : ℕ → Type 0) (us : List ℕ) → ((u : ℕ) → P u) → Ones P us
@@ -94,7 +80,7 @@ module _ (ds : List Fn) (st : Store) where
   set_sound ts cs t th new e h typed = record {
     threads = changed ts t th new e h.threads typed;
     contents = h.contents;
-    counted = h.counted ∙ sym (length_set ts t new);
+    counted = h.counted ∙ sym (set_length ts t new);
   }
 
   frames_at : (k : Sort) (o : Option Thread) (th : Thread) → o ≡ Some th → ThreadTyped (has st) ds k o → FramesTyped (has st) ds k th.term.frames
@@ -174,10 +160,8 @@ module _ (ds : List Fn) (st : Store) where
   part_op (op_typed h) = h
 
   part_expects : (r : Reason V) (p : Part) (k : Sort) → OpPart (Blocks r) p → PartTyped (has st) ds p k → Expects r k
-  part_expects r (Ret v) k b h = absurd b
-  part_expects r (Throw e) k b h = absurd b
-  part_expects r (Do a env) k b h = absurd b
   part_expects r (Performs op) k b h = op_expects r op k b (part_op h)
+  part_expects r _ k b h = absurd b
 
   -- a blocked thread may get what it expects
   pub fit_at : (t : ℕ) (r : Reason V) (p : Part) (o : Option Thread) → At (Blocks r) o → ThreadTyped (has st) ds (st.sorts t) o → ((k : Sort) → Expects r k → PartTyped (has st) ds p k) → FitsFor p t
@@ -249,18 +233,12 @@ module _ (ds : List Fn) (st : Store) where
   -- ---- those that throw
 
   throw_reason : (t : ℕ) (r : Reason V) (k : Sort) → throws_at t r ≡ true → Expects r k → k ≡ a_value unit
-  throw_reason t (Taking m) k e a = absurd (cc e)
-  throw_reason t (Reading m) k e a = absurd (cc e)
-  throw_reason t (Putting m w) k e a = absurd (cc e)
   throw_reason t (Throwing u x) k e a = a
-  throw_reason t (Sleeping d) k e a = absurd (cc e)
+  throw_reason t _ k e a = absurd (cc e)
 
   pub thrown_reason : (t : ℕ) (r : Reason V) (e : Exn) (k : Sort) → throws t r ≡ Some e → Expects r k → k ≡ a_value unit
-  thrown_reason t (Taking m) e k q a = absurd (cc q)
-  thrown_reason t (Reading m) e k q a = absurd (cc q)
-  thrown_reason t (Putting m w) e k q a = absurd (cc q)
   thrown_reason t (Throwing u x) e k q a = a
-  thrown_reason t (Sleeping d) e k q a = absurd (cc q)
+  thrown_reason t _ e k q a = absurd (cc q)
 
   pub throwers_sound : (t : ℕ) (s : State) → Holds s → SoundAt s → SoundAt (resume_all (those (λ u. throws_at t) s.blocked) (Ret UnitValue) s)
   throwers_sound t s g h =

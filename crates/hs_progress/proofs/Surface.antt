@@ -19,7 +19,7 @@ use Rattle.rules_expansion.specs.Names.{Written, Added, same_name, Unread}
 use Rattle.rules_expansion.specs.declared.hidden.Hidden.{Hidden}
 use Rattle.rules_expansion.specs.declared.hidden.Hidden.TheVariants.{Restorer, Given, Caught, TheCell, Instance, BracketResult, BracketFault, Allowed, InTime, Owner, Expiry, Helper, ScopeCell, Child, Ended, ActionResult, FirstEnd, FirstSide, SecondSide, FirstResult, SecondResult}
 use Rattle.rules_sorts.specs.Sorts.{Sort, a_value, a_masking_name, an_instance, a_scope_cell, sort_at, SortedName}
-use Rattle.rules_typing.specs.Typing.{Need, is, AllMet, Sig, inner_of, first_of, second_of}
+use Rattle.rules_typing.specs.Typing.{AllMet, Sig, inner_of, first_of, second_of}
 use Rattle.rules_typing.specs.Typing as typing
 use Rattle.rules_typing.specs.TypingActions.{form_of_acts, type_of_bare, row_unary_act, row_binary_act, ActHas, BlHas, ActArmsHave}
 use Rattle.rules_sorts.specs.TypedMeaning.{Well, WellAll}

@@ -101,21 +101,12 @@ uncounted_moves_count (t ∷ ts) vs = uncounted_moves_count ts vs
 module _ (code : Code) (T : State → ℕ → Type 0) (stable : IsStable code T) where
   pub taken_too : (s u : State) (e : Entry) → EagerStep code s u → IsTaken T s e → IsTaken T u e
   taken_too s u (entry.Local v k) c n = n
-  taken_too s u (entry.Op v) c n = tt
-  taken_too s u (entry.Receive v) c n = tt
-  taken_too s u (entry.Wake v) c n = tt
-  taken_too s u (entry.Finish v) c n = tt
   taken_too s u (entry.Tick at) c n = stable s u c at n
-  taken_too s u entry.Stranded c n = tt
+  taken_too s u _ c n = tt
 
   pub one_of : (s : State) (e : Entry) → IsTaken T s e → One e
   one_of s (entry.Local v k) n = n
-  one_of s (entry.Op v) n = tt
-  one_of s (entry.Receive v) n = tt
-  one_of s (entry.Wake v) n = tt
-  one_of s (entry.Finish v) n = tt
-  one_of s (entry.Tick at) n = tt
-  one_of s entry.Stranded n = tt
+  one_of s _ n = tt
 
   pub uncounted_moves_lead : (ts : List ℕ) (vs : List Move) (w m z : State) → LocalsLead code ts w m → Path code T m vs z → Path code T w (uncounted_moves ts vs) z
   uncounted_moves_lead [] vs w m z l k = subst (λ q. Path code T q vs z) (sym l) k

@@ -11,15 +11,15 @@ use Rattle.hs_laws.proofs.Lists.{item_below}
 use Rattle.hs_rules.specs.Entries as entries
 use Rattle.hs_rules.specs.Endings.{IsDone, IsUncaught, IsDeadlock, ended_by, result_of}
 use Rattle.rules_meaning.specs.Values.{V}
-use Rattle.rules_waiting.specs.Waiting.{Reason, Taking, Reading, Putting, Throwing, Sleeping, reason_of, sleepers_of}
+use Rattle.rules_waiting.specs.Waiting.{Reason, Sleeping, reason_of, sleepers_of}
 use Rattle.timing_laws.proofs.Passing.{thread_there, same_item}
 use Rattle.reduction_laws.specs.EagerRules.{passes, passes_all, EagerRule}
 use Rattle.reduction_laws.specs.Paths.{LocalsLead, MainRuns, EndsLike, IsOther, Commutes, CommutesWithReceive, NamesThread}
 use Rattle.hs_laws.proofs.SameCases.{put_in}
 use Rattle.reduction_laws.proofs.Apart.{Stands, IsApart}
-use Rattle.reduction_laws.proofs.Tests.{both_true}
 use Rattle.reduction_laws.proofs.Own.{main_runs, gone, Known, known, poised_next, eager_of, no_op, no_finish, Near, hit, main_hit, passing, frame_passed, Hit, own_receive}
 use Rattle.reduction_laws.proofs.Ending.{runs_or, alike_gone, apart_leads}
+use Rattle.hs_cases.proofs.Entering.{both_true}
 
 pub others_commute : (code : Code) (t : ℕ) (s u : State) (e : Entry) (m : State) → EagerRule code t s u → IsOther t e → Leads code s e m → Commutes code t u e m
 others_commute code t s u e m c n l = let k = known c in subst (λ q. Commutes code t q e m) (sym k.leaves) (by k e n l)
@@ -115,12 +115,8 @@ names_thread s t k u e =
     item_below s.threads t b.0 b.1
 
 names_sleeper : (s : State) (t : ℕ) (o : Option (Reason V)) (u : State) → reason_of t s.blocked ≡ o → woken t o s ≡ Some u → (due : ℕ) × (reason_of t s.blocked ≡ Some (Sleeping due))
-names_sleeper s t None u e g = absurd (cc g)
-names_sleeper s t (Some (Taking m)) u e g = absurd (cc g)
-names_sleeper s t (Some (Reading m)) u e g = absurd (cc g)
-names_sleeper s t (Some (Putting m a)) u e g = absurd (cc g)
-names_sleeper s t (Some (Throwing w x)) u e g = absurd (cc g)
 names_sleeper s t (Some (Sleeping due)) u e g = (due, e)
+names_sleeper s t _ u e g = absurd (cc g)
 
 pub names_a_thread : (code : Code) (s : State) (e : Entry) (u : State) → next code s e ≡ Some u → NamesThread s e
 names_a_thread code s (entry.Local t k) u h = names_thread s t (λ z. local_entry code t k z s) u h

@@ -9,13 +9,13 @@ use Rattle.hs_rules.specs.declared.entry.Entry.TheVariants as entry
 use Rattle.rules_expansion.specs.Names.{Name}
 use Rattle.rules_meaning.specs.Values as val
 use Rattle.rules_meaning.specs.Values.{V, UnitValue, Truth, Nothing, Just, Left, Right, Pair, Nil, Cons, Exception, Restore, Inst, Env, with_name, value_at, Outcome, Gives, Throws, Stuck, Outcomes, AllGive, OneThrows, OneStuck}
-use Rattle.rules_expansion.specs.Core.{Core, Return, ThrowIo, Let, Bind, If, CaseMaybe, CaseEither, CaseList, CasePair, Call, Perform, Fork, ForkUnmask, Catch, MaskWith, MaskHard, ActionFunction, action_named}
+use Rattle.rules_expansion.specs.Core.{Core, Return, ThrowIo, Let, Bind, If, CaseMaybe, CaseEither, CaseList, CasePair, Call, Perform, Catch, ActionFunction, action_named}
 use Rattle.rules_expansion.specs.Core as core
 use Rattle.rules_meaning.specs.CoreMeaning.{Code, value_of_core, values_of_core}
 use Rattle.rules_meaning.specs.Meaning.{values_of_exs}
 use Rattle.hs_rules.specs.Terms.{Operation, Part, Ret, Throw, Do, Performs, Frame, BindTo, CatchBy, MaskIn, Term, term, mask_at}
 use Rattle.hs_rules.specs.LocalRules.{on_value, on_values, thrown, chosen, chosen_maybe, chosen_either, chosen_list, chosen_pair, with_params, entered, called, restored, first_step, ret_step, throw_step, on_top, local, on_term, locals}
-use Rattle.rules_waiting.specs.Waiting.{Reason, Taking, Reading, Putting, Throwing, Sleeping, Waiting, Flying, leaves, with_flying, flight_of, flying_to}
+use Rattle.rules_waiting.specs.Waiting.{Reason, Throwing, Waiting, Flying, leaves, with_flying, flight_of, flying_to}
 use Rattle.hs_rules.specs.State.{AcquiredBy, ReleasedBy, Thread, State, with_term, move, frames_of, resume, answer, resume_all, block, thread_with, spawn, first}
 use Rattle.hs_rules.specs.Primitives.{line_feed}
 use Rattle.hs_rules.specs.Entries.{stranded, next}
@@ -119,12 +119,9 @@ first_goes code c m (CaseList e a x y b) env f = value_goes (value_of_core code.
 first_goes code c m (CasePair e x y b) env f = value_goes (value_of_core code.functions env e) _ (pair_goes x y b env f)
 first_goes code c m (Call g es) env f = values_go (values_of_exs code.functions env es) _ (called_goes (action_named g code.actions) (known_named g code.actions c))
 first_goes code c m (Perform p es) env f = values_go (values_of_core code.functions env es) _ (λ vs. (f, tt))
-first_goes code c m (Fork a) env f = (f, tt)
-first_goes code c m (ForkUnmask r a) env f = (f, tt)
 first_goes code c m (Catch a x b) env f = (f.0, (f.1, tt))
-first_goes code c m (MaskWith r a) env f = (f, tt)
-first_goes code c m (MaskHard r a) env f = (f, tt)
 first_goes code c m (core.Restore r a) env f = restored_goes a env f (value_at r env)
+first_goes code c m _ env f = (f, tt)
 
 ret_goes : (v : V) (fs : List Frame) → NoThrowToFrames fs → NoThrowToResult (ret_step v fs)
 ret_goes v [] h = tt
@@ -172,11 +169,8 @@ with_threads ths v k None e h g = h
 with_threads ths v k (Some z) e h g = set_threads ths v z (record { term = k (Some z); finished = z.finished }) e h (g z refl)
 
 flight_tail : (t : ℕ) (r : Reason V) (fs : List Flying) → with_flying t r fs ≡ [] → (fs ≡ []) × (with_flying t r [] ≡ [])
-flight_tail t (Taking m) fs h = (h, refl)
-flight_tail t (Reading m) fs h = (h, refl)
-flight_tail t (Putting m a) fs h = (h, refl)
 flight_tail t (Throwing u e) fs h = absurd (cc h)
-flight_tail t (Sleeping due) fs h = (h, refl)
+flight_tail t _ fs h = (h, refl)
 
 flight_left : (v : ℕ) (ws : List (Waiting V)) → flight_of ws ≡ [] → flight_of (leaves v ws) ≡ []
 flight_left v [] h = refl
@@ -221,11 +215,8 @@ spawn_keeps x s g h = record { threads = λ t. item_more NoThrowToThread s.threa
 
 -- who blocks without a throw at a thread sends no exception
 none_sent : (t : ℕ) (r : Reason V) (op : Operation) → Blocks r op → NoThrowToOperation op → with_flying t r [] ≡ []
-none_sent t (Taking m) op b n = refl
-none_sent t (Reading m) op b n = refl
-none_sent t (Putting m a) op b n = refl
 none_sent t (Throwing u e) op b n = absurd (subst NoThrowToOperation b n)
-none_sent t (Sleeping due) op b n = refl
+none_sent t _ op b n = refl
 
 result_none : (p : Part) → IsResult p → NoThrowToPart p
 result_none (Ret v) i = tt

@@ -17,11 +17,12 @@ use Rattle.timing_laws.proofs.Passing.{same_item, passed_not, passed, thread_the
 use Rattle.reduction_laws.specs.EagerRules.{passes, passes_all, step_is_eager, leaving_is_eager, is_eager_though_open, is_eager, thread_is_eager, EagerRule}
 use Rattle.reduction_laws.specs.Paths.{MainRuns}
 use Rattle.reduction_laws.proofs.Lists.{set_twice}
-use Rattle.reduction_laws.proofs.Tests.{both_true, not_true, there_is}
+use Rattle.reduction_laws.proofs.Tests.{there_is}
 use Rattle.reduction_laws.proofs.NobodyThrows.{nobody_throws_kept, none_receives}
 use Rattle.reduction_laws.specs.NoThrowTo.{NobodyThrows}
 use Rattle.hs_laws.proofs.SameCases.{put_in}
 use Rattle.reduction_laws.proofs.Apart.{Stands, SameFlag, same_flag, flags, resumed, Other, all_other}
+use Rattle.hs_cases.proofs.Entering.{both_true, not_true}
 
 -- ---- main
 
@@ -110,10 +111,8 @@ module _ (code : Code) (t : ℕ) (s : State) (th : Thread) (x : Term) (h : Poise
   on_own k u e = there_is (slice_get s.threads t) th k u h.is (thread_there (slice_get s.threads 0) (λ main. on_thread (slice_get s.threads t) k) u e).3
 
   no_operation : (p : Part) (fs : List Frame) (k : Operation → Option State) (u : State) → local code p fs ≡ Some x → at_operation p k ≡ Some u → ⊥
-  no_operation (Ret v) fs k u r e = cc e
-  no_operation (Throw z) fs k u r e = cc e
-  no_operation (Do a env) fs k u r e = cc e
   no_operation (Performs o) fs k u r e = cc r
+  no_operation _ fs k u r e = cc e
 
   pub no_op : (u : State) → next code s (entry.Op t) ≡ Some u → ⊥
   no_op u e =

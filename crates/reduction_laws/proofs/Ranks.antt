@@ -20,12 +20,7 @@ non_ticks vs = length (without_ticks (entries_of vs))
 
 at_most_one : (e : Entry) → length (without_ticks (e ∷ [])) ≤ 1
 at_most_one (entry.Tick at) = omega arith
-at_most_one (entry.Local t k) = omega arith
-at_most_one (entry.Op t) = omega arith
-at_most_one (entry.Receive t) = omega arith
-at_most_one (entry.Wake t) = omega arith
-at_most_one (entry.Finish t) = omega arith
-at_most_one entry.Stranded = omega arith
+at_most_one _ = omega arith
 
 more_moves : (ts : List ℕ) (vs : List Move) → non_ticks vs ≤ non_ticks (uncounted_moves ts vs)
 more_moves [] vs = omega arith

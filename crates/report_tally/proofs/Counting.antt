@@ -1,7 +1,7 @@
 -- Lists of counts by number.
 use Rattle.std.proofs.Common.{◌≡◌, ◌<◌, ◌≤◌, ℕ, ◌+◌, ◌==◌, List, [], ◌∷◌, ◌++◌, length, Bool, true, false, cond, arith, Some, None, slice_get, slice_set, refl, sym, ap, ◌∙◌, subst, ⊎_elim}
 use Rattle.hs_rules.specs.declared.entry.Entry.{Entry}
-use Rattle.hs_rules.specs.declared.entry.Entry.TheVariants.{Local, Op, Receive, Wake, Finish, Tick, Stranded}
+use Rattle.hs_rules.specs.declared.entry.Entry.TheVariants.{Local, Op, Receive}
 use Rattle.hs_rules.specs.Histories.{cost_of}
 use Rattle.hs_laws.proofs.Lists.{cond_cases, cond_true, cond_false, equal_or, item_same, item_other, item_more, some_item}
 use Rattle.report_tally.specs.declared.counts.ThreadCounts.{ThreadCounts}
@@ -76,10 +76,7 @@ thread_within (Receive k) blocked t n c h =
     let a = h.receives in
     let w = wider n (n + 1) c h (omega arith) in
     cond_cases (ThreadWithin (n + 1)) (k == t) (record c { receives = c.receives + 1 }) c (λ b. record { local = w.local; ops = w.ops; waits = w.waits; receives = omega (arith, a) }) (λ b. w)
-thread_within (Wake k) blocked t n c h = wider n (n + 1) c h (omega arith)
-thread_within (Finish k) blocked t n c h = wider n (n + 1) c h (omega arith)
-thread_within (Tick k) blocked t n c h = wider n (n + 1) c h (omega arith)
-thread_within Stranded blocked t n c h = wider n (n + 1) c h (omega arith)
+thread_within _ blocked t n c h = wider n (n + 1) c h (omega arith)
 
 pub threads_within : (e : Entry) (blocked : Bool) (n : ℕ) (old new : List ThreadCounts) → ThreadsWithin n old → ((t : ℕ) → thread_at new t ≡ thread_after e blocked t (thread_at old t)) → ThreadsWithin (n + cost_of e) new
 threads_within e blocked n old new h all t = subst (ThreadWithin (n + cost_of e)) (sym (all t)) (thread_within e blocked t n (thread_at old t) (h t))

@@ -46,10 +46,6 @@ pub lost_all : (ts : List ℕ) (p : Part) (s : State) → Lost s.blocked (resume
 lost_all [] p s = lost_none s.blocked
 lost_all (t ∷ ts) p s = lost_both s.blocked (leaves t s.blocked) (resume_all ts p (resume t p s)).blocked (lost_one t s.blocked) (lost_all ts p (resume t p s))
 
-pub same_cells : (ts : List ℕ) (p : Part) (s : State) → (resume_all ts p s).cells ≡ s.cells
-same_cells [] p s = refl
-same_cells (t ∷ ts) p s = same_cells ts p (resume t p s)
-
 -- who isn't blocked stands in no line
 pub free_stands : (m t : ℕ) (ws : List (Waiting V)) → is_blocked t ws ≡ false → stands_in t (line_of m ws) ≡ false
 free_stands m t [] e = refl

@@ -11,12 +11,12 @@ use Rattle.hs_rules.specs.Primitives.{due_in}
 use Rattle.hs_cases.specs.Cases.{Performs, read_there, makes_a_full_cell, makes_an_empty_cell, take_waits, takes_and_empties, takes_and_serves, read_waits, reads, put_waits, puts_and_fills, puts_and_serves, try_take_finds_nothing, try_takes_and_empties, try_takes_and_serves, try_put_finds_a_value, try_puts_and_fills, try_puts_and_serves, sleeps, throw_waits}
 use Rattle.hs_laws.specs.CellLaw.{operation_calls, after_calls, outs_by}
 use Rattle.hs_laws.proofs.Lists.{cond_false, equal_or, item_same}
-use Rattle.hs_laws.proofs.CellSteps.{line_more}
+use Rattle.hs_laws.proofs.CellSteps.{line_more, all_cells}
 use Rattle.report_tally.specs.declared.touch.Touch.{Touch}
 use Rattle.report_tally.specs.declared.touch.Touch.TheVariants as touch
 use Rattle.report_tally.specs.Reporting.{one_if, is_full}
 use Rattle.report_tally.specs.Touching.{touch_of, is_on, waits_there, serves, full_in}
-use Rattle.report_tally.proofs.Leaving.{Lost, lost_both, lost_one, lost_all, same_cells}
+use Rattle.report_tally.proofs.Leaving.{Lost, lost_both, lost_one, lost_all}
 use Rattle.report_tally.proofs.Serving as one
 use Rattle.report_tally.proofs.Serving.{Serves}
 
@@ -112,7 +112,7 @@ module _ (t : ℕ) (s : State) (free : Free t s) where
   read_and_served c w a b = lost_both s.blocked (read_there c a (answer t b s)).blocked (leaves w (read_there c a (answer t b s)).blocked) (all_read c a b) (lost_one w (read_there c a (answer t b s)).blocked)
 
   read_cells : (c : ℕ) (a b : V) → (read_there c a (answer t b s)).cells ≡ s.cells
-  read_cells c a b = same_cells (readers (line_of c (answer t b s).blocked)) (Ret a) (answer t b s)
+  read_cells c a b = all_cells (readers (line_of c (answer t b s).blocked)) (Ret a) (answer t b s)
 
   still_on : (c m : ℕ) (f : Bool → Bool) (o : Option V) → slice_get s.cells c ≡ Some o → f (is_full (Some o)) ≡ false → ((c == m) && f (full_in m s)) ≡ false
   still_on c m f o e no_wait = test_on c m s f o false e no_wait ∙ and_false (c == m)

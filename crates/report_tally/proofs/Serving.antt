@@ -2,12 +2,14 @@
 use Rattle.std.proofs.Common.{◌≡◌, ℕ, List, [], ◌∷◌, ◌++◌, length, true, false, Option, Some, None, refl, sym, ap, ◌∙◌}
 use Rattle.rules_meaning.specs.Values.{V}
 use Rattle.rules_waiting.specs.OneCell as one
-use Rattle.rules_waiting.specs.OneCell.{Place, Cell, Call, Make, Take, Read, Put, Try_take, Try_put, Leave, Took, Saw, Gave, Tried_take, Tried_put, Reply, reply_of, first_put, first_take, readers, leave_line, shown, comes_on, comes_in, called, call}
+use Rattle.rules_waiting.specs.OneCell.{Place, Cell, Call, Take, Read, Put, Try_take, Try_put, Leave, Took, Gave, Tried_take, Tried_put, Reply, reply_of, first_put, first_take, readers, leave_line, shown, comes_on, called, call}
 use Rattle.hs_laws.specs.CellLaw.{went_out, outs_by, taken_by}
 use Rattle.report_tally.specs.declared.touch.Touch.{Touch}
 use Rattle.report_tally.specs.declared.touch.Touch.TheVariants.{Takes, Reads, Puts, TriesToTake, TriesToPut}
 use Rattle.report_tally.specs.Reporting.{one_if, is_full}
 use Rattle.report_tally.specs.Touching.{serves}
+use Rattle.hs_laws.proofs.CellHistories.{went_shown}
+use Rattle.hs_laws.proofs.CellRuns.{IsLeave, OnlyLeaves}
 
 -- by this call as many values come out as who touches the cell so can see
 abbrev pub Serves : Touch → Call V → Type 0
@@ -16,10 +18,6 @@ Serves h q = (c : Cell V) → length (outs_by (q ∷ []) c) ≡ one_if (serves h
 moved : (a : V) (t : ℕ) (r : one.Answer V) (o : Option (ℕ × V)) (ps : List (Place V)) → taken_by r ≡ a ∷ [] → length (went_out (one.moves_in o ps (reply_of t r ∷ [])).replies ++ []) ≡ 1
 moved a t r None ps e = ap (λ z. length ((z ++ []) ++ [])) e
 moved a t r (Some w) ps e = ap (λ z. length ((z ++ []) ++ [])) e
-
-went_shown : (a : V) (ts : List ℕ) (rs : List (Reply V)) → went_out (shown a ts ++ rs) ≡ went_out rs
-went_shown a [] rs = refl
-went_shown a (t ∷ ts) rs = went_shown a ts rs
 
 given : (h : Touch) (a : V) (w : Option ℕ) (ps : List (Place V)) (ts : List ℕ) (r : Reply V) → taken_by r.answer ≡ [] → serves h false false ≡ true → serves h false true ≡ false →
     length (went_out (comes_on a w ps (shown a ts) r).replies ++ []) ≡ one_if (serves h false (is_full (Some (comes_on a w ps (shown a ts) r).cell.content)))
@@ -67,27 +65,10 @@ tries_to_put k t a c = tries_to_put_at k t a c.content c.line
 
 -- ---- calls by which nothing comes out
 
-abbrev pub IsLeave : Call V → Type 0
-IsLeave (Leave t) = Unit {0}
-IsLeave _ = ⊥
-
-abbrev pub OnlyLeaves : List (Call V) → Type 0
-OnlyLeaves [] = Unit {0}
-OnlyLeaves (q ∷ qs) = IsLeave q × OnlyLeaves qs
-
 none_left : (q : Call V) (qs : List (Call V)) (c : Cell V) → IsLeave q → outs_by qs (call q c).cell ≡ [] → outs_by (q ∷ qs) c ≡ []
 none_left (Leave t) qs c l e = e
-none_left (Make t o) qs c l e = absurd l
-none_left (Take t) qs c l e = absurd l
-none_left (Read t) qs c l e = absurd l
-none_left (Put t a) qs c l e = absurd l
-none_left (Try_take t) qs c l e = absurd l
-none_left (Try_put t a) qs c l e = absurd l
+none_left _ qs c l e = absurd l
 
 pub none_out : (qs : List (Call V)) (c : Cell V) → OnlyLeaves qs → outs_by qs c ≡ []
 none_out [] c l = refl
 none_out (q ∷ qs) c l = none_left q qs c l.0 (none_out qs (call q c).cell l.1)
-
-pub both_leave : (qs rs : List (Call V)) → OnlyLeaves qs → OnlyLeaves rs → OnlyLeaves (qs ++ rs)
-both_leave [] rs a b = b
-both_leave (q ∷ qs) rs a b = (a.0, both_leave qs rs a.1 b)

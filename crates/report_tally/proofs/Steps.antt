@@ -9,8 +9,7 @@ use Rattle.rules_expansion.specs.Core.{Core}
 use Rattle.rules_expansion.specs.Expansion.{main_of}
 use Rattle.rules_meaning.specs.Values.{V, UnitValue}
 use Rattle.rules_meaning.specs.CoreMeaning.{Code, code_of}
-use Rattle.rules_waiting.specs.OneCell.{Want}
-use Rattle.rules_waiting.specs.Waiting.{Reason, Waiting, want_at, leaves, reason_of, is_blocked, flying_to, flight_of}
+use Rattle.rules_waiting.specs.Waiting.{leaves, reason_of, is_blocked, flying_to, flight_of}
 use Rattle.hs_rules.specs.Terms.{Operation, Ret, Throw}
 use Rattle.hs_base.specs.declared.exn.Exn.TheVariants.{BlockedIndefinitely}
 use Rattle.hs_rules.specs.State.{State}
@@ -18,7 +17,7 @@ use Rattle.hs_rules.specs.Entries.{next, stranded, throwers}
 use Rattle.hs_rules.specs.Runs.{first_of, begun, IsRun}
 use Rattle.hs_cases.specs.Cases.{Performs, Enters, local, operation, receives_while_it_runs, receives_while_it_waits, wakes, finishes_by_a_value, main_finishes_by_an_exception, finishes_silently, finishes_with_a_line, ticks, strands}
 use Rattle.hs_cases.proofs.Entering.{case_of}
-use Rattle.hs_laws.specs.CellLaw.{operation_calls, part_calls, thread_calls, leave_if, leave_call, leave_calls, calls_of, after_calls, held, outs_by, calls_after, unmade, alone, ins, outs}
+use Rattle.hs_laws.specs.CellLaw.{operation_calls, part_calls, thread_calls, calls_of, after_calls, held, outs_by, calls_after, unmade, alone, ins, outs}
 use Rattle.hs_laws.proofs.Lists.{cond_cases}
 use Rattle.hs_laws.proofs.RunParts.{is_after, run_more}
 use Rattle.hs_laws.proofs.Expanded.{cells_law}
@@ -27,7 +26,8 @@ use Rattle.report_tally.specs.Reporting.{total_after, total_of, greatest_after, 
 use Rattle.report_tally.specs.Touching.{part_touch, thread_touch, touch_of, is_on, waits_there, serves, full_in}
 use Rattle.report_tally.proofs.Sums.{total_of_more, greatest_of_more, greatest_last, alone_more, outs_more}
 use Rattle.report_tally.proofs.Leaving.{Lost, lost_none, lost_both, lost_one, lost_all, free_stands}
-use Rattle.report_tally.proofs.Serving.{OnlyLeaves, none_out, both_leave}
+use Rattle.report_tally.proofs.Serving.{none_out}
+use Rattle.hs_laws.proofs.CellRuns.{OnlyLeaves, leave_only, leaves_only}
 use Rattle.report_tally.proofs.Operating.{Performed, performs, comes_out}
 
 -- ---- the cell alone is the cell of the state
@@ -112,22 +112,10 @@ others_lose {s} (finishes_with_a_line {t} {th} m f x e q) n = lost_all (throwers
 others_lose {s} (ticks m e) n = lost_none s.blocked
 others_lose {s} (strands {t} {ts} m e w) n = lost_all (t ∷ ts) (Throw BlockedIndefinitely) s
 
-leave_one : (t : ℕ) (o : Option (Want V)) → OnlyLeaves (leave_if t o)
-leave_one t None = tt
-leave_one t (Some w) = (tt, tt)
-
-leave_by : (m t : ℕ) (o : Option (Reason V)) → OnlyLeaves (leave_call m t o)
-leave_by m t None = tt
-leave_by m t (Some r) = leave_one t (want_at m r)
-
-leave_all : (m : ℕ) (ts : List ℕ) (ws : List (Waiting V)) → OnlyLeaves (leave_calls m ts ws)
-leave_all m [] ws = tt
-leave_all m (t ∷ ts) ws = both_leave (leave_call m t (reason_of t ws)) (leave_calls m ts ws) (leave_by m t (reason_of t ws)) (leave_all m ts ws)
-
 others_leave : (m : ℕ) (s : State) (e : Entry) → IsNoOp e → OnlyLeaves (calls_of m s e)
 others_leave m s (entry.Op t) n = absurd n
-others_leave m s (entry.Receive t) n = leave_by m t (reason_of t s.blocked)
-others_leave m s entry.Stranded n = leave_all m (stranded s) s.blocked
+others_leave m s (entry.Receive t) n = leave_only m t (reason_of t s.blocked)
+others_leave m s entry.Stranded n = leaves_only m (stranded s) s.blocked
 others_leave m s _ n = tt
 
 no_wait : (m : ℕ) (e : Entry) (u : State) → IsNoOp e → cell_wait_by m e u ≡ 0

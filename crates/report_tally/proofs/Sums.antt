@@ -11,6 +11,8 @@ use Rattle.hs_rules.specs.Entries.{next}
 use Rattle.hs_rules.specs.Runs.{Run, first_of, IsRun}
 use Rattle.hs_laws.specs.CellLaw.{calls_of, after_calls, went_out, outs_by, calls_from, calls_after, calls, unmade, alone, outs}
 use Rattle.report_tally.specs.Reporting.{total, total_from, total_after, total_of, greatest_from, greatest_after, greatest_of}
+use Rattle.hs_laws.proofs.CellHistories.{more_calls}
+use Rattle.hs_laws.proofs.CellRuns.{after_both}
 
 pub total_more : (f : Entry → ℕ) (es : List Entry) (e : Entry) → total f (es ++ e ∷ []) ≡ total f es + f e
 total_more f [] e = omega arith
@@ -61,25 +63,18 @@ pub greatest_last : (f : State → ℕ) (ds : List Fn) (es : List Entry) (u : St
 greatest_last f ds es u r = subst (λ o. f u ≤ greatest_after f (code_of ds) o es) (sym r.1) (greatest_from_last f (code_of ds) es r.0 u r.2)
 
 -- ---- calls on a cell
-calls_next : (code : Code) (m : ℕ) (s v : State) (e : Entry) (es : List Entry) → next code s e ≡ Some v → calls_from code m s (e ∷ es) ≡ calls_of m s e ++ calls_from code m v es
-calls_next code m s v e es n = ap (λ o. calls_of m s e ++ elim o [ None ↦ [] | Some u ↦ calls_from code m u es ]) n
-
 calls_from_more : (code : Code) (m : ℕ) (es : List Entry) (s u v : State) (e : Entry) → Run code s es u → next code u e ≡ Some v → calls_from code m s (es ++ e ∷ []) ≡ calls_from code m s es ++ calls_of m u e
 calls_from_more code m [] s u v e r n =
-    calls_next code m s v e [] (subst (λ x. next code x e ≡ Some v) (sym r) n) ∙ (append-nil (calls_of m s e) ∙ ap (λ x. calls_of m x e) r)
+    more_calls code m s v e [] (subst (λ x. next code x e ≡ Some v) (sym r) n) ∙ (append-nil (calls_of m s e) ∙ ap (λ x. calls_of m x e) r)
 calls_from_more code m (x ∷ es) s u v e r n =
-    calls_next code m s r.0 x (es ++ e ∷ []) r.1.0
+    more_calls code m s r.0 x (es ++ e ∷ []) r.1.0
     ∙ (ap (λ z. calls_of m s x ++ z) (calls_from_more code m es r.0 u v e r.2 n)
     ∙ (sym (append_assoc (calls_of m s x) (calls_from code m r.0 es) (calls_of m u e))
-    ∙ ap (λ z. z ++ calls_of m u e) (sym (calls_next code m s r.0 x es r.1.0))))
+    ∙ ap (λ z. z ++ calls_of m u e) (sym (more_calls code m s r.0 x es r.1.0))))
 
 pub calls_more : (ds : List Fn) (m : ℕ) (es : List Entry) (u v : State) (e : Entry) → IsRun ds es u → next (code_of ds) u e ≡ Some v → calls ds (es ++ e ∷ []) m ≡ calls ds es m ++ calls_of m u e
 calls_more ds m es u v e r n =
     subst (λ o. calls_after o (code_of ds) m (es ++ e ∷ []) ≡ calls_after o (code_of ds) m es ++ calls_of m u e) (sym r.1) (calls_from_more (code_of ds) m es r.0 u v e r.2 n)
-
-after_both : (qs rs : List (Call V)) (c : Cell V) → after_calls (qs ++ rs) c ≡ after_calls rs (after_calls qs c)
-after_both [] rs c = refl
-after_both (q ∷ qs) rs c = after_both qs rs (call q c).cell
 
 pub alone_more : (ds : List Fn) (m : ℕ) (es : List Entry) (u v : State) (e : Entry) → IsRun ds es u → next (code_of ds) u e ≡ Some v → alone ds (es ++ e ∷ []) m ≡ after_calls (calls_of m u e) (alone ds es m)
 alone_more ds m es u v e r n = ap (λ qs. after_calls qs unmade) (calls_more ds m es u v e r n) ∙ after_both (calls ds es m) (calls_of m u e) unmade

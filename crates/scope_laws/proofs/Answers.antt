@@ -8,13 +8,13 @@ use Rattle.rules_expansion.specs.Core.{Core}
 use Rattle.rules_expansion.specs.Expansion.{child_block}
 use Rattle.rules_meaning.specs.Values.{V, Cell, Env}
 use Rattle.rules_meaning.specs.Values as val
-use Rattle.rules_waiting.specs.Waiting.{Reason, Taking, Reading, Putting, Throwing, Sleeping}
+use Rattle.rules_waiting.specs.Waiting.{Reason, Sleeping}
 use Rattle.hs_rules.specs.Terms.{Operation, Calls, Forks, Part, Ret, Throw, Do, Performs, Frame, mask_at}
 use Rattle.hs_rules.specs.Entries.{is_throw, is_unmasked, is_interruptible}
 use Rattle.hs_laws.specs.BracketLaw.{IsMasked}
 use Rattle.hs_laws.specs.BracketPhases.{Blocks}
 use Rattle.scope_laws.specs.ScopePhases.{Role, Running, Ended, IsOf}
-use Rattle.scope_laws.specs.ScopePhases.{Stopping, stop_whole, stop_kills, stop_throws, stop_throwing, stop_thrown, stop_awaits, stop_reads, stop_reading, stop_has_read, stop_gives, stop_leaves}
+use Rattle.scope_laws.specs.ScopePhases.{Stopping, stop_whole, stop_throwing, stop_thrown, stop_reading, stop_has_read}
 use Rattle.scope_laws.specs.ScopePhases.{Held, held_ret, held_throw, held_do, held_op, held_new, held_new_op, held_new_throw, held_new_cell, held_made, held_masked, held_fork, held_fork_op, held_forked, held_named, held_run, held_guarded, held_result, held_exit, held_handler, held_stop, held_stopped, held_return, held_rethrow, held_thrown, held_passing, held_child, held_action, held_fault, held_told, held_ending, held_put, held_put_op}
 use Rattle.scope_laws.proofs.Phases.{after_masked, stop_masked}
 
@@ -33,11 +33,8 @@ HardPart _ m = Unit {0}
 
 -- the operation of a fork blocks nobody
 no_fork : (r : Reason V) (a : Core) (env : Env) → Blocks r (Forks a env) → ⊥
-no_fork (Taking m) a env e = cc e
-no_fork (Reading m) a env e = cc e
-no_fork (Putting m v) a env e = cc e
-no_fork (Throwing u x) a env e = cc e
 no_fork (Sleeping due) a env e = cc e.1
+no_fork _ a env e = cc e
 
 soft_is : {A : Type 0} (m : Mask) → m ≡ Uninterruptible → is_interruptible m ≡ true → A
 soft_is m e f = let q : false ≡ true = sym (ap is_interruptible e) ∙ f in absurd (cc q)
@@ -50,29 +47,12 @@ open_is Uninterruptible e h = absurd (cc e)
 module _ (values : ℕ → Type 0) (roles : ℕ → Role) (t : ℕ) (j : Option ℕ) where
   pub stop_part : {m : ℕ} {p : Part} {fs gs : List Frame} → Stopping values roles t j m fs p gs → StopPart p
   stop_part (stop_whole n) = tt
-  stop_part (stop_kills n) = tt
-  stop_part (stop_throws n) = tt
-  stop_part (stop_throwing n a y) = tt
-  stop_part (stop_thrown n) = tt
-  stop_part (stop_awaits n) = tt
-  stop_part (stop_reads n) = tt
-  stop_part stop_reading = tt
-  stop_part (stop_has_read e) = tt
-  stop_part (stop_gives e) = tt
-  stop_part (stop_leaves e) = tt
+  stop_part _ = tt
 
   stop_hard : {m : ℕ} {p : Part} {fs gs : List Frame} → Stopping values roles t j m fs p gs → HardPart p (mask_at gs)
-  stop_hard (stop_whole n) = tt
-  stop_hard (stop_kills n) = tt
-  stop_hard (stop_throws n) = tt
   stop_hard (stop_throwing n a y) = refl
-  stop_hard (stop_thrown n) = tt
-  stop_hard (stop_awaits n) = tt
-  stop_hard (stop_reads n) = tt
   stop_hard stop_reading = refl
-  stop_hard (stop_has_read e) = tt
-  stop_hard (stop_gives e) = tt
-  stop_hard (stop_leaves e) = tt
+  stop_hard _ = tt
 
   -- ---- answers
 

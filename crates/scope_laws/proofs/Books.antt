@@ -7,12 +7,12 @@ use Rattle.rules_waiting.specs.Waiting.{Waiting, line_of}
 use Rattle.rules_waiting.specs.OneCell.{first_take}
 use Rattle.hs_laws.specs.BracketLaw.{count}
 use Rattle.hs_laws.proofs.Lists.{cond_true, cond_false, equal_or, Found, first_found, first_of_kind, takes, only_thread, take_is_first, Ones}
-use Rattle.hs_progress.specs.TypedStates.{Purpose, for_values, for_end}
+use Rattle.hs_progress.specs.TypedStates.{Purpose}
 use Rattle.scope_laws.specs.ScopePhases.{Role, Plain, Fresh, Running, Ended, IsOf, IsChild, Held}
-use Rattle.scope_laws.specs.ScopesKept.{IsForValues, IsForEnd, at_values, CellFits, WaitsFor, AllWaitFor, Book, HeldThread, Fits}
+use Rattle.scope_laws.specs.ScopesKept.{IsForEnd, at_values, CellFits, WaitsFor, AllWaitFor, Book, HeldThread, Fits}
 use Rattle.scope_laws.proofs.Later.{Nearly, Later, held_more}
-use Rattle.scope_laws.proofs.Reasons.{takes_is}
-use Rattle.scope_laws.proofs.Threads.{lines_left, lines_each, threads_set_at, threads_set}
+use Rattle.hs_progress.proofs.Sounds.{takes_is}
+use Rattle.scope_laws.proofs.Threads.{lines_left, lines_each, threads_set_at, threads_set, not_both}
 
 -- ---- lists, longer at the end
 
@@ -151,11 +151,6 @@ contents_more cells roles cs c h m =
 
 -- ---- lines
 
-pub not_both : (q : Option Purpose) → IsForEnd q → IsForValues q → ⊥
-not_both None h f = h
-not_both (Some (for_values t)) h f = h
-not_both (Some (for_end t)) h f = f
-
 pub no_taker : (cells : List Purpose) (m : ℕ) (ws : List (Waiting V)) → IsForEnd (slice_get cells m) → AllWaitFor cells ws → first_take (line_of m ws) ≡ None
 no_taker cells m ws i h = take_is_first m ws ∙ none (first_of_kind (takes m) ws) (first_found (λ u. WaitsFor cells) (takes m) ws (lines_each cells ws h))
   where
@@ -168,10 +163,6 @@ no_taker cells m ws i h = take_is_first m ws ∙ none (first_of_kind (takes m) w
 pub all_cells : (us : List ℕ) (p : Part) (s : State) (cs : List (Option V)) → resume_all us p (record s { cells = cs }) ≡ record (resume_all us p s) { cells = cs }
 all_cells [] p s cs = refl
 all_cells (u ∷ us) p s cs = all_cells us p (resume u p s) cs
-
-pub same_cells : (us : List ℕ) (p : Part) (s : State) → (resume_all us p s).cells ≡ s.cells
-same_cells [] p s = refl
-same_cells (u ∷ us) p s = same_cells us p (resume u p s)
 
 -- ---- counts
 

@@ -11,7 +11,7 @@ use Rattle.rules_expansion.specs.Core.{Core}
 use Rattle.rules_meaning.specs.Values.{V, Cell, UnitValue}
 use Rattle.rules_meaning.specs.CoreMeaning.{Code, code_of}
 use Rattle.rules_typing.specs.TypingScripts.{Accepted}
-use Rattle.rules_waiting.specs.Waiting.{Reason, Taking, Reading, Putting, Throwing, Sleeping, Waiting, Flying, reason_of, at_cell, flight_of, flying_to, first_thrown}
+use Rattle.rules_waiting.specs.Waiting.{Reason, Taking, Putting, Throwing, Sleeping, Waiting, Flying, reason_of, at_cell, flight_of, flying_to, first_thrown}
 use Rattle.hs_rules.specs.Terms.{Operation, Calls, Ret, Throw, Term, mask_at}
 use Rattle.hs_rules.specs.LocalRules.{local, on_term, locals}
 use Rattle.hs_rules.specs.State.{Thread, State, move, resume, answer, resume_all, first}
@@ -28,7 +28,7 @@ use Rattle.hs_progress.proofs.Heads.{heads_kept}
 use Rattle.hs_progress.proofs.Moves.{local_goes}
 use Rattle.hs_progress.proofs.Sounds.{part_op}
 use Rattle.hs_progress.proofs.Entries.{runs_are_typed, next_typed}
-use Rattle.scope_laws.specs.ScopePhases.{Role, Plain, Fresh, Running, Ended, Fine, Held, held_do, no_frames}
+use Rattle.scope_laws.specs.ScopePhases.{Role, Plain, Running, Fine, Held, held_do, no_frames}
 use Rattle.scope_laws.specs.ScopesKept.{IsForValues, IsForEnd, at_values, CellFits, WaitsFor, AllWaitFor, Book, HeldThread, Fits, Scoped}
 use Rattle.scope_laws.proofs.Forms as forms
 use Rattle.scope_laws.proofs.Later.{Later}
@@ -56,17 +56,13 @@ end_stays (Some p) q' k h = subst IsForEnd (sym (k p refl)) h
 
 content_stays : (r : Role) (c : Option (Option V)) (q q' : Option Purpose) → ((p : Purpose) → q ≡ Some p → q' ≡ Some p) → CellFits r c q → CellFits r c q'
 content_stays Plain c q q' k h = tt
-content_stays (Fresh p) c q q' k h = (h.0, end_stays q q' k h.1)
-content_stays (Running p d) c q q' k h = (h.0, end_stays q q' k h.1)
-content_stays (Ended p) c q q' k h = (h.0, end_stays q q' k h.1)
+content_stays _ c q q' k h = (h.0, end_stays q q' k h.1)
 
 module _ (cells cells' : List Purpose) (kept : (m : ℕ) (p : Purpose) → slice_get cells m ≡ Some p → slice_get cells' m ≡ Some p) where
   waits_stay : (r : Reason V) → WaitsFor cells r → WaitsFor cells' r
   waits_stay (Taking m) h = values_stay (slice_get cells m) (slice_get cells' m) (kept m) h
-  waits_stay (Reading m) h = tt
   waits_stay (Putting m a) h = values_stay (slice_get cells m) (slice_get cells' m) (kept m) h
-  waits_stay (Throwing u e) h = tt
-  waits_stay (Sleeping due) h = tt
+  waits_stay _ h = tt
 
   lines_stay : (ws : List (Waiting V)) → AllWaitFor cells ws → AllWaitFor cells' ws
   lines_stay [] h = tt

@@ -57,17 +57,9 @@ fine_bare z.GetMaskingState = fine_primitive tt
 
 fine_unary : (w : UnaryAction) (e : Ex) → Fine (unary_core w (OfScript e))
 fine_unary u.Return e = fine_return refl
-fine_unary u.PutStr e = fine_primitive tt
-fine_unary u.PutStrLn e = fine_primitive tt
-fine_unary u.HPutStrLn e = fine_primitive tt
-fine_unary u.NewMVar e = fine_primitive tt
-fine_unary u.TakeMVar e = fine_primitive tt
-fine_unary u.ReadMVar e = fine_primitive tt
-fine_unary u.TryTakeMVar e = fine_primitive tt
-fine_unary u.KillThread e = fine_primitive tt
-fine_unary u.ThreadDelay e = fine_primitive tt
 fine_unary u.Wait e = fine_let tt refl (fine_bind tt (fine_primitive tt) (fine_either tt tt fine_throw (fine_return refl)))
 fine_unary u.Cancel e = fine_let tt refl (fine_bind tt (fine_primitive tt) (fine_bind tt (fine_primitive tt) (fine_return refl)))
+fine_unary _ e = fine_primitive tt
 
 fine_binary : (w : BinaryAction) (e f : Ex) → Fine (binary_core w (OfScript e) (OfScript f))
 fine_binary b.PutMVar e f = fine_put

@@ -4,7 +4,6 @@ mod Owing
 mod Later
 mod Steps
 mod Answers
-mod Reasons
 mod Threads
 mod Typed
 mod Books

@@ -33,7 +33,8 @@ use Rattle.scope_laws.proofs.Later.{Nearly, Later, below_more}
 use Rattle.scope_laws.proofs.Answers.{stop_part, throw_answered, read_answered, throws_itself}
 use Rattle.scope_laws.proofs.Threads.{FitsIn, resume_fits, block_fits, taken_fits, reads_fit, given_fits}
 use Rattle.scope_laws.proofs.Typed.{Kept, take_at, try_take_at, try_put_at, new_end}
-use Rattle.scope_laws.proofs.Books.{with_one, one_same, one_other, roles_each, nearly_set, later_set, change_fits, spawn_fits, fork_fits, none_at_end, at_end, before_end, no_cell_is, full_is, contents_more, no_taker, all_cells, same_cells, count_new, count_apart, count_none}
+use Rattle.scope_laws.proofs.Books.{with_one, one_same, one_other, roles_each, nearly_set, later_set, change_fits, spawn_fits, fork_fits, none_at_end, at_end, before_end, no_cell_is, full_is, contents_more, no_taker, all_cells, count_new, count_apart, count_none}
+use Rattle.hs_laws.proofs.CellSteps as steps
 
 -- ---- primitives that only answer
 
@@ -211,7 +212,7 @@ module _ (ds : List Fn) (st st' : Store) (kept : Kept st st'.cells) (b : Book) w
           let e : all_read ≡ record r0 { cells = full } = all_cells us (Ret v) (answer t UnitValue s) full in
           let l : AllWaitFor st'.cells r0.blocked = subst (λ x. AllWaitFor st'.cells x.blocked) e lines in
           let n : first_take (line_of m r0.blocked) ≡ None = no_taker st'.cells m r0.blocked empty.1 l in
-          let c : r0.cells ≡ s.cells = same_cells us (Ret v) (answer t UnitValue s) in
+          let c : r0.cells ≡ s.cells = steps.all_cells us (Ret v) (answer t UnitValue s) in
           ap (λ o. goes_in m v o r0) n ∙ (ap (λ cs. record r0 { cells = slice_set cs m (Some v) }) c ∙ sym e)
 
       ending_kept : Holds (answer t UnitValue s) → {z : Mask} → th.term.frames ≡ MaskIn z ∷ [] → b.guarded t ≡ [] → KeptAt (given m v (answer t UnitValue s))

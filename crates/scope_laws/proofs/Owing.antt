@@ -9,7 +9,7 @@ use Rattle.hs_laws.specs.Standing.{IsResult}
 use Rattle.hs_laws.proofs.Lists.{cond_true, cond_false, equal_or}
 use Rattle.scope_laws.specs.ScopeLaw.{cell_of, acting_bind, acting_do, acting_frames, acting_ret, acting, ending}
 use Rattle.scope_laws.specs.ScopePhases.{Role, Below, no_frames, below_bind, below_catch, below_mask, below_guarded, below_child, After, after_exit, after_handler}
-use Rattle.scope_laws.specs.ScopePhases.{Owes, Stopping, stop_whole, stop_kills, stop_throws, stop_throwing, stop_thrown, stop_awaits, stop_reads, stop_reading, stop_has_read, stop_gives, stop_leaves}
+use Rattle.scope_laws.specs.ScopePhases.{Owes, Stopping, stop_whole}
 use Rattle.scope_laws.specs.ScopePhases.{Held, held_ret, held_throw, held_do, held_op, held_new, held_new_op, held_new_throw, held_new_cell, held_made, held_masked, held_fork, held_fork_op, held_forked, held_named, held_run, held_guarded, held_result, held_exit, held_handler, held_stop, held_stopped, held_return, held_rethrow, held_thrown, held_passing, held_child, held_action, held_fault, held_told, held_ending, held_put, held_put_op}
 
 -- a number stands in a list
@@ -76,16 +76,7 @@ module _ (values : ℕ → Type 0) (roles : ℕ → Role) (t : ℕ) (j : Option 
 
   stop_owes : {n : ℕ} {p : Part} {fs gs : List Frame} → Stopping values roles t j n fs p gs → Among m (acting_frames fs) → Among m (acting p gs)
   stop_owes (stop_whole n) h = h
-  stop_owes (stop_kills n) h = h
-  stop_owes (stop_throws n) h = h
-  stop_owes (stop_throwing n a y) h = h
-  stop_owes (stop_thrown n) h = h
-  stop_owes (stop_awaits n) h = h
-  stop_owes (stop_reads n) h = h
-  stop_owes stop_reading h = h
-  stop_owes (stop_has_read e) h = h
-  stop_owes (stop_gives e) h = h
-  stop_owes (stop_leaves e) h = h
+  stop_owes _ h = h
 
   pub held_owes : {p : Part} {fs : List Frame} {o : List ℕ} → Held values roles t j p fs o → Owing m p fs
   held_owes (held_ret r) = inl (ret_owes r)

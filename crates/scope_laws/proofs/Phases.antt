@@ -1,6 +1,6 @@
 -- What a term in its phase guards and acts on, and that it stays in it where cells go on.
 use Rattle.std.proofs.Common.{◌≡◌, ℕ, Bool, true, false, cond, ◌||◌, List, [], ◌∷◌, ◌++◌, Option, Some, refl, sym, ap, ◌∙◌, subst}
-use Rattle.rules_expansion.specs.Names.{Name, Written, Added, Unread}
+use Rattle.rules_expansion.specs.Names.{Name, Added}
 use Rattle.rules_expansion.specs.declared.hidden.Hidden.TheVariants.{TheCell, ScopeCell, Child, ChildEnding, ScopeResult}
 use Rattle.rules_expansion.specs.Core.{Core}
 use Rattle.rules_meaning.specs.Values.{V, Cell, Env, value_at, with_name}
@@ -8,74 +8,43 @@ use Rattle.hs_rules.specs.Terms.{Part, Frame, BindTo, CatchBy, MaskIn, mask_at}
 use Rattle.hs_laws.specs.BracketLaw.{IsMasked}
 use Rattle.hs_laws.proofs.Lists.{cond_false, Ones}
 use Rattle.scope_laws.specs.ScopeLaw.{is_added, cell_of, cell_in, acting_bind, acting_do, acting_frames, acting_ret, acting, returns_result, is_async, guards_bind, guards_do, guards_ret, guards_frames, guards}
-use Rattle.scope_laws.specs.ScopePhases.{IsCommon, Fine, fine_return, fine_throw, fine_let, fine_cell, fine_bind, fine_if, fine_maybe, fine_either, fine_list, fine_pair, fine_call, fine_primitive, fine_put, fine_put_back, fine_fork, fine_fork_unmask, fine_catch, fine_mask, fine_mask_hard, fine_restore, fine_scope}
+use Rattle.scope_laws.specs.ScopePhases.{IsCommon, Fine, fine_return, fine_let, fine_bind}
 use Rattle.scope_laws.specs.ScopePhases.{Role, Running, Ended, IsOf, Below, no_frames, below_bind, below_catch, below_mask, below_guarded, below_child, After, after_exit, after_handler}
-use Rattle.scope_laws.specs.ScopePhases.{Stopping, stop_whole, stop_kills, stop_throws, stop_throwing, stop_thrown, stop_awaits, stop_reads, stop_reading, stop_has_read, stop_gives, stop_leaves}
-use Rattle.scope_laws.specs.ScopePhases.{Held, held_ret, held_throw, held_do, held_op, held_new, held_new_op, held_new_throw, held_new_cell, held_made, held_masked, held_fork, held_fork_op, held_forked, held_named, held_run, held_guarded, held_result, held_exit, held_handler, held_stop, held_stopped, held_return, held_rethrow, held_thrown, held_passing, held_child, held_action, held_fault, held_told, held_ending, held_put, held_put_op}
+use Rattle.scope_laws.specs.ScopePhases.{Stopping, stop_whole}
+use Rattle.scope_laws.specs.ScopePhases.{Held, held_ret, held_throw, held_do, held_op, held_new, held_new_op, held_new_throw, held_new_cell, held_made, held_masked, held_fork, held_fork_op, held_forked, held_named, held_run, held_guarded, held_result, held_exit, held_handler, held_stop, held_stopped, held_return, held_rethrow, held_thrown, held_passing, held_child, held_action, held_fault, held_told}
 
 -- ---- common names
 
 pub not_result : (x : Name) → IsCommon x → is_added ScopeResult x ≡ false
-not_result (Written x) c = refl
 not_result (Added ScopeResult) c = absurd c
-not_result (Added h) c = refl
-not_result Unread c = refl
+not_result _ c = refl
 
 not_child : (x : Name) → IsCommon x → is_added Child x ≡ false
-not_child (Written x) c = refl
 not_child (Added Child) c = absurd c
-not_child (Added h) c = refl
-not_child Unread c = refl
+not_child _ c = refl
 
 not_ending : (x : Name) → IsCommon x → is_added ChildEnding x ≡ false
-not_ending (Written x) c = refl
 not_ending (Added ChildEnding) c = absurd c
-not_ending (Added h) c = refl
-not_ending Unread c = refl
+not_ending _ c = refl
 
 -- what the own names of a scope stand for stays
 pub same_cell : (x : Name) (v : V) (env : Env) → IsCommon x → value_at (Added ScopeCell) (with_name x v env) ≡ value_at (Added ScopeCell) env
-same_cell (Written x) v env c = refl
 same_cell (Added ScopeCell) v env c = absurd c
-same_cell (Added h) v env c = refl
-same_cell Unread v env c = refl
+same_cell _ v env c = refl
 
 pub same_child : (x : Name) (v : V) (env : Env) → IsCommon x → value_at (Added Child) (with_name x v env) ≡ value_at (Added Child) env
-same_child (Written x) v env c = refl
 same_child (Added Child) v env c = absurd c
-same_child (Added h) v env c = refl
-same_child Unread v env c = refl
+same_child _ v env c = refl
 
 pub same_own_cell : (x : Name) (v : V) (env : Env) → IsCommon x → value_at (Added TheCell) (with_name x v env) ≡ value_at (Added TheCell) env
-same_own_cell (Written x) v env c = refl
 same_own_cell (Added TheCell) v env c = absurd c
-same_own_cell (Added h) v env c = refl
-same_own_cell Unread v env c = refl
+same_own_cell _ v env c = refl
 
 -- ---- fine actions neither guard nor act
 
 no_result : {a : Core} → Fine a → returns_result a ≡ false
 no_result (fine_return e) = e
-no_result fine_throw = refl
-no_result (fine_let c e f) = refl
-no_result (fine_cell f) = refl
-no_result (fine_bind c f g) = refl
-no_result (fine_if f g) = refl
-no_result (fine_maybe c f g) = refl
-no_result (fine_either c d f g) = refl
-no_result (fine_list c d f g) = refl
-no_result (fine_pair c d g) = refl
-no_result fine_call = refl
-no_result (fine_primitive h) = refl
-no_result fine_put = refl
-no_result fine_put_back = refl
-no_result (fine_fork f) = refl
-no_result (fine_fork_unmask c f) = refl
-no_result (fine_catch c f g) = refl
-no_result (fine_mask c f) = refl
-no_result (fine_mask_hard c f) = refl
-no_result (fine_restore f) = refl
-no_result (fine_scope c f g) = refl
+no_result _ = refl
 
 neither : (p q : Bool) (ns : List ℕ) → p ≡ false → q ≡ false → cond (p || q) ns [] ≡ []
 neither true q ns e f = absurd (cc e)
@@ -89,50 +58,13 @@ bind_acts : (x : Name) (env : Env) → IsCommon x → acting_bind x env ≡ []
 bind_acts x env c = cond_false (is_added ChildEnding x) (cell_in env) [] (not_ending x c)
 
 pub do_guards : {a : Core} (env : Env) → Fine a → guards_do a env ≡ []
-do_guards env (fine_return e) = refl
-do_guards env fine_throw = refl
 do_guards env (fine_let {x} {e} c q f) = cond_false (is_async e) (cell_in env) [] q
-do_guards env (fine_cell f) = refl
 do_guards env (fine_bind {x} c f g) = bind_guards x env c g
-do_guards env (fine_if f g) = refl
-do_guards env (fine_maybe c f g) = refl
-do_guards env (fine_either c d f g) = refl
-do_guards env (fine_list c d f g) = refl
-do_guards env (fine_pair c d g) = refl
-do_guards env fine_call = refl
-do_guards env (fine_primitive h) = refl
-do_guards env fine_put = refl
-do_guards env fine_put_back = refl
-do_guards env (fine_fork f) = refl
-do_guards env (fine_fork_unmask c f) = refl
-do_guards env (fine_catch c f g) = refl
-do_guards env (fine_mask c f) = refl
-do_guards env (fine_mask_hard c f) = refl
-do_guards env (fine_restore f) = refl
-do_guards env (fine_scope c f g) = refl
+do_guards env _ = refl
 
 do_acts : {a : Core} (env : Env) → Fine a → acting_do a env ≡ []
-do_acts env (fine_return e) = refl
-do_acts env fine_throw = refl
-do_acts env (fine_let c q f) = refl
-do_acts env (fine_cell f) = refl
 do_acts env (fine_bind {x} c f g) = bind_acts x env c
-do_acts env (fine_if f g) = refl
-do_acts env (fine_maybe c f g) = refl
-do_acts env (fine_either c d f g) = refl
-do_acts env (fine_list c d f g) = refl
-do_acts env (fine_pair c d g) = refl
-do_acts env fine_call = refl
-do_acts env (fine_primitive h) = refl
-do_acts env fine_put = refl
-do_acts env fine_put_back = refl
-do_acts env (fine_fork f) = refl
-do_acts env (fine_fork_unmask c f) = refl
-do_acts env (fine_catch c f g) = refl
-do_acts env (fine_mask c f) = refl
-do_acts env (fine_mask_hard c f) = refl
-do_acts env (fine_restore f) = refl
-do_acts env (fine_scope c f g) = refl
+do_acts env _ = refl
 
 -- nothing here, and what the frames guard
 nothing : (fs : List Frame) {o : List ℕ} (here : List ℕ) → here ≡ [] → guards_frames fs ≡ o → here ++ guards_frames fs ≡ o
@@ -176,12 +108,8 @@ module _ (values : ℕ → Type 0) (roles : ℕ → Role) (t : ℕ) (j : Option 
   below_guards (below_child e n m) = refl
 
   pub ret_guards : {fs : List Frame} {o : List ℕ} → Below values roles t j fs o → guards_ret fs ≡ []
-  ret_guards (no_frames e) = refl
   ret_guards (below_bind {x} {env = env} c f w r) = cond_false (is_added Child x) (cell_in env) [] (not_child x c)
-  ret_guards (below_catch c f w r) = refl
-  ret_guards (below_mask r) = refl
-  ret_guards (below_guarded k n m r) = refl
-  ret_guards (below_child e n m) = refl
+  ret_guards _ = refl
 
   after_guards : {m : ℕ} {fs : List Frame} {o : List ℕ} → After values roles t j m fs o → guards_frames fs ≡ o
   after_guards (after_exit {env} n w r) = one (value_at (Added ScopeCell) env) n (below_guards r)
@@ -193,16 +121,7 @@ module _ (values : ℕ → Type 0) (roles : ℕ → Role) (t : ℕ) (j : Option 
 
   stop_guards : {m : ℕ} {p : Part} {fs gs : List Frame} → Stopping values roles t j m fs p gs → guards p gs ≡ guards_frames fs
   stop_guards (stop_whole n) = refl
-  stop_guards (stop_kills n) = refl
-  stop_guards (stop_throws n) = refl
-  stop_guards (stop_throwing n a y) = refl
-  stop_guards (stop_thrown n) = refl
-  stop_guards (stop_awaits n) = refl
-  stop_guards (stop_reads n) = refl
-  stop_guards stop_reading = refl
-  stop_guards (stop_has_read e) = refl
-  stop_guards (stop_gives e) = refl
-  stop_guards (stop_leaves e) = refl
+  stop_guards _ = refl
 
   pub held_guards : {p : Part} {fs : List Frame} {o : List ℕ} → Held values roles t j p fs o → guards p fs ≡ o
   held_guards (held_ret {fs = fs} r) = nothing fs (guards_ret fs) (ret_guards r) (below_guards r)
@@ -230,13 +149,7 @@ module _ (values : ℕ → Type 0) (roles : ℕ → Role) (t : ℕ) (j : Option 
   held_guards (held_rethrow {env' = env'} e s q m r) = one (value_at (Added ScopeCell) env') q (below_guards r)
   held_guards (held_thrown {env' = env'} e q m r) = one (value_at (Added ScopeCell) env') q (below_guards r)
   held_guards (held_passing {env' = env'} e q m r) = one (value_at (Added ScopeCell) env') q (below_guards r)
-  held_guards (held_child e n f w s) = refl
-  held_guards (held_action e n f w s) = refl
-  held_guards (held_fault e n q s) = refl
-  held_guards (held_told e n q s) = refl
-  held_guards (held_ending e n s) = refl
-  held_guards (held_put e n s) = refl
-  held_guards (held_put_op e s) = refl
+  held_guards _ = refl
 
   -- ---- whose is what is guarded
 
@@ -278,13 +191,7 @@ module _ (values : ℕ → Type 0) (roles : ℕ → Role) (t : ℕ) (j : Option 
   held_owned (held_rethrow {m} e s q w r) = (ended_is roles t m e, below_owned r)
   held_owned (held_thrown {m} e q w r) = (ended_is roles t m e, below_owned r)
   held_owned (held_passing {m} e q w r) = (ended_is roles t m e, below_owned r)
-  held_owned (held_child e n f w s) = tt
-  held_owned (held_action e n f w s) = tt
-  held_owned (held_fault e n q s) = tt
-  held_owned (held_told e n q s) = tt
-  held_owned (held_ending e n s) = tt
-  held_owned (held_put e n s) = tt
-  held_owned (held_put_op e s) = tt
+  held_owned _ = tt
 
   -- ---- what is acted on
 
@@ -302,16 +209,7 @@ module _ (values : ℕ → Type 0) (roles : ℕ → Role) (t : ℕ) (j : Option 
 
   stop_acts : {m : ℕ} {p : Part} {fs gs : List Frame} → Stopping values roles t j m fs p gs → Ones (RunsIt roles t) (acting_frames fs) → Ones (RunsIt roles t) (acting p gs)
   stop_acts (stop_whole n) h = h
-  stop_acts (stop_kills n) h = h
-  stop_acts (stop_throws n) h = h
-  stop_acts (stop_throwing n a y) h = h
-  stop_acts (stop_thrown n) h = h
-  stop_acts (stop_awaits n) h = h
-  stop_acts (stop_reads n) h = h
-  stop_acts stop_reading h = h
-  stop_acts (stop_has_read e) h = h
-  stop_acts (stop_gives e) h = h
-  stop_acts (stop_leaves e) h = h
+  stop_acts _ h = h
 
   pub held_acts : {p : Part} {fs : List Frame} {o : List ℕ} → Held values roles t j p fs o → Ones (RunsIt roles t) (acting p fs)
   held_acts (held_ret {fs = fs} r) = ret_acts (RunsIt roles t) fs (below_acts r)
@@ -343,9 +241,7 @@ module _ (values : ℕ → Type 0) (roles : ℕ → Role) (t : ℕ) (j : Option 
   held_acts (held_action {env = env} e n f w s) = one_acts roles t (value_at (Added ScopeCell) env) n e.0
   held_acts (held_fault {env = env} e n q s) = one_acts roles t (value_at (Added ScopeCell) env) n e.0
   held_acts (held_told {env = env} e n q s) = one_acts roles t (value_at (Added ScopeCell) env) n e.0
-  held_acts (held_ending e n s) = tt
-  held_acts (held_put e n s) = tt
-  held_acts (held_put_op e s) = tt
+  held_acts _ = tt
 
   -- ---- masking
 
@@ -355,13 +251,4 @@ module _ (values : ℕ → Type 0) (roles : ℕ → Role) (t : ℕ) (j : Option 
 
   pub stop_masked : {m : ℕ} {p : Part} {fs gs : List Frame} → Stopping values roles t j m fs p gs → IsMasked (mask_at fs) → IsMasked (mask_at gs)
   stop_masked (stop_whole n) h = h
-  stop_masked (stop_kills n) h = tt
-  stop_masked (stop_throws n) h = tt
-  stop_masked (stop_throwing n a y) h = tt
-  stop_masked (stop_thrown n) h = tt
-  stop_masked (stop_awaits n) h = tt
-  stop_masked (stop_reads n) h = tt
-  stop_masked stop_reading h = tt
-  stop_masked (stop_has_read e) h = tt
-  stop_masked (stop_gives e) h = tt
-  stop_masked (stop_leaves e) h = tt
+  stop_masked _ h = tt

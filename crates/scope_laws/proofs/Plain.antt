@@ -18,12 +18,12 @@ use Rattle.hs_progress.specs.TypedStates.{Purpose, has, for_values, OpTyped, cal
 use Rattle.hs_progress.proofs.Sounds.{part_op}
 use Rattle.scope_laws.specs.ScopeLaw.{is_added, guards_here}
 use Rattle.scope_laws.specs.ScopePhases.{Role, Running, Ended, IsCell, IsCommon, Below, no_frames, below_bind, below_catch, below_mask, below_guarded, below_child, After, after_exit, after_handler}
-use Rattle.scope_laws.specs.ScopePhases.{Stopping, stop_whole, stop_kills, stop_throws, stop_throwing, stop_thrown, stop_awaits, stop_reads, stop_reading, stop_has_read, stop_gives, stop_leaves}
+use Rattle.scope_laws.specs.ScopePhases.{Stopping, stop_whole, stop_kills, stop_awaits, stop_gives, stop_leaves}
 use Rattle.scope_laws.specs.ScopePhases.{Held, held_ret, held_throw, held_do, held_op, held_new, held_new_op, held_new_throw, held_new_cell, held_made, held_masked, held_fork, held_fork_op, held_forked, held_named, held_run, held_guarded, held_result, held_exit, held_handler, held_stop, held_stopped, held_return, held_rethrow, held_thrown, held_passing, held_child, held_action, held_fault, held_told, held_ending, held_put, held_put_op}
 use Rattle.scope_laws.specs.ScopesKept.{IsForValues, at_values, CellFits, Book, HeldThread, Fits, MaskedGuards, ThrownAtFull, TakesOrTries, StandsInScopes}
 use Rattle.scope_laws.proofs.Phases.{not_result, bind_guards, do_guards, ret_guards, after_masked, stop_masked}
 use Rattle.scope_laws.proofs.Answers.{stop_part}
-use Rattle.scope_laws.proofs.Books.{not_both}
+use Rattle.scope_laws.proofs.Threads.{not_both}
 
 module _ (values : ℕ → Type 0) (roles : ℕ → Role) (t : ℕ) (j : Option ℕ) where
   -- ---- what guards is masked
@@ -43,15 +43,10 @@ module _ (values : ℕ → Type 0) (roles : ℕ → Role) (t : ℕ) (j : Option 
   stop_guarded : {m : ℕ} {p : Part} {fs gs : List Frame} → Stopping values roles t j m fs p gs → MaskedGuards fs → MaskedGuards gs
   stop_guarded (stop_whole n) h = h
   stop_guarded (stop_kills n) h = h
-  stop_guarded (stop_throws n) h = (λ z. tt, h)
-  stop_guarded (stop_throwing n a y) h = (λ z. tt, h)
-  stop_guarded (stop_thrown n) h = (λ z. tt, h)
   stop_guarded (stop_awaits n) h = h
-  stop_guarded (stop_reads n) h = (λ z. tt, h)
-  stop_guarded stop_reading h = (λ z. tt, h)
-  stop_guarded (stop_has_read e) h = (λ z. tt, h)
   stop_guarded (stop_gives e) h = h
   stop_guarded (stop_leaves e) h = h
+  stop_guarded _ h = (λ z. tt, h)
 
   held_masked_binds : {p : Part} {fs : List Frame} {o : List ℕ} → Held values roles t j p fs o → MaskedGuards fs
   held_masked_binds (held_ret r) = below_masked r
@@ -79,24 +74,15 @@ module _ (values : ℕ → Type 0) (roles : ℕ → Role) (t : ℕ) (j : Option 
   held_masked_binds (held_rethrow e s q m r) = (λ z. m, below_masked r)
   held_masked_binds (held_thrown e q m r) = (λ z. m, below_masked r)
   held_masked_binds (held_passing e q m r) = (λ z. m, below_masked r)
-  held_masked_binds (held_child e n f w s) = tt
   held_masked_binds (held_action e n f w s) = (λ z. s, tt)
   held_masked_binds (held_fault e n q s) = (λ z. s, tt)
   held_masked_binds (held_told e n q s) = (λ z. s, tt)
   held_masked_binds (held_ending e n s) = (λ z. s, tt)
-  held_masked_binds (held_put e n s) = tt
-  held_masked_binds (held_put_op e s) = tt
+  held_masked_binds _ = tt
 
   held_masked_here : {p : Part} {fs : List Frame} {o : List ℕ} → Held values roles t j p fs o → guards_here p fs ≢ [] → IsMasked (mask_at fs)
   held_masked_here (held_ret r) n = absurd (n (ret_guards values roles t j r))
-  held_masked_here (held_throw r) n = absurd (n refl)
   held_masked_here (held_do {a} {env} f w r) n = absurd (n (do_guards env f))
-  held_masked_here (held_op f r) n = absurd (n refl)
-  held_masked_here (held_new c f g w r) n = absurd (n refl)
-  held_masked_here (held_new_op c f g w r) n = absurd (n refl)
-  held_masked_here (held_new_throw r) n = absurd (n refl)
-  held_masked_here (held_new_cell e c f g w r) n = absurd (n refl)
-  held_masked_here (held_made e q c f g w r) n = absurd (n refl)
   held_masked_here (held_masked e q c f g w m r) n = m
   held_masked_here (held_fork e q c f g w m r) n = m
   held_masked_here (held_fork_op e q c f g w m r) n = m
@@ -109,10 +95,7 @@ module _ (values : ℕ → Type 0) (roles : ℕ → Role) (t : ℕ) (j : Option 
   held_masked_here (held_handler k q s z m r) n = s
   held_masked_here (held_stop k s a) n = stop_masked values roles t j s (after_masked values roles t j a)
   held_masked_here (held_stopped e a) n = after_masked values roles t j a
-  held_masked_here (held_return r) n = absurd (n refl)
   held_masked_here (held_rethrow e s q m r) n = s
-  held_masked_here (held_thrown e q m r) n = absurd (n refl)
-  held_masked_here (held_passing e q m r) n = absurd (n refl)
   held_masked_here (held_child e q f w s) n = s
   held_masked_here (held_action e q f w s) n = s
   held_masked_here (held_fault e q z s) n = z
@@ -120,6 +103,7 @@ module _ (values : ℕ → Type 0) (roles : ℕ → Role) (t : ℕ) (j : Option 
   held_masked_here (held_ending e q s) n = s
   held_masked_here (held_put e q s) n = s
   held_masked_here (held_put_op e s) n = s
+  held_masked_here _ n = absurd (n refl)
 
   -- ---- an exception at a bind to E
 

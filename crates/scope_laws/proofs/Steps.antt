@@ -1,10 +1,8 @@
 -- Each local rule leads from a phase to a phase.
 use Rattle.std.proofs.Common.{◌≡◌, ◌≢◌, ℕ, suc, ◌==◌, List, [], ◌∷◌, true, false, Option, Some, None, refl, sym, ap, ◌∙◌, subst, ⊎_elim}
 use Rattle.hs_base.specs.declared.mask.Mask.{Mask}
-use Rattle.hs_base.specs.declared.mask.Mask.TheVariants.{Unmasked, Masked, Uninterruptible}
 use Rattle.hs_base.specs.declared.exn.Exn.{Exn}
 use Rattle.hs_base.specs.declared.exn.Exn.TheVariants.{ThreadKilled}
-use Rattle.hs_base.specs.Masks.{join_of}
 use Rattle.rules_trees.specs.Trees.{Ex}
 use Rattle.rules_expansion.specs.Names.{Name, Added}
 use Rattle.rules_expansion.specs.declared.hidden.Hidden.TheVariants.{TheCell, ScopeCell, Child, ChildEnding, ScopeResult, Caught}
@@ -26,11 +24,7 @@ use Rattle.scope_laws.specs.ScopePhases.{Stopping, stop_whole, stop_kills, stop_
 use Rattle.scope_laws.specs.ScopePhases.{Held, held_ret, held_throw, held_do, held_op, held_new, held_new_op, held_new_throw, held_new_cell, held_made, held_masked, held_fork, held_fork_op, held_forked, held_named, held_run, held_guarded, held_result, held_exit, held_handler, held_stop, held_stopped, held_return, held_rethrow, held_thrown, held_passing, held_child, held_action, held_fault, held_told, held_ending, held_put, held_put_op}
 use Rattle.scope_laws.proofs.Forms.{FineDef, def_fine}
 use Rattle.scope_laws.proofs.Phases.{same_cell, same_child, same_own_cell}
-
-join_masked : (s : Mask) → IsMasked (join_of Masked s)
-join_masked Unmasked = tt
-join_masked Masked = tt
-join_masked Uninterruptible = tt
+use Rattle.hs_laws.proofs.Held.{join_masked}
 
 -- ---- what the expressions of the script give, where a scope's cell must not come
 
@@ -288,15 +282,12 @@ module _ (values : ℕ → Type 0) (roles : ℕ → Role) (t : ℕ) (j : Option 
     local_kept s (held_ret {v} r) = ret_kept v r
     local_kept s (held_throw {e} r) = throw_kept e r
     local_kept s (held_do {a} {env} f w r) = first_kept f env s w r
-    local_kept s (held_op f r) = tt
     local_kept s (held_new c f g w r) = stay (held_new_op c f g w r)
-    local_kept s (held_new_op c f g w r) = tt
     local_kept s (held_new_throw {e = e} r) = stay (held_throw r)
     local_kept s (held_new_cell {m} {env' = env'} e c f g w r) = stay (held_made e refl c f g w r)
     local_kept s (held_made {fs = fs} e n c f g w r) = stay (held_masked e n c f g w (join_masked (mask_at fs)) (below_mask r))
     local_kept s (held_masked e n c f g w m r) = stay (held_fork e n c f g w m r)
     local_kept s (held_fork e n c f g w m r) = stay (held_fork_op e n c f g w m r)
-    local_kept s (held_fork_op e n c f g w m r) = tt
     local_kept s (held_forked {c = d} k n a y c g w m r) = stay (held_named k (n, d, refl, a, y) c g w m r)
     local_kept s (held_named {m} {x} {b} {env} k n c g w q r) =
         async_step x env _ n.2 n.0
@@ -318,4 +309,4 @@ module _ (values : ℕ → Type 0) (roles : ℕ → Role) (t : ℕ) (j : Option 
     local_kept s (held_told e n q m) = stay (held_ending e n m)
     local_kept s (held_ending e n m) = stay (held_put e n m)
     local_kept s (held_put {env = env} {s = q} e n m) = put_step q env n e m
-    local_kept s (held_put_op e m) = tt
+    local_kept s _ = tt

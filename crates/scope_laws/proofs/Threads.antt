@@ -4,15 +4,15 @@ use Rattle.rules_meaning.specs.Values.{V, Cell, UnitValue}
 use Rattle.rules_waiting.specs.OneCell.{first_put}
 use Rattle.rules_waiting.specs.Waiting.{Reason, Taking, Reading, Putting, Throwing, Sleeping, Waiting, leaves, line_of}
 use Rattle.rules_expansion.specs.declared.primitive.Primitive.TheVariants.{PutMVar}
-use Rattle.hs_rules.specs.Terms.{Operation, Calls, Part, Ret, Throw, Do, Performs, Frame, Term, term}
+use Rattle.hs_rules.specs.Terms.{Operation, Calls, Part, Ret, Performs, Frame, Term, term}
 use Rattle.hs_rules.specs.State.{Thread, State, with_term, frames_of, resume, resume_all, block}
 use Rattle.hs_rules.specs.Primitives.{moves_in, taken, goes_in, read_by_all, given}
 use Rattle.hs_laws.specs.BracketPhases.{Blocks, OpPart, At}
 use Rattle.hs_laws.proofs.Lists.{cond_cases, equal_or, item_same, item_other, Each, Found, first_found, first_of_kind, takes, puts, only_thread, reads_at, put_is_first, take_is_first, readers_are, those, Ones, ones_those_if}
 use Rattle.hs_laws.proofs.States.{Holds, Waits, other_thread, reads_hold}
 use Rattle.hs_progress.specs.TypedStates.{Purpose, for_values, for_end}
-use Rattle.scope_laws.proofs.Reasons.{puts_is, takes_is, reads_is}
-use Rattle.scope_laws.specs.ScopePhases.{Role, Plain, Fresh, Running, Ended, IsOf, Held}
+use Rattle.hs_progress.proofs.Sounds.{puts_is, takes_is, reads_is}
+use Rattle.scope_laws.specs.ScopePhases.{Role, Plain, Running, Ended, IsOf, Held}
 use Rattle.scope_laws.specs.ScopesKept.{IsForValues, IsForEnd, at_values, CellFits, WaitsFor, AllWaitFor, Book, HeldThread, Fits}
 use Rattle.scope_laws.proofs.Answers.{throw_answered, delay_answered, take_answered, put_answered, read_answered}
 
@@ -45,26 +45,15 @@ put_waits cells (Sleeping due) m a q w e = let x = sym q.1 ∙ e in absurd (cc x
 
 -- ---- roles
 
+-- no cell is for values and for an end
+pub not_both : (q : Option Purpose) → IsForEnd q → IsForValues q → ⊥
+not_both None h f = h
+not_both (Some (for_values t)) h f = h
+not_both (Some (for_end t)) h f = f
+
 pub plain_is : (r : Role) (c : Option (Option V)) (q : Option Purpose) → CellFits r c q → IsForValues q → r ≡ Plain
 plain_is Plain c q h f = refl
-plain_is (Fresh p) c q h f = absurd (both q h.1 f)
-  where
-    both : (q : Option Purpose) → IsForEnd q → IsForValues q → ⊥
-    both None h f = h
-    both (Some (for_values t)) h f = h
-    both (Some (for_end t)) h f = f
-plain_is (Running p d) c q h f = absurd (both q h.1 f)
-  where
-    both : (q : Option Purpose) → IsForEnd q → IsForValues q → ⊥
-    both None h f = h
-    both (Some (for_values t)) h f = h
-    both (Some (for_end t)) h f = f
-plain_is (Ended p) c q h f = absurd (both q h.1 f)
-  where
-    both : (q : Option Purpose) → IsForEnd q → IsForValues q → ⊥
-    both None h f = h
-    both (Some (for_values t)) h f = h
-    both (Some (for_end t)) h f = f
+plain_is _ c q h f = absurd (not_both q h.1 f)
 
 -- ---- whoever throws or sleeps may be answered
 abbrev pub IsPatient : Reason V → Type 0
@@ -149,10 +138,8 @@ module _ (cells : List Purpose) (b : Book) where
 
   on_part : (t : ℕ) (r : Reason V) (x : Part) (p : Part) (fs : List Frame) → OpPart (Blocks r) p → Held (at_values cells) b.roles t (b.owed t) p fs (b.guarded t)
       → ((op : Operation) → Blocks r op → Held (at_values cells) b.roles t (b.owed t) (Performs op) fs (b.guarded t) → Held (at_values cells) b.roles t (b.owed t) x fs (b.guarded t)) → Held (at_values cells) b.roles t (b.owed t) x fs (b.guarded t)
-  on_part t r x (Ret v) fs w h f = absurd w
-  on_part t r x (Throw e) fs w h f = absurd w
-  on_part t r x (Do a env) fs w h f = absurd w
   on_part t r x (Performs op) fs w h f = f op w h
+  on_part t r x _ fs w h f = absurd w
 
   pub fits_blocked : (t : ℕ) (r : Reason V) (x : Part) (o : Option Thread) → At (Blocks r) o → HeldThread cells b t o
       → ((th : Thread) → o ≡ Some th → (op : Operation) → Blocks r op → Held (at_values cells) b.roles t (b.owed t) (Performs op) th.term.frames (b.guarded t) → Held (at_values cells) b.roles t (b.owed t) x th.term.frames (b.guarded t)) → FitsIn x t o
@@ -163,11 +150,9 @@ module _ (cells : List Purpose) (b : Book) where
   Performed t fs op = Held (at_values cells) b.roles t (b.owed t) (Performs op) fs (b.guarded t)
 
   patient_answered : (t : ℕ) (r : Reason V) (v : V) (fs : List Frame) (op : Operation) → IsPatient r → Blocks r op → Performed t fs op → Held (at_values cells) b.roles t (b.owed t) (Ret v) fs (b.guarded t)
-  patient_answered t (Taking m) v fs op i w h = absurd i
-  patient_answered t (Reading m) v fs op i w h = absurd i
-  patient_answered t (Putting m a) v fs op i w h = absurd i
   patient_answered t (Throwing u e) v fs op i w h = throw_answered (at_values cells) b.roles t (b.owed t) v (subst (Performed t fs) w h)
   patient_answered t (Sleeping due) v fs op i w h = delay_answered (at_values cells) b.roles t (b.owed t) v (subst (Performed t fs) w.1 h)
+  patient_answered t _ v fs op i w h = absurd i
 
   pub fits_patient : (s : State) (t : ℕ) (r : Reason V) (v : V) → Fits cells b s → IsPatient r → At (Blocks r) (slice_get s.threads t) → FitsIn (Ret v) t (slice_get s.threads t)
   fits_patient s t r v h i w = fits_blocked t r (Ret v) (slice_get s.threads t) w (h.threads t) (λ th e op q k. patient_answered t r v th.term.frames op i q k)

@@ -1,7 +1,7 @@
 -- What types say of the cells of scopes: an expression of the script gives none, and an operation that takes or tries is at none.
 use Rattle.std.proofs.Common.{◌≡◌, ℕ, List, [], ◌∷◌, Some, slice_get, sym, subst}
 use Rattle.hs_base.specs.declared.tree.script.Script.{Script}
-use Rattle.rules_trees.specs.Trees.{T, unit, int, bool, text, thread, exn, pair, maybe, either, list, cell, async, Ex}
+use Rattle.rules_trees.specs.Trees.{T, cell, Ex}
 use Rattle.rules_trees.specs.Programs.{Fn, script_of}
 use Rattle.rules_expansion.specs.Names.{Name, Added}
 use Rattle.rules_expansion.specs.declared.hidden.Hidden.TheVariants.{ScopeCell}
@@ -11,14 +11,14 @@ use Rattle.rules_expansion.specs.declared.primitive.Primitive.TheVariants.{TakeM
 use Rattle.rules_meaning.specs.Values.{V, Cell, Env, Outcome, Gives}
 use Rattle.rules_meaning.specs.Meaning.{value_of_ex, functions_of}
 use Rattle.rules_meaning.specs.CoreMeaning.{Code, code_of}
-use Rattle.rules_sorts.specs.Sorts.{Sort, a_value, a_masking_name, an_instance, a_scope_cell, SortedName}
+use Rattle.rules_sorts.specs.Sorts.{Sort, a_value, a_scope_cell, SortedName}
 use Rattle.rules_sorts.specs.TypedMeaning.{HasV}
 use Rattle.rules_typing.specs.TypingScripts.{Accepted}
 use Rattle.hs_rules.specs.Terms.{Calls, Part, Ret, Frame, BindTo}
 use Rattle.hs_soundness.specs.CoreSorts.{CoreHas, OfSort, FitsScope, GoodSort}
 use Rattle.hs_soundness.proofs.CoreExpressions.{accepted_good}
-use Rattle.hs_progress.specs.CoreTyping.{IsScopeCell, Does, does_return, does_throw, does_let, does_bind, does_then, does_if, does_maybe, does_either, does_list, does_pair, does_call, does_perform, does_fork, does_fork_unmask, does_catch, does_mask, does_mask_hard, does_restore, CoreAllHave, no_more, one_more, asks_take, asks_try_take, asks_try_put}
-use Rattle.hs_progress.specs.TypedStates.{ctx_of, Purpose, for_values, Store, has, no_values, one_value, OpTyped, calls_typed, PartTyped, ret_typed, throw_typed, do_typed, op_typed, FramesTyped, bind_typed}
+use Rattle.hs_progress.specs.CoreTyping.{IsScopeCell, Does, does_let, does_perform, CoreAllHave, no_more, one_more, asks_take, asks_try_take, asks_try_put}
+use Rattle.hs_progress.specs.TypedStates.{ctx_of, Purpose, for_values, Store, has, no_values, one_value, OpTyped, calls_typed, PartTyped, ret_typed, do_typed, FramesTyped, bind_typed}
 use Rattle.scope_laws.specs.ScopePhases.{OfValues}
 use Rattle.scope_laws.specs.ScopesKept.{IsForValues, IsForEnd, at_values}
 use Rattle.scope_laws.proofs.Steps.{SureEx, SureFirst, SureDo, Sure}
@@ -33,17 +33,7 @@ module _ (st : Store) (cells : List Purpose) (kept : Kept st cells) where
 
   cell_sure : (t : T) (m : ℕ) → HasV (has st) t (Cell m) → at_values cells m
   cell_sure (cell t) m h = at_cell m t h
-  cell_sure unit m h = absurd h
-  cell_sure int m h = absurd h
-  cell_sure bool m h = absurd h
-  cell_sure text m h = absurd h
-  cell_sure thread m h = absurd h
-  cell_sure exn m h = absurd h
-  cell_sure (pair a c) m h = absurd h
-  cell_sure (maybe a) m h = absurd h
-  cell_sure (either a c) m h = absurd h
-  cell_sure (list a) m h = absurd h
-  cell_sure (async a) m h = absurd h
+  cell_sure _ m h = absurd h
 
   value_sure : (t : T) (v : V) → HasV (has st) t v → OfValues (at_values cells) (Some v)
   value_sure t (Cell m) h = cell_sure t m h
@@ -90,38 +80,19 @@ module _ (st : Store) (cells : List Purpose) (kept : Kept st cells) where
       perform_sure _ h = tt
 
       does_sure : {a : Core} {k : Sort} → Does (ctx_of (script_of script) here) g a k → SureDo (at_values cells) code a env
-      does_sure (does_return h) = tt
-      does_sure (does_throw h) = tt
       does_sure (does_let {y} {e} {a} {j} p h d) = let_sure y e a j h
-      does_sure (does_bind p d w) = tt
-      does_sure (does_then d w) = tt
-      does_sure (does_if h d w) = tt
-      does_sure (does_maybe p h d w) = tt
-      does_sure (does_either p q h d w) = tt
-      does_sure (does_list p q h d w) = tt
-      does_sure (does_pair p q h w) = tt
-      does_sure (does_call sig e w l h) = tt
       does_sure (does_perform {p} q h) = perform_sure p h
-      does_sure (does_fork d) = tt
-      does_sure (does_fork_unmask p d) = tt
-      does_sure (does_catch p d w) = tt
-      does_sure (does_mask p d) = tt
-      does_sure (does_mask_hard p d) = tt
-      does_sure (does_restore h d) = tt
+      does_sure _ = tt
 
     pub part_sure : {p : Part} {k : Sort} → PartTyped (has st) (script_of script) p k → Sure (at_values cells) code p
-    part_sure (ret_typed h) = tt
-    part_sure throw_typed = tt
     part_sure (do_typed {env = env} r) = does_sure r.here r.scope env r.fits r.does
-    part_sure (op_typed h) = tt
+    part_sure _ = tt
 
 -- ---- the cell of a scope
 
 end_is : (st : Store) (n : ℕ) (k : Sort) → IsScopeCell k → OfSort (has st) k (Cell n) → IsForEnd (slice_get st.cells n)
-end_is st n (a_value t) i h = absurd i
-end_is st n a_masking_name i h = absurd i
-end_is st n an_instance i h = absurd i
 end_is st n (a_scope_cell t) i h = subst IsForEnd (sym h) tt
+end_is st n _ i h = absurd i
 
 -- what comes to the bind of a scope's cell is for an end
 pub new_end : (ds : List Fn) (st : Store) (n : ℕ) {k : Sort} {b : Core} {env : Env} {fs : List Frame} → PartTyped (has st) ds (Ret (Cell n)) k → FramesTyped (has st) ds k (BindTo (Added ScopeCell) b env ∷ fs) → IsForEnd (slice_get st.cells n)

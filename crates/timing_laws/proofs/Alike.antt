@@ -1,7 +1,7 @@
 -- States that are alike but for time, and what keeps them so.
 use Rattle.std.proofs.Common.{◌≡◌, ℕ, ◌==◌, Bool, true, false, cond, List, [], ◌∷◌, Option, Some, None, refl, sym, ap, ◌∙◌}
 use Rattle.rules_meaning.specs.Values.{V}
-use Rattle.rules_waiting.specs.Waiting.{Reason, Taking, Reading, Putting, Throwing, Sleeping, Waiting, Flying, Sleeper, blocks, leaves, is_blocked, reason_of, want_at, with_place, line_of, with_flying, flight_of, with_sleeper, sleepers_of}
+use Rattle.rules_waiting.specs.Waiting.{Reason, Taking, Sleeping, Waiting, Flying, Sleeper, blocks, leaves, is_blocked, reason_of, want_at, with_place, line_of, with_flying, flight_of, with_sleeper, sleepers_of}
 use Rattle.hs_rules.specs.Terms.{Part, Term}
 use Rattle.hs_rules.specs.State.{State, move, resume, resume_all, block, spawn}
 use Rattle.timing_laws.specs.WithoutTime.{timeless_reason, timeless_blocked, timeless}
@@ -13,10 +13,7 @@ timeless_waiting w = record { thread = w.thread; reason = timeless_reason w.reas
 
 pub reason_twice : (r : Reason V) → timeless_reason (timeless_reason r) ≡ timeless_reason r
 reason_twice (Taking m) = refl
-reason_twice (Reading m) = refl
-reason_twice (Putting m v) = refl
-reason_twice (Throwing u e) = refl
-reason_twice (Sleeping due) = refl
+reason_twice _ = refl
 
 pub blocked_twice : (ws : List (Waiting V)) → timeless_blocked (timeless_blocked ws) ≡ timeless_blocked ws
 blocked_twice [] = refl
@@ -43,10 +40,7 @@ blocked_still t (w ∷ ws) = ap (cond (w.thread == t) true) (blocked_still t ws)
 
 want_still : (m : ℕ) (r : Reason V) → want_at m (timeless_reason r) ≡ want_at m r
 want_still m (Taking k) = refl
-want_still m (Reading k) = refl
-want_still m (Putting k v) = refl
-want_still m (Throwing u e) = refl
-want_still m (Sleeping due) = refl
+want_still m _ = refl
 
 pub line_still : (m : ℕ) (ws : List (Waiting V)) → line_of m (timeless_blocked ws) ≡ line_of m ws
 line_still m [] = refl
@@ -55,10 +49,7 @@ line_still m (w ∷ ws) =
 
 flying_still : (t : ℕ) (r : Reason V) (fs : List Flying) → with_flying t (timeless_reason r) fs ≡ with_flying t r fs
 flying_still t (Taking m) fs = refl
-flying_still t (Reading m) fs = refl
-flying_still t (Putting m v) fs = refl
-flying_still t (Throwing u e) fs = refl
-flying_still t (Sleeping due) fs = refl
+flying_still t _ fs = refl
 
 pub flight_still : (ws : List (Waiting V)) → flight_of (timeless_blocked ws) ≡ flight_of ws
 flight_still [] = refl
@@ -85,10 +76,7 @@ due_now (s ∷ ss) = record { thread = s.thread; due = 0 } ∷ due_now ss
 
 sleeper_still : (t : ℕ) (r : Reason V) (ss : List Sleeper) → with_sleeper t (timeless_reason r) (due_now ss) ≡ due_now (with_sleeper t r ss)
 sleeper_still t (Taking m) ss = refl
-sleeper_still t (Reading m) ss = refl
-sleeper_still t (Putting m v) ss = refl
-sleeper_still t (Throwing u e) ss = refl
-sleeper_still t (Sleeping due) ss = refl
+sleeper_still t _ ss = refl
 
 pub sleepers_still : (ws : List (Waiting V)) → sleepers_of (timeless_blocked ws) ≡ due_now (sleepers_of ws)
 sleepers_still [] = refl

@@ -1,11 +1,11 @@
 -- An entry that is no Tick and no Wake goes on in states that are alike, and where it doesn't read the clock it leaves such.
-use Rattle.std.proofs.Common.{◌≡◌, ℕ, zero, suc, Bool, true, false, cond, List, [], ◌∷◌, ◌++◌, length, Option, Some, None, slice_get, refl, sym, ap, ◌∙◌}
+use Rattle.std.proofs.Common.{◌≡◌, ℕ, zero, suc, Bool, true, false, cond, List, [], ◌∷◌, ◌++◌, length, Option, Some, slice_get, refl, sym, ap, ◌∙◌}
 use Rattle.hs_base.specs.declared.exn.Exn.TheVariants.{BlockedIndefinitely}
 use Rattle.hs_rules.specs.declared.entry.Entry.{Entry}
 use Rattle.hs_rules.specs.declared.entry.Entry.TheVariants as entry
 use Rattle.rules_meaning.specs.Values.{V}
 use Rattle.rules_meaning.specs.CoreMeaning.{Code}
-use Rattle.rules_waiting.specs.Waiting.{Reason, Taking, Reading, Putting, Throwing, Sleeping, reason_of, sleepers_of}
+use Rattle.rules_waiting.specs.Waiting.{Reason, reason_of, sleepers_of, Sleeping}
 use Rattle.hs_rules.specs.Terms.{Operation, Throw, Performs}
 use Rattle.hs_rules.specs.State.{Thread, State, resume_all}
 use Rattle.hs_rules.specs.Primitives.{due_in}
@@ -61,12 +61,8 @@ alike = record {
 -- ---- who is to be stranded
 
 stranded_still : (th : Option Thread) (o : Option (Reason V)) → is_stranded th (timeless_option o) ≡ is_stranded th o
-stranded_still th None = refl
-stranded_still th (Some (Taking m)) = refl
-stranded_still th (Some (Reading m)) = refl
-stranded_still th (Some (Putting m v)) = refl
-stranded_still th (Some (Throwing u e)) = refl
 stranded_still th (Some (Sleeping due)) = refl
+stranded_still th _ = refl
 
 strands_still : (t : ℕ) (s : State) → is_stranded (slice_get s.threads t) (reason_of t (timeless s).blocked) ≡ is_stranded (slice_get s.threads t) (reason_of t s.blocked)
 strands_still t s = ap (is_stranded (slice_get s.threads t)) (reason_still t s.blocked) ∙ stranded_still (slice_get s.threads t) (reason_of t s.blocked)

@@ -29,15 +29,12 @@ not_both x u e f = let z : ◌≡◌ {A = Option State} None (Some u) = sym e �
 -- ---- who sleeps
 
 none_sleeps_by : (r : Reason V) (b : Bool) (due k : ℕ) (ss : List Sleeper) (o : Option (Reason V)) → (ss ≡ [] → o ≡ Some (Sleeping due) → ⊥) → with_sleeper k r ss ≡ [] → cond b (Some r) o ≡ Some (Sleeping due) → ⊥
-none_sleeps_by (Taking m) true due k ss o f e g = cc g
 none_sleeps_by (Taking m) false due k ss o f e g = f e g
-none_sleeps_by (Reading m) true due k ss o f e g = cc g
 none_sleeps_by (Reading m) false due k ss o f e g = f e g
-none_sleeps_by (Putting m v) true due k ss o f e g = cc g
 none_sleeps_by (Putting m v) false due k ss o f e g = f e g
-none_sleeps_by (Throwing u x) true due k ss o f e g = cc g
 none_sleeps_by (Throwing u x) false due k ss o f e g = f e g
 none_sleeps_by (Sleeping d) b due k ss o f e g = cc e
+none_sleeps_by _ true due k ss o f e g = cc g
 
 pub none_sleeps : (t due : ℕ) (ws : List (Waiting V)) → sleepers_of ws ≡ [] → reason_of t ws ≡ Some (Sleeping due) → ⊥
 none_sleeps t due [] e g = cc g
@@ -45,21 +42,13 @@ none_sleeps t due (w ∷ ws) e g = none_sleeps_by w.reason (w.thread == t) due w
 
 -- a thread that wakes sleeps
 pub wakes_by : (t : ℕ) (o : Option (Reason V)) (s u : State) → woken t o s ≡ Some u → (due : ℕ) × (o ≡ Some (Sleeping due)) × (nat_le due s.clock ≡ true) × (answer t UnitValue s ≡ u)
-wakes_by t None s u h = absurd (cc h)
-wakes_by t (Some (Taking m)) s u h = absurd (cc h)
-wakes_by t (Some (Reading m)) s u h = absurd (cc h)
-wakes_by t (Some (Putting m v)) s u h = absurd (cc h)
-wakes_by t (Some (Throwing w e)) s u h = absurd (cc h)
 wakes_by t (Some (Sleeping due)) s u h = let g = passed (nat_le due s.clock) (Some (answer t UnitValue s)) u h in (due, refl, g.0, same_item g.1)
+wakes_by t _ s u h = absurd (cc h)
 
 -- what sleeps without time sleeps
 sleeps_too : (o : Option (Reason V)) (due : ℕ) → timeless_option o ≡ Some (Sleeping due) → (d : ℕ) × (o ≡ Some (Sleeping d))
-sleeps_too None due h = absurd (cc h)
-sleeps_too (Some (Taking m)) due h = absurd (cc h)
-sleeps_too (Some (Reading m)) due h = absurd (cc h)
-sleeps_too (Some (Putting m v)) due h = absurd (cc h)
-sleeps_too (Some (Throwing w e)) due h = absurd (cc h)
 sleeps_too (Some (Sleeping d)) due h = (d, refl)
+sleeps_too _ due h = absurd (cc h)
 
 answer_alike : (t : ℕ) (s r : State) → Alike s r → Alike (answer t UnitValue s) (answer t UnitValue r)
 answer_alike t s r h = resume_alike s r h t (Ret UnitValue)
@@ -235,12 +224,8 @@ module _ (code : Code) where
   due_ticks t false due fs = refl
 
   wake_ticks : (t now : ℕ) (o : Option (Reason V)) (fs : List Entry) → without_ticks (tick_until_due now o (entry.Wake t ∷ []) ++ fs) ≡ entry.Wake t ∷ without_ticks fs
-  wake_ticks t now None fs = refl
-  wake_ticks t now (Some (Taking m)) fs = refl
-  wake_ticks t now (Some (Reading m)) fs = refl
-  wake_ticks t now (Some (Putting m v)) fs = refl
-  wake_ticks t now (Some (Throwing u e)) fs = refl
   wake_ticks t now (Some (Sleeping due)) fs = due_ticks t (nat_le due now) due fs
+  wake_ticks t now _ fs = refl
 
   pub time_ticks : (s : State) (e : Entry) (fs : List Entry) → ¬ IsTick e → without_ticks (with_its_tick s e ++ fs) ≡ e ∷ without_ticks fs
   time_ticks s (entry.Wake t) fs a = wake_ticks t s.clock (reason_of t s.blocked) fs
