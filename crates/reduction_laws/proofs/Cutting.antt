@@ -1,64 +1,26 @@
 -- Runs as ways: a Local of many steps is as many of one.
-use Rattle.std.proofs.Common.{◌≡◌, ◌≤◌, ◌+◌, ℕ, zero, suc, List, [], ◌∷◌, length, slice_get, false, Option, Some, None, refl, sym, ap, ◌∙◌, arith}
+use Rattle.std.proofs.Common.{◌≡◌, ◌≤◌, ◌+◌, ℕ, zero, suc, List, [], ◌∷◌, length, slice_get, Option, Some, None, refl, sym, ap, ◌∙◌, arith}
 use Rattle.hs_rules.specs.declared.entry.Entry.{Entry}
 use Rattle.hs_rules.specs.declared.entry.Entry.TheVariants as entry
 use Rattle.rules_meaning.specs.CoreMeaning.{Code}
 use Rattle.hs_rules.specs.Terms.{Term}
 use Rattle.hs_rules.specs.LocalRules.{local, locals, on_term}
-use Rattle.rules_waiting.specs.Waiting.{is_blocked}
-use Rattle.hs_rules.specs.State.{Thread, State, with_term}
-use Rattle.hs_rules.specs.Entries.{moved, local_entry, next, Leads}
+use Rattle.hs_rules.specs.State.{State}
+use Rattle.hs_rules.specs.Entries.{local_entry, next, Leads}
 use Rattle.hs_rules.specs.Entries as entries
 use Rattle.hs_rules.specs.Histories.{cost_of, steps_of}
 use Rattle.hs_rules.specs.Runs.{Run}
-use Rattle.hs_laws.proofs.Lists.{cond_false, item_same}
+use Rattle.hs_laws.proofs.Lists.{item_same}
 use Rattle.timing_laws.specs.WithoutTime.{without_ticks}
-use Rattle.timing_laws.proofs.Passing.{same_item, passed_not, thread_there, on_running}
+use Rattle.timing_laws.proofs.Passing.{thread_there}
 use Rattle.outcome_laws.specs.Timings.{TickFits, RunWithTicks}
 use Rattle.outcome_laws.proofs.Going.{count_more}
-use Rattle.reduction_laws.specs.Paths.{IsTaken, Move, Counted, entries_of, Path, counted, MainRuns}
+use Rattle.reduction_laws.specs.Paths.{IsTaken, Move, Counted, entries_of, Path, counted}
 use Rattle.reduction_laws.proofs.Ranks.{non_ticks}
 use Rattle.reduction_laws.proofs.Lists.{set_twice}
 use Rattle.hs_laws.proofs.SameCases.{put_in}
-use Rattle.reduction_laws.proofs.Apart.{Stands, flags}
-use Rattle.reduction_laws.proofs.Own.{main_same, gone}
-
-local_next : (code : Code) (t k : ℕ) (s : State) (th : Thread) (y : Term) → MainRuns s → Stands t th s → th.finished ≡ false → locals code (suc k) th.term ≡ Some y →
-    next code s (entry.Local t (suc k)) ≡ Some (put_in t (gone th y) s)
-local_next code t k s th y m h f e =
-    on_running (slice_get s.threads 0) m.0 (λ main. entries.entered code s (entry.Local t (suc k))) m.1 m.2
-    ∙ (on_running (slice_get s.threads t) th (λ z. local_entry code t (suc k) z s) h.is f
-    ∙ (cond_false (is_blocked t s.blocked) None (moved t s (locals code (suc k) th.term)) h.free
-    ∙ (ap (moved t s) e ∙ ap (λ o. Some (record s { threads = with_term t o y s.threads })) h.is)))
-
--- what some local rules stand for
-record Went (code : Code) (t k : ℕ) (s m : State) : Type 0 where
-  pub thread : Thread
-  pub term : Term
-  pub stands : Stands t thread s
-  pub unfinished : thread.finished ≡ false
-  pub rules : locals code (suc k) thread.term ≡ Some term
-  pub leaves : m ≡ put_in t (gone thread term) s
-  pub main : MainRuns s
-
-went : (code : Code) (t k : ℕ) (s m : State) → next code s (entry.Local t (suc k)) ≡ Some m → Went code t k s m
-went code t k s m e =
-    let a = thread_there (slice_get s.threads 0) (λ main. entries.entered code s (entry.Local t (suc k))) m e in
-    let b = thread_there (slice_get s.threads t) (λ z. local_entry code t (suc k) z s) m a.3 in
-    let c = passed_not (is_blocked t s.blocked) (moved t s (locals code (suc k) b.0.term)) m b.3 in
-    by b.0 b.1 b.2 c.0 (a.0, a.1, a.2) (locals code (suc k) b.0.term) refl c.1
-  where
-    by : (th : Thread) → slice_get s.threads t ≡ Some th → th.finished ≡ false → is_blocked t s.blocked ≡ false → MainRuns s → (o : Option Term) → locals code (suc k) th.term ≡ o → moved t s o ≡ Some m → Went code t k s m
-    by th is f b main None q g = absurd (cc g)
-    by th is f b main (Some x) q g = record {
-      thread = th;
-      term = x;
-      stands = record { is = is; free = b };
-      unfinished = f;
-      rules = q;
-      leaves = sym (same_item g) ∙ ap (λ o. record s { threads = with_term t o x s.threads }) is;
-      main = main;
-    }
+use Rattle.reduction_laws.proofs.Apart.{flags}
+use Rattle.reduction_laws.proofs.Own.{main_same, gone, local_next, Went, went}
 
 -- one local rule, and the others_commute
 cut : (code : Code) (t k : ℕ) (s m : State) → next code s (entry.Local t (suc (suc k))) ≡ Some m → (i : State) × (next code s (entry.Local t 1) ≡ Some i) × (next code i (entry.Local t (suc k)) ≡ Some m)

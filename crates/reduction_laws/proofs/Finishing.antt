@@ -1,27 +1,27 @@
 -- Where nobody throws at a thread, that one other than main finishes by a value need not be put off.
-use Rattle.std.proofs.Common.{◌≡◌, ◌≢◌, ℕ, zero, suc, List, [], ◌∷◌, ◌++◌, slice_get, slice_set, true, false, Option, Some, None, refl, sym, ap, ◌∙◌, subst, append-nil, inl, inr, ⊎_elim}
+use Rattle.std.proofs.Common.{◌≡◌, ◌≢◌, ℕ, suc, List, [], ◌∷◌, ◌++◌, slice_get, slice_set, true, false, Some, None, refl, sym, ap, ◌∙◌, subst, append-nil, inl, inr, ⊎_elim}
 use Rattle.hs_rules.specs.declared.entry.Entry.{Entry}
 use Rattle.hs_rules.specs.declared.entry.Entry.TheVariants as entry
 use Rattle.rules_meaning.specs.Values.{V, UnitValue}
 use Rattle.rules_meaning.specs.CoreMeaning.{Code}
-use Rattle.hs_rules.specs.Terms.{Part, Ret, Throw, Do, Performs, Frame, mask_at}
+use Rattle.hs_rules.specs.Terms.{Part, Ret, Throw, Do, Performs, Frame}
 use Rattle.hs_rules.specs.LocalRules.{local, locals, on_term}
 use Rattle.rules_waiting.specs.Waiting.{is_blocked, flying_to}
 use Rattle.hs_rules.specs.State.{Thread, State, resume_all}
-use Rattle.hs_rules.specs.Primitives.{operated}
-use Rattle.hs_rules.specs.Entries.{moved, local_entry, at_operation, op_entry, throwers, closed, finish_entry, on_thread, next, Leads}
+use Rattle.hs_rules.specs.Entries.{throwers, closed, finish_entry, next, Leads}
 use Rattle.hs_rules.specs.Entries as entries
 use Rattle.hs_rules.specs.Endings.{is_ret}
 use Rattle.hs_laws.proofs.Lists.{equal_or, item_other}
-use Rattle.timing_laws.proofs.Passing.{same_item, passed_not, thread_there, on_running}
+use Rattle.timing_laws.proofs.Passing.{same_item, thread_there, on_running}
 use Rattle.reduction_laws.specs.NoThrowTo.{NobodyThrows}
 use Rattle.reduction_laws.specs.EagerRules.{has_value, EagerFinish}
 use Rattle.reduction_laws.specs.Paths.{MainRuns, ShowsSame, CommutesWithFinish}
-use Rattle.reduction_laws.proofs.Tests.{there_is}
 use Rattle.reduction_laws.proofs.NobodyThrows.{nobody_throws_kept, none_receives}
 use Rattle.hs_laws.proofs.SameCases.{put_in}
 use Rattle.reduction_laws.proofs.Apart.{IsApart, apart_next}
 use Rattle.reduction_laws.proofs.Ending.{runs_or, timely}
+use Rattle.hs_cases.specs.Cases as row
+use Rattle.hs_cases.proofs.Entering.{case_of}
 
 -- a thread that is to close
 pub record Finishing (code : Code) (t : ℕ) (s : State) (th : Thread) : Type 0 where
@@ -79,23 +79,19 @@ eager_finish_of : (code : Code) (t : ℕ) (s : State) (th : Thread) → MainRuns
 eager_finish_of code t s th m h = record { other = h.other; free = h.free; value = ap has_value h.is ∙ ap is_ret h.part; nobody_throws = h.nobody_throws; leads = (finishing_next code t s th m h, tt) }
 
 module _ (code : Code) (t : ℕ) (s : State) (th : Thread) (m : MainRuns s) (h : Finishing code t s th) where
-  on_own : (k : Thread → Option State) (u : State) → on_thread (slice_get s.threads 0) (λ main. on_thread (slice_get s.threads t) k) ≡ Some u → k th ≡ Some u
-  on_own k u e = there_is (slice_get s.threads t) th k u h.is (thread_there (slice_get s.threads 0) (λ main. on_thread (slice_get s.threads t) k) u e).3
-
   no_rule : local code th.term.part th.term.frames ≡ None
   no_rule = ap (λ p. local code p th.term.frames) h.part ∙ ap (λ fs. local code (Ret h.value) fs) h.frames
 
-  no_local : (k : ℕ) (u : State) → next code s (entry.Local t k) ≡ Some u → ⊥
-  no_local zero u e = let z = on_own (λ z. local_entry code t 0 z s) u e in cc z
-  no_local (suc k) u e =
-      let z = passed_not (is_blocked t s.blocked) (moved t s (locals code (suc k) th.term)) u (on_own (λ z. local_entry code t (suc k) z s) u e) in
-      let c : None ≡ Some u = ap (λ o. moved t s (on_term o (λ w. locals code k w))) (sym no_rule) ∙ z.1 in
+  no_local : {k : ℕ} {u : State} → row.Enters code s (entry.Local t k) u → ⊥
+  no_local (row.local {k} {th = z} {x} r i b l) =
+      let own : z ≡ th = same_item (sym i.0 ∙ h.is) in
+      let c : None ≡ Some x = ap (λ o. on_term o (λ w. locals code k w)) (sym no_rule) ∙ (ap (λ (y : Thread). locals code (suc k) y.term) (sym own) ∙ l) in
       cc c
 
-  no_op : (u : State) → next code s (entry.Op t) ≡ Some u → ⊥
-  no_op u e =
-      let z = passed_not (is_blocked t s.blocked) (at_operation th.term.part (λ p. operated t (mask_at th.term.frames) p s)) u (on_own (λ z. op_entry t z s) u e) in
-      let c : None ≡ Some u = ap (λ p. at_operation p (λ o. operated t (mask_at th.term.frames) o s)) (sym h.part) ∙ z.1 in
+  no_op : {u : State} → row.Enters code s (entry.Op t) u → ⊥
+  no_op (row.operation {th = z} {p} r i b q d) =
+      let own : z ≡ th = same_item (sym i.0 ∙ h.is) in
+      let c : Ret h.value ≡ Performs p = sym h.part ∙ (ap (λ (y : Thread). y.term.part) (sym own) ∙ q) in
       cc c
 
 alike_finished : (t : ℕ) (s : State) (y : Thread) → 0 ≢ t → ShowsSame s (put_in t y s)
@@ -112,8 +108,8 @@ finish_commutes code t s u e m c l = let k = finish_of c in subst (λ q. Commute
         inr (put_in t (over th) m, (b.0, timely code t (put_in t (over th) s) e n), ⊎_elim (λ r. inl (eager_finish_of code t m th r h)) (λ r. inr (r, alike_finished t m (over th) k.finishing.other)) (runs_or m))
 
     by : (k : KnownFinish code t s u) (e : Entry) → Leads code s e m → CommutesWithFinish code t (put_in t (over k.thread) s) e m
-    by k (entry.Local v i) l = ⊎_elim (λ q. absurd (no_local code t s k.thread k.main k.finishing i m (ap (λ j. next code s (entry.Local j i)) (sym q.1) ∙ l.0))) (λ q. apart k (entry.Local v i) q.1 l) (equal_or v t)
-    by k (entry.Op v) l = ⊎_elim (λ q. absurd (no_op code t s k.thread k.main k.finishing m (ap (λ j. next code s (entry.Op j)) (sym q.1) ∙ l.0))) (λ q. apart k (entry.Op v) q.1 l) (equal_or v t)
+    by k (entry.Local v i) l = ⊎_elim (λ q. absurd (no_local code t s k.thread k.main k.finishing (case_of code s (entry.Local t i) m (ap (λ j. next code s (entry.Local j i)) (sym q.1) ∙ l.0)))) (λ q. apart k (entry.Local v i) q.1 l) (equal_or v t)
+    by k (entry.Op v) l = ⊎_elim (λ q. absurd (no_op code t s k.thread k.main k.finishing (case_of code s (entry.Op t) m (ap (λ j. next code s (entry.Op j)) (sym q.1) ∙ l.0)))) (λ q. apart k (entry.Op v) q.1 l) (equal_or v t)
     by k (entry.Receive v) l = ⊎_elim (λ q. absurd (none_receives code s v m k.finishing.nobody_throws l.0)) (λ q. apart k (entry.Receive v) q.1 l) (equal_or v t)
     by k (entry.Wake v) l = apart k (entry.Wake v) tt l
     by k (entry.Finish v) l =

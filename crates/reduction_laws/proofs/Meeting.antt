@@ -1,25 +1,26 @@
 -- What eager rules meet, and what endings that are alike have in common.
-use Rattle.std.proofs.Common.{◌≡◌, ◌<◌, ℕ, length, slice_get, List, [], ◌∷◌, ◌++◌, true, false, Option, Some, None, refl, sym, ap, ◌∙◌, subst, ◌⊎◌, inl, inr, ⊎_elim}
+use Rattle.std.proofs.Common.{◌≡◌, ◌<◌, ℕ, length, List, [], ◌∷◌, ◌++◌, true, false, Some, None, refl, sym, ap, ◌∙◌, subst, ◌⊎◌, inl, inr, ⊎_elim}
 use Rattle.hs_base.specs.declared.exn.Exn.{Exn}
 use Rattle.hs_rules.specs.declared.entry.Entry.{Entry}
 use Rattle.hs_rules.specs.declared.entry.Entry.TheVariants as entry
 use Rattle.rules_meaning.specs.CoreMeaning.{Code}
 use Rattle.hs_rules.specs.Terms.{Throw, Frame, term}
 use Rattle.hs_rules.specs.State.{Thread, State}
-use Rattle.hs_rules.specs.Entries.{local_entry, op_entry, receive_entry, woken, finish_entry, on_thread, next, Leads}
+use Rattle.hs_rules.specs.Entries.{next, Leads}
 use Rattle.hs_laws.proofs.Lists.{item_below}
 use Rattle.hs_rules.specs.Entries as entries
 use Rattle.hs_rules.specs.Endings.{IsDone, IsUncaught, IsDeadlock, ended_by, result_of}
-use Rattle.rules_meaning.specs.Values.{V}
-use Rattle.rules_waiting.specs.Waiting.{Reason, Sleeping, reason_of, sleepers_of}
-use Rattle.timing_laws.proofs.Passing.{thread_there, same_item}
+use Rattle.rules_waiting.specs.Waiting.{Sleeping, reason_of, sleepers_of}
+use Rattle.timing_laws.proofs.Passing.{same_item}
 use Rattle.reduction_laws.specs.EagerRules.{passes, passes_all, EagerRule}
 use Rattle.reduction_laws.specs.Paths.{LocalsLead, MainRuns, EndsLike, IsOther, Commutes, CommutesWithReceive, NamesThread}
 use Rattle.hs_laws.proofs.SameCases.{put_in}
 use Rattle.reduction_laws.proofs.Apart.{Stands, IsApart}
 use Rattle.reduction_laws.proofs.Own.{main_runs, gone, Known, known, poised_next, eager_of, no_op, no_finish, Near, hit, main_hit, passing, frame_passed, Hit, own_receive}
 use Rattle.reduction_laws.proofs.Ending.{runs_or, alike_gone, apart_leads}
-use Rattle.hs_cases.proofs.Entering.{both_true}
+use Rattle.hs_cases.specs.Cases as row
+use Rattle.hs_cases.proofs.Entering.{case_of, both_true}
+use Rattle.hs_laws.proofs.Changes.{receiving, closing}
 
 pub others_commute : (code : Code) (t : ℕ) (s u : State) (e : Entry) (m : State) → EagerRule code t s u → IsOther t e → Leads code s e m → Commutes code t u e m
 others_commute code t s u e m c n l = let k = known c in subst (λ q. Commutes code t q e m) (sym k.leaves) (by k e n l)
@@ -108,22 +109,19 @@ itself_alone code t s u m c l = same_item (sym l.0 ∙ c.leads.0)
 
 -- ---- which entries there are to try
 
-names_thread : (s : State) (t : ℕ) (k : Thread → Option State) (u : State) → on_thread (slice_get s.threads 0) (λ main. on_thread (slice_get s.threads t) k) ≡ Some u → t < length s.threads
-names_thread s t k u e =
-    let a = thread_there (slice_get s.threads 0) (λ main. on_thread (slice_get s.threads t) k) u e in
-    let b = thread_there (slice_get s.threads t) k u a.3 in
-    item_below s.threads t b.0 b.1
+local_names : {code : Code} {t k : ℕ} {s u : State} → row.Enters code s (entry.Local t k) u → t < length s.threads
+local_names {t} {s} (row.local {th} r i b l) = item_below s.threads t th i.0
 
-names_sleeper : (s : State) (t : ℕ) (o : Option (Reason V)) (u : State) → reason_of t s.blocked ≡ o → woken t o s ≡ Some u → (due : ℕ) × (reason_of t s.blocked ≡ Some (Sleeping due))
-names_sleeper s t (Some (Sleeping due)) u e g = (due, e)
-names_sleeper s t _ u e g = absurd (cc g)
+op_names : {code : Code} {t : ℕ} {s u : State} → row.Enters code s (entry.Op t) u → t < length s.threads
+op_names {t} {s} (row.operation {th} r i b q d) = item_below s.threads t th i.0
+
+wake_names : {code : Code} {t : ℕ} {s u : State} → row.Enters code s (entry.Wake t) u → (due : ℕ) × (reason_of t s.blocked ≡ Some (Sleeping due))
+wake_names (row.wakes {due} r q d) = (due, q)
 
 pub names_a_thread : (code : Code) (s : State) (e : Entry) (u : State) → next code s e ≡ Some u → NamesThread s e
-names_a_thread code s (entry.Local t k) u h = names_thread s t (λ z. local_entry code t k z s) u h
-names_a_thread code s (entry.Op t) u h = names_thread s t (λ z. op_entry t z s) u h
-names_a_thread code s (entry.Receive t) u h = names_thread s t (λ z. receive_entry t z s) u h
-names_a_thread code s (entry.Wake t) u h =
-    names_sleeper s t (reason_of t s.blocked) u refl (thread_there (slice_get s.threads 0) (λ main. woken t (reason_of t s.blocked) s) u h).3
-names_a_thread code s (entry.Finish t) u h = names_thread s t (λ z. finish_entry t z z.term.frames z.term.part s) u h
-names_a_thread code s (entry.Tick at) u h = tt
-names_a_thread code s entry.Stranded u h = tt
+names_a_thread code s (entry.Local t k) u h = local_names (case_of code s (entry.Local t k) u h)
+names_a_thread code s (entry.Op t) u h = op_names (case_of code s (entry.Op t) u h)
+names_a_thread code s (entry.Receive t) u h = let r = receiving (case_of code s (entry.Receive t) u h) in item_below s.threads t r.thread r.is
+names_a_thread code s (entry.Wake t) u h = wake_names (case_of code s (entry.Wake t) u h)
+names_a_thread code s (entry.Finish t) u h = let r = closing (case_of code s (entry.Finish t) u h) in item_below s.threads t r.thread r.is
+names_a_thread code s _ u h = tt

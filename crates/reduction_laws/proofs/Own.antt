@@ -1,19 +1,18 @@
 -- What a thread that stands before a eager local rule can do itself, and what comes of an exception from outside.
-use Rattle.std.proofs.Common.{◌≡◌, ℕ, List, [], ◌∷◌, ◌++◌, slice_get, slice_set, Bool, true, false, not, ◌&&◌, ◌||◌, Option, Some, None, refl, sym, ap, ◌∙◌, subst, ◌⊎◌, inl, inr, ⊎_elim}
+use Rattle.std.proofs.Common.{◌≡◌, ℕ, List, [], ◌∷◌, ◌++◌, slice_get, slice_set, Bool, true, false, not, ◌&&◌, ◌||◌, Option, Some, None, refl, sym, ap, ◌∙◌, subst, ◌⊎◌, inl, inr, ⊎_elim, suc}
 use Rattle.hs_base.specs.declared.exn.Exn.{Exn}
 use Rattle.hs_rules.specs.declared.entry.Entry.{Entry}
 use Rattle.hs_rules.specs.declared.entry.Entry.TheVariants as entry
 use Rattle.rules_meaning.specs.Values.{V, UnitValue}
 use Rattle.rules_meaning.specs.CoreMeaning.{Code}
-use Rattle.hs_rules.specs.Terms.{Operation, Part, Ret, Throw, Do, Performs, Frame, BindTo, CatchBy, MaskIn, Term, term, mask_at}
+use Rattle.hs_rules.specs.Terms.{Part, Ret, Throw, Do, Performs, Frame, BindTo, CatchBy, MaskIn, Term, term, mask_at}
 use Rattle.hs_rules.specs.LocalRules.{local, locals, first_step, on_top, on_term}
 use Rattle.rules_waiting.specs.Waiting.{Flying, leaves, is_blocked, flight_of, flying_to, first_thrown}
 use Rattle.hs_rules.specs.State.{Thread, State, with_term, frames_of, resume, answer}
-use Rattle.hs_rules.specs.Primitives.{operated}
-use Rattle.hs_rules.specs.Entries.{moved, local_entry, at_operation, op_entry, is_throw, is_unmasked, is_open, is_receptive, received, receive_entry, finish_entry, on_thread, next}
+use Rattle.hs_rules.specs.Entries.{is_throw, is_unmasked, is_open, is_receptive, received, receive_entry, finish_entry, on_thread, next}
 use Rattle.hs_rules.specs.Entries as entries
-use Rattle.hs_laws.proofs.Lists.{cond_true, cond_false, equal_or, item_same, item_other, Found, first_found, throws, throw_is_first, not_blocked_left}
-use Rattle.timing_laws.proofs.Passing.{same_item, passed_not, passed, thread_there, on_running}
+use Rattle.hs_laws.proofs.Lists.{cond_true, equal_or, item_same, item_other, Found, first_found, throws, throw_is_first, not_blocked_left}
+use Rattle.timing_laws.proofs.Passing.{same_item, passed, thread_there, on_running}
 use Rattle.reduction_laws.specs.EagerRules.{passes, passes_all, step_is_eager, leaving_is_eager, is_eager_though_open, is_eager, thread_is_eager, EagerRule}
 use Rattle.reduction_laws.specs.Paths.{MainRuns}
 use Rattle.reduction_laws.proofs.Lists.{set_twice}
@@ -22,7 +21,8 @@ use Rattle.reduction_laws.proofs.NobodyThrows.{nobody_throws_kept, none_receives
 use Rattle.reduction_laws.specs.NoThrowTo.{NobodyThrows}
 use Rattle.hs_laws.proofs.SameCases.{put_in}
 use Rattle.reduction_laws.proofs.Apart.{Stands, SameFlag, same_flag, flags, resumed, Other, all_other}
-use Rattle.hs_cases.proofs.Entering.{both_true, not_true}
+use Rattle.hs_cases.specs.Cases as row
+use Rattle.hs_cases.proofs.Entering.{case_of, entered_is, both_true, not_true}
 
 -- ---- main
 
@@ -68,12 +68,30 @@ stands h = record { is = h.is; free = h.free }
 pub poised_on : {code : Code} {t : ℕ} {s : State} {th : Thread} {x : Term} → Poised code t s th x → (e : Entry) (u : State) → next code s e ≡ Some u → Stands t th u → Poised code t u th x
 poised_on {code} {t} {s} h e u l k = record { is = k.is; unfinished = h.unfinished; free = k.free; rule = h.rule; eager = ⊎_elim (λ c. inl c) (λ q. inr (nobody_throws_kept code s e u q l)) h.eager }
 
+-- ---- local rules of a thread
+
+pub local_next : (code : Code) (t k : ℕ) (s : State) (th : Thread) (y : Term) → MainRuns s → Stands t th s → th.finished ≡ false → locals code (suc k) th.term ≡ Some y →
+    next code s (entry.Local t (suc k)) ≡ Some (put_in t (gone th y) s)
+local_next code t k s th y m h f e = entered_is (row.local (m.0, (m.1, m.2)) (h.is, f) h.free e) ∙ ap (λ o. Some (record s { threads = with_term t o y s.threads })) h.is
+
+-- what some local rules stand for
+pub record Went (code : Code) (t k : ℕ) (s m : State) : Type 0 where
+  pub thread : Thread
+  pub term : Term
+  pub stands : Stands t thread s
+  pub unfinished : thread.finished ≡ false
+  pub rules : locals code (suc k) thread.term ≡ Some term
+  pub leaves : m ≡ put_in t (gone thread term) s
+  pub main : MainRuns s
+
+went_by : {code : Code} {t k : ℕ} {s m : State} → row.Enters code s (entry.Local t (suc k)) m → Went code t k s m
+went_by {t} {s} (row.local {th} {x} r i b l) = record { thread = th; term = x; stands = record { is = i.0; free = b }; unfinished = i.1; rules = l; leaves = ap (λ o. record s { threads = with_term t o x s.threads }) i.0; main = (r.0, r.1.0, r.1.1) }
+
+pub went : (code : Code) (t k : ℕ) (s m : State) → next code s (entry.Local t (suc k)) ≡ Some m → Went code t k s m
+went code t k s m e = went_by (case_of code s (entry.Local t (suc k)) m e)
+
 pub poised_next : (code : Code) (t : ℕ) (s : State) (th : Thread) (x : Term) → MainRuns s → Poised code t s th x → next code s (entry.Local t 1) ≡ Some (put_in t (gone th x) s)
-poised_next code t s th x m h =
-    on_running (slice_get s.threads 0) m.0 (λ main. entries.entered code s (entry.Local t 1)) m.1 m.2
-    ∙ (on_running (slice_get s.threads t) th (λ z. local_entry code t 1 z s) h.is h.unfinished
-    ∙ (cond_false (is_blocked t s.blocked) None (moved t s (locals code 1 th.term)) h.free
-    ∙ (ap (λ o. moved t s (on_term o (λ u. locals code 0 u))) h.rule ∙ ap (λ o. Some (record s { threads = with_term t o x s.threads })) h.is)))
+poised_next code t s th x m h = local_next code t 0 s th x m (stands h) h.unfinished (ap (λ o. on_term o (λ u. locals code 0 u)) h.rule)
 
 -- what a eager local rule stands for
 pub record Known (code : Code) (t : ℕ) (s u : State) : Type 0 where
@@ -83,22 +101,25 @@ pub record Known (code : Code) (t : ℕ) (s u : State) : Type 0 where
   pub leaves : u ≡ put_in t (gone thread term) s
   pub main : MainRuns s
 
+one_rule : (o : Option Term) (x : Term) → on_term o (λ z. Some z) ≡ Some x → o ≡ Some x
+one_rule None x e = absurd (cc e)
+one_rule (Some y) x e = e
+
 pub known : {code : Code} {t : ℕ} {s u : State} → EagerRule code t s u → Known code t s u
 known {code} {t} {s} {u} c =
-    let m = thread_there (slice_get s.threads 0) (λ main. entries.entered code s (entry.Local t 1)) u c.leads.0 in
-    let h = thread_there (slice_get s.threads t) (λ z. local_entry code t 1 z s) u m.3 in
-    let k = passed_not (is_blocked t s.blocked) (moved t s (locals code 1 h.0.term)) u h.3 in
-    by h.0 h.1 h.2 k.0 (m.0, m.1, m.2) (local code h.0.term.part h.0.term.frames) refl k.1
-  where
-    by : (th : Thread) → slice_get s.threads t ≡ Some th → th.finished ≡ false → is_blocked t s.blocked ≡ false → MainRuns s → (o : Option Term) → local code th.term.part th.term.frames ≡ o
-        → moved t s (on_term o (λ z. locals code 0 z)) ≡ Some u → Known code t s u
-    by th is f b m None e g = absurd (cc g)
-    by th is f b m (Some x) e g = record {
-      thread = th;
-      term = x;
-      poised = record { is = is; unfinished = f; free = b; rule = e; eager = ⊎_elim (λ q. inl (ap (thread_is_eager code) (sym is) ∙ q)) (λ q. inr q) c.eager };
-      leaves = sym (same_item g) ∙ ap (λ o. record s { threads = with_term t o x s.threads }) is;
-      main = m;
+    let w = went code t 0 s u c.leads.0 in
+    record {
+      thread = w.thread;
+      term = w.term;
+      poised = record {
+        is = w.stands.is;
+        unfinished = w.unfinished;
+        free = w.stands.free;
+        rule = one_rule (local code w.thread.term.part w.thread.term.frames) w.term w.rules;
+        eager = ⊎_elim (λ q. inl (ap (thread_is_eager code) (sym w.stands.is) ∙ q)) (λ q. inr q) c.eager;
+      };
+      leaves = w.leaves;
+      main = w.main;
     }
 
 pub eager_of : (code : Code) (t : ℕ) (s : State) (th : Thread) (x : Term) → MainRuns s → Poised code t s th x → EagerRule code t s (put_in t (gone th x) s)
@@ -110,14 +131,14 @@ module _ (code : Code) (t : ℕ) (s : State) (th : Thread) (x : Term) (h : Poise
   on_own : (k : Thread → Option State) (u : State) → on_thread (slice_get s.threads 0) (λ main. on_thread (slice_get s.threads t) k) ≡ Some u → k th ≡ Some u
   on_own k u e = there_is (slice_get s.threads t) th k u h.is (thread_there (slice_get s.threads 0) (λ main. on_thread (slice_get s.threads t) k) u e).3
 
-  no_operation : (p : Part) (fs : List Frame) (k : Operation → Option State) (u : State) → local code p fs ≡ Some x → at_operation p k ≡ Some u → ⊥
-  no_operation (Performs o) fs k u r e = cc r
-  no_operation _ fs k u r e = cc e
+  no_op_by : {u : State} → row.Enters code s (entry.Op t) u → ⊥
+  no_op_by (row.operation {th = z} {p} m i b q d) =
+      let own : z ≡ th = same_item (sym i.0 ∙ h.is) in
+      let e : None ≡ Some x = ap (λ y. local code y th.term.frames) (sym q ∙ ap (λ (y : Thread). y.term.part) own) ∙ h.rule in
+      cc e
 
   pub no_op : (u : State) → next code s (entry.Op t) ≡ Some u → ⊥
-  no_op u e =
-      let k = passed_not (is_blocked t s.blocked) _ u (on_own (λ z. op_entry t z s) u e) in
-      no_operation th.term.part th.term.frames (λ p. operated t (mask_at th.term.frames) p s) u h.rule k.1
+  no_op u e = no_op_by (case_of code s (entry.Op t) u e)
 
   no_end : (p : Part) (fs : List Frame) (u : State) → local code p fs ≡ Some x → finish_entry t th fs p s ≡ Some u → ⊥
   no_end (Ret v) [] u r e = cc r

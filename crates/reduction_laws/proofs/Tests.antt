@@ -1,5 +1,5 @@
 -- A certain thread that is there.
-use Rattle.std.proofs.Common.{◌≡◌, ◌&&◌, Option, Some, sym, ◌∙◌, subst}
+use Rattle.std.proofs.Common.{◌≡◌, Option, Some, sym, ◌∙◌, subst}
 use Rattle.hs_rules.specs.State.{Thread, State}
 use Rattle.hs_rules.specs.Entries.{on_thread}
 use Rattle.timing_laws.proofs.Passing.{same_item, thread_there}
