@@ -1,5 +1,5 @@
 -- Every entry keeps a state typed, and a thread of a typed state that runs has a legal entry.
-use Rattle.std.proofs.Common.{◌≡◌, ◌≢◌, ◌==◌, ⊎_elim, ℕ, zero, suc, ◌≤◌, List, [], ◌∷◌, length, slice_get, true, false, Option, Some, None, refl, sym, ap, ◌∙◌, subst, arith}
+use Rattle.std.proofs.Common.{◌≡◌, ◌≢◌, ◌==◌, ⊎_elim, ℕ, zero, suc, ◌≤◌, List, [], ◌∷◌, length, slice_get, true, false, Option, Some, None, refl, sym, ap, ◌∙◌, subst, arith, Bool}
 use Rattle.hs_base.specs.declared.tree.script.Script.{Script}
 use Rattle.hs_rules.specs.declared.entry.Entry.{Entry}
 use Rattle.hs_rules.specs.declared.entry.Entry.TheVariants as entry
@@ -11,15 +11,16 @@ use Rattle.rules_meaning.specs.CoreMeaning.{Code, code_of}
 use Rattle.rules_sorts.specs.Sorts.{a_value}
 use Rattle.rules_typing.specs.TypingScripts.{Accepted}
 use Rattle.hs_rules.specs.Terms.{Operation, Part, Ret, Throw, Do, Performs, Frame, Term, mask_at}
-use Rattle.hs_rules.specs.LocalRules.{local, on_term, locals}
+use Rattle.hs_rules.specs.LocalRules.{local, on_term}
 use Rattle.rules_waiting.specs.Waiting.{Sleeping, Flying, is_blocked, flight_of, flying_to, first_thrown}
 use Rattle.hs_rules.specs.State.{Thread, State, move, resume, answer, resume_all, first}
 use Rattle.hs_rules.specs.Primitives.{operated}
-use Rattle.hs_rules.specs.Entries.{moved, local_entry, at_operation, op_entry, uncaught_line, closed, finish_entry, on_thread, next, IsTimely, IsLegal}
-use Rattle.hs_rules.specs.Entries as entries
+use Rattle.hs_rules.specs.Entries.{closed, next, IsTimely, IsLegal, is_silent}
 use Rattle.hs_rules.specs.Runs.{Run, IsRun}
 use Rattle.hs_cases.specs.Cases as row
-use Rattle.hs_cases.proofs.Entering.{case_of}
+use Rattle.hs_cases.proofs.Entering.{case_of, entered_is}
+use Rattle.hs_cases.proofs.Performing as performing
+use Rattle.hs_base.specs.declared.exn.Exn.{Exn}
 use Rattle.hs_cases.proofs.Performing.{performed_is}
 use Rattle.hs_laws.proofs.Changes.{receiving, closing}
 use Rattle.hs_base.specs.declared.exn.Exn.TheVariants.{BlockedIndefinitely}
@@ -113,9 +114,6 @@ module _ (script : Script) (accepted : Accepted script) (heads : HeadsKept (scri
     next_typed entry.Stranded u n = strand_typed (case_of code s entry.Stranded u n)
 
     -- ---- a thread that runs goes on
-    on_running : (o : Option Thread) (th : Thread) (k : Thread → Option State) (u : State) → o ≡ Some th → th.finished ≡ false → k th ≡ Some u → on_thread o k ≡ Some u
-    on_running o th k u is f e = ap (λ q. on_thread q k) is ∙ (cond_false th.finished None (k th) f ∙ e)
-
     some_of : (o : Option State) → Ok ds st o → (u : State) × (o ≡ Some u)
     some_of None h = absurd h
     some_of (Some u) h = (u, refl)
@@ -125,33 +123,34 @@ module _ (script : Script) (accepted : Accepted script) (heads : HeadsKept (scri
     performs_goes t th r op p = some_of (operated t (mask_at th.term.frames) op s) (op_goes t th op r.there p r.unfinished r.awake)
 
     module _ (m : MainRuns s) (t : ℕ) (th : Thread) (r : IsRunning s t th) where
-      now : (e : Entry) (u : State) → IsTimely code s e → entries.entered code s e ≡ Some u → IsLegal code s e
-      now e u timely q = (u, (on_running (slice_get s.threads 0) m.main (λ x. entries.entered code s e) u m.there m.unfinished q, timely))
+      main : row.MainRuns s
+      main = (m.main, (m.there, m.unfinished))
+
+      by_case : {e : Entry} {u : State} → IsTimely code s e → row.Enters code s e u → IsLegal code s e
+      by_case {u} timely c = (u, (entered_is c, timely))
 
       local_legal : (o : Option Term) → o ≡ local code th.term.part th.term.frames → StepsOrStops (has st) ds th.term.part th.term.frames o → (Stops th.term.part th.term.frames → ⊥) → IsLegal code s (entry.Local t 1)
       local_legal None e h n = absurd (n h)
-      local_legal (Some x) e h n =
-          now (entry.Local t 1) (move t x s) tt (on_running (slice_get s.threads t) th (λ th. local_entry code t 1 th s) (move t x s) r.there r.unfinished
-          (cond_false (is_blocked t s.blocked) None (moved t s (locals code 1 th.term)) r.awake ∙ ap (λ o. moved t s (on_term o (λ u. Some u))) (sym e)))
+      local_legal (Some x) e h n = by_case tt (row.local {k = 0} main (r.there, r.unfinished) r.awake (ap (λ o. on_term o (λ u. Some u)) (sym e)))
 
       goes_local : (Stops th.term.part th.term.frames → ⊥) → IsLegal code s (entry.Local t 1)
       goes_local n = let k = term_at t th r.there in local_legal (local code th.term.part th.term.frames) refl (local_goes (has st) script accepted heads k.part k.frames) n
 
-      finishes : (u : State) → finish_entry t th th.term.frames th.term.part s ≡ Some u → IsLegal code s (entry.Finish t)
-      finishes u e = now (entry.Finish t) u tt (on_running (slice_get s.threads t) th (λ th. finish_entry t th th.term.frames th.term.part s) u r.there r.unfinished e)
+      -- it ends by an exception that nothing catches
+      uncaught : (t : ℕ) (e : Exn) → row.Unfinished t th s → th.term.frames ≡ [] → th.term.part ≡ Throw e → (b : Bool) → is_silent e ≡ b → IsLegal code s (entry.Finish t)
+      uncaught zero e i q p b f = by_case tt (row.main_finishes_by_an_exception i q p)
+      uncaught (suc t) e i q p true f = by_case tt (row.finishes_silently main i q p f)
+      uncaught (suc t) e i q p false f = by_case tt (row.finishes_with_a_line main i q p f)
 
       some_frames : (f : Frame) (fs : List Frame) → f ∷ fs ≡ [] → ⊥
       some_frames f fs e = cc e
 
       goes : (p : Part) (fs : List Frame) → th.term.part ≡ p → th.term.frames ≡ fs → IsLegal code s (own_entry t p fs)
-      goes (Performs op) fs p q =
-          let u = performs_goes t th r op p in
-          now (entry.Op t) u.0 tt (on_running (slice_get s.threads t) th (λ th. op_entry t th s) u.0 r.there r.unfinished
-          (cond_false (is_blocked t s.blocked) None (at_operation th.term.part (λ op. operated t (mask_at th.term.frames) op s)) r.awake ∙ (ap (λ z. at_operation z (λ op. operated t (mask_at th.term.frames) op s)) p ∙ u.1)))
+      goes (Performs op) fs p q = let u = performs_goes t th r op p in by_case tt (row.operation main (r.there, r.unfinished) r.awake p (performing.case_of t (mask_at th.term.frames) op s u.0 u.1))
       goes (Do a env) fs p q = goes_local (λ h. subst (λ z. Stops z th.term.frames) p h)
-      goes (Ret v) [] p q = finishes (closed t th [] s) (ap (λ z. finish_entry t th z th.term.part s) q ∙ ap (λ z. finish_entry t th [] z s) p)
+      goes (Ret v) [] p q = by_case tt (row.finishes_by_a_value main (r.there, r.unfinished) q p)
       goes (Ret v) (f ∷ fs) p q = goes_local (λ h. let e : th.term.frames ≡ [] = subst (λ z. Stops z th.term.frames) p h in some_frames f fs (sym q ∙ e))
-      goes (Throw e) [] p q = finishes (closed t th (uncaught_line t e) s) (ap (λ z. finish_entry t th z th.term.part s) q ∙ ap (λ z. finish_entry t th [] z s) p)
+      goes (Throw e) [] p q = uncaught t e (r.there, r.unfinished) q p (is_silent e) refl
       goes (Throw e) (f ∷ fs) p q = goes_local (λ h. let e : th.term.frames ≡ [] = subst (λ z. Stops z th.term.frames) p h in some_frames f fs (sym q ∙ e))
 
       pub own_legal : IsLegal code s (own_entry t th.term.part th.term.frames)

@@ -20,6 +20,7 @@ use Rattle.hs_soundness.proofs.WellBlocks.{bl_well}
 use Rattle.hs_progress.specs.CoreTyping.{with_bound, Sees, Does, Takes, takes_none, takes_one}
 use Rattle.hs_progress.specs.TypedStates.{ctx_of, KeepsHead, HeadsKept, Runs}
 use Rattle.hs_progress.proofs.Surface.{binds, bl_does, eq_sym}
+use Rattle.hs_cases.proofs.Entering.{both_true}
 
 -- ---- parameters
 
@@ -78,11 +79,6 @@ pub heads_kept : (s : Script) → Accepted s → HeadsKept (script_of s)
 heads_kept s a f sig e w = heads_from (script_of s) 0 s.defs (bodies_typed s a) f sig e w
 
 -- ---- `main`
-
-both_true : (p q : Bool) → p && q ≡ true → (p ≡ true) × (q ≡ true)
-both_true true true e = (refl, refl)
-both_true true false e = absurd (cc e)
-both_true false q e = absurd (cc e)
 
 no_types : (ts : List T) → is_none ts ≡ true → ts ≡ []
 no_types [] e = refl

@@ -1,5 +1,5 @@
 -- Where there is no work all threads wait, and where nothing but a Tick is legal nobody is to be stranded.
-use Rattle.std.proofs.Common.{◌≡◌, ◌≢◌, ℕ, ◌<◌, List, [], ◌∷◌, slice_get, nat_le, Bool, true, false, cond, Option, Some, None, refl, sym, ap, ◌∙◌, ⊎_elim}
+use Rattle.std.proofs.Common.{◌≡◌, ℕ, ◌<◌, List, [], ◌∷◌, slice_get, nat_le, Bool, true, false, Option, Some, None, refl, sym, ap, ◌∙◌, ⊎_elim}
 use Rattle.std.specs.Prelude.{◌↔◌}
 use Rattle.std.proofs.lemmas.Bool.Decides.{leb_tells}
 use Rattle.hs_base.specs.declared.exn.Exn.TheVariants.{BlockedIndefinitely}
@@ -11,9 +11,9 @@ use Rattle.rules_meaning.specs.Values.{UnitValue}
 use Rattle.rules_meaning.specs.CoreMeaning.{Code, code_of}
 use Rattle.rules_typing.specs.TypingScripts.{Accepted}
 use Rattle.hs_rules.specs.Terms.{Part, Ret, Throw, Do, Performs, Frame}
-use Rattle.rules_waiting.specs.Waiting.{Sleeping, Sleeper, Flying, is_blocked, reason_of, flight_of, flying_to, sleepers_of}
+use Rattle.rules_waiting.specs.Waiting.{Sleeping, Flying, is_blocked, reason_of, flight_of, flying_to, sleepers_of}
 use Rattle.hs_rules.specs.State.{Thread, State, resume, answer, resume_all}
-use Rattle.hs_rules.specs.Entries.{is_receptive, received, receive_entry, woken, stranded, strand, strand_entry, on_thread, next, IsWork, IsIdle, IsTimely, IsLegal}
+use Rattle.hs_rules.specs.Entries.{is_receptive, received, receive_entry, woken, stranded, on_thread, next, IsWork, IsIdle, IsTimely, IsLegal}
 use Rattle.hs_rules.specs.Entries as entries
 use Rattle.hs_rules.specs.Runs.{IsRun}
 use Rattle.hs_rules.specs.Endings.{IsDone, IsUncaught, IsTick, IsQuiet, IsDeadlock, AllWait}
@@ -25,6 +25,8 @@ use Rattle.hs_laws.proofs.HowItEnds.{main_ends}
 use Rattle.hs_laws.proofs.Expanded.{owing_of}
 use Rattle.hs_progress.specs.GoingOn.{MainRuns, IsRunning, own_entry, MayStrand}
 use Rattle.hs_progress.proofs.Entries.{main_is_there, runs_go_on}
+use Rattle.hs_cases.specs.Cases as row
+use Rattle.hs_cases.proofs.Entering.{case_of, all_are}
 
 isnt_state : (u : State) → None ≡ Some u → ⊥
 isnt_state u e = let z : ◌≡◌ {A = Option State} None (Some u) = e in cc z
@@ -100,28 +102,13 @@ module _ (code : Code) (s : State) (m : MainRuns s) (o : Owing s) (w : NoneWorks
 
 -- ---- a Stranded is legal
 
-main_is : (o : Option Thread) (k : Thread → Option State) (u : State) → on_thread o k ≡ Some u → (th : Thread) × (o ≡ Some th) × (th.finished ≡ false) × (k th ≡ Some u)
-main_is None k u e = absurd (cc e)
-main_is (Some th) k u e = by th.finished refl e
-  where
-    by : (b : Bool) → b ≡ th.finished → cond b None (k th) ≡ Some u → (x : Thread) × (Some th ≡ Some x) × (x.finished ≡ false) × (k x ≡ Some u)
-    by true q z = absurd (cc z)
-    by false q z = (th, refl, sym q, z)
-
-some_stranded : (ts : List ℕ) (s u : State) → strand ts s ≡ Some u → ts ≢ []
-some_stranded [] s u e = absurd (isnt_state u e)
-some_stranded (t ∷ ts) s u e = λ n. cc n
-
-awake_of : (ss : List Sleeper) (s u : State) → strand_entry ss s ≡ Some u → (ss ≡ []) × (stranded s ≢ [])
-awake_of [] s u e = (refl, some_stranded (stranded s) s u e)
-awake_of (r ∷ rs) s u e = absurd (isnt_state u e)
+may_by : {code : Code} {s u : State} → (MainRuns s → IsIdle code s → NoneWorks s) → IsIdle code s → row.Enters code s entry.Stranded u → MayStrand s
+may_by waits i (row.strands {t} {ts} m e a) =
+    let k : MainRuns _ = record { main = m.0; there = m.1.0; unfinished = m.1.1 } in
+    record { main = k; waits = waits k i; awake = e; some = λ n. let z : [] ≡ t ∷ ts = sym n ∙ all_are a in cc z }
 
 may : (code : Code) (s : State) → (MainRuns s → IsIdle code s → NoneWorks s) → IsLegal code s entry.Stranded → MayStrand s
-may code s waits l =
-    let k = main_is (slice_get s.threads 0) (λ th. entries.entered code s entry.Stranded) l.0 l.1.0 in
-    let a = awake_of (sleepers_of s.blocked) s l.0 k.3 in
-    let m : MainRuns s = record { main = k.0; there = k.1; unfinished = k.2 } in
-    record { main = m; waits = waits m l.1.1; awake = a.0; some = a.1 }
+may code s waits l = may_by waits l.1.1 (case_of code s entry.Stranded l.0 l.1.0)
 
 strands : (code : Code) (s : State) → Owing s → (m : MayStrand s) → (ts : List ℕ) → stranded s ≡ ts → IsLegal code s entry.Stranded
 strands code s o m [] e = absurd (m.some e)

@@ -23,9 +23,6 @@ use Rattle.hs_laws.proofs.Growing.{set_length, term_length}
 pub length_with_term : (t : ℕ) (o : Option Thread) (u : Term) (ts : List Thread) → length (with_term t o u ts) ≡ length ts
 length_with_term = term_length
 
-pub length_ended : (ts : List Thread) (t : ℕ) (th : Thread) → length (slice_set ts t th) ≡ length ts
-length_ended ts t th = set_length ts t th
-
 -- ---- the reasons that are looked for
 
 pub puts_is : (m : ℕ) (r : Reason V) (v : V) → puts m r ≡ Some v → r ≡ Putting m v
