@@ -44,14 +44,9 @@ hidden_finds h k e (b ∷ bs) =
 
 finds_same : (x y : Name) → same_name x y ≡ true → (env : Env) → value_at x env ≡ value_at y env
 finds_same (Written x) (Written y) e env = ap (λ z. value_at (Written z) env) ((bytes_eq-Decides x y).0 e)
-finds_same (Written x) (Added h) e env = absurd (cc e)
-finds_same (Added h) (Written y) e env = absurd (cc e)
-finds_same (Written x) Unread e env = absurd (cc e)
-finds_same (Added h) Unread e env = absurd (cc e)
-finds_same Unread (Written y) e env = absurd (cc e)
-finds_same Unread (Added h) e env = absurd (cc e)
 finds_same Unread Unread e env = refl
 finds_same (Added h) (Added k) e env = hidden_finds h k (eqb-true (hidden_number h) (hidden_number k) e) env
+finds_same _ _ e env = absurd (cc e)
 
 -- ---- values of slots
 
@@ -90,10 +85,8 @@ module _ (env : Env) where
 
   agree_more : (o : Option Sort) (n : Option ℕ) (w : Option V) (vs us : List V) → Agree o n w vs → Agree o n w (vs ++ us)
   agree_more None None w vs us h = h
-  agree_more None (Some n) w vs us h = h
-  agree_more (Some k) None w vs us h = h
-  agree_more (Some k) (Some n) None vs us h = h
   agree_more (Some k) (Some n) (Some v) vs us h = get_left vs us n v h
+  agree_more _ _ _ vs us h = h
 
   agree_end : (k : Sort) (n : ℕ) (w r : Option V) (vs : List V) → length vs ≡ n → r ≡ w → Agree (Some k) (Some n) w (vs ++ value_or r ∷ [])
   agree_end k n None r vs l e = tt

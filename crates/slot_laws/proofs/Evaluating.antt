@@ -4,7 +4,7 @@ use Rattle.hs_base.specs.declared.mask.Mask.TheVariants.{Unmasked}
 use Rattle.hs_base.specs.declared.tree.script.Script.{Script}
 use Rattle.rules_trees.specs.Trees.{T, Exs, none, more}
 use Rattle.rules_trees.specs.Programs.{Fn, script_of}
-use Rattle.rules_expansion.specs.Core.{CoreEx, OfScript, Core, Return, ThrowIo, Let, Bind, If, CaseMaybe, CaseEither, CaseList, CasePair, Call, Perform, Fork, ForkUnmask, Catch, MaskWith, MaskHard, Restore, ActionFunction}
+use Rattle.rules_expansion.specs.Core.{CoreEx, OfScript, Core, Bind, Call, Perform, ActionFunction}
 use Rattle.rules_expansion.specs.Expansion.{actions_of}
 use Rattle.rules_meaning.specs.Values.{V, Env}
 use Rattle.rules_meaning.specs.CoreMeaning.{code_of}
@@ -25,7 +25,7 @@ use Rattle.hs_rules.specs.LocalRules as name
 use Rattle.hs_rules.specs.State.{Thread, State}
 use Rattle.hs_soundness.specs.CoreSorts.{written_in, CoreHas, names_of}
 use Rattle.hs_soundness.proofs.Growing.{fits_any}
-use Rattle.hs_progress.specs.CoreTyping.{CoreAllHave, no_more, one_more, Does, does_return, does_throw, does_let, does_bind, does_then, does_if, does_maybe, does_either, does_list, does_pair, does_call, does_perform, does_fork, does_fork_unmask, does_catch, does_mask, does_mask_hard, does_restore}
+use Rattle.hs_progress.specs.CoreTyping.{CoreAllHave, no_more, one_more, Does, does_return, does_throw, does_let, does_if, does_maybe, does_either, does_list, does_pair, does_call, does_perform}
 use Rattle.hs_progress.specs.TypedStates.{ctx_of, Store, has}
 use Rattle.hs_progress.specs.Evaluated.{of_script, evaluated, HaveSorts}
 use Rattle.hs_progress.proofs.Heads.{heads_kept}
@@ -52,8 +52,6 @@ does_have : (c : typing.Ctx) {g : List SortedName} {a : Core} {k : Sort} → Doe
 does_have c (does_return {k} h) = ((k, h), tt)
 does_have c (does_throw h) = ((_, h), tt)
 does_have c (does_let {j} p h d) = ((j, h), tt)
-does_have c (does_bind p d w) = tt
-does_have c (does_then d w) = tt
 does_have c (does_if h d w) = ((_, h), tt)
 does_have c (does_maybe p h d w) = ((_, h), tt)
 does_have c (does_either p q h d w) = ((_, h), tt)
@@ -61,12 +59,7 @@ does_have c (does_list p q h d w) = ((_, h), tt)
 does_have c (does_pair p q h d) = ((_, h), tt)
 does_have c {g} (does_call {es} sig e w l h) = args_have c g es sig.params l h
 does_have c {g} (does_perform p h) = all_have c g h
-does_have c (does_fork d) = tt
-does_have c (does_fork_unmask p d) = tt
-does_have c (does_catch p d w) = tt
-does_have c (does_mask p d) = tt
-does_have c (does_mask_hard p d) = tt
-does_have c (does_restore h d) = tt
+does_have c _ = tt
 
 sort_of : (c : typing.Ctx) (g : List SortedName) (es : List CoreEx) → HaveSorts c g es → (n : ℕ) (e : CoreEx) → slice_get es n ≡ Some e → (k : Sort) × CoreHas c g e k
 sort_of c g [] h n e p = absurd (let z : None ≡ Some e = p in cc z)
@@ -89,23 +82,10 @@ module _ (rs : List Root) (fs : List ActionFunction) (s : Scope) where
   bind_same false a b c d = refl
 
   evaluates_same : (a : Core) → slots_evaluated (slotted_core rs fs s a) ≡ map (slotted_core_ex rs s) (evaluated a)
-  evaluates_same (Return e) = refl
-  evaluates_same (ThrowIo e) = refl
-  evaluates_same (Let x e a) = refl
   evaluates_same (Bind x a b) = bind_same (is_unread x) (slotted_core rs fs s a) (slotted_core rs fs s b) (slotted_core rs fs s a) (slotted_core rs fs (x ∷ s) b)
-  evaluates_same (If e a b) = refl
-  evaluates_same (CaseMaybe e a x b) = refl
-  evaluates_same (CaseEither e x a y b) = refl
-  evaluates_same (CaseList e a x y b) = refl
-  evaluates_same (CasePair e x y b) = refl
   evaluates_same (Call f es) = args_same es
   evaluates_same (Perform p es) = all_same es
-  evaluates_same (Fork a) = refl
-  evaluates_same (ForkUnmask r a) = refl
-  evaluates_same (Catch a x b) = refl
-  evaluates_same (MaskWith r a) = refl
-  evaluates_same (MaskHard r a) = refl
-  evaluates_same (Restore r a) = refl
+  evaluates_same _ = refl
 
 mapped_at : {A B : Type 0} (f : A → B) (xs : List A) (n : ℕ) (y : B) → slice_get (map f xs) n ≡ Some y → (x : A) × (slice_get xs n ≡ Some x) × (y ≡ f x)
 mapped_at f [] n y e = absurd (let z : ◌≡◌ {A = Option _} None (Some y) = e in cc z)
@@ -157,24 +137,9 @@ trees_same ts [] = refl
 trees_same ts (e ∷ es) = ap (λ z. tree_in ts e ∷ z) (trees_same ts es)
 
 decoded_same : (ts : List Sx) (us : List Sa) (k : Act) → slots_evaluated (act_decode ts us k) ≡ map (tree_in ts) (nodes_evaluated k)
-decoded_same ts us (act.Return e) = refl
-decoded_same ts us (act.Throw e) = refl
-decoded_same ts us (act.Let e i) = refl
-decoded_same ts us (act.Bind i j) = refl
-decoded_same ts us (act.Then i j) = refl
-decoded_same ts us (act.If e i j) = refl
-decoded_same ts us (act.CaseMaybe e i j) = refl
-decoded_same ts us (act.CaseEither e i j) = refl
-decoded_same ts us (act.CaseList e i j) = refl
-decoded_same ts us (act.CasePair e i) = refl
 decoded_same ts us (act.Call f es) = trees_same ts es
 decoded_same ts us (act.Perform p es) = trees_same ts es
-decoded_same ts us (act.Fork i) = refl
-decoded_same ts us (act.ForkUnmask i) = refl
-decoded_same ts us (act.Catch i j) = refl
-decoded_same ts us (act.Mask i) = refl
-decoded_same ts us (act.UninterruptibleMask i) = refl
-decoded_same ts us (act.Restore k i) = refl
+decoded_same ts us _ = refl
 
 pub nodes_same : (b : CodeBody) (i : ActId) (k : Act) → slice_get b.acts i.0 ≡ Some k → slots_evaluated (act_tree_at b.nodes b.acts i) ≡ map (tree_at b.nodes) (nodes_evaluated k)
 nodes_same b i k h = ap slots_evaluated (act_is b.nodes b.acts i k h) ∙ decoded_same (trees b.nodes) _ k

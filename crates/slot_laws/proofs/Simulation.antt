@@ -187,9 +187,7 @@ module _ (cells : ℕ → T → Type 0) (script : Script) (accepted : Accepted s
 
   both : (o : Option SlotTerm) (r : Option named.Term) → StepsTo cells ds o r → BothStand cells ds o r
   both None None h = tt
-  both None (Some t) h = h
-  both (Some st) None h = h
-  both (Some st) (Some t) h = h
+  both _ _ h = h
 
   -- a typed action always has a step
   does_step : {k : Sort} {ss : List SlotFrame} {fs : List named.Frame} (tree : Sa) (vs : List V) (a : Core) (env : Env) → Reads cells ds tree vs a env k → FramesStand cells ds k ss fs

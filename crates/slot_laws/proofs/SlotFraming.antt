@@ -27,16 +27,12 @@ on_more fs gs (Some t) = ap (λ z. Some (at t.part z)) (sym (append_assoc t.fram
 ret_more : (u : V) (fs gs : List SlotFrame) → Extends gs (ret_step u fs) (ret_step u (fs ++ gs))
 ret_more u [] gs = tt
 ret_more u (bind_to a vs ∷ fs) gs = refl
-ret_more u (then_to a vs ∷ fs) gs = refl
-ret_more u (catch_by a vs ∷ fs) gs = refl
-ret_more u (mask_in m ∷ fs) gs = refl
+ret_more u _ gs = refl
 
 throw_more : (s : Mask) (e : Exn) (fs gs : List SlotFrame) → Extends gs (throw_step (mask_from s gs) e fs) (throw_step s e (fs ++ gs))
 throw_more s e [] gs = tt
-throw_more s e (bind_to a vs ∷ fs) gs = refl
-throw_more s e (then_to a vs ∷ fs) gs = refl
 throw_more s e (catch_by a vs ∷ fs) gs = ap (λ m. Some (at (doing a (vs ++ Exception e ∷ [])) (mask_in (join_of Masked m) ∷ (fs ++ gs)))) (mask_append s fs gs)
-throw_more s e (mask_in m ∷ fs) gs = refl
+throw_more s e _ gs = refl
 
 module _ (funs : List SlottedFunction) (s : Mask) (gs : List SlotFrame) where
   local_more : (p : SlotPart) (fs : List SlotFrame) → Extends gs (local funs (mask_from s gs) p fs) (local funs s p (fs ++ gs))

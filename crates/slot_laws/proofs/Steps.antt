@@ -40,12 +40,10 @@ binds_read (Added z) k h = refl
 
 module _ (cells : ℕ → T → Type 0) where
   binds_fits : (y : Name) (k : Sort) (v : V) → Binds y k → OfSort cells k v → FitsAt cells y (Some k) (Some v)
-  binds_fits (Written x) (a_value t) v b h = h
-  binds_fits (Written x) a_masking_name v b h = h
   binds_fits (Written x) an_instance v b h = absurd b
   binds_fits (Written x) (a_scope_cell t) v b h = absurd b
-  binds_fits (Added z) k v b h = h
   binds_fits Unread k v b h = absurd b
+  binds_fits _ _ v b h = h
 
   pub more_fits : (g : List SortedName) (env : Env) (vs : List V) (y : Name) (k : Sort) (v : V) → Binds y k → OfSort cells k v → SlotsFit cells g env vs → SlotsFit cells (with_bound y k g) (with_name y v env) (vs ++ v ∷ [])
   more_fits g env vs y k v b h f = fits_with cells g env vs y k v (binds_read y k b) (binds_fits y k v b h) f
