@@ -75,24 +75,18 @@ module _ (cells : ℕ → T → Type 0) (ds : List Fn) (m : ℕ) (p : SlotPart) 
 -- and the other way round
 take_want : (m : ℕ) (r : Reason V) → Blocks r (Calls TakeMVar (val.Cell m ∷ [])) → (w : Want V) × (want_at m r ≡ Some w)
 take_want m (Taking j) b = (To_take, same_if j m To_take (let z : m ≡ j = cc b in sym z))
-take_want m (Reading j) b = absurd (cc b)
-take_want m (Putting j v) b = absurd (cc b)
-take_want m (Throwing u x) b = absurd (cc b)
 take_want m (Sleeping due) b = let z = b.1 in absurd (cc z)
+take_want m _ b = absurd (cc b)
 
 read_want : (m : ℕ) (r : Reason V) → Blocks r (Calls ReadMVar (val.Cell m ∷ [])) → (w : Want V) × (want_at m r ≡ Some w)
-read_want m (Taking j) b = absurd (cc b)
 read_want m (Reading j) b = (To_read, same_if j m To_read (let z : m ≡ j = cc b in sym z))
-read_want m (Putting j v) b = absurd (cc b)
-read_want m (Throwing u x) b = absurd (cc b)
 read_want m (Sleeping due) b = let z = b.1 in absurd (cc z)
+read_want m _ b = absurd (cc b)
 
 put_want : (m : ℕ) (v : V) (r : Reason V) → Blocks r (Calls PutMVar (val.Cell m ∷ v ∷ [])) → (w : Want V) × (want_at m r ≡ Some w)
-put_want m v (Taking j) b = absurd (cc b)
-put_want m v (Reading j) b = absurd (cc b)
 put_want m v (Putting j a) b = (To_put a, same_if j m (To_put a) (let z : m ≡ j = cc b in sym z))
-put_want m v (Throwing u x) b = absurd (cc b)
 put_want m v (Sleeping due) b = let z = b.1 in absurd (cc z)
+put_want m v _ b = absurd (cc b)
 
 module _ (cells : ℕ → T → Type 0) (ds : List Fn) where
   pub waits_want : {m : ℕ} {p : SlotPart} {k : Sort} (r : Reason V) (op : named.Operation) → WaitsAt m p → PartStands cells ds p (Performs op) k → Blocks r op → (w : Want V) × (want_at m r ≡ Some w)

@@ -15,6 +15,8 @@ use Rattle.rules_expansion.specs.declared.primitive.Primitive.TheVariants.{NewMV
 use Rattle.hs_rules.specs.Terms.{Operation, Calls, Ret}
 use Rattle.hs_rules.specs.Primitives.{operated, take, read, put, try_take, try_put}
 use Rattle.hs_rules.specs.Entries.{Leads}
+use Rattle.hs_cases.specs.Cases as row
+use Rattle.hs_cases.proofs.Performing.{case_of}
 use Rattle.hs_rules.specs.Runs.{IsRun}
 use Rattle.hs_rules.specs.State.{Thread, State, answer}
 use Rattle.rules_waiting.specs.OneCell.{Cell, Call, Take, Read, Put, Try_take, Try_put, Reply, cell_of, made, call}
@@ -102,7 +104,7 @@ module _ (script : Script) (accepted : Accepted script) (es : List Entry) (s : S
         subst (λ z. Made m t s z (call q c.0)) (sym (same ∙ ap f shows.content)) (subst (λ ps. Made m t s (f (Some c.0.content)) (call q (cell_of c.0.content ps))) shows.line made) in
         let makes : called t m q x ≡ record x { threads = told_all t m (call q c.0).replies x.threads; cells = slice_set x.cells m (call q c.0).cell } =
         ap (λ z. record x { threads = told_all t m (call q (or_unmade z)).replies x.threads; cells = slice_set x.cells m (call q (or_unmade z)).cell }) c.1 in
-        entered script accepted es s d.after (entry.Op t) x (called t m q x) run r (op_leads ds x s r t goes op k a d.after d.is) (λ u. tt)
+        entered script accepted es s d.after (entry.Op t) x (called t m q x) run r (op_leads ds x s r t goes op k a d.after (case_of t k op s d.after d.is)) (λ u. tt)
         (subst (λ (z : SlotState). Follow x.threads s.threads z.threads d.after.threads d.after.blocked) (sym makes) (follow_goes ds x s r t a.thread a.running.there m d.after (call q c.0).replies d.goes))
         (parts_go ds x s r t m q c.0 (operated t k op s) c.1 d (called t m q x) makes)
 
@@ -132,7 +134,7 @@ module _ (script : Script) (accepted : Accepted script) (es : List Entry) (s : S
       line : (j : ℕ) → line_of j (with_new o).blocked ≡ line_of j s.blocked
       line j = ap (line_of j) (leaves_absent t s.blocked free)
 
-  new_enters : (p : Primitive) (vs : List V) (o : Option V) → ((k : Mask) → operated t k (Calls p vs) s ≡ Some (with_new o)) → StandsAt x t (performs (calls p vs))
+  new_enters : (p : Primitive) (vs : List V) (o : Option V) → ((k : Mask) → row.Performs t k (Calls p vs) s (with_new o)) → StandsAt x t (performs (calls p vs))
       → (u : State) × Leads (code_of (script_of script)) s (entry.Op t) u × Represents (script_of script) (makes t o x) u
   new_enters p vs o same h =
       let a = at_call (script_of script) x s r t p vs h in
@@ -179,7 +181,7 @@ module _ (script : Script) (accepted : Accepted script) (x : SlotState) (t : ℕ
       (at_call (script_of script) x s r t TryPutMVar (val.Cell m ∷ v ∷ []) h) (try_put_below (script_of script) x s r t m v h)
 
   pub new_entered : (v : V) → StandsAt x t (performs (calls NewMVar (v ∷ []))) → MainGoes x → Enters script (entry.Op t) x (makes t (Some v) x)
-  new_entered v h g es s run r = new_enters script accepted es s run x r g t NewMVar (v ∷ []) (Some v) (λ c. refl) h
+  new_entered v h g es s run r = new_enters script accepted es s run x r g t NewMVar (v ∷ []) (Some v) (λ k. row.makes_a_full_cell) h
 
   pub new_empty_entered : StandsAt x t (performs (calls NewEmptyMVar [])) → MainGoes x → Enters script (entry.Op t) x (makes t None x)
-  new_empty_entered h g es s run r = new_enters script accepted es s run x r g t NewEmptyMVar [] None (λ c. refl) h
+  new_empty_entered h g es s run r = new_enters script accepted es s run x r g t NewEmptyMVar [] None (λ k. row.makes_an_empty_cell) h

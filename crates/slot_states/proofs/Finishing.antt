@@ -7,7 +7,7 @@ use Rattle.rules_trees.specs.Programs.{Fn, script_of}
 use Rattle.rules_meaning.specs.Values.{V, UnitValue}
 use Rattle.rules_meaning.specs.CoreMeaning.{code_of}
 use Rattle.rules_typing.specs.TypingScripts.{Accepted}
-use Rattle.rules_waiting.specs.Waiting.{Reason, Taking, Reading, Putting, Throwing, Sleeping, Waiting, reason_of, want_at, flight_of, flying_to, sorted_sleepers}
+use Rattle.rules_waiting.specs.Waiting.{Reason, Throwing, Sleeping, Waiting, reason_of, want_at, flight_of, flying_to, sorted_sleepers}
 use Rattle.hs_rules.specs.Terms.{Ret}
 use Rattle.hs_rules.specs.State.{Thread, State, resume_all}
 use Rattle.hs_rules.specs.Entries.{throwers, closed, finish_entry, uncaught_line}
@@ -26,18 +26,13 @@ use Rattle.slot_states.proofs.Leaving.{Awake, sleepers_stay_all, rest_all, fligh
 
 -- ---- who throws at a thread waits at no cell and doesn't sleep
 at_no_cell : (t m : ℕ) (r : Reason V) → throws_at t r ≡ true → want_at m r ≡ None
-at_no_cell t m (Taking k) e = absurd (cc e)
-at_no_cell t m (Reading k) e = absurd (cc e)
-at_no_cell t m (Putting k a) e = absurd (cc e)
 at_no_cell t m (Throwing u x) e = refl
 at_no_cell t m (Sleeping due) e = refl
+at_no_cell t m _ e = absurd (cc e)
 
 throws_awake : (t : ℕ) (r : Reason V) → throws_at t r ≡ true → Awake (Some r)
-throws_awake t (Taking k) e = tt
-throws_awake t (Reading k) e = tt
-throws_awake t (Putting k a) e = tt
-throws_awake t (Throwing u x) e = tt
 throws_awake t (Sleeping due) e = cc e
+throws_awake t _ e = tt
 
 module _ (ws : List (Waiting V)) (once : Once ws) (t : ℕ) where
   abbrev those_at : List ℕ

@@ -51,6 +51,10 @@ changed_count ths t f = set_count ths t f (slice_get ths t)
 pub term_is : (ths : List Thread) (t : ℕ) (x : Term) (th : Thread) → slice_get ths t ≡ Some th → slice_get (with_term t (slice_get ths t) x ths) t ≡ Some (record { term = x; finished = th.finished })
 term_is ths t x th e = ap (λ o. slice_get (with_term t o x ths) t) e ∙ item_same ths t th (record { term = x; finished = th.finished }) e
 
+-- what holds at one number and at all others
+pub at_or : (P : ℕ → Type 0) (t : ℕ) → P t → ((v : ℕ) → v ≢ t → P v) → (v : ℕ) → P v
+at_or P t h k v = ⊎_elim (λ e. subst P (sym e.1) h) (λ e. k v e.1) (equal_or v t)
+
 -- ---- who is blocked
 pub blocked_left : (t u : ℕ) (ws : List (Waiting V)) → u ≢ t → is_blocked u (leaves t ws) ≡ is_blocked u ws
 blocked_left t u [] n = refl
@@ -115,6 +119,31 @@ module _ (xs : List SlotThread) (ts : List Thread) (ys : List SlotThread) (us : 
   pair_terms : (t : ℕ) (a b : Thread) (y : SlotThread) → slice_get ts t ≡ Some a → slice_get us t ≡ Some b → slice_get ys t ≡ Some y → Resumed (terms xs t) a.term y.term b.term
   pair_terms t a b y p q e = subst (λ o. Resumed (terms xs t) a.term (term_at o) b.term) e (f.terms t a b p q)
 
+  -- thread t, which is there, changes on both sides, and no other
+  module _ (t : ℕ) (th : Thread) (is : slice_get us t ≡ Some th) (change : SlotThread → SlotThread) (new : Thread) (us' : List Thread) (ws' : List (Waiting V)) (now : slice_get us' t ≡ Some new) (long : length us' ≡ length us)
+      (others : (v : ℕ) → v ≢ t → (slice_get us' v ≡ slice_get us v) × (is_blocked v ws' ≡ is_blocked v ws))
+      (tells : (y : SlotThread) → y.finished ≡ th.finished → y.blocked ≡ is_blocked t ws → ((change y).finished ≡ new.finished) × ((change y).blocked ≡ is_blocked t ws'))
+      (goes : (st : SlotTerm) (u : Term) (y : SlotThread) → Resumed st u y.term th.term → Resumed st u (change y).term new.term) where
+    abbrev changed_ys : List SlotThread
+    changed_ys = changed t change ys
+
+    own_terms : (a b : Thread) → slice_get ts t ≡ Some a → slice_get us' t ≡ Some b → Resumed (terms xs t) a.term (terms changed_ys t) b.term
+    own_terms a b ia ib =
+        let y = follow_there t th is in
+        subst (λ (z : Thread). Resumed (terms xs t) a.term (terms changed_ys t) z.term) (same_some (slice_get us' t) new b now ib)
+        (subst (λ o. Resumed (terms xs t) a.term (term_at o) new.term) (sym (changed_is ys t change y.0 y.1)) (goes (terms xs t) a.term y.0 (pair_terms t a th y.0 ia is y.1)))
+
+    one_changes : Follow xs ts changed_ys us' ws'
+    one_changes = record {
+      count = changed_count ys t change ∙ (f.count ∙ sym long);
+      long = long ∙ f.long;
+      same = at_or (λ v. SameThread (slice_get changed_ys v) (slice_get us' v) (is_blocked v ws')) t
+          (let y = follow_there t th is in rw (changed_is ys t change y.0 y.1, now) (tells y.0 y.2 y.3))
+          (λ v n. let k = others v n in rw (changed_other ys t v change n, k.0, k.1) (f.same v));
+      terms = at_or (λ v. (a b : Thread) → slice_get ts v ≡ Some a → slice_get us' v ≡ Some b → Resumed (terms xs v) a.term (terms changed_ys v) b.term) t own_terms
+          (λ v n a b ia ib. subst (λ o. Resumed (terms xs v) a.term (term_at o) b.term) (sym (changed_other ys t v change n)) (f.terms v a b ia (sym (others v n).0 ∙ ib)));
+    }
+
   -- thread t gets a value or an exception, and is blocked no more
   module _ (t : ℕ) (p : SlotPart) (q : Part) (end : EndsAs q p) where
     abbrev us' : List Thread
@@ -126,135 +155,36 @@ module _ (xs : List SlotThread) (ts : List Thread) (ys : List SlotThread) (us : 
     new_of : (b : Thread) → slice_get us t ≡ Some b → slice_get us' t ≡ Some (record { term = term q b.term.frames; finished = b.finished })
     new_of b e = ap (λ o. slice_get (with_term t (slice_get us t) (term q (frames_of o)) us) t) e ∙ term_is us t (term q b.term.frames) b e
 
-    none_of : slice_get us t ≡ None → us' ≡ us
-    none_of e = ap (λ o. with_term t o (term q (frames_of (slice_get us t))) us) e
-
-    resumed_same : (v : ℕ) → SameThread (slice_get ys' v) (slice_get us' v) (is_blocked v (leaves t ws))
-    resumed_same v = ⊎_elim (λ e. subst (λ z. SameThread (slice_get ys' z) (slice_get us' z) (is_blocked z (leaves t ws))) (sym e.1) (own (slice_get us t) refl)) (λ e. other e.1) (equal_or v t)
+    -- where there is none, there is none with slots
+    absent : slice_get us t ≡ None → slice_get ys t ≡ None
+    absent e = by (slice_get ys t) (subst (λ o. SameThread (slice_get ys t) o (is_blocked t ws)) e (f.same t))
       where
-        own : (o : Option Thread) → slice_get us t ≡ o → SameThread (slice_get ys' t) (slice_get us' t) (is_blocked t (leaves t ws))
-        own None e = none (slice_get ys t) refl (subst (λ o. SameThread (slice_get ys t) o (is_blocked t ws)) e (f.same t))
-          where
-            none : (o : Option SlotThread) → slice_get ys t ≡ o → SameThread o None (is_blocked t ws) → SameThread (slice_get ys' t) (slice_get us' t) (is_blocked t (leaves t ws))
-            none (Some y) k h = absurd h
-            none None k h =
-                let a : slice_get ys' t ≡ None = ap (λ o. slice_get (set_thread t (resumed_by p) o ys) t) k ∙ k in
-                let b : slice_get us' t ≡ None = ap (λ z. slice_get z t) (none_of e) ∙ e in
-                subst (λ o. SameThread o (slice_get us' t) (is_blocked t (leaves t ws))) (sym a) (subst (λ o. SameThread None o (is_blocked t (leaves t ws))) (sym b) tt)
-        own (Some b) e =
-            let y = follow_there t b e in
-            let new : SlotThread = resumed_by p y.0 in
-            subst (λ o. SameThread o (slice_get us' t) (is_blocked t (leaves t ws))) (sym (changed_is ys t (resumed_by p) y.0 y.1))
-            (subst (λ o. SameThread (Some new) o (is_blocked t (leaves t ws))) (sym (new_of b e)) (y.2, sym (left_free t ws)))
-
-        other : v ≢ t → SameThread (slice_get ys' v) (slice_get us' v) (is_blocked v (leaves t ws))
-        other n =
-            subst (λ o. SameThread o (slice_get us' v) (is_blocked v (leaves t ws))) (sym (changed_other ys t v (resumed_by p) n))
-            (subst (λ o. SameThread (slice_get ys v) o (is_blocked v (leaves t ws))) (sym (other_thread us t v (slice_get us t) (term q (frames_of (slice_get us t))) n))
-            (subst (λ b. SameThread (slice_get ys v) (slice_get us v) b) (sym (blocked_left t v ws n)) (f.same v)))
-
-    was_some : (o : Option Thread) (b : Thread) → slice_get us t ≡ o → slice_get us' t ≡ Some b → (c : Thread) × (slice_get us t ≡ Some c)
-    was_some None b e k = absurd (cc (sym e ∙ (ap (λ z. slice_get z t) (sym (none_of e)) ∙ k)))
-    was_some (Some c) b e k = (c, e)
-
-    resumed_terms : (v : ℕ) (a b : Thread) → slice_get ts v ≡ Some a → slice_get us' v ≡ Some b → Resumed (terms xs v) a.term (terms ys' v) b.term
-    resumed_terms v a b ia ib = ⊎_elim (λ e. own e.1) (λ e. other e.1) (equal_or v t)
-      where
-        own : v ≡ t → Resumed (terms xs v) a.term (terms ys' v) b.term
-        own e =
-            let c = was_some (slice_get us t) b refl (subst (λ z. slice_get us' z ≡ Some b) e ib) in
-            let y = follow_there t c.0 c.1 in
-            let r : Resumed (terms xs t) a.term y.0.term c.0.term = pair_terms t a c.0 y.0 (subst (λ z. slice_get ts z ≡ Some a) e ia) c.1 y.1 in
-            let k : term q c.0.term.frames ≡ b.term = ap (λ (z : Thread). z.term) (same_some (slice_get us' t) (record { term = term q c.0.term.frames; finished = c.0.finished }) b (new_of c.0 c.1) (subst (λ z. slice_get us' z ≡ Some b) e ib)) in
-            subst (λ z. Resumed (terms xs z) a.term (terms ys' z) b.term) (sym e)
-            (subst (λ o. Resumed (terms xs t) a.term (term_at o) b.term) (sym (changed_is ys t (resumed_by p) y.0 y.1))
-            (subst (λ z. Resumed (terms xs t) a.term (at p y.0.term.frames) z) k (resumed_more p q end r)))
-
-        other : v ≢ t → Resumed (terms xs v) a.term (terms ys' v) b.term
-        other n =
-            subst (λ o. Resumed (terms xs v) a.term (term_at o) b.term) (sym (changed_other ys t v (resumed_by p) n))
-            (f.terms v a b ia (sym (other_thread us t v (slice_get us t) (term q (frames_of (slice_get us t))) n) ∙ ib))
+        by : (o : Option SlotThread) → SameThread o None (is_blocked t ws) → o ≡ None
+        by None h = refl
+        by (Some y) h = absurd h
 
     pub follow_resume : Follow xs ts ys' us' (leaves t ws)
-    follow_resume = record {
-      count = changed_count ys t (resumed_by p) ∙ (f.count ∙ sym (term_length t (slice_get us t) (term q (frames_of (slice_get us t))) us));
-      long = term_length t (slice_get us t) (term q (frames_of (slice_get us t))) us ∙ f.long;
-      same = resumed_same;
-      terms = resumed_terms;
-    }
+    follow_resume = by (slice_get us t) refl
+      where
+        by : (o : Option Thread) → slice_get us t ≡ o → Follow xs ts ys' us' (leaves t ws)
+        by (Some b) e =
+            one_changes t b e (resumed_by p) (record { term = term q b.term.frames; finished = b.finished }) us' (leaves t ws) (new_of b e) (term_length t (slice_get us t) (term q (frames_of (slice_get us t))) us)
+            (λ v n. (other_thread us t v (slice_get us t) (term q (frames_of (slice_get us t))) n, blocked_left t v ws n)) (λ y g h. (g, sym (left_free t ws))) (λ st u y h. resumed_more p q end h)
+        by None e =
+            subst (λ zs. Follow xs ts zs us' (leaves t ws)) (sym (ap (λ o. set_thread t (resumed_by p) o ys) (absent e)))
+            (subst (λ vs. Follow xs ts ys vs (leaves t ws)) (sym (ap (λ o. with_term t o (term q (frames_of (slice_get us t))) us) e)) (record {
+              count = f.count;
+              long = f.long;
+              same = at_or (λ v. SameThread (slice_get ys v) (slice_get us v) (is_blocked v (leaves t ws))) t (rw (absent e, e) tt) (λ v n. rw (blocked_left t v ws n) (f.same v));
+              terms = f.terms;
+            }))
 
   -- thread t, which is there, blocks
-  module _ (t : ℕ) (r : Reason V) (th : Thread) (is : slice_get us t ≡ Some th) where
-    abbrev waiting : List SlotThread
-    waiting = blocked_at t ys
-
-    blocked_same : (v : ℕ) → SameThread (slice_get waiting v) (slice_get us v) (is_blocked v (blocks t r ws))
-    blocked_same v = ⊎_elim (λ e. subst (λ z. SameThread (slice_get waiting z) (slice_get us z) (is_blocked z (blocks t r ws))) (sym e.1) own) (λ e. other e.1) (equal_or v t)
-      where
-        own : SameThread (slice_get waiting t) (slice_get us t) (is_blocked t (blocks t r ws))
-        own =
-            let y = follow_there t th is in
-            subst (λ o. SameThread o (slice_get us t) (is_blocked t (blocks t r ws))) (sym (changed_is ys t blocking y.0 y.1))
-            (subst (λ o. SameThread (Some (blocking y.0)) o (is_blocked t (blocks t r ws))) (sym is) (y.2, sym (blocked_own t r ws)))
-
-        other : v ≢ t → SameThread (slice_get waiting v) (slice_get us v) (is_blocked v (blocks t r ws))
-        other n =
-            subst (λ o. SameThread o (slice_get us v) (is_blocked v (blocks t r ws))) (sym (changed_other ys t v blocking n))
-            (subst (λ b. SameThread (slice_get ys v) (slice_get us v) b) (sym (blocked_more t v r ws n)) (f.same v))
-
-    blocked_terms : (v : ℕ) (a b : Thread) → slice_get ts v ≡ Some a → slice_get us v ≡ Some b → Resumed (terms xs v) a.term (terms waiting v) b.term
-    blocked_terms v a b ia ib = ⊎_elim (λ e. own e.1) (λ e. other e.1) (equal_or v t)
-      where
-        own : v ≡ t → Resumed (terms xs v) a.term (terms waiting v) b.term
-        own e =
-            let y = follow_there t th is in
-            subst (λ z. Resumed (terms xs z) a.term (terms waiting z) b.term) (sym e)
-            (subst (λ o. Resumed (terms xs t) a.term (term_at o) b.term) (sym (changed_is ys t blocking y.0 y.1))
-            (pair_terms t a b y.0 (subst (λ z. slice_get ts z ≡ Some a) e ia) (subst (λ z. slice_get us z ≡ Some b) e ib) y.1))
-
-        other : v ≢ t → Resumed (terms xs v) a.term (terms waiting v) b.term
-        other n = subst (λ o. Resumed (terms xs v) a.term (term_at o) b.term) (sym (changed_other ys t v blocking n)) (f.terms v a b ia ib)
-
-    pub follow_block : Follow xs ts waiting us (blocks t r ws)
-    follow_block = record { count = changed_count ys t blocking ∙ f.count; long = f.long; same = blocked_same; terms = blocked_terms }
+  pub follow_block : (t : ℕ) (r : Reason V) (th : Thread) → slice_get us t ≡ Some th → Follow xs ts (blocked_at t ys) us (blocks t r ws)
+  follow_block t r th is = one_changes t th is blocking th us (blocks t r ws) is refl (λ v n. (refl, blocked_more t v r ws n)) (λ y g h. (g, sym (blocked_own t r ws))) (λ st u y h. h)
 
   -- thread t, which is there, finishes
-  module _ (t : ℕ) (th : Thread) (is : slice_get us t ≡ Some th) where
-    abbrev ended_slots : List SlotThread
-    ended_slots = finished_at t ys
-
-    abbrev ended_threads : List Thread
-    ended_threads = slice_set us t (record { term = th.term; finished = true })
-
-    finished_same : (v : ℕ) → SameThread (slice_get ended_slots v) (slice_get ended_threads v) (is_blocked v ws)
-    finished_same v = ⊎_elim (λ e. subst (λ z. SameThread (slice_get ended_slots z) (slice_get ended_threads z) (is_blocked z ws)) (sym e.1) own) (λ e. other e.1) (equal_or v t)
-      where
-        own : SameThread (slice_get ended_slots t) (slice_get ended_threads t) (is_blocked t ws)
-        own =
-            let y = follow_there t th is in
-            subst (λ o. SameThread o (slice_get ended_threads t) (is_blocked t ws)) (sym (changed_is ys t finishing y.0 y.1))
-            (subst (λ o. SameThread (Some (finishing y.0)) o (is_blocked t ws)) (sym (item_same us t th (record { term = th.term; finished = true }) is)) (refl, y.3))
-
-        other : v ≢ t → SameThread (slice_get ended_slots v) (slice_get ended_threads v) (is_blocked v ws)
-        other n =
-            subst (λ o. SameThread o (slice_get ended_threads v) (is_blocked v ws)) (sym (changed_other ys t v finishing n))
-            (subst (λ o. SameThread (slice_get ys v) o (is_blocked v ws)) (sym (item_other us t v (record { term = th.term; finished = true }) n)) (f.same v))
-
-    finished_terms : (v : ℕ) (a b : Thread) → slice_get ts v ≡ Some a → slice_get ended_threads v ≡ Some b → Resumed (terms xs v) a.term (terms ended_slots v) b.term
-    finished_terms v a b ia ib = ⊎_elim (λ e. own e.1) (λ e. other e.1) (equal_or v t)
-      where
-        own : v ≡ t → Resumed (terms xs v) a.term (terms ended_slots v) b.term
-        own e =
-            let y = follow_there t th is in
-            let k : th.term ≡ b.term = ap (λ (z : Thread). z.term) (same_some (slice_get ended_threads t) (record { term = th.term; finished = true }) b (item_same us t th (record { term = th.term; finished = true }) is) (subst (λ z. slice_get ended_threads z ≡ Some b) e ib)) in
-            subst (λ z. Resumed (terms xs z) a.term (terms ended_slots z) b.term) (sym e)
-            (subst (λ o. Resumed (terms xs t) a.term (term_at o) b.term) (sym (changed_is ys t finishing y.0 y.1))
-            (subst (λ z. Resumed (terms xs t) a.term y.0.term z) k (pair_terms t a th y.0 (subst (λ z. slice_get ts z ≡ Some a) e ia) is y.1)))
-
-        other : v ≢ t → Resumed (terms xs v) a.term (terms ended_slots v) b.term
-        other n =
-            subst (λ o. Resumed (terms xs v) a.term (term_at o) b.term) (sym (changed_other ys t v finishing n))
-            (f.terms v a b ia (sym (item_other us t v (record { term = th.term; finished = true }) n) ∙ ib))
-
-    pub follow_finish : Follow xs ts ended_slots ended_threads ws
-    follow_finish = record { count = changed_count ys t finishing ∙ (f.count ∙ sym (set_long us t (record { term = th.term; finished = true }))); long = set_long us t (record { term = th.term; finished = true }) ∙ f.long; same = finished_same; terms = finished_terms }
+  pub follow_finish : (t : ℕ) (th : Thread) → slice_get us t ≡ Some th → Follow xs ts (finished_at t ys) (slice_set us t (record { term = th.term; finished = true })) ws
+  follow_finish t th is =
+      let new : Thread = record { term = th.term; finished = true } in
+      one_changes t th is finishing new (slice_set us t new) ws (item_same us t th new is) (set_long us t new) (λ v n. (item_other us t v new n, refl)) (λ y g h. (refl, h)) (λ st u y h. h)

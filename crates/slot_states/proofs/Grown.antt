@@ -24,7 +24,7 @@ use Rattle.hs_laws.proofs.Changes.{Changes, Stands, Calm, Makes, all_kept, chang
 use Rattle.hs_rules.specs.Endings.{used, frames_in}
 use Rattle.hs_laws.proofs.Growing.{term_length}
 use Rattle.slot_laws.specs.SlotRules.{calls, SlotPart}
-use Rattle.slot_laws.specs.Standing.{calls_stands, forks_stands, forks_unmask_stands, PartStands, ret_stands, throw_stands, do_stands, op_stands}
+use Rattle.slot_laws.specs.Standing.{calls_stands, forks_stands, forks_unmask_stands, PartStands, op_stands}
 use Rattle.slot_states.specs.SlotStates.{SlotState, Represents}
 use Rattle.slot_states.specs.Growing.{performed, op_of, forked, celled, doer, growth, IsNoLocal}
 use Rattle.slot_states.specs.Printing.{output_by, errors_by}
@@ -82,12 +82,10 @@ cells_of op = 0
 
 stands_makes : {cells : ℕ → T → Type 0} {ds : List Fn} {p : SlotPart} {q : Part} {k : Sort} {op : Operation} → PartStands cells ds p q k → q ≡ Performs op
     → (threads_of op ≡ forked (performed p)) × (cells_of op ≡ celled (performed p))
-stands_makes (ret_stands h) e = absurd (cc e)
-stands_makes throw_stands e = absurd (cc e)
-stands_makes (do_stands r) e = absurd (cc e)
 stands_makes {op} (op_stands (calls_stands {p} {vs = vs} b h)) e = let same : op ≡ Calls p vs = cc (sym e) in (ap threads_of same, ap cells_of same)
 stands_makes {op} (op_stands (forks_stands {a} {env} r)) e = let same : op ≡ Forks a env = cc (sym e) in (ap threads_of same, ap cells_of same)
 stands_makes {op} (op_stands (forks_unmask_stands {r} {a} {env} w)) e = let same : op ≡ ForksUnmask r a env = cc (sym e) in (ap threads_of same, ap cells_of same)
+stands_makes _ e = absurd (cc e)
 
 -- ---- entries
 module _ (ds : List Fn) (x : SlotState) (s : State) (r : Represents ds x s) where

@@ -1,7 +1,7 @@
 -- What stays, and what changes, where threads are blocked no more.
 use Rattle.std.proofs.Common.{◌≡◌, ℕ, zero, suc, ◌==◌, List, [], ◌∷◌, length, slice_get, true, false, Option, Some, None, refl, sym, ap, ◌∙◌, subst, ⊎_elim}
 use Rattle.rules_meaning.specs.Values.{V}
-use Rattle.rules_waiting.specs.Waiting.{Reason, Taking, Reading, Putting, Throwing, Sleeping, Waiting, Flying, Sleeper, leaves, is_blocked, reason_of, at_cell, with_flying, flight_of, with_sleeper, sleepers_of}
+use Rattle.rules_waiting.specs.Waiting.{Reason, Throwing, Sleeping, Waiting, Flying, Sleeper, leaves, is_blocked, reason_of, at_cell, with_flying, flight_of, with_sleeper, sleepers_of}
 use Rattle.rules_waiting.specs.OneCell.{Cell, cell_of, leaves_line}
 use Rattle.hs_rules.specs.Terms.{Part}
 use Rattle.hs_rules.specs.State.{Thread, State, resume, resume_all}
@@ -43,42 +43,26 @@ module _ {X : Type 0} (says : List (Waiting V) → X) (step : ℕ → Reason V �
 
 -- ---- who throws nothing, and who doesn't sleep
 abbrev pub Silent : Option (Reason V) → Type 0
-Silent None = Unit {0}
-Silent (Some (Taking m)) = Unit {0}
-Silent (Some (Reading m)) = Unit {0}
-Silent (Some (Putting m a)) = Unit {0}
 Silent (Some (Throwing u e)) = ⊥
-Silent (Some (Sleeping due)) = Unit {0}
+Silent _ = Unit {0}
 
 abbrev pub Awake : Option (Reason V) → Type 0
-Awake None = Unit {0}
-Awake (Some (Taking m)) = Unit {0}
-Awake (Some (Reading m)) = Unit {0}
-Awake (Some (Putting m a)) = Unit {0}
-Awake (Some (Throwing u e)) = Unit {0}
 Awake (Some (Sleeping due)) = ⊥
+Awake _ = Unit {0}
 
 pub no_flying : (t : ℕ) (r : Reason V) (fs : List Flying) → Silent (Some r) → with_flying t r fs ≡ fs
-no_flying t (Taking m) fs h = refl
-no_flying t (Reading m) fs h = refl
-no_flying t (Putting m a) fs h = refl
 no_flying t (Throwing u e) fs h = absurd h
-no_flying t (Sleeping due) fs h = refl
+no_flying t _ fs h = refl
 
 pub no_sleeper : (t : ℕ) (r : Reason V) (ss : List Sleeper) → Awake (Some r) → with_sleeper t r ss ≡ ss
-no_sleeper t (Taking m) ss h = refl
-no_sleeper t (Reading m) ss h = refl
-no_sleeper t (Putting m a) ss h = refl
-no_sleeper t (Throwing u e) ss h = refl
 no_sleeper t (Sleeping due) ss h = absurd h
+no_sleeper t _ ss h = refl
 
 -- who waits at a cell does neither
 pub cell_waits : (r : Reason V) → at_cell r ≡ true → Silent (Some r) × Awake (Some r)
-cell_waits (Taking m) e = (tt, tt)
-cell_waits (Reading m) e = (tt, tt)
-cell_waits (Putting m a) e = (tt, tt)
 cell_waits (Throwing u x) e = absurd (cc e)
 cell_waits (Sleeping due) e = absurd (cc e)
+cell_waits _ e = (tt, tt)
 
 pub flight_stays : (t : ℕ) (ws : List (Waiting V)) → Once ws → Silent (reason_of t ws) → flight_of (leaves t ws) ≡ flight_of ws
 flight_stays = stays flight_of with_flying Silent (λ w ws. refl) no_flying

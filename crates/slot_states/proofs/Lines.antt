@@ -3,7 +3,7 @@
 use Rattle.std.proofs.Common.{◌≡◌, ◌≢◌, ℕ, zero, suc, ◌==◌, Bool, true, false, cond, List, [], ◌∷◌, ◌++◌, slice_get, slice_set, Option, Some, None, refl, sym, ap, ◌∙◌, subst, arith, ⊎_elim, append-nil}
 use Rattle.rules_meaning.specs.Values.{V}
 use Rattle.rules_waiting.specs.OneCell.{Want, To_take, To_read, To_put, Place, Cell, Leave, Reply, cell_of, leaves_line, stands_in, put_of, takes_it, reads_it, first_put, first_take, readers, leave_line, shown, call}
-use Rattle.rules_waiting.specs.Waiting.{Reason, Taking, Reading, Putting, Throwing, Sleeping, Waiting, blocks, leaves, is_blocked, reason_of, want_at, with_place, line_of, at_cell, flight_of, withdrawn, sleepers_of, sorted_sleepers, still_asleep}
+use Rattle.rules_waiting.specs.Waiting.{Reason, Throwing, Sleeping, Waiting, blocks, leaves, is_blocked, reason_of, want_at, with_place, line_of, at_cell, flight_of, withdrawn, sleepers_of, sorted_sleepers, still_asleep}
 use Rattle.hs_laws.specs.Standing.{Once}
 use Rattle.hs_laws.proofs.Lists.{cond_cases, cond_true, cond_false, equal_or, Ones, ones_changed}
 use Rattle.hs_laws.proofs.Stranding.{reason_blocked}
@@ -104,11 +104,9 @@ not_asleep t ws q = sym (leaves_in_order t ws) ∙ ap sorted_sleepers q
 -- ---- who stands in a line
 
 pub want_cell : (m : ℕ) (r : Reason V) (w : Want V) → want_at m r ≡ Some w → at_cell r ≡ true
-want_cell m (Taking k) w e = refl
-want_cell m (Reading k) w e = refl
-want_cell m (Putting k v) w e = refl
 want_cell m (Throwing u x) w e = absurd (cc e)
 want_cell m (Sleeping due) w e = absurd (cc e)
+want_cell m _ w e = refl
 
 stands_more : (t u : ℕ) (o : Option (Want V)) (ps : List (Place V)) → stands_in u ps ≡ true → stands_in u (with_place t o ps) ≡ true
 stands_more t u None ps h = h

@@ -36,12 +36,10 @@ tells_of op = []
 
 module _ {cells : ℕ → T → Type 0} {ds : List Fn} where
   stands_prints : {p : SlotPart} {q : Part} {k : Sort} {op : Operation} → PartStands cells ds p q k → q ≡ Performs op → (output_of p ≡ prints_of op) × (errors_of p ≡ tells_of op)
-  stands_prints (ret_stands h) e = absurd (cc e)
-  stands_prints throw_stands e = absurd (cc e)
-  stands_prints (do_stands r) e = absurd (cc e)
   stands_prints {op} (op_stands (calls_stands {p} {vs = vs} b h)) e = let same : Calls p vs ≡ op = cc e in (ap prints_of same, ap tells_of same)
   stands_prints {op} (op_stands (forks_stands {a} {env} r)) e = let same : Forks a env ≡ op = cc e in (ap prints_of same, ap tells_of same)
   stands_prints {op} (op_stands (forks_unmask_stands {r} {a} {env} w)) e = let same : ForksUnmask r a env ≡ op = cc e in (ap prints_of same, ap tells_of same)
+  stands_prints _ e = absurd (cc e)
 
   stands_tells : (t : ℕ) (line : List ℕ) {p : SlotPart} {q : Part} {k : Sort} → PartStands cells ds p q k → EndsBy t q line → line ≡ line_by t p
   stands_tells t line (ret_stands h) e = e

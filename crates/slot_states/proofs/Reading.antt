@@ -19,18 +19,18 @@ use Rattle.rules_waiting.specs.OneCell.{Cell, leaves_line}
 use Rattle.rules_waiting.specs.Waiting.{Reason, is_blocked, reason_of, line_of}
 use Rattle.hs_rules.specs.Terms as named
 use Rattle.hs_rules.specs.Terms.{Operation, Ret, Throw, Do, Performs, Calls, Forks, ForksUnmask, mask_at}
-use Rattle.hs_rules.specs.Primitives.{operated}
 use Rattle.hs_rules.specs.State.{Thread, State}
 use Rattle.hs_rules.specs.Entries as entries
-use Rattle.hs_rules.specs.Entries.{next, on_thread, op_entry, at_operation, Leads}
+use Rattle.hs_rules.specs.Entries.{next, on_thread, Leads}
+use Rattle.hs_cases.specs.Cases as row
+use Rattle.hs_cases.proofs.Entering.{entered_is}
 use Rattle.hs_laws.specs.BracketPhases.{Blocks, OpPart}
 use Rattle.hs_laws.specs.Standing.{Standing}
-use Rattle.hs_laws.proofs.Lists.{cond_false}
 use Rattle.hs_laws.proofs.Stranding.{blocked_reason}
 use Rattle.hs_progress.specs.TypedStates.{has}
 use Rattle.hs_progress.specs.GoingOn.{MainRuns, IsRunning}
 use Rattle.slot_laws.specs.SlotRules.{SlotOp, calls, forks, forks_unmask, SlotPart, ret, throw, performs, SlotFrame, SlotTerm, mask_from}
-use Rattle.slot_laws.specs.Standing.{calls_stands, forks_stands, forks_unmask_stands, PartStands, ret_stands, throw_stands, do_stands, op_stands, FramesStand, none_stand, bind_stands, then_stands, catch_stands, mask_stands, StandsIn}
+use Rattle.slot_laws.specs.Standing.{calls_stands, forks_stands, forks_unmask_stands, PartStands, ret_stands, throw_stands, op_stands, FramesStand, none_stand, bind_stands, then_stands, catch_stands, mask_stands, StandsIn}
 use Rattle.slot_laws.specs.Stacks.{StacksStand}
 use Rattle.slot_states.specs.SlotStates.{SlotThread, SlotState, SameThread, SameCell, term_at, Represents, StandsAt, MainGoes}
 use Rattle.slot_states.specs.Resting as resting
@@ -65,9 +65,7 @@ module _ (cells : ℕ → T → Type 0) (ds : List Fn) where
 
   pub same_throw : {k : Sort} {p : SlotPart} {q : named.Part} → PartStands cells ds p q k → resting.is_throw p ≡ entries.is_throw q
   same_throw (ret_stands h) = refl
-  same_throw throw_stands = refl
-  same_throw (do_stands r) = refl
-  same_throw (op_stands h) = refl
+  same_throw _ = refl
 
   pub no_frames : {k : Sort} {fs : List named.Frame} → FramesStand cells ds k [] fs → fs ≡ []
   no_frames none_stand = refl
@@ -126,10 +124,8 @@ stacks_same ds old new s w same = record {
 
 -- ---- blocked threads
 part_operation : (P : Operation → Type 0) (q : named.Part) → OpPart P q → (op : Operation) × (q ≡ Performs op) × P op
-part_operation P (Ret v) h = absurd h
-part_operation P (Throw e) h = absurd h
-part_operation P (Do a env) h = absurd h
 part_operation P (Performs op) h = (op, refl, h)
+part_operation P _ h = absurd h
 
 -- thread t, for which this one stands, waits for a reason at an operation
 pub record BlockedAt (ds : List Fn) (x : SlotState) (s : State) (r : Represents ds x s) (t : ℕ) (h : SlotThread) : Type 0 where
@@ -178,6 +174,9 @@ entry_leaves ds x s u code e r m h =
     let b = main_runs ds x s r m in
     on_thread_is (slice_get s.threads 0) (λ th. entries.entered code s e) b.main (Some u) b.there b.unfinished h
 
+pub main_going : (ds : List Fn) (x : SlotState) (s : State) → Represents ds x s → MainGoes x → row.MainRuns s
+main_going ds x s r m = let b = main_runs ds x s r m in (b.main, (b.there, b.unfinished))
+
 -- thread t of the rules is there, hasn't finished, isn't blocked, and stands at this operation in this masking state
 pub record AtOp (s : State) (t : ℕ) (q : Operation) (m : Mask) : Type 0 where
   pub thread : Thread
@@ -209,14 +208,8 @@ module _ (ds : List Fn) (x : SlotState) (s : State) (r : Represents ds x s) (t :
       (c.0, c.1, c.2, at_op h n (ForksUnmask c.0 c.1 c.2) c.3)
 
   -- its Op does what the operation does
-  pub op_leads : MainGoes x → (q : Operation) (m : Mask) → AtOp s t q m → (u : State) → operated t m q s ≡ Some u → Leads (code_of ds) s (Op t) u
-  op_leads main q m a u e = (
-    entry_leaves ds x s u (code_of ds) (Op t) r main
-        (on_thread_is (slice_get s.threads t) (λ b. op_entry t b s) a.thread (Some u) a.running.there a.running.unfinished
-        (cond_false (is_blocked t s.blocked) None (at_operation a.thread.term.part (λ p. operated t (mask_at a.thread.term.frames) p s)) a.running.awake
-        ∙ (ap (λ p. at_operation p (λ p. operated t (mask_at a.thread.term.frames) p s)) a.part ∙ (ap (λ z. operated t z q s) (sym a.mask) ∙ e)))),
-    tt,
-  )
+  pub op_leads : MainGoes x → (q : Operation) (m : Mask) → AtOp s t q m → (u : State) → row.Performs t m q s u → Leads (code_of ds) s (Op t) u
+  op_leads main q m a u c = (entered_is {code = code_of ds} (row.operation (main_going ds x s r main) (a.running.there, a.running.unfinished) a.running.awake a.part (subst (λ k. row.Performs t k q s u) a.mask c)), tt)
 
 -- ---- cells
 

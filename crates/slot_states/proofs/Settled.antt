@@ -1,24 +1,24 @@
 -- What is legal where nobody acts, and where a run has come to rest.
-use Rattle.std.proofs.Common.{◌≡◌, ◌≢◌, ℕ, zero, suc, ◌<◌, nat_le, List, [], ◌∷◌, Bool, true, false, cond, ◌⊎◌, Option, Some, None, refl, sym, ap, ◌∙◌, subst, arith, inl, inr, ⊎_elim, slice_get}
-use Rattle.std.proofs.lemmas.Bool.Decides.{leb_tells}
+use Rattle.std.proofs.Common.{◌≡◌, ◌≢◌, ℕ, suc, ◌<◌, List, [], ◌∷◌, Bool, true, false, ◌⊎◌, Some, None, refl, sym, ap, ◌∙◌, subst, arith, inl, inr, ⊎_elim, slice_get}
 use Rattle.hs_base.specs.declared.tree.script.Script.{Script}
 use Rattle.hs_rules.specs.declared.entry.Entry.{Entry}
 use Rattle.hs_rules.specs.declared.entry.Entry.TheVariants as entry
 use Rattle.rules_trees.specs.Trees.{T}
 use Rattle.rules_trees.specs.Programs.{Fn, script_of}
 use Rattle.rules_expansion.specs.Core.{Core}
-use Rattle.rules_meaning.specs.Values.{V, UnitValue, Env}
-use Rattle.rules_meaning.specs.CoreMeaning.{Code, code_of}
+use Rattle.rules_meaning.specs.Values.{Env}
+use Rattle.rules_meaning.specs.CoreMeaning.{code_of}
 use Rattle.rules_sorts.specs.Sorts.{Sort}
 use Rattle.rules_typing.specs.TypingScripts.{Accepted}
-use Rattle.rules_waiting.specs.Waiting.{Reason, Taking, Reading, Putting, Throwing, Sleeping, is_blocked, reason_of, flight_of, flying_to, sleepers_of, sorted_sleepers, first_awake, earliest}
+use Rattle.rules_waiting.specs.Waiting.{Flying, is_blocked, flight_of, flying_to, sleepers_of, sorted_sleepers, first_awake, earliest}
 use Rattle.hs_rules.specs.Terms as named
 use Rattle.hs_rules.specs.Terms.{Operation, Ret, Throw, Do, Performs, mask_at}
-use Rattle.hs_rules.specs.LocalRules.{locals}
-use Rattle.hs_rules.specs.Primitives.{operated}
-use Rattle.hs_rules.specs.State.{Thread, State, answer}
+use Rattle.hs_rules.specs.State.{Thread, State}
 use Rattle.hs_rules.specs.Entries as entries
-use Rattle.hs_rules.specs.Entries.{moved, local_entry, at_operation, op_entry, received, receive_entry, woken, finish_entry, stranded, strand_entry, on_thread, IsTimely, IsLegal}
+use Rattle.hs_rules.specs.Entries.{is_unmasked, stranded, IsLegal}
+use Rattle.hs_cases.specs.Cases as row
+use Rattle.hs_cases.specs.Cases.{Unfinished}
+use Rattle.hs_cases.proofs.Entering.{case_of, open_so, interruptible}
 use Rattle.hs_rules.specs.Runs.{IsRun}
 use Rattle.hs_rules.specs.Endings.{IsQuiet, IsDeadlock, AllWait}
 use Rattle.hs_laws.specs.Standing.{IsResult, NoneWorks}
@@ -38,34 +38,7 @@ use Rattle.slot_states.proofs.Asleep.{none_is_due}
 use Rattle.slot_states.proofs.AtRest.{same_receptive, none_works, nobody_sleeps}
 use Rattle.slot_states.proofs.StrandedAlike.{waits_slotted, stands_open}
 
--- ---- tests that an entry has passed
-pub passed_not : (b : Bool) (o : Option State) (u : State) → cond b None o ≡ Some u → (b ≡ false) × (o ≡ Some u)
-passed_not true o u e = absurd (cc e)
-passed_not false o u e = (refl, e)
-
-pub passed : (b : Bool) (o : Option State) (u : State) → cond b o None ≡ Some u → (b ≡ true) × (o ≡ Some u)
-passed true o u e = (refl, e)
-passed false o u e = absurd (cc e)
-
--- the thread of an entry, which is there and hasn't finished
-pub thread_there : (o : Option Thread) (k : Thread → Option State) (u : State) → on_thread o k ≡ Some u → (th : Thread) × (o ≡ Some th) × (th.finished ≡ false) × (k th ≡ Some u)
-thread_there None k u e = absurd (cc e)
-thread_there (Some th) k u e = let p = passed_not th.finished (k th) u e in (th, refl, p.0, p.1)
-
-local_free : (code : Code) (t k : ℕ) (th : Thread) (s u : State) → local_entry code t k th s ≡ Some u → is_blocked t s.blocked ≡ false
-local_free code t zero th s u e = absurd (cc e)
-local_free code t (suc k) th s u e = (passed_not (is_blocked t s.blocked) (moved t s (locals code (suc k) th.term)) u e).0
-
-no_operation : (k : Operation → Option State) (p : named.Part) (a : Core) (env : Env) (u : State) → p ≡ Do a env → at_operation p k ≡ Some u → ⊥
-no_operation k p a env u q e = let z : at_operation (Do a env) k ≡ Some u = subst (λ y. at_operation y k ≡ Some u) q e in cc z
-
-pub finish_result : (t : ℕ) (th : Thread) (fs : List named.Frame) (p : named.Part) (s u : State) → finish_entry t th fs p s ≡ Some u → IsResult p
-finish_result t th [] (Ret v) s u e = tt
-finish_result t th [] (Throw x) s u e = tt
-finish_result t th [] (Do a env) s u e = absurd (cc e)
-finish_result t th [] (Performs op) s u e = absurd (cc e)
-finish_result t th (f ∷ fs) p s u e = absurd (cc e)
-
+-- ---- parts
 -- a part that stands for an operation stands for no value and for no exception
 pub no_result : (cells : ℕ → T → Type 0) (ds : List Fn) {p : SlotPart} {q : named.Part} {op : Operation} {k : Sort} → PartStands cells ds p q k → PartStands cells ds p (Performs op) k → IsResult q → ⊥
 no_result cells ds (ret_stands h) g r = let z = (operation_is cells ds g).1 in cc z
@@ -73,20 +46,10 @@ no_result cells ds throw_stands g r = let z = (operation_is cells ds g).1 in cc 
 no_result cells ds (do_stands h) g r = r
 no_result cells ds (op_stands h) g r = r
 
-pub woken_due : (t : ℕ) (o : Option (Reason V)) (s u : State) → woken t o s ≡ Some u → (due : ℕ) × (o ≡ Some (Sleeping due)) × (nat_le due s.clock ≡ true)
-woken_due t None s u e = absurd (cc e)
-woken_due t (Some (Taking m)) s u e = absurd (cc e)
-woken_due t (Some (Reading m)) s u e = absurd (cc e)
-woken_due t (Some (Putting m a)) s u e = absurd (cc e)
-woken_due t (Some (Throwing v x)) s u e = absurd (cc e)
-woken_due t (Some (Sleeping due)) s u e = (due, refl, (passed (nat_le due s.clock) (Some (answer t UnitValue s)) u e).0)
-
 -- ---- a thread that is to do an action
 doing_named : (cells : ℕ → T → Type 0) (ds : List Fn) {p : SlotPart} {q : named.Part} {k : Sort} → PartStands cells ds p q k → IsDoing p → (a : Core) × (env : Env) × (q ≡ Do a env)
-doing_named cells ds (ret_stands h) d = absurd d
-doing_named cells ds throw_stands d = absurd d
 doing_named cells ds (do_stands {a} {env} h) d = (a, env, refl)
-doing_named cells ds (op_stands h) d = absurd d
+doing_named cells ds _ d = absurd d
 
 -- its Local of one step is legal
 pub local_legal : (script : Script) → Accepted script → (es : List Entry) (s : State) → IsRun (script_of script) es s → (x : SlotState) → Represents (script_of script) x s → MainGoes x → (t : ℕ) → Goes x t → IsLegal (code_of (script_of script)) s (entry.Local t 1)
@@ -142,32 +105,28 @@ module _ (script : Script) (accepted : Accepted script) (es : List Entry) (s : S
       let z : true ≡ false = sym (w.blocked t n.thread n.is (sym n.finished ∙ g.unfinished)) ∙ (sym n.blocked ∙ g.free) in
       cc z
 
-  entered_left : (e : Entry) (u : State) → entries.entered (code_of ds) s e ≡ Some u → IsLegal (code_of ds) s e → IsLeft x e
-  entered_left (entry.Local t k) u e l =
-      let h = thread_there (slice_get s.threads t) (λ th. local_entry (code_of ds) t k th s) u e in
-      (acts t h.0 h.1 h.2 (local_free (code_of ds) t k h.0 s u h.3)).0
-  entered_left (entry.Op t) u e l =
-      let h = thread_there (slice_get s.threads t) (λ th. op_entry t th s) u e in
-      let p = passed_not (is_blocked t s.blocked) (at_operation h.0.term.part (λ q. operated t (mask_at h.0.term.frames) q s)) u h.3 in
-      let a = acts t h.0 h.1 h.2 p.0 in
-      no_operation (λ q. operated t (mask_at h.0.term.frames) q s) h.0.term.part a.1.0 a.1.1 u a.1.2 p.1
-  entered_left (entry.Receive t) u e l =
-      let h = thread_there (slice_get s.threads t) (λ th. receive_entry t th s) u e in
-      let p = passed (entries.is_receptive t h.0.term s) (received t (flying_to t (flight_of s.blocked)) s) u h.3 in
-      let z : received t [] s ≡ Some u = subst (λ fs. received t fs s ≡ Some u) (unheard t h.0 h.1 h.2 p.0) p.1 in
-      cc z
-  entered_left (entry.Wake t) u e l =
-      let w = woken_due t (reason_of t s.blocked) s u e in
-      let later : s.clock < w.0 = none_is_due s.clock s.blocked none_wakes t w.0 w.1 in
-      ⊎_elim (λ d. omega (arith, d.1, later)) (λ d. let z : true ≡ false = sym w.2 ∙ d.0 in cc z) (leb_tells w.0 s.clock)
-  entered_left (entry.Finish t) u e l =
-      let h = thread_there (slice_get s.threads t) (λ th. finish_entry t th th.term.frames th.term.part s) u e in
-      no_finish t h.0 h.1 h.2 (finish_result t h.0 h.0.term.frames h.0.term.part s u h.3) (is_blocked t s.blocked) refl
-  entered_left (entry.Tick at) u e l = tt
-  entered_left entry.Stranded u e l = let m = (stranded_exactly script accepted es s run).0 l in (none_goes m.waits, none_asleep ds x s r m.awake)
+  -- who receives hears nothing, and who ends would act
+  none_heard : (t : ℕ) (th : Thread) (f : Flying) (fs : List Flying) → Unfinished t th s → entries.is_receptive t th.term s ≡ true → flying_to t (flight_of s.blocked) ≡ f ∷ fs → ⊥
+  none_heard t th f fs h c e = let z : f ∷ fs ≡ [] = sym e ∙ unheard t th h.0 h.1 c in cc z
+
+  none_ends : {q : named.Part} (t : ℕ) (th : Thread) → Unfinished t th s → th.term.part ≡ q → IsResult q → ⊥
+  none_ends t th h e k = no_finish t th h.0 h.1 (subst IsResult (sym e) k) (is_blocked t s.blocked) refl
+
+  left_by : {e : Entry} {u : State} → row.Enters (code_of ds) s e u → IsLegal (code_of ds) s e → IsLeft x e
+  left_by (row.local {t} {th} m h b l) g = (acts t th h.0 h.1 b).0
+  left_by (row.operation {t} {th} {p} m h b q c) g = let a = acts t th h.0 h.1 b in let z : Do a.1.0 a.1.1 ≡ Performs p = sym a.1.2 ∙ q in cc z
+  left_by (row.receives_while_it_runs {t} {th} {f} {fs} m h n b k e) g = none_heard t th f fs h (open_so (code_of ds) t th s false false n b (ap is_unmasked k)) e
+  left_by (row.receives_while_it_waits {t} {th} {f} {fs} m h n b k e) g = none_heard t th f fs h (open_so (code_of ds) t th s true true n b (interruptible (mask_at th.term.frames) k)) e
+  left_by (row.wakes {t} {due} m h le) g = let later : s.clock < due = none_is_due s.clock s.blocked none_wakes t due h in omega (arith, le, later)
+  left_by (row.finishes_by_a_value {t} {th} m h f q) g = none_ends t th h q tt
+  left_by (row.main_finishes_by_an_exception {th} h f q) g = none_ends 0 th h q tt
+  left_by (row.finishes_silently {t} {th} m h f q i) g = none_ends (suc t) th h q tt
+  left_by (row.finishes_with_a_line {t} {th} m h f q i) g = none_ends (suc t) th h q tt
+  left_by (row.ticks m h) g = tt
+  left_by (row.strands m a w) g = let k = (stranded_exactly script accepted es s run).0 g in (none_goes k.waits, none_asleep ds x s r k.awake)
 
   pub is_left : (e : Entry) → IsLegal (code_of ds) s e → IsLeft x e
-  is_left e l = entered_left e l.0 (thread_there (slice_get s.threads 0) (λ th. entries.entered (code_of ds) s e) l.0 l.1.0).3 l
+  is_left e l = left_by (case_of (code_of ds) s e l.0 l.1.0) l
 
 -- ---- rest
 pub all_rest : (x : SlotState) → NobodyActs x → ((t : ℕ) → Goes x t → ⊥) → AllRest x

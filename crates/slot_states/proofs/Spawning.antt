@@ -16,7 +16,7 @@ use Rattle.hs_rules.specs.Terms as named
 use Rattle.hs_rules.specs.Terms.{Operation, Forks, ForksUnmask, Ret, Do, MaskIn, term}
 use Rattle.hs_rules.specs.State.{Thread, State, thread_with, spawn}
 use Rattle.hs_rules.specs.State as state
-use Rattle.hs_rules.specs.Primitives.{operated}
+use Rattle.hs_cases.specs.Cases as row
 use Rattle.hs_rules.specs.Runs.{IsRun}
 use Rattle.hs_laws.proofs.Lists.{equal_or, cond_true, cond_false, item_below}
 use Rattle.hs_laws.proofs.Stranding.{blocked_reason}
@@ -94,7 +94,7 @@ module _ (script : Script) (accepted : Accepted script) (x : SlotState) (t : ℕ
   abbrev then : State
   then = spawn u (state.answer t (val.Thread (length s.threads)) s)
 
-  forks_enter : operated t m q s ≡ Some then → StacksStand (script_of script) (with_stack (length s.threads) st (with_stack t (at (ret (val.Thread (length s.threads))) (terms x.threads t).frames) (terms x.threads))) then
+  forks_enter : row.Performs t m q s then → StacksStand (script_of script) (with_stack (length s.threads) st (with_stack t (at (ret (val.Thread (length s.threads))) (terms x.threads t).frames) (terms x.threads))) then
       → Goes script accepted x t main es s run r q m a (forks_to t st x)
   forks_enter e w =
       let n : length x.threads ≡ length s.threads = r.agrees.count in
@@ -120,7 +120,7 @@ pub fork_enters : (script : Script) → Accepted script → (x : SlotState) (t :
 fork_enters script accepted x t tree vs h main es s run r =
     let m : Mask = mask_from Unmasked h.thread.term.frames in
     let c = at_fork (script_of script) x s r t tree vs h in
-    forks_enter script accepted x t main es s run r (Forks c.0 c.1) m c.2 h.thread h.is (at (doing tree vs) (mask_in m ∷ [])) (term (Do c.0 c.1) (MaskIn m ∷ [])) refl
+    forks_enter script accepted x t main es s run r (Forks c.0 c.1) m c.2 h.thread h.is (at (doing tree vs) (mask_in m ∷ [])) (term (Do c.0 c.1) (MaskIn m ∷ [])) row.forks
     (forks_stand (script_of script) (terms x.threads) s r.stacks t c.2.thread c.2.running.there m tree vs c.0 c.1 (ap (λ o. (term_at o).part) h.is ∙ h.part) c.2.part)
 
 pub fork_unmasked_enters : (script : Script) → Accepted script → (x : SlotState) (t : ℕ) (tree : Sa) (vs : List V) → (h : StandsAt x t (performs (forks_unmask tree vs))) → MainGoes x
@@ -128,5 +128,5 @@ pub fork_unmasked_enters : (script : Script) → Accepted script → (x : SlotSt
 fork_unmasked_enters script accepted x t tree vs h main es s run r =
     let m : Mask = mask_from Unmasked h.thread.term.frames in
     let c = at_fork_unmask (script_of script) x s r t tree vs h in
-    forks_enter script accepted x t main es s run r (ForksUnmask c.0 c.1 c.2) m c.3 h.thread h.is (at (doing tree (vs ++ Restore Unmasked ∷ [])) (mask_in m ∷ [])) (term (Do c.1 (with_name c.0 (Restore Unmasked) c.2)) (MaskIn m ∷ [])) refl
+    forks_enter script accepted x t main es s run r (ForksUnmask c.0 c.1 c.2) m c.3 h.thread h.is (at (doing tree (vs ++ Restore Unmasked ∷ [])) (mask_in m ∷ [])) (term (Do c.1 (with_name c.0 (Restore Unmasked) c.2)) (MaskIn m ∷ [])) row.forks_unmasked
     (forks_unmask_stand (script_of script) (terms x.threads) s r.stacks t c.3.thread c.3.running.there m tree vs c.0 c.1 c.2 (ap (λ o. (term_at o).part) h.is ∙ h.part) c.3.part)

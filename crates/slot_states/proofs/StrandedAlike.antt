@@ -1,8 +1,6 @@
 -- Those who wait at a cell and can be interrupted are stranded.
-use Rattle.std.proofs.Common.{◌≡◌, ◌≢◌, ℕ, zero, suc, ◌+◌, ◌<◌, ◌==◌, List, [], ◌∷◌, length, Bool, true, false, cond, ◌&&◌, ◌↔◌, Option, Some, None, refl, sym, ap, ◌∙◌, subst, arith, inl, ⊎_elim, slice_get}
+use Rattle.std.proofs.Common.{◌≡◌, ℕ, zero, suc, ◌+◌, ◌<◌, ◌==◌, List, [], ◌∷◌, length, Bool, true, false, cond, ◌↔◌, Option, Some, None, refl, sym, ap, ◌∙◌, subst, arith, inl, ⊎_elim, slice_get}
 use Rattle.std.specs.Prelude.{Contains}
-use Rattle.hs_base.specs.declared.mask.Mask.{Mask}
-use Rattle.hs_base.specs.declared.mask.Mask.TheVariants.{Unmasked, Masked, Uninterruptible}
 use Rattle.hs_base.specs.declared.exn.Exn.TheVariants.{BlockedIndefinitely}
 use Rattle.hs_base.specs.declared.tree.script.Script.{Script}
 use Rattle.hs_rules.specs.declared.entry.Entry.TheVariants.{Stranded}
@@ -13,8 +11,9 @@ use Rattle.rules_typing.specs.TypingScripts.{Accepted}
 use Rattle.rules_waiting.specs.Waiting.{Reason, Waiting, is_blocked, reason_of, at_cell, line_of, sorted_sleepers}
 use Rattle.hs_rules.specs.Terms as named
 use Rattle.hs_rules.specs.Terms.{Operation, Calls, Ret, Throw, Do, Performs, mask_at}
-use Rattle.hs_rules.specs.State.{Thread, State, frames_of, resume, resume_all}
-use Rattle.hs_rules.specs.Entries.{is_interruptible, is_stranded, stranded_below, stranded}
+use Rattle.hs_rules.specs.State.{State, frames_of, resume, resume_all}
+use Rattle.hs_rules.specs.Entries.{is_stranded, stranded_below, stranded}
+use Rattle.hs_cases.proofs.Entering.{waits_so, stranded_so}
 use Rattle.hs_laws.specs.MaskLaw as law
 use Rattle.hs_laws.specs.MaskLaw.{AreStranded}
 use Rattle.hs_laws.specs.Standing.{Standing}
@@ -69,32 +68,8 @@ module _ (ds : List Fn) (x : SlotState) (s : State) (r : Represents ds x s) (sta
       }
 
 -- ---- who is to be stranded
-both_true : (a b : Bool) → a && b ≡ true → (a ≡ true) × (b ≡ true)
-both_true true true e = (refl, refl)
-both_true true false e = absurd (cc e)
-both_true false b e = absurd (cc e)
-
-not_hard : (m : Mask) → is_interruptible m ≡ true → m ≢ Uninterruptible
-not_hard Unmasked e h = cc h
-not_hard Masked e h = cc h
-not_hard Uninterruptible e h = cc e
-
-interruptible : (m : Mask) → m ≢ Uninterruptible → is_interruptible m ≡ true
-interruptible Unmasked n = refl
-interruptible Masked n = refl
-interruptible Uninterruptible n = absurd (n refl)
-
-waits_open : (s : State) (t : ℕ) (o : Option Thread) (r : Option (Reason V)) → slice_get s.threads t ≡ o → reason_of t s.blocked ≡ r → is_stranded o r ≡ true → law.WaitsOpen s t
-waits_open s t o None a b e = absurd (cc e)
-waits_open s t None (Some r) a b e = let k = both_true (at_cell r) false e in absurd (cc k.1)
-waits_open s t (Some th) (Some r) a b e =
-    let k = both_true (at_cell r) (is_interruptible (mask_at th.term.frames)) e in
-    record { thread = th; is = a; reason = r; waits = b; at = k.0; open_now = not_hard (mask_at th.term.frames) k.1 }
-
 strands_is : (s : State) (t : ℕ) → law.WaitsOpen s t → Strands s t
-strands_is s t w =
-    ap (λ o. is_stranded o (reason_of t s.blocked)) w.is ∙ (ap (is_stranded (Some w.thread)) w.waits
-    ∙ (ap (λ b. b && is_interruptible (mask_at w.thread.term.frames)) w.at ∙ interruptible (mask_at w.thread.term.frames) w.open_now))
+strands_is s t w = stranded_so s t (record { thread = w.thread; is = w.is; reason = w.reason; waits = w.waits; there = w.at; open_now = w.open_now })
 
 among_below : (n t : ℕ) (s : State) → t < n → Strands s t → StandsIn t (stranded_below n s)
 among_below zero t s l h = absurd (omega (arith, l))
@@ -111,7 +86,9 @@ pub open_stands : (s : State) (t : ℕ) → law.WaitsOpen s t → StandsIn t (st
 open_stands s t w = among_below (length s.threads) t s (item_below s.threads t w.thread w.is) (strands_is s t w)
 
 strands_open : (s : State) (t : ℕ) → Strands s t → law.WaitsOpen s t
-strands_open s t h = waits_open s t (slice_get s.threads t) (reason_of t s.blocked) refl refl h
+strands_open s t h =
+    let w = waits_so s t (slice_get s.threads t) (reason_of t s.blocked) refl refl h in
+    record { thread = w.thread; is = w.is; reason = w.reason; waits = w.waits; at = w.there; open_now = w.open_now }
 
 -- they throw nothing and don't sleep
 strands_quietly : (s : State) (t : ℕ) → Strands s t → Silent (reason_of t s.blocked) × Awake (reason_of t s.blocked)

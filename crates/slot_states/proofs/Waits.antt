@@ -60,18 +60,13 @@ first_throws t w e ws o h =
 
 -- ---- for what a blocked thread waits
 throw_reason : (u : ℕ) (e : Exn) (r : Reason V) → Blocks r (Calls ThrowTo (val.Thread u ∷ Exception e ∷ [])) → r ≡ Throwing u e
-throw_reason u e (Taking m) h = absurd (cc h)
-throw_reason u e (Reading m) h = absurd (cc h)
-throw_reason u e (Putting m a) h = absurd (cc h)
 throw_reason u e (Throwing v y) h = cc h
 throw_reason u e (Sleeping due) h = let z = h.1 in absurd (cc z)
+throw_reason u e _ h = absurd (cc h)
 
 sleep_reason : (n : ℤ) (r : Reason V) → Blocks r (Calls ThreadDelay (Int n ∷ [])) → (due : ℕ) × (r ≡ Sleeping due)
-sleep_reason n (Taking m) h = absurd (cc h)
-sleep_reason n (Reading m) h = absurd (cc h)
-sleep_reason n (Putting m a) h = absurd (cc h)
-sleep_reason n (Throwing v y) h = absurd (cc h)
 sleep_reason n (Sleeping due) h = (due, refl)
+sleep_reason n _ h = absurd (cc h)
 
 -- ---- the same of a state that is stood for
 module _ (ds : List Fn) (x : SlotState) (s : State) (r : Represents ds x s) (t : ℕ) where

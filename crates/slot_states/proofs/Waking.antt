@@ -1,6 +1,5 @@
 -- A sleeper that is due wakes, the first or not.
-use Rattle.std.proofs.Common.{◌≡◌, ◌≤◌, ℕ, nat_le, true, List, Some, None, refl, sym, ap, ◌∙◌, subst, slice_get}
-use Rattle.std.proofs.lemmas.Bool.{le-leb}
+use Rattle.std.proofs.Common.{◌≡◌, ◌≤◌, ℕ, List, Some, refl, sym, ap, ◌∙◌, subst, slice_get}
 use Rattle.hs_base.specs.declared.tree.script.Script.{Script}
 use Rattle.hs_rules.specs.declared.entry.Entry.{Entry}
 use Rattle.hs_rules.specs.declared.entry.Entry.TheVariants.{Wake}
@@ -11,9 +10,10 @@ use Rattle.rules_typing.specs.TypingScripts.{Accepted}
 use Rattle.rules_waiting.specs.Waiting.{Sleeping, reason_of, still_asleep, first_awake}
 use Rattle.hs_rules.specs.Terms.{Ret}
 use Rattle.hs_rules.specs.State.{State, answer}
-use Rattle.hs_rules.specs.Entries.{woken, Leads}
+use Rattle.hs_rules.specs.Entries.{Leads}
+use Rattle.hs_cases.specs.Cases as row
+use Rattle.hs_cases.proofs.Entering.{entered_is}
 use Rattle.hs_rules.specs.Runs.{IsRun}
-use Rattle.hs_laws.proofs.Lists.{cond_true}
 use Rattle.hs_laws.proofs.CellSteps.{Away, away_leaves}
 use Rattle.hs_laws.proofs.Expanded.{standing_of}
 use Rattle.exn_flight.specs.Asleep.{due_of}
@@ -22,20 +22,19 @@ use Rattle.slot_laws.specs.SlotRules.{ret}
 use Rattle.slot_states.specs.SlotStates.{SlotState, wakes, Represents, Enters, MainGoes}
 use Rattle.slot_states.proofs.Following.{follow_start, follow_resume}
 use Rattle.slot_states.proofs.Entering.{entered}
-use Rattle.slot_states.proofs.Reading.{entry_leaves, same_cell}
+use Rattle.slot_states.proofs.Reading.{main_going, same_cell}
 use Rattle.slot_states.proofs.Asleep.{first_due, sleeps_until}
 use Rattle.slot_states.proofs.Leaving.{Silent, flight_stays}
 
 -- ---- the entry of a thread that is blocked until a time that has come
-wake_until : (script : Script) → Accepted script → (x : SlotState) (t due : ℕ) → MainGoes x → (es : List Entry) (s : State) → IsRun (script_of script) es s → Represents (script_of script) x s → reason_of t s.blocked ≡ Some (Sleeping due) → nat_le due s.clock ≡ true →
+pub wake_until : (script : Script) → Accepted script → (x : SlotState) (t due : ℕ) → MainGoes x → (es : List Entry) (s : State) → IsRun (script_of script) es s → Represents (script_of script) x s → reason_of t s.blocked ≡ Some (Sleeping due) → due ≤ s.clock →
     (u : State) × Leads (code_of (script_of script)) s (Wake t) u × Represents (script_of script) (wakes t x) u
 wake_until script accepted x t due m es s run r asleep come =
     let ds : List Fn = script_of script in
     let a = r.agrees in
     let once = (standing_of ds es s run).once in
     let u : State = answer t UnitValue s in
-    let leads : woken t (reason_of t s.blocked) s ≡ Some u = ap (λ o. woken t o s) asleep ∙ cond_true (nat_le due s.clock) (Some u) None come in
-    entered script accepted es s u (Wake t) x (wakes t x) run r (entry_leaves ds x s u (code_of ds) (Wake t) r m leads, tt) (λ v. tt)
+    entered script accepted es s u (Wake t) x (wakes t x) run r (entered_is {code = code_of ds} (row.wakes (main_going ds x s r m) asleep come), tt) (λ v. tt)
     (follow_resume x.threads s.threads x.threads s.threads s.blocked (follow_start ds x s r) t (ret UnitValue) (Ret UnitValue) refl)
     (record {
       made = a.made;
@@ -61,4 +60,4 @@ pub due_wake_entered : (script : Script) → Accepted script → (x : SlotState)
 due_wake_entered script accepted x t due e come m es s run r =
     let a = r.agrees in
     let once = (standing_of (script_of script) es s run).once in
-    wake_until script accepted x t due m es s run r (sleeps_until t due s.blocked once (ap (due_of t) (sym a.sleepers) ∙ e)) (ap (nat_le due) (sym a.clock) ∙ le-leb due x.clock come)
+    wake_until script accepted x t due m es s run r (sleeps_until t due s.blocked once (ap (due_of t) (sym a.sleepers) ∙ e)) (subst (λ n. due ≤ n) a.clock come)
