@@ -23,9 +23,7 @@ use Rattle.slot_states.proofs.Reading.{slotted_of}
 module _ (cells : ℕ → T → Type 0) (ds : List Fn) where
   value_part : {p : SlotPart} {q : named.Part} {k : Sort} → PartStands cells ds p q k → is_ret q ≡ true → (v : V) × (p ≡ ret v)
   value_part (ret_stands {v} h) e = (v, refl)
-  value_part throw_stands e = absurd (cc e)
-  value_part (do_stands h) e = absurd (cc e)
-  value_part (op_stands h) e = absurd (cc e)
+  value_part _ e = absurd (cc e)
 
   exception_part : {p : SlotPart} {q : named.Part} {k : Sort} → PartStands cells ds p q k → IsResult q → is_ret q ≡ false → (x : Exn) × (p ≡ throw x)
   exception_part (ret_stands h) r e = absurd (cc e)
