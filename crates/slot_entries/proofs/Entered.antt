@@ -10,7 +10,7 @@ use Rattle.rules_typing.specs.TypingScripts.{Accepted}
 use Rattle.rules_code.specs.CodeTrees.{SlottedFunction, code_trees}
 use Rattle.rules_waiting.specs.Waiting.{Sleeper, flying_to, first_thrown}
 use Rattle.exn_flight.specs.Asleep.{due_of}
-use Rattle.slot_laws.specs.SlotRules.{SlotPart, ret, throw, doing, performs, SlotFrame, SlotTerm, at, locals}
+use Rattle.slot_laws.specs.SlotRules.{SlotPart, ret, throw, performs, SlotFrame, SlotTerm, at, locals}
 use Rattle.slot_states.specs.SlotStates.{SlotThread, SlotState, moves, receives, wakes, ticks, Enters, MainGoes}
 use Rattle.slot_states.specs.Resting.{is_receptive}
 use Rattle.slot_states.proofs.Asleep.{has_come}
@@ -43,10 +43,8 @@ module _ (script : Script) (accepted : Accepted script) (x : SlotState) (main : 
   -- ---- Op
   part_leaves : (t : ℕ) (th : SlotThread) (y : SlotState) → slice_get x.threads t ≡ Some th → th.finished ≡ false → th.blocked ≡ false →
       (q : SlotPart) → th.term.part ≡ q → operates t th.term.frames q x ≡ Some y → Enters script (entry.Op t) x y
-  part_leaves t th y is f b (ret v) h e = absurd (cc e)
-  part_leaves t th y is f b (throw z) h e = absurd (cc e)
-  part_leaves t th y is f b (doing a vs) h e = absurd (cc e)
   part_leaves t th y is f b (performs p) h e = operation_entered script accepted x main t p y (record { thread = th; is = is; part = h; unfinished = f; free = b }) e
+  part_leaves t th y is f b _ h e = absurd (cc e)
 
   op_leaves : (t : ℕ) (th : SlotThread) (y : SlotState) → slice_get x.threads t ≡ Some th → th.finished ≡ false → op_entry t th x ≡ Some y → Enters script (entry.Op t) x y
   op_leaves t th y is f e =
@@ -76,9 +74,7 @@ module _ (script : Script) (accepted : Accepted script) (x : SlotState) (main : 
       (fs : List SlotFrame) (q : SlotPart) → th.term ≡ at q fs → ended t fs q x ≡ Some y → Enters script (entry.Finish t) x y
   end_leaves t th y is f b [] (ret v) h e = left script (entry.Finish t) x _ y (value_ended script accepted x t v (record { thread = th; is = is; term = h; unfinished = f; free = b }) main) e
   end_leaves t th y is f b [] (throw z) h e = left script (entry.Finish t) x _ y (exception_ended script accepted x t z (record { thread = th; is = is; term = h; unfinished = f; free = b }) main) e
-  end_leaves t th y is f b [] (doing a vs) h e = absurd (cc e)
-  end_leaves t th y is f b [] (performs p) h e = absurd (cc e)
-  end_leaves t th y is f b (g ∷ fs) q h e = absurd (cc e)
+  end_leaves t th y is f b _ _ h e = absurd (cc e)
 
   finish_leaves : (t : ℕ) (th : SlotThread) (y : SlotState) → slice_get x.threads t ≡ Some th → th.finished ≡ false → finish_entry t th x ≡ Some y → Enters script (entry.Finish t) x y
   finish_leaves t th y is f e =

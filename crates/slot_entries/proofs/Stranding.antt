@@ -10,7 +10,7 @@ use Rattle.rules_expansion.specs.declared.primitive.Primitive.TheVariants.{TakeM
 use Rattle.rules_waiting.specs.Waiting.{Flying, flying_to, first_awake}
 use Rattle.hs_rules.specs.Entries.{is_interruptible}
 use Rattle.hs_laws.proofs.Lists.{cond_cases, cond_true, StandsIn}
-use Rattle.slot_laws.specs.SlotRules.{calls, forks, forks_unmask, SlotPart, ret, throw, doing, performs, mask_from}
+use Rattle.slot_laws.specs.SlotRules.{calls, SlotPart, performs, mask_from}
 use Rattle.slot_states.specs.SlotStates.{SlotThread, SlotState}
 use Rattle.slot_states.specs.Resting.{is_receptive, WaitsAt, takes, reads, puts, WaitsOpen, AllRest}
 use Rattle.slot_states.proofs.Places.{contains_stands, stands_contains}
@@ -40,11 +40,9 @@ rest_parts false true false e h g = (refl, λ k. absurd (cc k))
 rest_parts false false r e h g = absurd (cc h)
 
 parts_rest : (f b r e : Bool) → (f ≡ false → b ≡ true) → (f ≡ false → r ≡ true → e ≡ true) → f || (b && (not r || e)) ≡ true
-parts_rest true b r e h g = refl
-parts_rest false true true true h g = refl
 parts_rest false true true false h g = g refl refl
-parts_rest false true false e h g = refl
 parts_rest false false r e h g = h refl
+parts_rest _ _ _ _ h g = refl
 
 rest_at : (fs : List Flying) (n : ℕ) (ths : List SlotThread) → rest_from fs n ths ≡ true → (t k : ℕ) (th : SlotThread) → slice_get ths t ≡ Some th → n + t ≡ k → rests fs k th ≡ true
 rest_at fs n [] h t k th is e = absurd (cc is)
@@ -98,12 +96,8 @@ call_waits PutMVar (val.Cell m ∷ v ∷ []) e = (m, puts)
 call_waits _ _ e = absurd (cc e)
 
 part_waits : (p : SlotPart) → waits_at_cell p ≡ true → (m : ℕ) × WaitsAt m p
-part_waits (ret v) e = absurd (cc e)
-part_waits (throw x) e = absurd (cc e)
-part_waits (doing a vs) e = absurd (cc e)
 part_waits (performs (calls p vs)) e = call_waits p vs e
-part_waits (performs (forks tree vs)) e = absurd (cc e)
-part_waits (performs (forks_unmask tree vs)) e = absurd (cc e)
+part_waits _ e = absurd (cc e)
 
 waits_part : (m : ℕ) (p : SlotPart) → WaitsAt m p → waits_at_cell p ≡ true
 waits_part m p takes = refl
