@@ -55,16 +55,14 @@ abbrev value_or : Option V → V
 value_or None = UnitValue
 value_or (Some v) = v
 
-get_left : (xs ys : List V) (k : ℕ) (v : V) → slice_get xs k ≡ Some v → slice_get (xs ++ ys) k ≡ Some v
-get_left [] ys k v h = let z : None ≡ Some v = h in absurd (cc z)
+pub get_left : {A : Type 0} (xs ys : List A) (k : ℕ) (v : A) → slice_get xs k ≡ Some v → slice_get (xs ++ ys) k ≡ Some v
+get_left [] ys k v h = absurd (cc h)
 get_left (x ∷ xs) ys zero v h = h
 get_left (x ∷ xs) ys (suc k) v h = get_left xs ys k v h
 
-get_end : (xs : List V) (k : ℕ) (v : V) → length xs ≡ k → slice_get (xs ++ v ∷ []) k ≡ Some v
-get_end [] zero v h = refl
-get_end [] (suc k) v h = absurd (omega arith)
-get_end (x ∷ xs) zero v h = absurd (omega arith)
-get_end (x ∷ xs) (suc k) v h = get_end xs k v (omega arith)
+pub last_item : {A : Type 0} (xs : List A) (y : A) → slice_get (xs ++ y ∷ []) (length xs) ≡ Some y
+last_item [] y = refl
+last_item (x ∷ xs) y = last_item xs y
 
 module _ (env : Env) where
   abbrev slots_in : List SortedName → List V
@@ -90,7 +88,7 @@ module _ (env : Env) where
 
   agree_end : (k : Sort) (n : ℕ) (w r : Option V) (vs : List V) → length vs ≡ n → r ≡ w → Agree (Some k) (Some n) w (vs ++ value_or r ∷ [])
   agree_end k n None r vs l e = tt
-  agree_end k n (Some v) r vs l e = get_end vs n (value_or r) l ∙ ap (λ z. Some (value_or z)) e
+  agree_end k n (Some v) r vs l e = ap (slice_get (vs ++ value_or r ∷ [])) (sym l) ∙ (last_item vs (value_or r) ∙ ap (λ z. Some (value_or z)) e)
 
   agree_bound : (t : Bool) (k : Sort) (n : ℕ) (o : Option Sort) (m : Option ℕ) (w r : Option V) (vs : List V) → length vs ≡ n → (t ≡ true → r ≡ w) → Agree o m w vs → Agree (cond t (Some k) o) (cond t (Some n) m) w (vs ++ value_or r ∷ [])
   agree_bound true k n o m w r vs l e h = agree_end k n w r vs l (e refl)

@@ -29,7 +29,7 @@ use Rattle.slot_laws.specs.Stacks.{StacksStand, with_stack}
 use Rattle.slot_laws.proofs.Heads.{main_reads}
 use Rattle.slot_laws.proofs.Steps.{awaited}
 use Rattle.slot_laws.proofs.Stacking.{part_more, frames_more}
-use Rattle.slot_laws.proofs.StacksStand.{part_typed}
+use Rattle.slot_laws.proofs.StacksStand.{part_typed, term_is}
 
 -- ---- forks
 
@@ -51,9 +51,6 @@ module _ (ds : List Fn) (stacks : ℕ → SlotTerm) (s : State) (w : StacksStand
 
   grow : (c : ℕ) (v : T) → has w.store c v → has more c v
   grow = let le : w.store.count ≤ suc w.store.count = omega arith in stored_more w.store.cells w.store.cells w.store.count (suc w.store.count) (λ c v e. e) le
-
-  term_is : (a b : Thread) → Some a ≡ Some b → a.term ≡ b.term
-  term_is a b e = let z : a ≡ b = cc e in ap (λ (x : Thread). x.term) z
 
   place : (v : ℕ) (x : named.Term) (k : Sort) (st : SlotTerm) → more.sorts v ≡ k → then v ≡ st → PartStands (has more) ds st.part x.part k × FramesStand (has more) ds k st.frames x.frames → StandsIn ds more v (then v) x
   place v x k st e f r = subst (λ (z : SlotTerm). PartStands (has more) ds z.part x.part (more.sorts v) × FramesStand (has more) ds (more.sorts v) z.frames x.frames) (sym f)

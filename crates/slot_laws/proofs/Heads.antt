@@ -28,7 +28,7 @@ use Rattle.slot_laws.specs.Standing.{cells_of, Reads, PartStands, do_stands, non
 use Rattle.hs_progress.specs.TypedStates.{ctx_of, KeepsHead}
 use Rattle.hs_progress.proofs.Heads.{heads_kept}
 
-both_true : (p q : Bool) → p && q ≡ true → (p ≡ true) × (q ≡ true)
+pub both_true : (p q : Bool) → p && q ≡ true → (p ≡ true) × (q ≡ true)
 both_true true true e = (refl, refl)
 both_true true false e = absurd (cc e)
 both_true false q e = absurd (cc e)

@@ -9,12 +9,12 @@ use Rattle.hs_base.specs.declared.tree.script.Script.{Script}
 use Rattle.rules_trees.specs.Trees.{T, bool, exn, pair, maybe, either, list}
 use Rattle.rules_trees.specs.Programs.{Fn, script_of}
 use Rattle.rules_expansion.specs.Names.{Name}
-use Rattle.rules_meaning.specs.Values.{V, Truth, Nothing, Just, Left, Right, Pair, Nil, Cons, Exception, Restore, Env, with_name, value_at, Outcomes, AllGive, OneThrows, OneStuck}
+use Rattle.rules_meaning.specs.Values.{V, Truth, Nothing, Just, Left, Right, Pair, Nil, Cons, Exception, Restore, Env, with_name, value_at}
 use Rattle.rules_meaning.specs.Meaning.{functions_of, values_of_exs}
 use Rattle.rules_sorts.specs.Sorts.{Sort, a_value, a_masking_name, SortedName}
 use Rattle.rules_typing.specs.Typing as typing
 use Rattle.rules_typing.specs.TypingScripts.{Accepted, sigs_from}
-use Rattle.rules_sorts.specs.TypedMeaning.{AllOf, AllGood}
+use Rattle.rules_sorts.specs.TypedMeaning.{AllOf}
 use Rattle.rules_expansion.specs.Core.{CoreEx, Core, Bind, ActionFunction, action_named}
 use Rattle.rules_meaning.specs.CoreMeaning.{value_of_core, values_of_core, code_of}
 use Rattle.rules_expansion.specs.Expansion.{actions_of}
@@ -24,7 +24,7 @@ use Rattle.hs_rules.specs.Terms as named
 use Rattle.hs_rules.specs.Terms.{Do, Calls, BindTo, CatchBy, MaskIn}
 use Rattle.hs_rules.specs.LocalRules as name
 use Rattle.rules_code.proofs.Slotted.{all_agree, parallel}
-use Rattle.hs_soundness.specs.CoreSorts.{names_of, CoreHas, of_masking, OfSort, GoodSort, FitsAt, SlotsFit}
+use Rattle.hs_soundness.specs.CoreSorts.{names_of, CoreHas, of_masking, OfSort, FitsAt, SlotsFit}
 use Rattle.hs_soundness.proofs.CoreExpressions.{accepted_good}
 use Rattle.hs_soundness.proofs.CoreSlots.{core_slots}
 use Rattle.hs_soundness.proofs.Growing.{fits_none}
@@ -34,7 +34,7 @@ use Rattle.hs_progress.specs.CoreTyping.{Binds, with_bound, Does, does_return, d
 use Rattle.slot_laws.specs.Standing.{tree_of, Reads, Awaits, calls_stands, forks_stands, forks_unmask_stands, PartStands, ret_stands, throw_stands, do_stands, op_stands, FramesStand, none_stand, bind_stands, then_stands, catch_stands, mask_stands, Stands, BothStand, StepsTo}
 use Rattle.hs_progress.specs.TypedStates.{ctx_of, HeadsKept, AllOfSorts}
 use Rattle.slot_laws.proofs.SlotFraming.{framed}
-use Rattle.slot_laws.proofs.Steps.{Entered, AllAre, binds_read, more_fits, slot_is, mask_of, AllGoodSorts, exs_sorts, exs_slots, args_good, takes_fit, takes_count, takes_names, place_found, throws, rets, goes_on, value_steps, values_step, throwing, awaited}
+use Rattle.slot_laws.proofs.Steps.{Entered, binds_read, same_masks, more_fits, slot_is, mask_of, exs_sorts, exs_slots, args_good, takes_fit, takes_count, takes_names, place_found, throws, rets, goes_on, value_steps, values_step, throwing, awaited}
 
 module _ (cells : ℕ → T → Type 0) (script : Script) (accepted : Accepted script) (heads : HeadsKept (script_of script)) where
   abbrev ds : List Fn
@@ -46,16 +46,6 @@ module _ (cells : ℕ → T → Type 0) (script : Script) (accepted : Accepted s
   awaits : (here : ℕ) (g : List SortedName) {x : Name} {j : Sort} {a : Core} {env : Env} {vs : List V} {k : Sort} → Binds x j → Does (ctx_of ds here) (with_bound x j g) a k → SlotsFit cells g env vs
       → Awaits cells ds x j (tree_of ds (with_bound x j g) a) vs a env k
   awaits here g b d f = record { here = here; scope = g; binds = b; is = refl; does = d; fits = f }
-
-  all_are : (ts : List T) (o : Outcomes) → AllGood cells ts o → AllAre (AllOf cells ts) o
-  all_are ts (AllGive vs) h = h
-  all_are ts (OneThrows e) h = tt
-  all_are ts OneStuck h = absurd h
-
-  all_sorts : (ks : List Sort) (o : Outcomes) → AllGoodSorts cells ks o → AllAre (AllOfSorts cells ks) o
-  all_sorts ks (AllGive vs) h = h
-  all_sorts ks (OneThrows e) h = tt
-  all_sorts ks OneStuck h = absurd h
 
   module _ {k : Sort} {ss : List SlotFrame} {fs : List named.Frame} (b : FramesStand cells ds k ss fs) where
     -- ---- a value that chooses
@@ -125,48 +115,35 @@ module _ (cells : ℕ → T → Type 0) (script : Script) (accepted : Accepted s
 
   -- ---- rules 1 to 11
   module _ (here : ℕ) (s : Mask) where
-    value_is : (g : List SortedName) (env : Env) (vs : List V) (e : CoreEx) (j : Sort) → CoreHas (ctx_of ds here) g e j → SlotsFit cells g env vs → run (slotted_core_ex (roots_of ds) (names_of g) e) vs ≡ value_of_core (functions_of ds) env e
-    value_is g env vs e j h f = core_slots cells ds (ctx_of ds here) g env vs e j h f
-
-    value_good : (g : List SortedName) (env : Env) (vs : List V) (e : CoreEx) (j : Sort) → CoreHas (ctx_of ds here) g e j → SlotsFit cells g env vs → GoodSort cells j (value_of_core (functions_of ds) env e)
-    value_good g env vs e j h f = accepted_good cells script here g env e j accepted h f.sorts
+    -- an expression whose value an action goes on with
+    valued : {g : List SortedName} {k : Sort} {ss : List SlotFrame} {fs : List named.Frame} (env : Env) (vs : List V) (b : FramesStand cells ds k ss fs) (e : CoreEx) (j : Sort) → CoreHas (ctx_of ds here) g e j → SlotsFit cells g env vs
+        → (f : V → Option SlotTerm) (h : V → Option named.Term) → ((v : V) → OfSort cells j v → StepsTo cells ds (slot.on_top ss (f v)) (name.on_top fs (h v)))
+        → StepsTo cells ds (slot.on_top ss (slot.on_value (run (slotted_core_ex (roots_of ds) (names_of g) e) vs) f)) (name.on_top fs (name.on_value (value_of_core (functions_of ds) env e) h))
+    valued {g} env vs b e j p f _ _ w =
+        value_steps cells ds b j (value_of_core (functions_of ds) env e) (run (slotted_core_ex (roots_of ds) (names_of g) e) vs) _ _ (core_slots cells ds (ctx_of ds here) g env vs e j p f) (accepted_good cells script here g env e j accepted p f.sorts) w
 
     first_steps : {g : List SortedName} {a : Core} {k : Sort} {ss : List SlotFrame} {fs : List named.Frame} (env : Env) (vs : List V) → Does (ctx_of ds here) g a k → SlotsFit cells g env vs → FramesStand cells ds k ss fs
         → StepsTo cells ds (slot.on_top ss (slot.first_step (code_trees ds) s (tree_of ds g a) vs)) (name.on_top fs (name.first_step (code_of ds) s a env))
-    first_steps {g} {k} env vs (does_return {e} h) f b =
-        value_steps cells ds b k (value_of_core (functions_of ds) env e) (run (slotted_core_ex (roots_of ds) (names_of g) e) vs) _ _ (value_is g env vs e k h f) (value_good g env vs e k h f) (λ v q. rets cells ds b v q)
-    first_steps {g} env vs (does_throw {e} h) f b =
-        value_steps cells ds b (a_value exn) (value_of_core (functions_of ds) env e) (run (slotted_core_ex (roots_of ds) (names_of g) e) vs) _ _ (value_is g env vs e _ h f) (value_good g env vs e _ h f) (throwing cells ds b)
-    first_steps {g} env vs (does_let {e} {j} p h d) f b =
-        value_steps cells ds b j (value_of_core (functions_of ds) env e) (run (slotted_core_ex (roots_of ds) (names_of g) e) vs) _ _ (value_is g env vs e j h f) (value_good g env vs e j h f)
-        (λ v q. goes_on cells ds b (awaited cells ds (awaits here g p d f) v q))
+    first_steps {g} {k} env vs (does_return {e} h) f b = valued env vs b e k h f _ _ (λ v q. rets cells ds b v q)
+    first_steps {g} env vs (does_throw {e} h) f b = valued env vs b e (a_value exn) h f _ _ (throwing cells ds b)
+    first_steps {g} env vs (does_let {e} {j} p h d) f b = valued env vs b e j h f _ _ (λ v q. goes_on cells ds b (awaited cells ds (awaits here g p d f) v q))
     first_steps {g} {ss} {fs} env vs (does_bind {y} {a} {b = c} {j} p d w) f b =
         subst (λ t. StepsTo cells ds (slot.on_top ss (slot.first_step (code_trees ds) s (cond t (a_then (tree_of ds g a) (tree_of ds g c)) (a_bind (tree_of ds g a) (tree_of ds (with_bound y j g) c))) vs))
         (name.on_top fs (name.first_step (code_of ds) s (Bind y a c) env))) (sym (binds_read y j p))
         (goes_on cells ds (bind_stands (awaits here g p w f) b) (reads here g d f))
     first_steps {g} env vs (does_then d w) f b = goes_on cells ds (then_stands (reads here g w f) b) (reads here g d f)
-    first_steps {g} env vs (does_if {e} h d w) f b =
-        value_steps cells ds b (a_value bool) (value_of_core (functions_of ds) env e) (run (slotted_core_ex (roots_of ds) (names_of g) e) vs) _ _ (value_is g env vs e _ h f) (value_good g env vs e _ h f)
-        (chooses b (reads here g d f) (reads here g w f))
-    first_steps {g} env vs (does_maybe {e} {t} p h d w) f b =
-        value_steps cells ds b (a_value (maybe t)) (value_of_core (functions_of ds) env e) (run (slotted_core_ex (roots_of ds) (names_of g) e) vs) _ _ (value_is g env vs e _ h f) (value_good g env vs e _ h f)
-        (chooses_maybe b (reads here g d f) (awaits here g p w f))
-    first_steps {g} env vs (does_either {e} {s = i} {t} p q h d w) f b =
-        value_steps cells ds b (a_value (either i t)) (value_of_core (functions_of ds) env e) (run (slotted_core_ex (roots_of ds) (names_of g) e) vs) _ _ (value_is g env vs e _ h f) (value_good g env vs e _ h f)
-        (chooses_either b (awaits here g p d f) (awaits here g q w f))
-    first_steps {g} env vs (does_list {e} {x} {y} {t} p q h d w) f b =
-        value_steps cells ds b (a_value (list t)) (value_of_core (functions_of ds) env e) (run (slotted_core_ex (roots_of ds) (names_of g) e) vs) _ _ (value_is g env vs e _ h f) (value_good g env vs e _ h f)
-        (chooses_list b here g x y env vs f (reads here g d f) p q w)
-    first_steps {g} env vs (does_pair {e} {x} {y} {s = i} {t} p q h w) f b =
-        value_steps cells ds b (a_value (pair i t)) (value_of_core (functions_of ds) env e) (run (slotted_core_ex (roots_of ds) (names_of g) e) vs) _ _ (value_is g env vs e _ h f) (value_good g env vs e _ h f)
-        (chooses_pair b here g x y env vs f p q w)
+    first_steps {g} env vs (does_if {e} h d w) f b = valued env vs b e (a_value bool) h f _ _ (chooses b (reads here g d f) (reads here g w f))
+    first_steps {g} env vs (does_maybe {e} {t} p h d w) f b = valued env vs b e (a_value (maybe t)) h f _ _ (chooses_maybe b (reads here g d f) (awaits here g p w f))
+    first_steps {g} env vs (does_either {e} {s = i} {t} p q h d w) f b = valued env vs b e (a_value (either i t)) h f _ _ (chooses_either b (awaits here g p d f) (awaits here g q w f))
+    first_steps {g} env vs (does_list {e} {x} {y} {t} p q h d w) f b = valued env vs b e (a_value (list t)) h f _ _ (chooses_list b here g x y env vs f (reads here g d f) p q w)
+    first_steps {g} env vs (does_pair {e} {x} {y} {s = i} {t} p q h w) f b = valued env vs b e (a_value (pair i t)) h f _ _ (chooses_pair b here g x y env vs f p q w)
     first_steps {g} env vs (does_call {f = fn} {es} sig e w l h) f b =
         values_step cells ds b (AllOf cells sig.params) (values_of_exs (functions_of ds) env es) (run_all (slotted_all (roots_of ds) (names_of g) es) vs) _ _
-        (all_agree (functions_of ds) (roots_of ds) (parallel ds) (names_of g) env vs f.slots es) (all_are sig.params _ (args_good cells script accepted here g env es sig.params f.sorts l h))
+        (all_agree (functions_of ds) (roots_of ds) (parallel ds) (names_of g) env vs f.slots es) (args_good cells script accepted here g env es sig.params f.sorts l h)
         (calls_function b fn sig e w refl)
     first_steps {g} {k} env vs (does_perform {p} {es} {ks} q h) f b =
         values_step cells ds b (AllOfSorts cells ks) (values_of_core (functions_of ds) env es) (run_all (slotted_core_exs (roots_of ds) (names_of g) es) vs) _ _
-        (exs_slots cells script accepted here env vs f h) (all_sorts ks _ (exs_sorts cells script accepted here env f.sorts h))
+        (exs_slots cells script accepted here env vs f h) (exs_sorts cells script accepted here env f.sorts h)
         (λ us z. record { sort = k; part = op_stands (calls_stands q z); frames = b })
     first_steps {g} env vs (does_fork d) f b = record { sort = _; part = op_stands (forks_stands (reads here g d f)); frames = b }
     first_steps {g} env vs (does_fork_unmask p d) f b = record { sort = _; part = op_stands (forks_unmask_stands (awaits here g p d f)); frames = b }
@@ -178,13 +155,6 @@ module _ (cells : ℕ → T → Type 0) (script : Script) (accepted : Accepted s
         (restores b r (reads here g d f) (value_at r env) (subst (λ o. FitsAt cells r o (value_at r env)) h.1 (f.sorts r)))
 
   -- ---- one local rule
-  same_mask : {k : Sort} {ss : List SlotFrame} {fs : List named.Frame} → FramesStand cells ds k ss fs → mask_from Unmasked ss ≡ named.mask_at fs
-  same_mask none_stand = refl
-  same_mask (bind_stands w b) = same_mask b
-  same_mask (then_stands r b) = same_mask b
-  same_mask (catch_stands w b) = same_mask b
-  same_mask (mask_stands b) = refl
-
   both : (o : Option SlotTerm) (r : Option named.Term) → StepsTo cells ds o r → BothStand cells ds o r
   both None None h = tt
   both _ _ h = h
@@ -194,7 +164,7 @@ module _ (cells : ℕ → T → Type 0) (script : Script) (accepted : Accepted s
       → StepsTo cells ds (slot.local (code_trees ds) Unmasked (doing tree vs) ss) (name.local (code_of ds) (Do a env) fs)
   does_step {ss} {fs} tree vs a env r b =
       subst (λ z. StepsTo cells ds (slot.local (code_trees ds) Unmasked (doing z vs) ss) (name.local (code_of ds) (Do a env) fs)) (sym r.is)
-      (subst (λ m. StepsTo cells ds (slot.on_top ss (slot.first_step (code_trees ds) m (tree_of ds r.scope a) vs)) (name.on_top fs (name.first_step (code_of ds) (named.mask_at fs) a env))) (sym (same_mask b))
+      (subst (λ m. StepsTo cells ds (slot.on_top ss (slot.first_step (code_trees ds) m (tree_of ds r.scope a) vs)) (name.on_top fs (name.first_step (code_of ds) (named.mask_at fs) a env))) (sym (same_masks cells ds b))
       (first_steps r.here (named.mask_at fs) env vs r.does r.fits b))
 
   ret_both : {k : Sort} {ss : List SlotFrame} {fs : List named.Frame} (v : V) → OfSort cells k v → FramesStand cells ds k ss fs → BothStand cells ds (slot.ret_step v ss) (name.ret_step v fs)
@@ -209,7 +179,7 @@ module _ (cells : ℕ → T → Type 0) (script : Script) (accepted : Accepted s
   throw_both e (bind_stands w b) = throws cells ds b e
   throw_both e (then_stands r b) = throws cells ds b e
   throw_both e (catch_stands {x} {tree} {vs} {b = a} {env} {ss} {fs} w b) =
-      subst (λ m. BothStand cells ds (Some (slot.at (doing tree (vs ++ Exception e ∷ [])) (mask_in (join_of Masked m) ∷ ss))) (name.throw_step e (CatchBy x a env ∷ fs))) (sym (same_mask b))
+      subst (λ m. BothStand cells ds (Some (slot.at (doing tree (vs ++ Exception e ∷ [])) (mask_in (join_of Masked m) ∷ ss))) (name.throw_step e (CatchBy x a env ∷ fs))) (sym (same_masks cells ds b))
       (goes_on cells ds (mask_stands b) (awaited cells ds w (Exception e) tt))
   throw_both e (mask_stands b) = throws cells ds b e
 

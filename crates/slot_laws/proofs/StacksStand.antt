@@ -65,14 +65,14 @@ module _ (cells : ℕ → T → Type 0) (ds : List Fn) where
   frames_typed (catch_stands w b) = catch_typed (awaits_of w) (frames_typed b)
   frames_typed (mask_stands b) = mask_typed (frames_typed b)
 
+pub term_is : (a b : Thread) → Some a ≡ Some b → a.term ≡ b.term
+term_is a b e = let z : a ≡ b = cc e in ap (λ (x : Thread). x.term) z
+
 -- ---- local rules of one thread
 
 module _ (ds : List Fn) (stacks : ℕ → SlotTerm) (s : State) (w : StacksStand ds stacks s) (t : ℕ) (th : Thread) (is : slice_get s.threads t ≡ Some th) (st : SlotTerm) (u : named.Term) (h : Stands (has w.store) ds st u) where
   abbrev Either : Bool → ℕ → named.Term → Type 0
   Either c v x = PartStands (has w.store) ds (cond c st (stacks v)).part x.part (cond c h.sort (w.store.sorts v)) × FramesStand (has w.store) ds (cond c h.sort (w.store.sorts v)) (cond c st (stacks v)).frames x.frames
-
-  term_is : (th' b : Thread) → Some th' ≡ Some b → th'.term ≡ b.term
-  term_is th' b e = let q : th' ≡ b = cc e in ap (λ (z : Thread). z.term) q
 
   one_moved : (v : ℕ) (b : Thread) → slice_get (move t u s).threads v ≡ Some b → Either (v == t) v b.term
   one_moved v b q =

@@ -2,6 +2,7 @@
 use Rattle.std.proofs.Common.{◌≡◌, ℕ, zero, suc, ◌+◌, ◌≤◌, List, [], ◌∷◌, ◌++◌, length, Bool, true, false, cond, Option, Some, None, refl, sym, ap, ◌∙◌, subst, arith, append-nil, append_assoc, bytes_eq}
 use Rattle.std.specs.Prelude.{slice_get}
 use Rattle.hs_base.specs.declared.exn.Exn.{Exn}
+use Rattle.hs_base.specs.declared.mask.Mask.TheVariants.{Unmasked}
 use Rattle.hs_base.specs.declared.tree.script.Script.{Script}
 use Rattle.rules_trees.specs.Trees.{T, exn, Exs, none, more}
 use Rattle.rules_trees.specs.Programs.{Fn, script_of}
@@ -12,7 +13,7 @@ use Rattle.rules_meaning.specs.Meaning.{functions_of, value_of_ex, values_of_exs
 use Rattle.rules_sorts.specs.Sorts.{Sort, a_value, a_masking_name, an_instance, a_scope_cell, SortedName}
 use Rattle.rules_typing.specs.Typing as typing
 use Rattle.rules_typing.specs.TypingScripts.{Accepted}
-use Rattle.rules_sorts.specs.TypedMeaning.{AllOf, AllGood, WellAll}
+use Rattle.rules_sorts.specs.TypedMeaning.{AllOf, WellAll}
 use Rattle.rules_expansion.specs.Core.{CoreEx, OfScript, Core, ActionFunction, action_named}
 use Rattle.rules_meaning.specs.CoreMeaning.{value_of_core, values_of_core}
 use Rattle.rules_code.specs.Slots.{Scope, slot_of, Root, roots_of, run_all}
@@ -28,7 +29,7 @@ use Rattle.hs_soundness.proofs.Growing.{fits_with}
 use Rattle.slot_laws.specs.SlotRules as slot
 use Rattle.slot_laws.specs.SlotRules.{SlotFrame, SlotTerm}
 use Rattle.hs_progress.specs.CoreTyping.{Binds, with_bound, CoreAllHave, no_more, one_more, Takes, takes_none, takes_one}
-use Rattle.slot_laws.specs.Standing.{Reads, Awaits, ret_stands, throw_stands, do_stands, FramesStand, Stands, StepsTo}
+use Rattle.slot_laws.specs.Standing.{Reads, Awaits, ret_stands, throw_stands, do_stands, FramesStand, none_stand, bind_stands, then_stands, catch_stands, mask_stands, Stands, StepsTo}
 use Rattle.hs_progress.specs.TypedStates.{ctx_of, AllOfSorts, no_values, one_value}
 
 -- ---- names that are bound
@@ -37,6 +38,12 @@ pub binds_read : (y : Name) (k : Sort) → Binds y k → is_unread y ≡ false
 binds_read (Written x) k h = refl
 binds_read Unread k h = absurd h
 binds_read (Added z) k h = refl
+
+-- values for which P holds, or an exception
+abbrev pub AllAre : (List V → Type 0) → Outcomes → Type 0
+AllAre P (AllGive vs) = P vs
+AllAre P (OneThrows e) = Unit {0}
+AllAre P OneStuck = ⊥
 
 module _ (cells : ℕ → T → Type 0) where
   binds_fits : (y : Name) (k : Sort) (v : V) → Binds y k → OfSort cells k v → FitsAt cells y (Some k) (Some v)
@@ -71,23 +78,18 @@ module _ (cells : ℕ → T → Type 0) where
 
   -- ---- expressions of a primitive
 
-  abbrev pub AllGoodSorts : List Sort → Outcomes → Type 0
-  AllGoodSorts ks (AllGive vs) = AllOfSorts cells ks vs
-  AllGoodSorts ks (OneThrows e) = Unit {0}
-  AllGoodSorts ks OneStuck = ⊥
-
-  and_good : (k : Sort) (ks : List Sort) (o : Outcome) (r : Outcomes) → GoodSort cells k o → AllGoodSorts ks r → AllGoodSorts (k ∷ ks) (and_then o r)
-  and_good k ks (Gives v) (AllGive vs) h g = one_value h g
-  and_good k ks (Gives v) (OneThrows e) h g = tt
-  and_good k ks (Gives v) OneStuck h g = absurd g
-  and_good k ks (Throws e) r h g = tt
-  and_good k ks Stuck r h g = absurd h
+  and_all : (k : Sort) (P Q : List V → Type 0) → ((v : V) (vs : List V) → OfSort cells k v → P vs → Q (v ∷ vs)) → (o : Outcome) (r : Outcomes) → GoodSort cells k o → AllAre P r → AllAre Q (and_then o r)
+  and_all k P Q f (Gives v) (AllGive vs) h g = f v vs h g
+  and_all k P Q f (Gives v) (OneThrows e) h g = tt
+  and_all k P Q f (Gives v) OneStuck h g = absurd g
+  and_all k P Q f (Throws e) r h g = tt
+  and_all k P Q f Stuck r h g = absurd h
 
   module _ (script : Script) (accepted : Accepted script) (here : ℕ) where
-    pub exs_sorts : {g : List SortedName} {es : List CoreEx} {ks : List Sort} (env : Env) → FitsScope cells g env → CoreAllHave (ctx_of (script_of script) here) g es ks → AllGoodSorts ks (values_of_core (functions_of (script_of script)) env es)
+    pub exs_sorts : {g : List SortedName} {es : List CoreEx} {ks : List Sort} (env : Env) → FitsScope cells g env → CoreAllHave (ctx_of (script_of script) here) g es ks → AllAre (AllOfSorts cells ks) (values_of_core (functions_of (script_of script)) env es)
     exs_sorts env f no_more = no_values
     exs_sorts {g} env f (one_more {e} {k} {es} {ks} h hs) =
-        and_good k ks (value_of_core (functions_of (script_of script)) env e) (values_of_core (functions_of (script_of script)) env es) (accepted_good cells script here g env e k accepted h f) (exs_sorts env f hs)
+        and_all k (AllOfSorts cells ks) (AllOfSorts cells (k ∷ ks)) (λ v vs p q. one_value p q) (value_of_core (functions_of (script_of script)) env e) (values_of_core (functions_of (script_of script)) env es) (accepted_good cells script here g env e k accepted h f) (exs_sorts env f hs)
 
     pub exs_slots : {g : List SortedName} {es : List CoreEx} {ks : List Sort} (env : Env) (vs : List V) → SlotsFit cells g env vs → CoreAllHave (ctx_of (script_of script) here) g es ks
         → run_all (slotted_core_exs (roots_of (script_of script)) (names_of g) es) vs ≡ values_of_core (functions_of (script_of script)) env es
@@ -96,18 +98,11 @@ module _ (cells : ℕ → T → Type 0) where
         ap (λ o. and_then o (run_all (slotted_core_exs (roots_of (script_of script)) (names_of g) es) vs)) (core_slots cells (script_of script) (ctx_of (script_of script) here) g env vs e k h f)
         ∙ ap (and_then (value_of_core (functions_of (script_of script)) env e)) (exs_slots env vs f hs)
 
-    arg_good : (t : T) (ts : List T) (o : Outcome) (r : Outcomes) → GoodSort cells (a_value t) o → AllGood cells ts r → AllGood cells (t ∷ ts) (and_then o r)
-    arg_good t ts (Gives v) (AllGive vs) h g = (h, g)
-    arg_good t ts (Gives v) (OneThrows e) h g = tt
-    arg_good t ts (Gives v) OneStuck h g = absurd g
-    arg_good t ts (Throws e) r h g = tt
-    arg_good t ts Stuck r h g = absurd h
-
-    pub args_good : (g : List SortedName) (env : Env) (es : Exs) (ts : List T) → FitsScope cells g env → WellAll es → typing.HaveTypes (ctx_of (script_of script) here) (written_in g) es ts → AllGood cells ts (values_of_exs (functions_of (script_of script)) env es)
-    args_good g env none ts f w h = subst (λ z. AllGood cells z (values_of_exs (functions_of (script_of script)) env none)) (sym h) tt
+    pub args_good : (g : List SortedName) (env : Env) (es : Exs) (ts : List T) → FitsScope cells g env → WellAll es → typing.HaveTypes (ctx_of (script_of script) here) (written_in g) es ts → AllAre (AllOf cells ts) (values_of_exs (functions_of (script_of script)) env es)
+    args_good g env none ts f w h = subst (λ z. AllAre (AllOf cells z) (values_of_exs (functions_of (script_of script)) env none)) (sym h) tt
     args_good g env (more e es) ts f w h =
-        subst (λ z. AllGood cells z (values_of_exs (functions_of (script_of script)) env (more e es))) (sym h.4)
-        (arg_good h.0 h.1 (value_of_ex (functions_of (script_of script)) env e) (values_of_exs (functions_of (script_of script)) env es)
+        subst (λ z. AllAre (AllOf cells z) (values_of_exs (functions_of (script_of script)) env (more e es))) (sym h.4)
+        (and_all (a_value h.0) (AllOf cells h.1) (AllOf cells (h.0 ∷ h.1)) (λ v vs p q. (p, q)) (value_of_ex (functions_of (script_of script)) env e) (values_of_exs (functions_of (script_of script)) env es)
         (accepted_good cells script here g env (OfScript e) (a_value h.0) accepted (h.0, w.0, h.2, refl) f) (args_good g env es h.1 f w.1 h.3))
 
   -- ---- parameters
@@ -147,13 +142,14 @@ place_found rs fs (c ∷ ds) f d e = place_step rs fs ds c d (bytes_eq f c.name)
 
 -- ---- both sides of a step
 
--- values for which P holds, or an exception
-abbrev pub AllAre : (List V → Type 0) → Outcomes → Type 0
-AllAre P (AllGive vs) = P vs
-AllAre P (OneThrows e) = Unit {0}
-AllAre P OneStuck = ⊥
-
 module _ (cells : ℕ → T → Type 0) (script : List Fn) where
+  pub same_masks : {k : Sort} {ss : List SlotFrame} {fs : List Frame} → FramesStand cells script k ss fs → slot.mask_from Unmasked ss ≡ named.mask_at fs
+  same_masks none_stand = refl
+  same_masks (bind_stands w b) = same_masks b
+  same_masks (then_stands r b) = same_masks b
+  same_masks (catch_stands w b) = same_masks b
+  same_masks (mask_stands b) = refl
+
   module _ {k : Sort} {ss : List SlotFrame} {fs : List Frame} (b : FramesStand cells script k ss fs) where
     pub throws : (e : Exn) → Stands cells script (slot.at (slot.throw e) ss) (named.term (named.Throw e) fs)
     throws e = record { sort = k; part = throw_stands; frames = b }
