@@ -1,6 +1,6 @@
 -- What an operation on a cell makes of a state of the rules: who is blocked after it, and what stays.
 use Rattle.std.proofs.Common.{◌≡◌, ◌≢◌, ℕ, true, false, List, [], ◌∷◌, ◌++◌, length, slice_get, Option, Some, None, refl, sym, ap, ◌∙◌, subst}
-use Rattle.rules_meaning.specs.Values.{V, UnitValue, Truth, Nothing, Just}
+use Rattle.rules_meaning.specs.Values.{V, UnitValue, Truth, Just}
 use Rattle.hs_rules.specs.Terms.{Part, Ret}
 use Rattle.rules_waiting.specs.OneCell as one
 use Rattle.rules_waiting.specs.OneCell.{Place, Take, Read, Put, Try_take, Try_put, Answer, Took, Saw, Gave, Tried_take, Tried_put, Reply, After, cell_of, reply_of, stands_in, first_put, first_take, readers, leave_line, shown, comes_on, comes_in, call}
@@ -162,92 +162,29 @@ module _ (m t : ℕ) (s : State) (o : Option V) (ps : List (Place V)) (h : HasCe
       (each_comes (Quiet s.blocked) t own_quiet ps quiet_here a x (first_take ps) (leave_line (readers ps) ps) rs refl (each_read (Quiet s.blocked) t own_quiet ps quiet_here a))
 
 module _ (m t : ℕ) (s : State) where
+  made_so : {u : State} {a : After V} → Follows m s u a → ((k : ℕ) → k ≢ m → Still k s u) → Goes m t s u a.replies → Kept s u → Made m t s (Some u) a
+  made_so {u} f g w k = record { after = u; is = refl; follows = f; still = g; goes = w; kept = k }
+
+  -- it waits
+  waits_so : (r : Reason V) {a : After V} → at_cell r ≡ true → a.replies ≡ [] → Follows m s (block t r s) a → ((k : ℕ) → k ≢ m → Still k s (block t r s)) → Made m t s (Some (block t r s)) a
+  waits_so r c e f g = made_so f g (waits r c e refl refl) (refl, refl)
+
   pub take_made : (o : Option V) (ps : List (Place V)) → HasCell m t s o ps → Made m t s (take t m (Some o) s) (call (Take t) (cell_of o ps))
-  take_made None ps h = record {
-    after = block t (Taking m) s;
-    is = refl;
-    follows = take_follows m t s None ps h;
-    still = λ k n. take_still k m t s n h.3 h.0 (Some None);
-    goes = waits (Taking m) refl refl refl refl;
-    kept = (refl, refl);
-  }
-  take_made (Some a) ps h = record {
-    after = taken m (answer t a s);
-    is = refl;
-    follows = take_follows m t s (Some a) ps h;
-    still = λ k n. take_still k m t s n h.3 h.0 (Some (Some a));
-    goes = taken_goes m t s (Some a) ps h (Took a) (take_follows m t s (Some a) ps h);
-    kept = taken_kept m t a s;
-  }
+  take_made None ps h = waits_so (Taking m) refl refl (take_follows m t s None ps h) (λ k n. take_still k m t s n h.3 h.0 (Some None))
+  take_made (Some a) ps h = made_so (take_follows m t s (Some a) ps h) (λ k n. take_still k m t s n h.3 h.0 (Some (Some a))) (taken_goes m t s (Some a) ps h (Took a) (take_follows m t s (Some a) ps h)) (taken_kept m t a s)
 
   pub read_made : (o : Option V) (ps : List (Place V)) → HasCell m t s o ps → Made m t s (read t m (Some o) s) (call (Read t) (cell_of o ps))
-  read_made None ps h = record {
-    after = block t (Reading m) s;
-    is = refl;
-    follows = read_follows m t s None ps h;
-    still = λ k n. read_still k m t s n h.3 h.0 (Some None);
-    goes = waits (Reading m) refl refl refl refl;
-    kept = (refl, refl);
-  }
-  read_made (Some a) ps h = record {
-    after = answer t a s;
-    is = refl;
-    follows = read_follows m t s (Some a) ps h;
-    still = λ k n. read_still k m t s n h.3 h.0 (Some (Some a));
-    goes = alone_goes m t s (Some a) ps h (Saw a);
-    kept = (refl, refl);
-  }
+  read_made None ps h = waits_so (Reading m) refl refl (read_follows m t s None ps h) (λ k n. read_still k m t s n h.3 h.0 (Some None))
+  read_made (Some a) ps h = made_so (read_follows m t s (Some a) ps h) (λ k n. read_still k m t s n h.3 h.0 (Some (Some a))) (alone_goes m t s (Some a) ps h (Saw a)) (refl, refl)
 
   pub put_made : (v : V) (o : Option V) (ps : List (Place V)) → HasCell m t s o ps → Made m t s (put t m v (Some o) s) (call (Put t v) (cell_of o ps))
-  put_made v None ps h = record {
-    after = given m v (answer t UnitValue s);
-    is = refl;
-    follows = put_follows m t s v None ps h;
-    still = λ k n. put_still k m t s n h.3 h.0 v (Some None);
-    goes = given_goes m t s None ps h v Gave (put_follows m t s v None ps h);
-    kept = given_kept m t v UnitValue s;
-  }
-  put_made v (Some a) ps h = record {
-    after = block t (Putting m v) s;
-    is = refl;
-    follows = put_follows m t s v (Some a) ps h;
-    still = λ k n. put_still k m t s n h.3 h.0 v (Some (Some a));
-    goes = waits (Putting m v) refl refl refl refl;
-    kept = (refl, refl);
-  }
+  put_made v None ps h = made_so (put_follows m t s v None ps h) (λ k n. put_still k m t s n h.3 h.0 v (Some None)) (given_goes m t s None ps h v Gave (put_follows m t s v None ps h)) (given_kept m t v UnitValue s)
+  put_made v (Some a) ps h = waits_so (Putting m v) refl refl (put_follows m t s v (Some a) ps h) (λ k n. put_still k m t s n h.3 h.0 v (Some (Some a)))
 
   pub try_take_made : (o : Option V) (ps : List (Place V)) → HasCell m t s o ps → Made m t s (try_take t m (Some o) s) (call (Try_take t) (cell_of o ps))
-  try_take_made None ps h = record {
-    after = answer t Nothing s;
-    is = refl;
-    follows = try_take_follows m t s None ps h;
-    still = λ k n. try_take_still k m t s n h.3 h.0 (Some None);
-    goes = alone_goes m t s None ps h (Tried_take None);
-    kept = (refl, refl);
-  }
-  try_take_made (Some a) ps h = record {
-    after = taken m (answer t (Just a) s);
-    is = refl;
-    follows = try_take_follows m t s (Some a) ps h;
-    still = λ k n. try_take_still k m t s n h.3 h.0 (Some (Some a));
-    goes = taken_goes m t s (Some a) ps h (Tried_take (Some a)) (try_take_follows m t s (Some a) ps h);
-    kept = taken_kept m t (Just a) s;
-  }
+  try_take_made None ps h = made_so (try_take_follows m t s None ps h) (λ k n. try_take_still k m t s n h.3 h.0 (Some None)) (alone_goes m t s None ps h (Tried_take None)) (refl, refl)
+  try_take_made (Some a) ps h = made_so (try_take_follows m t s (Some a) ps h) (λ k n. try_take_still k m t s n h.3 h.0 (Some (Some a))) (taken_goes m t s (Some a) ps h (Tried_take (Some a)) (try_take_follows m t s (Some a) ps h)) (taken_kept m t (Just a) s)
 
   pub try_put_made : (v : V) (o : Option V) (ps : List (Place V)) → HasCell m t s o ps → Made m t s (try_put t m v (Some o) s) (call (Try_put t v) (cell_of o ps))
-  try_put_made v None ps h = record {
-    after = given m v (answer t (Truth true) s);
-    is = refl;
-    follows = try_put_follows m t s v None ps h;
-    still = λ k n. try_put_still k m t s n h.3 h.0 v (Some None);
-    goes = given_goes m t s None ps h v (Tried_put true) (try_put_follows m t s v None ps h);
-    kept = given_kept m t v (Truth true) s;
-  }
-  try_put_made v (Some a) ps h = record {
-    after = answer t (Truth false) s;
-    is = refl;
-    follows = try_put_follows m t s v (Some a) ps h;
-    still = λ k n. try_put_still k m t s n h.3 h.0 v (Some (Some a));
-    goes = alone_goes m t s (Some a) ps h (Tried_put false);
-    kept = (refl, refl);
-  }
+  try_put_made v None ps h = made_so (try_put_follows m t s v None ps h) (λ k n. try_put_still k m t s n h.3 h.0 v (Some None)) (given_goes m t s None ps h v (Tried_put true) (try_put_follows m t s v None ps h)) (given_kept m t v (Truth true) s)
+  try_put_made v (Some a) ps h = made_so (try_put_follows m t s v (Some a) ps h) (λ k n. try_put_still k m t s n h.3 h.0 v (Some (Some a))) (alone_goes m t s (Some a) ps h (Tried_put false)) (refl, refl)

@@ -10,6 +10,7 @@ use Rattle.hs_laws.proofs.States.{other_thread}
 use Rattle.hs_laws.proofs.Growing.{term_length}
 use Rattle.hs_laws.proofs.Stranding.{left_free}
 use Rattle.slot_laws.specs.SlotRules.{SlotPart, SlotTerm, at}
+pub use Rattle.slot_laws.proofs.Building.{last_item}
 use Rattle.slot_laws.specs.Standing.{EndsAs}
 use Rattle.slot_laws.specs.Stacks.{Resumed, stayed, resumed}
 use Rattle.slot_states.specs.SlotStates as slots
@@ -20,10 +21,6 @@ pub set_long : {A : Type 0} (xs : List A) (n : ℕ) (y : A) → length (slice_se
 set_long [] n y = refl
 set_long (x ∷ xs) zero y = refl
 set_long (x ∷ xs) (suc n) y = ap suc (set_long xs n y)
-
-pub last_item : {A : Type 0} (xs : List A) (y : A) → slice_get (xs ++ y ∷ []) (length xs) ≡ Some y
-last_item [] y = refl
-last_item (x ∷ xs) y = last_item xs y
 
 pub item_before : {A : Type 0} (xs : List A) (y : A) (k : ℕ) → k ≢ length xs → slice_get (xs ++ y ∷ []) k ≡ slice_get xs k
 item_before [] y zero n = absurd (n refl)

@@ -22,8 +22,9 @@ use Rattle.slot_laws.specs.Stacks.{with_stack}
 use Rattle.slot_laws.proofs.StacksStand.{locals_stand}
 use Rattle.slot_states.specs.SlotStates.{SlotThread, SlotState, moving, moved, moves, ticks, SameThread, Agrees, terms, term_at, Represents, Enters, MainGoes}
 use Rattle.slot_states.proofs.Following.{at_or, changed_is, changed_other, changed_count, term_is, follow_start}
-use Rattle.slot_states.proofs.Entering.{entered}
-use Rattle.slot_states.proofs.Reading.{Named, named_of, stacks_same, main_going, same_cell}
+use Rattle.slot_states.proofs.Entering.{agreeing, entered}
+use Rattle.slot_states.proofs.Operating.{parts_same}
+use Rattle.slot_states.proofs.Reading.{Named, named_of, stacks_same, main_going}
 
 -- ---- the clock goes on
 pub tick_entered : (script : Script) → Accepted script → (x : SlotState) (now : ℕ) → x.clock ≤ now → MainGoes x → Enters script (Tick now) x (ticks now x)
@@ -32,7 +33,7 @@ tick_entered script accepted x now le m es s run r =
     entered script accepted es s (record s { clock = now }) (Tick now) x (ticks now x) run r
     (entered_is {code = code_of (script_of script)} (row.ticks (main_going (script_of script) x s r m) (subst (λ n. n ≤ now) a.clock le)), tt)
     (λ t. tt) (follow_start (script_of script) x s r)
-    (record { made = a.made; cells = λ k. same_cell k s (record s { clock = now }) (slice_get x.cells k) refl refl (a.cells k); flight = a.flight; sleepers = a.sleepers; clock = refl; instances = a.instances; timeouts = a.timeouts; printed = a.printed })
+    (parts_same x s a (ticks now x) (record s { clock = now }) refl refl refl refl refl refl a.instances a.timeouts a.printed)
 
 -- ---- local rules
 module _ (ds : List Fn) (x : SlotState) (s : State) (r : Represents ds x s) (t : ℕ) (th : SlotThread) (is : slice_get x.threads t ≡ Some th) (n : Named ds x s r t th) (st : SlotTerm) (u : named.Term) where
@@ -53,18 +54,8 @@ module _ (ds : List Fn) (x : SlotState) (s : State) (r : Represents ds x s) (t :
   moved_agrees : Agrees (moves t st x) (move t u s)
   moved_agrees =
       let a = r.agrees in
-      record {
-        count = changed_count x.threads t (moving st) ∙ (a.count ∙ sym (term_length t (slice_get s.threads t) u s.threads));
-        threads = moved_same;
-        made = a.made;
-        cells = λ k. same_cell k s (move t u s) (slice_get x.cells k) refl refl (a.cells k);
-        flight = a.flight;
-        sleepers = a.sleepers;
-        clock = a.clock;
-        instances = a.instances;
-        timeouts = a.timeouts;
-        printed = a.printed;
-      }
+      agreeing (moves t st x) (move t u s) (changed_count x.threads t (moving st) ∙ (a.count ∙ sym (term_length t (slice_get s.threads t) u s.threads))) moved_same
+      (parts_same x s a (moves t st x) (move t u s) refl refl refl refl refl a.clock a.instances a.timeouts a.printed)
 
 local_leads : (code : Code) (t k : ℕ) (b : Thread) (s : State) (u : named.Term) → 0 < k → row.MainRuns s → row.Unfinished t b s → is_blocked t s.blocked ≡ false → name.locals code k b.term ≡ Some u → Leads code s (Local t k) (move t u s)
 local_leads code t zero b s u lt m f free h = absurd (omega (arith, lt))

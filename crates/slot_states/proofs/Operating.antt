@@ -1,5 +1,5 @@
 -- Operations that change one thread and no cell: what they leave is stood for.
-use Rattle.std.proofs.Common.{append-nil, ◌≡◌, ℕ, ◌+◌, ◌++◌, [], List, length, None, false, refl, sym, ap, ◌∙◌, subst, slice_get}
+use Rattle.std.proofs.Common.{append-nil, ◌≡◌, ℕ, ◌+◌, ◌++◌, [], List, length, None, refl, sym, ap, ◌∙◌, subst, slice_get}
 use Rattle.hs_base.specs.declared.mask.Mask.{Mask}
 use Rattle.hs_base.specs.declared.mask.Mask.TheVariants.{Unmasked}
 use Rattle.hs_base.specs.declared.exn.Exn.{Exn}
@@ -11,7 +11,7 @@ use Rattle.rules_meaning.specs.Values.{V}
 use Rattle.rules_meaning.specs.CoreMeaning.{code_of}
 use Rattle.rules_expansion.specs.declared.primitive.Primitive.{Primitive}
 use Rattle.rules_typing.specs.TypingScripts.{Accepted}
-use Rattle.rules_waiting.specs.Waiting.{Reason, Flying, Sleeper, is_blocked, blocks, leaves, want_at, with_place, line_of, flight_of, sleepers_of, sorted_sleepers}
+use Rattle.rules_waiting.specs.Waiting.{Reason, Flying, Sleeper, blocks, want_at, with_place, line_of, flight_of, sleepers_of, sorted_sleepers}
 use Rattle.hs_rules.specs.Terms.{Operation, Calls, Part, Ret, Throw}
 use Rattle.hs_rules.specs.State.{Mark, State, resume, answer, block}
 use Rattle.hs_rules.specs.Entries.{Leads}
@@ -32,21 +32,19 @@ module _ (x : SlotState) (s : State) (a : Agrees x s) where
   pub cells_kept : (u : State) → u.cells ≡ s.cells → ((m : ℕ) → line_of m u.blocked ≡ line_of m s.blocked) → (m : ℕ) → SameCell m u (slice_get x.cells m)
   cells_kept u c l m = same_cell m s u (slice_get x.cells m) (ap (λ cs. slice_get cs m) c) (l m) (a.cells m)
 
-  -- thread t, which wasn't blocked, was resumed, and only the clock and counts changed
-  pub parts_kept : (t : ℕ) → is_blocked t s.blocked ≡ false → (y : SlotState) (u : State) → y.cells ≡ x.cells → u.cells ≡ s.cells → u.blocked ≡ leaves t s.blocked → y.flight ≡ x.flight → y.sleepers ≡ x.sleepers
+  -- the same are blocked, and only threads, the clock and counts changed
+  pub parts_same : (y : SlotState) (u : State) → y.cells ≡ x.cells → u.cells ≡ s.cells → u.blocked ≡ s.blocked → y.flight ≡ x.flight → y.sleepers ≡ x.sleepers
       → y.clock ≡ u.clock → y.next_instance ≡ u.next_instance → y.next_timeout ≡ u.next_timeout → y.printed ≡ length u.output + length u.errors → Parts y u
-  parts_kept t free y u yc uc ub yf ys clock instances timeouts printed =
-      let same : u.blocked ≡ s.blocked = ub ∙ leaves_absent t s.blocked free in
-      record {
-        made = ap length yc ∙ (a.made ∙ sym (ap length uc));
-        cells = λ m. subst (λ cs. SameCell m u (slice_get cs m)) (sym yc) (cells_kept u uc (λ k. ap (line_of k) same) m);
-        flight = yf ∙ (a.flight ∙ sym (ap flight_of same));
-        sleepers = ys ∙ (a.sleepers ∙ sym (ap (λ ws. sorted_sleepers (sleepers_of ws)) same));
-        clock = clock;
-        instances = instances;
-        timeouts = timeouts;
-        printed = printed;
-      }
+  parts_same y u yc uc same yf ys clock instances timeouts printed = record {
+    made = ap length yc ∙ (a.made ∙ sym (ap length uc));
+    cells = λ m. subst (λ cs. SameCell m u (slice_get cs m)) (sym yc) (cells_kept u uc (λ k. ap (line_of k) same) m);
+    flight = yf ∙ (a.flight ∙ sym (ap flight_of same));
+    sleepers = ys ∙ (a.sleepers ∙ sym (ap (λ ws. sorted_sleepers (sleepers_of ws)) same));
+    clock = clock;
+    instances = instances;
+    timeouts = timeouts;
+    printed = printed;
+  }
 
 -- ---- one Op
 module _ (script : Script) (accepted : Accepted script) (x : SlotState) (t : ℕ) (main : MainGoes x) (es : List Entry) (s : State) (run : IsRun (script_of script) es s) (r : Represents (script_of script) x s)
@@ -65,7 +63,7 @@ module _ (script : Script) (accepted : Accepted script) (x : SlotState) (t : ℕ
       let u : State = resume t w (record s { next_instance = i; next_timeout = n; marks = ms; output = o; errors = e }) in
       let y : SlotState = record x { threads = slots.resumed t p x.threads; next_instance = j; next_timeout = k; printed = b } in
       op_enters u y c (follow_resume x.threads s.threads x.threads s.threads s.blocked (follow_start (script_of script) x s r) t p w end)
-      (parts_kept x s r.agrees t a.running.awake y u refl refl refl refl refl r.agrees.clock instances timeouts printed)
+      (parts_same x s r.agrees y u refl refl (leaves_absent t s.blocked a.running.awake) refl refl r.agrees.clock instances timeouts printed)
 
   -- it waits, at no cell
   waits : (w : Reason V) → row.Performs t m q s (block t w s) → ((k : ℕ) → want_at k w ≡ None) → (fs : List Flying) → fs ≡ flight_of (blocks t w s.blocked) → (ss : List Sleeper)

@@ -32,6 +32,7 @@ use Rattle.hs_progress.specs.GoingOn.{MainRuns, IsRunning}
 use Rattle.slot_laws.specs.SlotRules.{SlotOp, calls, forks, forks_unmask, SlotPart, ret, throw, performs, SlotFrame, SlotTerm, mask_from}
 use Rattle.slot_laws.specs.Standing.{calls_stands, forks_stands, forks_unmask_stands, PartStands, ret_stands, throw_stands, op_stands, FramesStand, none_stand, bind_stands, then_stands, catch_stands, mask_stands, StandsIn}
 use Rattle.slot_laws.specs.Stacks.{StacksStand}
+pub use Rattle.slot_laws.proofs.Steps.{same_masks}
 use Rattle.slot_states.specs.SlotStates.{SlotThread, SlotState, SameThread, SameCell, term_at, Represents, StandsAt, MainGoes}
 use Rattle.slot_states.specs.Resting as resting
 use Rattle.slot_states.proofs.Following.{follow_start, follow_there, same_some}
@@ -69,13 +70,6 @@ module _ (cells : ℕ → T → Type 0) (ds : List Fn) where
 
   pub no_frames : {k : Sort} {fs : List named.Frame} → FramesStand cells ds k [] fs → fs ≡ []
   no_frames none_stand = refl
-
-  pub same_masks : {k : Sort} {ss : List SlotFrame} {fs : List named.Frame} → FramesStand cells ds k ss fs → mask_from Unmasked ss ≡ mask_at fs
-  same_masks none_stand = refl
-  same_masks (bind_stands w h) = same_masks h
-  same_masks (then_stands r h) = same_masks h
-  same_masks (catch_stands w h) = same_masks h
-  same_masks (mask_stands h) = refl
 
   pub as_many : {k : Sort} {ss : List SlotFrame} {fs : List named.Frame} → FramesStand cells ds k ss fs → length ss ≡ length fs
   as_many none_stand = refl

@@ -29,7 +29,7 @@ use Rattle.slot_states.specs.SlotStates.{SlotThread, SlotState, answered, resume
 use Rattle.slot_states.proofs.Following.{last_item, item_before, Follow, changed_is, changed_other, changed_count, follow_start, follow_resume}
 use Rattle.slot_states.proofs.Entering.{agreeing}
 use Rattle.slot_states.proofs.Reading.{AtOp, at_fork, at_fork_unmask, op_leads, stacks_same}
-use Rattle.slot_states.proofs.Operating.{parts_kept, Goes}
+use Rattle.slot_states.proofs.Operating.{parts_same, Goes}
 
 -- ---- stacks
 abbrev new_thread : SlotTerm → SlotThread
@@ -103,7 +103,7 @@ module _ (script : Script) (accepted : Accepted script) (x : SlotState) (t : ℕ
       let ys : List SlotThread = answered t (val.Thread (length x.threads)) x.threads in
       let us : List Thread = (state.answer t (val.Thread (length s.threads)) s).threads in
       let free : is_blocked (length us) (leaves t s.blocked) ≡ false = ap (λ k. is_blocked k (leaves t s.blocked)) f.long ∙ (ap (is_blocked (length s.threads)) (leaves_absent t s.blocked a.running.awake) ∙ next_is_free (script_of script) es s run) in
-      let p = parts_kept x s r.agrees t a.running.awake (forks_to t st x) then refl refl refl refl refl r.agrees.clock r.agrees.instances r.agrees.timeouts r.agrees.printed in (
+      let p = parts_same x s r.agrees (forks_to t st x) then refl refl (leaves_absent t s.blocked a.running.awake) refl refl r.agrees.clock r.agrees.instances r.agrees.timeouts r.agrees.printed in (
         then,
         op_leads (script_of script) x s r t main q m a then e,
         record {
