@@ -19,3 +19,8 @@ thread_there (Some th) k y e = let p = passed_not th.finished (k th) y e in (th,
 -- and where it is there and hasn't finished the entry leaves what is said of it
 pub thread_leaves : (o : Option SlotThread) (k : SlotThread → Option SlotState) (th : SlotThread) (r : Option SlotState) → o ≡ Some th → th.finished ≡ false → k th ≡ r → on_thread o k ≡ r
 thread_leaves o k th r is f e = ap (λ z. on_thread z k) is ∙ (ap (λ b. cond b None (k th)) f ∙ e)
+
+-- an entry that leaves none
+pub none_or : (o : Option SlotState) → ((y : SlotState) → ¬ (o ≡ Some y)) → o ≡ None
+none_or None n = refl
+none_or (Some y) n = absurd (n y refl)

@@ -11,15 +11,11 @@ use Rattle.rules_waiting.specs.Waiting.{Flying, flying_to, first_awake}
 use Rattle.hs_rules.specs.Entries.{is_interruptible}
 use Rattle.hs_laws.proofs.Lists.{cond_cases, cond_true, StandsIn}
 use Rattle.slot_laws.specs.SlotRules.{calls, SlotPart, performs, mask_from}
+use Rattle.slot_laws.proofs.Heads.{both_true}
 use Rattle.slot_states.specs.SlotStates.{SlotThread, SlotState}
 use Rattle.slot_states.specs.Resting.{is_receptive, WaitsAt, takes, reads, puts, WaitsOpen, AllRest}
 use Rattle.slot_states.proofs.Places.{contains_stands, stands_contains}
 use Rattle.slot_entries.specs.Entering.{is_empty, rests, rest_from, waits_to, waits_at_cell, waits_open, waiting_from}
-
-both_true : (a b : Bool) → a && b ≡ true → (a ≡ true) × (b ≡ true)
-both_true true true e = (refl, refl)
-both_true true false e = absurd (cc e)
-both_true false b e = absurd (cc e)
 
 true_both : (a b : Bool) → a ≡ true → b ≡ true → a && b ≡ true
 true_both true true p q = refl
