@@ -12,7 +12,7 @@ use Rattle.rules_expansion.specs.Core.{Core}
 use Rattle.rules_sorts.specs.TypedMeaning.{any_cell}
 use Rattle.rules_typing.specs.TypingScripts.{Accepted}
 use Rattle.rules_code.specs.CodeTrees.{Sa, main_tree}
-use Rattle.rules_waiting.specs.Waiting.{is_blocked, flying_to, sleepers_of, first_awake}
+use Rattle.rules_waiting.specs.Waiting.{is_blocked, flight_of, flying_to, sleepers_of, sorted_sleepers, first_awake}
 use Rattle.hs_rules.specs.Terms.{Term, mask_at}
 use Rattle.hs_rules.specs.State.{Thread, State, first}
 use Rattle.hs_rules.specs.Entries.{is_open}
@@ -44,14 +44,24 @@ same_receptive s t th b e p m =
 pub nobody_sleeps : (ds : List Fn) (x : SlotState) (s : State) → Represents ds x s → x.sleepers ≡ [] → sleepers_of s.blocked ≡ []
 nobody_sleeps ds x s r e = none_sleep (sleepers_of s.blocked) (sym r.agrees.sleepers ∙ e)
 
+module _ (ds : List Fn) (x : SlotState) (s : State) (r : Represents ds x s) where
+  -- who can receive hears nothing, as with slots
+  pub unheard_so : ((t : ℕ) (th : SlotThread) → slice_get x.threads t ≡ Some th → th.finished ≡ false → is_receptive th ≡ true → flying_to t x.flight ≡ []) → (t : ℕ) (b : Thread) → slice_get s.threads t ≡ Some b → b.finished ≡ false
+      → entries.is_receptive t b.term s ≡ true → flying_to t (flight_of s.blocked) ≡ []
+  unheard_so none t b is f receptive =
+      let th = slotted_of ds x s r t b is in
+      let same = same_receptive s t th.0 b th.3 (same_throw (has r.stacks.store) ds th.4.0) (same_masks (has r.stacks.store) ds th.4.1) in
+      ap (flying_to t) (sym r.agrees.flight) ∙ none t th.0 th.1 (th.2 ∙ f) (same ∙ receptive)
+
+  -- and nobody is to wake
+  pub asleep_so : first_awake x.clock x.sleepers ≡ None → first_awake s.clock (sorted_sleepers (sleepers_of s.blocked)) ≡ None
+  asleep_so none = ap (first_awake s.clock) (sym r.agrees.sleepers) ∙ (ap (λ n. first_awake n x.sleepers) (sym r.agrees.clock) ∙ none)
+
 pub none_works : (ds : List Fn) (x : SlotState) (s : State) → Represents ds x s → AllRest x → NoneWorks s
 none_works ds x s r a = record {
   blocked = λ t b is f. let th = slotted_of ds x s r t b is in sym th.3 ∙ a.blocked t th.0 th.1 (th.2 ∙ f);
-  unheard = λ t b is f receptive.
-      let th = slotted_of ds x s r t b is in
-      let same = same_receptive s t th.0 b th.3 (same_throw (has r.stacks.store) ds th.4.0) (same_masks (has r.stacks.store) ds th.4.1) in
-      ap (flying_to t) (sym r.agrees.flight) ∙ a.unheard t th.0 th.1 (th.2 ∙ f) (same ∙ receptive);
-  asleep = none_is_due s.clock s.blocked (ap (first_awake s.clock) (sym r.agrees.sleepers) ∙ (ap (λ n. first_awake n x.sleepers) (sym r.agrees.clock) ∙ a.asleep));
+  unheard = unheard_so ds x s r a.unheard;
+  asleep = none_is_due s.clock s.blocked (asleep_so ds x s r a.asleep);
 }
 
 -- ---- counts

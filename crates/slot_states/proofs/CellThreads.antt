@@ -73,26 +73,23 @@ module _ (cells : ℕ → T → Type 0) (ds : List Fn) (m : ℕ) (p : SlotPart) 
   waits_by (Sleeping due) w op e b h = absurd (cc e)
 
 -- and the other way round
-take_want : (m : ℕ) (r : Reason V) → Blocks r (Calls TakeMVar (val.Cell m ∷ [])) → (w : Want V) × (want_at m r ≡ Some w)
-take_want m (Taking j) b = (To_take, same_if j m To_take (let z : m ≡ j = cc b in sym z))
-take_want m (Sleeping due) b = let z = b.1 in absurd (cc z)
-take_want m _ b = absurd (cc b)
+take_reason : (m : ℕ) (r : Reason V) → Blocks r (Calls TakeMVar (val.Cell m ∷ [])) → r ≡ Taking m
+take_reason m (Sleeping due) b = let z = b.1 in absurd (cc z)
+take_reason m _ b = cc b
 
-read_want : (m : ℕ) (r : Reason V) → Blocks r (Calls ReadMVar (val.Cell m ∷ [])) → (w : Want V) × (want_at m r ≡ Some w)
-read_want m (Reading j) b = (To_read, same_if j m To_read (let z : m ≡ j = cc b in sym z))
-read_want m (Sleeping due) b = let z = b.1 in absurd (cc z)
-read_want m _ b = absurd (cc b)
+read_reason : (m : ℕ) (r : Reason V) → Blocks r (Calls ReadMVar (val.Cell m ∷ [])) → r ≡ Reading m
+read_reason m (Sleeping due) b = let z = b.1 in absurd (cc z)
+read_reason m _ b = cc b
 
-put_want : (m : ℕ) (v : V) (r : Reason V) → Blocks r (Calls PutMVar (val.Cell m ∷ v ∷ [])) → (w : Want V) × (want_at m r ≡ Some w)
-put_want m v (Putting j a) b = (To_put a, same_if j m (To_put a) (let z : m ≡ j = cc b in sym z))
-put_want m v (Sleeping due) b = let z = b.1 in absurd (cc z)
-put_want m v _ b = absurd (cc b)
+put_reason : (m : ℕ) (v : V) (r : Reason V) → Blocks r (Calls PutMVar (val.Cell m ∷ v ∷ [])) → r ≡ Putting m v
+put_reason m v (Sleeping due) b = let z = b.1 in absurd (cc z)
+put_reason m v _ b = cc b
 
 module _ (cells : ℕ → T → Type 0) (ds : List Fn) where
   pub waits_want : {m : ℕ} {p : SlotPart} {k : Sort} (r : Reason V) (op : named.Operation) → WaitsAt m p → PartStands cells ds p (Performs op) k → Blocks r op → (w : Want V) × (want_at m r ≡ Some w)
-  waits_want {m} r op takes h b = take_want m r (subst (Blocks r) (call_of cells ds h) b)
-  waits_want {m} r op reads h b = read_want m r (subst (Blocks r) (call_of cells ds h) b)
-  waits_want {m} r op (puts {v}) h b = put_want m v r (subst (Blocks r) (call_of cells ds h) b)
+  waits_want {m} r op takes h b = (To_take, ap (want_at m) (take_reason m r (subst (Blocks r) (call_of cells ds h) b)) ∙ same_if m m To_take refl)
+  waits_want {m} r op reads h b = (To_read, ap (want_at m) (read_reason m r (subst (Blocks r) (call_of cells ds h) b)) ∙ same_if m m To_read refl)
+  waits_want {m} r op (puts {v}) h b = (To_put v, ap (want_at m) (put_reason m v r (subst (Blocks r) (call_of cells ds h) b)) ∙ same_if m m (To_put v) refl)
 
 -- ---- a state with slots and the state that it stands for
 

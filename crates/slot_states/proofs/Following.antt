@@ -12,7 +12,7 @@ use Rattle.hs_laws.proofs.Stranding.{left_free}
 use Rattle.slot_laws.specs.SlotRules.{SlotPart, SlotTerm, at}
 pub use Rattle.slot_laws.proofs.Building.{last_item}
 use Rattle.slot_laws.specs.Standing.{EndsAs}
-use Rattle.slot_laws.specs.Stacks.{Resumed, stayed, resumed}
+use Rattle.slot_laws.specs.Stacks.{Resumed, stayed, resumed, with_stack}
 use Rattle.slot_states.specs.SlotStates as slots
 use Rattle.slot_states.specs.SlotStates.{SlotThread, SlotState, set_thread, changed, resumed_by, blocking, blocked_at, finishing, finished_at, SameThread, Agrees, terms, term_at, Represents}
 
@@ -44,6 +44,14 @@ set_count ths t f (Some th) = set_long ths t (f th)
 
 pub changed_count : (ths : List SlotThread) (t : ℕ) (f : SlotThread → SlotThread) → length (changed t f ths) ≡ length ths
 changed_count ths t f = set_count ths t f (slice_get ths t)
+
+-- the stacks where one changed
+pub changed_terms : (ths : List SlotThread) (t : ℕ) (f : SlotThread → SlotThread) (th : SlotThread) → slice_get ths t ≡ Some th → (v : ℕ) → terms (changed t f ths) v ≡ with_stack t (f th).term (terms ths) v
+changed_terms ths t f th is v =
+    ⊎_elim
+    (λ e. ap (terms (changed t f ths)) e.1 ∙ (ap term_at (changed_is ths t f th is) ∙ sym (cond_true (v == t) (f th).term (terms ths v) e.0)))
+    (λ e. ap term_at (changed_other ths t v f e.1) ∙ sym (cond_false (v == t) (f th).term (terms ths v) e.0))
+    (equal_or v t)
 
 pub term_is : (ths : List Thread) (t : ℕ) (x : Term) (th : Thread) → slice_get ths t ≡ Some th → slice_get (with_term t (slice_get ths t) x ths) t ≡ Some (record { term = x; finished = th.finished })
 term_is ths t x th e = ap (λ o. slice_get (with_term t o x ths) t) e ∙ item_same ths t th (record { term = x; finished = th.finished }) e

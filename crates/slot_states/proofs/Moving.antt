@@ -1,5 +1,5 @@
 -- A Tick, and some local rules of one thread.
-use Rattle.std.proofs.Common.{◌≡◌, ℕ, zero, suc, ◌<◌, ◌≤◌, ◌==◌, List, false, Some, refl, sym, ap, ◌∙◌, subst, arith, ⊎_elim, slice_get}
+use Rattle.std.proofs.Common.{◌≡◌, ℕ, zero, suc, ◌<◌, ◌≤◌, List, false, Some, refl, sym, ap, ◌∙◌, subst, arith, slice_get}
 use Rattle.hs_base.specs.declared.mask.Mask.TheVariants.{Unmasked}
 use Rattle.hs_base.specs.declared.tree.script.Script.{Script}
 use Rattle.hs_rules.specs.declared.entry.Entry.TheVariants.{Local, Tick}
@@ -14,14 +14,13 @@ use Rattle.hs_rules.specs.State.{Thread, State, move}
 use Rattle.hs_rules.specs.Entries.{Leads}
 use Rattle.hs_cases.specs.Cases as row
 use Rattle.hs_cases.proofs.Entering.{entered_is}
-use Rattle.hs_laws.proofs.Lists.{cond_true, cond_false, equal_or}
 use Rattle.hs_laws.proofs.States.{other_thread}
 use Rattle.hs_laws.proofs.Growing.{term_length}
 use Rattle.slot_laws.specs.SlotRules.{SlotTerm, locals}
 use Rattle.slot_laws.specs.Stacks.{with_stack}
 use Rattle.slot_laws.proofs.StacksStand.{locals_stand}
 use Rattle.slot_states.specs.SlotStates.{SlotThread, SlotState, moving, moved, moves, ticks, SameThread, Agrees, terms, term_at, Represents, Enters, MainGoes}
-use Rattle.slot_states.proofs.Following.{at_or, changed_is, changed_other, changed_count, term_is, follow_start}
+use Rattle.slot_states.proofs.Following.{at_or, changed_terms, changed_is, changed_other, changed_count, term_is, follow_start}
 use Rattle.slot_states.proofs.Entering.{agreeing, entered}
 use Rattle.slot_states.proofs.Operating.{parts_same}
 use Rattle.slot_states.proofs.Reading.{Named, named_of, stacks_same, main_going}
@@ -37,14 +36,6 @@ tick_entered script accepted x now le m es s run r =
 
 -- ---- local rules
 module _ (ds : List Fn) (x : SlotState) (s : State) (r : Represents ds x s) (t : ℕ) (th : SlotThread) (is : slice_get x.threads t ≡ Some th) (n : Named ds x s r t th) (st : SlotTerm) (u : named.Term) where
-  -- the stacks after it
-  moved_terms : (v : ℕ) → terms (moved t st x.threads) v ≡ with_stack t st (terms x.threads) v
-  moved_terms v =
-      ⊎_elim
-      (λ e. ap (terms (moved t st x.threads)) e.1 ∙ (ap term_at (changed_is x.threads t (moving st) th is) ∙ sym (cond_true (v == t) st (terms x.threads v) e.0)))
-      (λ e. ap term_at (changed_other x.threads t v (moving st) e.1) ∙ sym (cond_false (v == t) st (terms x.threads v) e.0))
-      (equal_or v t)
-
   moved_same : (v : ℕ) → SameThread (slice_get (moved t st x.threads) v) (slice_get (move t u s).threads v) (is_blocked v s.blocked)
   moved_same =
       at_or (λ v. SameThread (slice_get (moved t st x.threads) v) (slice_get (move t u s).threads v) (is_blocked v s.blocked)) t
@@ -71,7 +62,7 @@ local_entered script accepted x t k th st is going free lt e m es s run r =
       move t l.0 s,
       local_leads (code_of ds) t k n.thread s l.0 lt (main_going ds x s r m) (n.is, sym n.finished ∙ going) (sym n.blocked ∙ free) l.1,
       record {
-        stacks = stacks_same ds (with_stack t st (terms x.threads)) (terms (moved t st x.threads)) (move t l.0 s) l.2 (λ v b q. moved_terms ds x s r t th is n st l.0 v);
+        stacks = stacks_same ds (with_stack t st (terms x.threads)) (terms (moved t st x.threads)) (move t l.0 s) l.2 (λ v b q. changed_terms x.threads t (moving st) th is v);
         agrees = moved_agrees ds x s r t th is n st l.0;
       },
     )

@@ -1,5 +1,5 @@
 -- What is legal where nobody acts, and where a run has come to rest.
-use Rattle.std.proofs.Common.{◌≡◌, ◌≢◌, ℕ, suc, ◌<◌, List, [], ◌∷◌, Bool, true, false, ◌⊎◌, Some, None, refl, sym, ap, ◌∙◌, subst, arith, inl, inr, ⊎_elim, slice_get}
+use Rattle.std.proofs.Common.{◌≡◌, ◌≢◌, ℕ, suc, ◌<◌, List, [], ◌∷◌, Bool, true, false, ◌⊎◌, Some, refl, sym, ap, ◌∙◌, subst, arith, inl, inr, ⊎_elim, slice_get}
 use Rattle.hs_base.specs.declared.tree.script.Script.{Script}
 use Rattle.hs_rules.specs.declared.entry.Entry.{Entry}
 use Rattle.hs_rules.specs.declared.entry.Entry.TheVariants as entry
@@ -10,7 +10,7 @@ use Rattle.rules_meaning.specs.Values.{Env}
 use Rattle.rules_meaning.specs.CoreMeaning.{code_of}
 use Rattle.rules_sorts.specs.Sorts.{Sort}
 use Rattle.rules_typing.specs.TypingScripts.{Accepted}
-use Rattle.rules_waiting.specs.Waiting.{Flying, is_blocked, flight_of, flying_to, sleepers_of, sorted_sleepers, first_awake, earliest}
+use Rattle.rules_waiting.specs.Waiting.{Flying, is_blocked, flight_of, flying_to, sleepers_of, sorted_sleepers, earliest}
 use Rattle.hs_rules.specs.Terms as named
 use Rattle.hs_rules.specs.Terms.{Operation, Ret, Throw, Do, Performs, mask_at}
 use Rattle.hs_rules.specs.State.{Thread, State}
@@ -33,9 +33,9 @@ use Rattle.slot_laws.specs.SlotRules.{SlotPart}
 use Rattle.slot_laws.specs.Standing.{PartStands, ret_stands, throw_stands, do_stands, op_stands}
 use Rattle.slot_states.specs.SlotStates.{SlotThread, SlotState, Represents, MainGoes}
 use Rattle.slot_states.specs.Resting.{IsDoing, WaitsOpen, AllRest, Goes, NobodyActs, IsLeft}
-use Rattle.slot_states.proofs.Reading.{operation_is, same_masks, same_throw, named_of, slotted_of, blocked_at, main_runs}
+use Rattle.slot_states.proofs.Reading.{operation_is, named_of, slotted_of, blocked_at, main_runs}
 use Rattle.slot_states.proofs.Asleep.{none_is_due}
-use Rattle.slot_states.proofs.AtRest.{same_receptive, none_works, nobody_sleeps}
+use Rattle.slot_states.proofs.AtRest.{unheard_so, asleep_so, none_works, nobody_sleeps}
 use Rattle.slot_states.proofs.StrandedAlike.{waits_slotted, stands_open}
 
 -- ---- parts
@@ -82,15 +82,6 @@ module _ (script : Script) (accepted : Accepted script) (es : List Entry) (s : S
       let does : IsDoing h.0.term.part = quiet.own t h.0 h.1 (h.2 ∙ f) (h.3 ∙ b) in
       (record { thread = h.0; is = h.1; unfinished = h.2 ∙ f; free = h.3 ∙ b; does = does }, doing_named (has r.stacks.store) ds h.4.0 does)
 
-  unheard : (t : ℕ) (th : Thread) → slice_get s.threads t ≡ Some th → th.finished ≡ false → entries.is_receptive t th.term s ≡ true → flying_to t (flight_of s.blocked) ≡ []
-  unheard t th is f receptive =
-      let h = slotted_of ds x s r t th is in
-      let same = same_receptive s t h.0 th h.3 (same_throw (has r.stacks.store) ds h.4.0) (same_masks (has r.stacks.store) ds h.4.1) in
-      ap (flying_to t) (sym r.agrees.flight) ∙ quiet.unheard t h.0 h.1 (h.2 ∙ f) (same ∙ receptive)
-
-  none_wakes : first_awake s.clock (sorted_sleepers (sleepers_of s.blocked)) ≡ None
-  none_wakes = ap (first_awake s.clock) (sym r.agrees.sleepers) ∙ (ap (λ n. first_awake n x.sleepers) (sym r.agrees.clock) ∙ quiet.asleep)
-
   -- a thread whose part is a value or an exception is blocked no more, so it would act
   no_finish : (t : ℕ) (th : Thread) → slice_get s.threads t ≡ Some th → th.finished ≡ false → IsResult th.term.part → (b : Bool) → is_blocked t s.blocked ≡ b → ⊥
   no_finish t th is f k false b = let a = acts t th is f b in subst IsResult a.1.2 k
@@ -107,7 +98,7 @@ module _ (script : Script) (accepted : Accepted script) (es : List Entry) (s : S
 
   -- who receives hears nothing, and who ends would act
   none_heard : (t : ℕ) (th : Thread) (f : Flying) (fs : List Flying) → Unfinished t th s → entries.is_receptive t th.term s ≡ true → flying_to t (flight_of s.blocked) ≡ f ∷ fs → ⊥
-  none_heard t th f fs h c e = let z : f ∷ fs ≡ [] = sym e ∙ unheard t th h.0 h.1 c in cc z
+  none_heard t th f fs h c e = let z : f ∷ fs ≡ [] = sym e ∙ unheard_so ds x s r quiet.unheard t th h.0 h.1 c in cc z
 
   none_ends : {q : named.Part} (t : ℕ) (th : Thread) → Unfinished t th s → th.term.part ≡ q → IsResult q → ⊥
   none_ends t th h e k = no_finish t th h.0 h.1 (subst IsResult (sym e) k) (is_blocked t s.blocked) refl
@@ -117,7 +108,7 @@ module _ (script : Script) (accepted : Accepted script) (es : List Entry) (s : S
   left_by (row.operation {t} {th} {p} m h b q c) g = let a = acts t th h.0 h.1 b in let z : Do a.1.0 a.1.1 ≡ Performs p = sym a.1.2 ∙ q in cc z
   left_by (row.receives_while_it_runs {t} {th} {f} {fs} m h n b k e) g = none_heard t th f fs h (open_so (code_of ds) t th s false false n b (ap is_unmasked k)) e
   left_by (row.receives_while_it_waits {t} {th} {f} {fs} m h n b k e) g = none_heard t th f fs h (open_so (code_of ds) t th s true true n b (interruptible (mask_at th.term.frames) k)) e
-  left_by (row.wakes {t} {due} m h le) g = let later : s.clock < due = none_is_due s.clock s.blocked none_wakes t due h in omega (arith, le, later)
+  left_by (row.wakes {t} {due} m h le) g = let later : s.clock < due = none_is_due s.clock s.blocked (asleep_so ds x s r quiet.asleep) t due h in omega (arith, le, later)
   left_by (row.finishes_by_a_value {t} {th} m h f q) g = none_ends t th h q tt
   left_by (row.main_finishes_by_an_exception {th} h f q) g = none_ends 0 th h q tt
   left_by (row.finishes_silently {t} {th} m h f q i) g = none_ends (suc t) th h q tt

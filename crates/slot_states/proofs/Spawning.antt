@@ -26,7 +26,7 @@ use Rattle.slot_laws.specs.SlotRules.{ret, forks, forks_unmask, doing, performs,
 use Rattle.slot_laws.specs.Stacks.{StacksStand, with_stack}
 use Rattle.slot_laws.proofs.Forking.{forks_stand, forks_unmask_stand}
 use Rattle.slot_states.specs.SlotStates.{SlotThread, SlotState, answered, resumed_by, spawned, forks_to, SameThread, terms, term_at, Represents, Enters, StandsAt, MainGoes}
-use Rattle.slot_states.proofs.Following.{last_item, item_before, Follow, changed_is, changed_other, changed_count, follow_start, follow_resume}
+use Rattle.slot_states.proofs.Following.{last_item, item_before, Follow, changed_terms, changed_count, follow_start, follow_resume}
 use Rattle.slot_states.proofs.Entering.{agreeing}
 use Rattle.slot_states.proofs.Reading.{AtOp, at_fork, at_fork_unmask, op_leads, stacks_same}
 use Rattle.slot_states.proofs.Operating.{parts_same, Goes}
@@ -48,14 +48,7 @@ module _ (ths : List SlotThread) (t : ℕ) (h : SlotThread) (is : slice_get ths 
           ∙ sym (cond_true (v == length ths) st (with_stack t (at (ret w) (terms ths t).frames) (terms ths) v) e.0)
 
       was : (v : ℕ) → terms (answered t w ths) v ≡ with_stack t (at (ret w) (terms ths t).frames) (terms ths) v
-      was v =
-          ⊎_elim
-          (λ e.
-          ap (terms (answered t w ths)) e.1
-          ∙ (ap term_at (changed_is ths t (resumed_by (ret w)) h is)
-          ∙ (ap (λ o. at (ret w) (term_at o).frames) (sym is) ∙ sym (cond_true (v == t) (at (ret w) (terms ths t).frames) (terms ths v) e.0))))
-          (λ e. ap term_at (changed_other ths t v (resumed_by (ret w)) e.1) ∙ sym (cond_false (v == t) (at (ret w) (terms ths t).frames) (terms ths v) e.0))
-          (equal_or v t)
+      was v = changed_terms ths t (resumed_by (ret w)) h is v ∙ ap (λ o. with_stack t (at (ret w) (term_at o).frames) (terms ths) v) (sym is)
 
       old : (v == length ths ≡ false) × (v ≢ length ths) → terms (spawned st (answered t w ths)) v ≡ with_stack (length ths) st (with_stack t (at (ret w) (terms ths t).frames) (terms ths)) v
       old e =

@@ -1,5 +1,5 @@
 -- Who waits, and for what, as a state with slots says it.
-use Rattle.std.proofs.Common.{◌≡◌, ◌≤◌, ℕ, ◌==◌, ℤ, true, false, List, [], ◌∷◌, Option, Some, None, refl, sym, ap, ◌∙◌, subst, slice_get, ⊎_elim}
+use Rattle.std.proofs.Common.{◌≡◌, ◌≤◌, ℕ, ◌==◌, ℤ, true, false, List, [], ◌∷◌, Option, Some, None, refl, sym, ap, ◌∙◌, subst, slice_get}
 use Rattle.hs_base.specs.declared.exn.Exn.{Exn}
 use Rattle.hs_base.specs.declared.tree.script.Script.{Script}
 use Rattle.hs_rules.specs.declared.entry.Entry.{Entry}
@@ -9,16 +9,15 @@ use Rattle.rules_meaning.specs.Values.{V, Int, Exception}
 use Rattle.rules_expansion.specs.declared.primitive.Primitive.{Primitive}
 use Rattle.rules_expansion.specs.declared.primitive.Primitive.TheVariants.{ThreadDelay, ThrowTo}
 use Rattle.rules_typing.specs.TypingScripts.{Accepted}
-use Rattle.rules_waiting.specs.Waiting.{Reason, Taking, Reading, Putting, Throwing, Sleeping, Waiting, Sleeper, is_blocked, reason_of, flight_of, flying_to, first_thrown, Flying, Sleeper, has, without, leaves, is_throwing, sleepers_of, first_awake, is_sleeping, line_of}
+use Rattle.rules_waiting.specs.Waiting.{Reason, Throwing, Sleeping, Waiting, Sleeper, is_blocked, reason_of, flight_of, flying_to, first_thrown, Flying, Sleeper, has, without, leaves, is_throwing, sleepers_of, first_awake, is_sleeping, line_of}
 use Rattle.exn_flight.specs.Asleep.{due_of}
 use Rattle.hs_rules.specs.Terms.{Calls, Performs}
 use Rattle.hs_rules.specs.State.{Thread, State}
 use Rattle.hs_rules.specs.Primitives.{throw_at}
 use Rattle.hs_rules.specs.Runs.{IsRun}
-use Rattle.std.proofs.lemmas.Option.{same_Some}
 use Rattle.hs_laws.specs.Standing.{Once, Standing}
 use Rattle.hs_laws.specs.BracketPhases.{Blocks}
-use Rattle.hs_laws.proofs.Lists.{cond_cases, cond_true, cond_false, equal_or, Found, first_found, once_reason, throws, throw_is_first}
+use Rattle.hs_laws.proofs.Lists.{cond_cases, cond_false, Found, first_found, once_reason, throws, throw_is_first, throws_means}
 use Rattle.hs_laws.proofs.CellSteps.{Away, away_leaves, line_leaves, leaves_absent}
 use Rattle.hs_laws.proofs.Stranding.{reason_blocked}
 use Rattle.hs_progress.specs.TypedStates as typed
@@ -42,27 +41,15 @@ module _ {A : Type 0} (number : A → ℕ) where
       (λ b. cond_false (number x == t) true (has number t (without number t xs)) b ∙ without_gone t xs)
 
 -- ---- who throws first is blocked in its throw
-throws_at : (t : ℕ) (e : Exn) (r : Reason V) → throws t r ≡ Some e → r ≡ Throwing t e
-throws_at t e (Taking m) h = absurd (cc h)
-throws_at t e (Reading m) h = absurd (cc h)
-throws_at t e (Putting m a) h = absurd (cc h)
-throws_at t e (Sleeping due) h = absurd (cc h)
-throws_at t e (Throwing u x) h =
-    ⊎_elim
-    (λ q. ap (λ z. Throwing z x) q.1 ∙ ap (Throwing t) (same_Some x e (sym (cond_true (u == t) (Some x) None q.0) ∙ h)))
-    (λ q. let z : ◌≡◌ {A = Option Exn} None (Some e) = sym (cond_false (u == t) (Some x) None q.0) ∙ h in absurd (cc z))
-    (equal_or u t)
-
 pub first_throws : (t w : ℕ) (e : Exn) (ws : List (Waiting V)) → Once ws → first_thrown (flying_to t (flight_of ws)) ≡ Some (w, e) → reason_of w ws ≡ Some (Throwing t e)
 first_throws t w e ws o h =
     let f : Found (λ u r. reason_of u ws ≡ Some r) (throws t) (Some (w, e)) = subst (Found (λ u r. reason_of u ws ≡ Some r) (throws t)) (sym (throw_is_first t ws) ∙ h) (first_found (λ u r. reason_of u ws ≡ Some r) (throws t) ws (once_reason ws o)) in
-    f.1 ∙ ap Some (throws_at t e f.0 f.2)
+    f.1 ∙ ap Some (throws_means t f.0 e f.2)
 
 -- ---- for what a blocked thread waits
 throw_reason : (u : ℕ) (e : Exn) (r : Reason V) → Blocks r (Calls ThrowTo (val.Thread u ∷ Exception e ∷ [])) → r ≡ Throwing u e
-throw_reason u e (Throwing v y) h = cc h
 throw_reason u e (Sleeping due) h = let z = h.1 in absurd (cc z)
-throw_reason u e _ h = absurd (cc h)
+throw_reason u e _ h = cc h
 
 sleep_reason : (n : ℤ) (r : Reason V) → Blocks r (Calls ThreadDelay (Int n ∷ [])) → (due : ℕ) × (r ≡ Sleeping due)
 sleep_reason n (Sleeping due) h = (due, refl)
