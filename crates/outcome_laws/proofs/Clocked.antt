@@ -6,7 +6,7 @@ use Rattle.hs_rules.specs.declared.entry.Entry.TheVariants as entry
 use Rattle.rules_trees.specs.Programs.{Fn}
 use Rattle.rules_meaning.specs.Values.{V}
 use Rattle.rules_meaning.specs.CoreMeaning.{code_of}
-use Rattle.rules_waiting.specs.Waiting.{Reason, Taking, Reading, Putting, Throwing, Sleeping, Sleeper, Waiting, reason_of, with_sleeper, sleepers_of, sleeper_before, sleeper_added, sorted_sleepers, earliest}
+use Rattle.rules_waiting.specs.Waiting.{Reason, Sleeping, Sleeper, Waiting, reason_of, with_sleeper, sleepers_of, sleeper_before, sleeper_added, sorted_sleepers, earliest}
 use Rattle.hs_rules.specs.State.{State}
 use Rattle.hs_rules.specs.Runs.{Run, first_of, after, IsRun}
 use Rattle.hs_rules.specs.Endings.{IsTick}
@@ -51,17 +51,11 @@ same_due d due h = cc h
 
 first_by : (t due k : ℕ) (r : Reason V) (b : Bool) (ss : List Sleeper) (o : Option (Reason V)) → (o ≡ Some (Sleeping due) → First due (earliest (sorted_sleepers ss))) →
     cond b (Some r) o ≡ Some (Sleeping due) → First due (earliest (sorted_sleepers (with_sleeper k r ss)))
-first_by t due k (Taking m) true ss o f h = absurd (cc h)
-first_by t due k (Taking m) false ss o f h = f h
-first_by t due k (Reading m) true ss o f h = absurd (cc h)
-first_by t due k (Reading m) false ss o f h = f h
-first_by t due k (Putting m v) true ss o f h = absurd (cc h)
-first_by t due k (Putting m v) false ss o f h = f h
-first_by t due k (Throwing u e) true ss o f h = absurd (cc h)
-first_by t due k (Throwing u e) false ss o f h = f h
 first_by t due k (Sleeping d) true ss o f h =
     subst (λ n. First n (earliest (sleeper_added (record { thread = k; due = d }) (sorted_sleepers ss)))) (same_due d due h) (added_itself (record { thread = k; due = d }) (sorted_sleepers ss))
 first_by t due k (Sleeping d) false ss o f h = added_others due (record { thread = k; due = d }) (sorted_sleepers ss) (f h)
+first_by t due k _ true ss o f h = absurd (cc h)
+first_by t due k _ false ss o f h = f h
 
 -- who sleeps until then isn't due before the first
 sleeper_first : (t due : ℕ) (ws : List (Waiting V)) → reason_of t ws ≡ Some (Sleeping due) → First due (earliest (sorted_sleepers (sleepers_of ws)))
@@ -116,21 +110,13 @@ module _ (ds : List Fn) (hs : List Entry) (s : State) (is : after ds hs ≡ Some
   kept_due t due r false l = woken_then t due r l
 
   kept_wake : (t : ℕ) (o : Option (Reason V)) → reason_of t s.blocked ≡ o → Kept ds (hs ++ tick_until_due s.clock o (entry.Wake t ∷ []))
-  kept_wake t None r = kept_alone (entry.Wake t) (λ n. n)
-  kept_wake t (Some (Taking m)) r = kept_alone (entry.Wake t) (λ n. n)
-  kept_wake t (Some (Reading m)) r = kept_alone (entry.Wake t) (λ n. n)
-  kept_wake t (Some (Putting m v)) r = kept_alone (entry.Wake t) (λ n. n)
-  kept_wake t (Some (Throwing u e)) r = kept_alone (entry.Wake t) (λ n. n)
   kept_wake t (Some (Sleeping due)) r = kept_due t due r (nat_le due s.clock) refl
+  kept_wake t _ r = kept_alone (entry.Wake t) (λ n. n)
 
   kept_on_time : (e : Entry) → ¬ IsTick e → Kept ds (hs ++ with_its_tick s e)
-  kept_on_time (entry.Local t k) n = kept_alone (entry.Local t k) n
-  kept_on_time (entry.Op t) n = kept_alone (entry.Op t) n
-  kept_on_time (entry.Receive t) n = kept_alone (entry.Receive t) n
   kept_on_time (entry.Wake t) n = kept_wake t (reason_of t s.blocked) refl
-  kept_on_time (entry.Finish t) n = kept_alone (entry.Finish t) n
   kept_on_time (entry.Tick at) n = absurd (n tt)
-  kept_on_time entry.Stranded n = kept_alone entry.Stranded n
+  kept_on_time e n = kept_alone e n
 
 -- ---- histories
 
@@ -170,12 +156,7 @@ module _ (ds : List Fn) (s : State) (first : first_of ds ≡ Some s) where
   more_kept hs q (entry.Tick at) i k f =
       clock_ticks ds hs at 0 q (is_after ds hs q i) k (record { wanted = inl (none_due at (sleepers_of q.blocked) f.1); beside = λ e n g. absurd (f.0 e n g) })
       (λ d. subst (IsFrom at) (sym f.1) (omega arith))
-  more_kept hs q (entry.Local t n) i k f = clock_works ds hs (entry.Local t n) 0 (λ z. z) k
-  more_kept hs q (entry.Op t) i k f = clock_works ds hs (entry.Op t) 0 (λ z. z) k
-  more_kept hs q (entry.Receive t) i k f = clock_works ds hs (entry.Receive t) 0 (λ z. z) k
-  more_kept hs q (entry.Wake t) i k f = clock_works ds hs (entry.Wake t) 0 (λ z. z) k
-  more_kept hs q (entry.Finish t) i k f = clock_works ds hs (entry.Finish t) 0 (λ z. z) k
-  more_kept hs q entry.Stranded i k f = clock_works ds hs entry.Stranded 0 (λ z. z) k
+  more_kept hs q e i k f = clock_works ds hs e 0 (λ z. z) k
 
   all_kept : (hs : List Entry) (q u : State) (es : List Entry) → IsRun ds hs q → ClockKept ds hs 0 → TimedRun Virtual (code_of ds) q es u → ClockKept ds (hs ++ es) 0
   all_kept hs q u [] i k h = subst (λ ys. ClockKept ds ys 0) (sym (append-nil hs)) k

@@ -27,12 +27,7 @@ long (suc n) e es = omega (arith, long n e es, length-append (e ∷ es) (times n
 -- how many entries of a list are no Ticks
 pub count_more : (e : Entry) (es : List Entry) → length (without_ticks (e ∷ es)) ≡ length (without_ticks (e ∷ [])) + length (without_ticks es)
 count_more (entry.Tick at) es = omega arith
-count_more (entry.Local t k) es = omega arith
-count_more (entry.Op t) es = omega arith
-count_more (entry.Receive t) es = omega arith
-count_more (entry.Wake t) es = omega arith
-count_more (entry.Finish t) es = omega arith
-count_more entry.Stranded es = omega arith
+count_more _ es = omega arith
 
 count_both : (es fs : List Entry) → length (without_ticks (es ++ fs)) ≡ length (without_ticks es) + length (without_ticks fs)
 count_both [] fs = omega arith

@@ -20,14 +20,9 @@ both_equal Greater b h = absurd (cc h)
 
 same_place : (f g : Final) → nat_cmp (place_of f) (place_of g) ≡ Equal → f ≡ g
 same_place Done Done h = refl
-same_place Done Uncaught h = absurd (cc h)
-same_place Done Deadlock h = absurd (cc h)
-same_place Uncaught Done h = absurd (cc h)
 same_place Uncaught Uncaught h = refl
-same_place Uncaught Deadlock h = absurd (cc h)
-same_place Deadlock Done h = absurd (cc h)
-same_place Deadlock Uncaught h = absurd (cc h)
 same_place Deadlock Deadlock h = refl
+same_place _ _ h = absurd (cc h)
 
 same_bytes : (xs ys : List ℕ) → slice_cmp nat_cmp xs ys ≡ Equal → xs ≡ ys
 same_bytes xs ys h = (bytes_eq-Decides xs ys).0 (sym (is_eq-slice_cmp xs ys) ∙ ap is_eq h)

@@ -23,14 +23,9 @@ use Rattle.outcome_laws.proofs.Timed.{real_run, run_of_timed}
 
 same_final : (f g : Final) → ending_of f ≡ ending_of g → f ≡ g
 same_final Done Done h = refl
-same_final Done Uncaught h = absurd (cc h)
-same_final Done Deadlock h = absurd (cc h)
-same_final Uncaught Done h = absurd (cc h)
 same_final Uncaught Uncaught h = refl
-same_final Uncaught Deadlock h = absurd (cc h)
-same_final Deadlock Done h = absurd (cc h)
-same_final Deadlock Uncaught h = absurd (cc h)
 same_final Deadlock Deadlock h = refl
+same_final _ _ h = absurd (cc h)
 
 one_shown : (code : Code) (s : State) (o p : Outcome) → ShowsOutcome code s o → ShowsOutcome code s p → o ≡ p
 one_shown code s o p h k =

@@ -10,12 +10,7 @@ use Rattle.outcome_laws.specs.Timings.{MayTick, TickFits, RunWithTicks, TimedRun
 
 real_fits : (code : Code) (s : State) (e : Entry) → TickFits (MayTick Real code) s e
 real_fits code s (entry.Tick at) = tt
-real_fits code s (entry.Local t k) = tt
-real_fits code s (entry.Op t) = tt
-real_fits code s (entry.Receive t) = tt
-real_fits code s (entry.Wake t) = tt
-real_fits code s (entry.Finish t) = tt
-real_fits code s entry.Stranded = tt
+real_fits code s _ = tt
 
 pub real_run : (code : Code) (es : List Entry) (s u : State) → Run code s es u → TimedRun Real code s es u
 real_run code [] s u h = h
