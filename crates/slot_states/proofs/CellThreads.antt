@@ -7,6 +7,7 @@ use Rattle.rules_trees.specs.Trees.{T}
 use Rattle.rules_sorts.specs.Sorts.{Sort}
 use Rattle.rules_meaning.specs.Values as val
 use Rattle.rules_meaning.specs.Values.{V}
+use Rattle.rules_expansion.specs.declared.primitive.Primitive.{Primitive}
 use Rattle.rules_expansion.specs.declared.primitive.Primitive.TheVariants.{TakeMVar, PutMVar, ReadMVar}
 use Rattle.hs_rules.specs.Terms as named
 use Rattle.hs_rules.specs.Terms.{Ret, Throw, Do, Performs, Calls}
@@ -58,17 +59,14 @@ want_away m k (Throwing u x) w n e = absurd (cc e)
 want_away m k (Sleeping due) w n e = absurd (cc e)
 
 module _ (cells : ℕ → T → Type 0) (ds : List Fn) (m : ℕ) (p : SlotPart) {k : Sort} where
+  here : (j : ℕ) (c : Primitive) (vs : ℕ → List V) → PartStands cells ds p (Performs (Calls c (vs j))) k → j ≡ m → WaitsAt m (performs (calls c (vs m))) → WaitsAt m p
+  here j c vs h e w = subst (WaitsAt m) (ap (λ i. performs (calls c (vs i))) (sym e) ∙ sym (call_is cells ds h)) w
+
   -- by why it is blocked, a thread with slots stands at an operation of this cell
   pub waits_by : (r : Reason V) (w : Want V) (op : named.Operation) → want_at m r ≡ Some w → Blocks r op → PartStands cells ds p (Performs op) k → WaitsAt m p
-  waits_by (Taking j) w op e b h =
-      let same : p ≡ performs (calls TakeMVar (val.Cell j ∷ [])) = call_is cells ds (subst (λ o. PartStands cells ds p (Performs o) k) b h) in
-      subst (WaitsAt m) (ap (λ i. performs (calls TakeMVar (val.Cell i ∷ []))) (sym (only_if j m To_take w e)) ∙ sym same) takes
-  waits_by (Reading j) w op e b h =
-      let same : p ≡ performs (calls ReadMVar (val.Cell j ∷ [])) = call_is cells ds (subst (λ o. PartStands cells ds p (Performs o) k) b h) in
-      subst (WaitsAt m) (ap (λ i. performs (calls ReadMVar (val.Cell i ∷ []))) (sym (only_if j m To_read w e)) ∙ sym same) reads
-  waits_by (Putting j v) w op e b h =
-      let same : p ≡ performs (calls PutMVar (val.Cell j ∷ v ∷ [])) = call_is cells ds (subst (λ o. PartStands cells ds p (Performs o) k) b h) in
-      subst (WaitsAt m) (ap (λ i. performs (calls PutMVar (val.Cell i ∷ v ∷ []))) (sym (only_if j m (To_put v) w e)) ∙ sym same) puts
+  waits_by (Taking j) w op e b h = here j TakeMVar (λ i. val.Cell i ∷ []) (subst (λ o. PartStands cells ds p (Performs o) k) b h) (only_if j m To_take w e) takes
+  waits_by (Reading j) w op e b h = here j ReadMVar (λ i. val.Cell i ∷ []) (subst (λ o. PartStands cells ds p (Performs o) k) b h) (only_if j m To_read w e) reads
+  waits_by (Putting j v) w op e b h = here j PutMVar (λ i. val.Cell i ∷ v ∷ []) (subst (λ o. PartStands cells ds p (Performs o) k) b h) (only_if j m (To_put v) w e) puts
   waits_by (Throwing u x) w op e b h = absurd (cc e)
   waits_by (Sleeping due) w op e b h = absurd (cc e)
 

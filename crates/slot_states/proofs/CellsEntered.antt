@@ -30,8 +30,7 @@ use Rattle.slot_laws.specs.SlotRules.{ret, performs, calls, mask_from}
 use Rattle.slot_states.specs.SlotStates as slots
 use Rattle.slot_states.specs.SlotStates.{SlotThread, SlotState, told_all, or_unmade, called, makes, SameCell, Represents, Enters, StandsAt, MainGoes}
 use Rattle.slot_states.specs.Resting.{WaitsAt, takes, reads, puts}
-use Rattle.slot_states.proofs.Following.{last_item, item_before, set_long, Follow, follow_start, follow_resume, follow_block}
-use Rattle.slot_states.proofs.Entering.{Parts, parts_of, entered}
+use Rattle.slot_states.proofs.Following.{last_item, item_before, set_long, Follow, follow_start, follow_resume, follow_block, Parts, parts_of, entered}
 use Rattle.slot_states.proofs.Lines.{left_by}
 use Rattle.slot_states.proofs.CellReading.{waits_below, try_take_below, try_put_below}
 use Rattle.slot_states.proofs.Reading.{AtOp, at_call, op_leads, same_cell}

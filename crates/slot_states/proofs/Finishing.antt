@@ -19,8 +19,7 @@ use Rattle.hs_progress.specs.TypedStates.{has}
 use Rattle.slot_laws.specs.SlotRules.{ret, throw, at}
 use Rattle.slot_laws.specs.Standing.{StandsIn}
 use Rattle.slot_states.specs.SlotStates.{SlotThread, SlotState, all_resumed, finished_at, all_withdrawn, finishes, Represents, Enters, StandsBare, MainGoes}
-use Rattle.slot_states.proofs.Following.{Follow, follow_start, follow_finish}
-use Rattle.slot_states.proofs.Entering.{Parts, entered}
+use Rattle.slot_states.proofs.Following.{Follow, follow_start, follow_finish, Parts, entered}
 use Rattle.slot_states.proofs.Reading.{ret_is, throw_is, no_frames, Named, named_of, on_thread_is, entry_leaves, same_cell}
 use Rattle.slot_states.proofs.Leaving.{Awake, sleepers_stay_all, rest_all, flight_all, follow_resume_all}
 

@@ -1,20 +1,28 @@
--- Threads with slots and threads of the rules change alike, step by step within one entry.
-use Rattle.std.proofs.Common.{◌≡◌, ◌≢◌, ℕ, zero, suc, ◌==◌, List, [], ◌∷◌, ◌++◌, length, slice_get, slice_set, Bool, true, false, cond, Option, Some, None, refl, sym, ap, ◌∙◌, subst, ⊎_elim}
-use Rattle.rules_trees.specs.Programs.{Fn}
+-- Threads with slots and threads of the rules change alike, step by step within one entry, which leaves a state that is stood for.
+use Rattle.std.proofs.Common.{◌≡◌, ◌≢◌, ℕ, zero, suc, ◌==◌, List, [], ◌∷◌, ◌++◌, length, slice_get, slice_set, Bool, true, false, cond, Option, Some, None, refl, sym, ap, ◌∙◌, subst, ⊎_elim, ◌+◌}
+use Rattle.hs_base.specs.declared.tree.script.Script.{Script}
+use Rattle.hs_rules.specs.declared.entry.Entry.{Entry}
+use Rattle.rules_trees.specs.Programs.{Fn, script_of}
 use Rattle.rules_meaning.specs.Values.{V}
+use Rattle.rules_meaning.specs.CoreMeaning.{code_of}
+use Rattle.rules_typing.specs.TypingScripts.{Accepted}
 use Rattle.hs_rules.specs.Terms.{Part, Term, term}
-use Rattle.rules_waiting.specs.Waiting.{Reason, Waiting, blocks, leaves, is_blocked}
+use Rattle.rules_waiting.specs.Waiting.{Reason, Waiting, blocks, leaves, is_blocked, flight_of, sleepers_of, sorted_sleepers}
 use Rattle.hs_rules.specs.State.{Thread, State, with_term, frames_of}
+use Rattle.hs_rules.specs.Entries.{Leads}
+use Rattle.hs_rules.specs.Runs.{IsRun}
 use Rattle.hs_laws.proofs.Lists.{cond_true, cond_false, equal_or, item_same, item_other}
 use Rattle.hs_laws.proofs.States.{other_thread}
 use Rattle.hs_laws.proofs.Growing.{term_length}
 use Rattle.hs_laws.proofs.Stranding.{left_free}
+use Rattle.hs_progress.specs.TypedStates.{Stays}
+use Rattle.slot_laws.proofs.StacksStand.{entries_stand}
 use Rattle.slot_laws.specs.SlotRules.{SlotPart, SlotTerm, at}
 pub use Rattle.slot_laws.proofs.Building.{last_item}
 use Rattle.slot_laws.specs.Standing.{EndsAs}
 use Rattle.slot_laws.specs.Stacks.{Resumed, stayed, resumed, with_stack}
 use Rattle.slot_states.specs.SlotStates as slots
-use Rattle.slot_states.specs.SlotStates.{SlotThread, SlotState, set_thread, changed, resumed_by, blocking, blocked_at, finishing, finished_at, SameThread, Agrees, terms, term_at, Represents}
+use Rattle.slot_states.specs.SlotStates.{SlotThread, SlotState, set_thread, changed, resumed_by, blocking, blocked_at, finishing, finished_at, SameThread, SameCell, Agrees, terms, term_at, Represents}
 
 -- ---- lists
 pub set_long : {A : Type 0} (xs : List A) (n : ℕ) (y : A) → length (slice_set xs n y) ≡ length xs
@@ -193,3 +201,34 @@ module _ (xs : List SlotThread) (ts : List Thread) (ys : List SlotThread) (us : 
   follow_finish t th is =
       let new : Thread = record { term = th.term; finished = true } in
       one_changes t th is finishing new (slice_set us t new) ws (item_same us t th new is) (set_long us t new) (λ v n. (item_other us t v new n, refl)) (λ y g h. (refl, h)) (λ st u y h. h)
+
+-- ---- the state that an entry leaves
+
+-- all but the threads
+pub record Parts (y : SlotState) (u : State) : Type 0 where
+  pub made : length y.cells ≡ length u.cells
+  pub cells : (m : ℕ) → SameCell m u (slice_get y.cells m)
+  pub flight : y.flight ≡ flight_of u.blocked
+  pub sleepers : y.sleepers ≡ sorted_sleepers (sleepers_of u.blocked)
+  pub clock : y.clock ≡ u.clock
+  pub instances : y.next_instance ≡ u.next_instance
+  pub timeouts : y.next_timeout ≡ u.next_timeout
+  pub printed : y.printed ≡ length u.output + length u.errors
+
+pub parts_of : (x : SlotState) (s : State) → Agrees x s → Parts x s
+parts_of x s a = record { made = a.made; cells = a.cells; flight = a.flight; sleepers = a.sleepers; clock = a.clock; instances = a.instances; timeouts = a.timeouts; printed = a.printed }
+
+-- with threads that are told rightly they are a state that agrees
+pub agreeing : (y : SlotState) (u : State) → length y.threads ≡ length u.threads → ((t : ℕ) → SameThread (slice_get y.threads t) (slice_get u.threads t) (is_blocked t u.blocked)) → Parts y u → Agrees y u
+agreeing y u n same p = record { count = n; threads = same; made = p.made; cells = p.cells; flight = p.flight; sleepers = p.sleepers; clock = p.clock; instances = p.instances; timeouts = p.timeouts; printed = p.printed }
+
+pub entered : (script : Script) → Accepted script → (es : List Entry) (s u : State) (e : Entry) (x y : SlotState) → IsRun (script_of script) es s → Represents (script_of script) x s → Leads (code_of (script_of script)) s e u → ((t : ℕ) → Stays e t) →
+    Follow x.threads s.threads y.threads u.threads u.blocked → Parts y u → (v : State) × Leads (code_of (script_of script)) s e v × Represents (script_of script) y v
+entered script accepted es s u e x y run r leads all f p = (
+  u,
+  leads,
+  record {
+    stacks = entries_stand script accepted es s u e run leads.0 all f.long (terms x.threads) (terms y.threads) r.stacks f.terms;
+    agrees = agreeing y u f.count f.same p;
+  },
+)

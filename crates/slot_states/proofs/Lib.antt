@@ -1,5 +1,4 @@
 pub mod Following
-pub mod Entering
 pub mod Reading
 pub mod CellReading
 pub mod Lines

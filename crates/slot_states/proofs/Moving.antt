@@ -20,8 +20,7 @@ use Rattle.slot_laws.specs.SlotRules.{SlotTerm, locals}
 use Rattle.slot_laws.specs.Stacks.{with_stack}
 use Rattle.slot_laws.proofs.StacksStand.{locals_stand}
 use Rattle.slot_states.specs.SlotStates.{SlotThread, SlotState, moving, moved, moves, ticks, SameThread, Agrees, terms, term_at, Represents, Enters, MainGoes}
-use Rattle.slot_states.proofs.Following.{at_or, changed_terms, changed_is, changed_other, changed_count, term_is, follow_start}
-use Rattle.slot_states.proofs.Entering.{agreeing, entered}
+use Rattle.slot_states.proofs.Following.{at_or, changed_terms, changed_is, changed_other, changed_count, term_is, follow_start, agreeing, entered}
 use Rattle.slot_states.proofs.Operating.{parts_same}
 use Rattle.slot_states.proofs.Reading.{Named, named_of, stacks_same, main_going}
 

@@ -22,8 +22,7 @@ use Rattle.slot_laws.specs.SlotRules.{SlotPart, ret, throw, performs, calls, mas
 use Rattle.slot_laws.specs.Standing.{EndsAs}
 use Rattle.slot_states.specs.SlotStates as slots
 use Rattle.slot_states.specs.SlotStates.{SlotState, SameCell, Agrees, Represents, StandsAt, MainGoes}
-use Rattle.slot_states.proofs.Following.{Follow, follow_start, follow_resume, follow_block}
-use Rattle.slot_states.proofs.Entering.{Parts, entered}
+use Rattle.slot_states.proofs.Following.{Follow, follow_start, follow_resume, follow_block, Parts, entered}
 use Rattle.slot_states.proofs.Reading.{AtOp, at_call, op_leads, same_cell}
 
 -- ---- the other parts

@@ -23,8 +23,7 @@ use Rattle.exn_flight.proofs.SortedLeaving.{leaves_in_order}
 use Rattle.slot_laws.specs.SlotRules.{ret, throw}
 use Rattle.slot_states.specs.SlotStates.{SlotThread, SlotState, resumed, receives, SameCell, Enters, MainGoes}
 use Rattle.slot_states.specs.Resting.{is_receptive}
-use Rattle.slot_states.proofs.Following.{follow_start, follow_resume}
-use Rattle.slot_states.proofs.Entering.{entered}
+use Rattle.slot_states.proofs.Following.{follow_start, follow_resume, entered}
 use Rattle.slot_states.proofs.Reading.{same_masks, same_throw, named_of, on_thread_is, entry_leaves}
 use Rattle.slot_states.proofs.AtRest.{same_receptive}
 use Rattle.slot_states.proofs.Leaving.{Awake, sleepers_stay, left_cell, left_count}

@@ -26,8 +26,7 @@ use Rattle.slot_laws.specs.SlotRules.{ret, forks, forks_unmask, doing, performs,
 use Rattle.slot_laws.specs.Stacks.{StacksStand, with_stack}
 use Rattle.slot_laws.proofs.Forking.{forks_stand, forks_unmask_stand}
 use Rattle.slot_states.specs.SlotStates.{SlotThread, SlotState, answered, resumed_by, spawned, forks_to, SameThread, terms, term_at, Represents, Enters, StandsAt, MainGoes}
-use Rattle.slot_states.proofs.Following.{last_item, item_before, Follow, changed_terms, changed_count, follow_start, follow_resume}
-use Rattle.slot_states.proofs.Entering.{agreeing}
+use Rattle.slot_states.proofs.Following.{last_item, item_before, Follow, changed_terms, changed_count, follow_start, follow_resume, agreeing}
 use Rattle.slot_states.proofs.Reading.{AtOp, at_fork, at_fork_unmask, op_leads, stacks_same}
 use Rattle.slot_states.proofs.Operating.{parts_same, Goes}
 

@@ -20,8 +20,7 @@ use Rattle.exn_flight.specs.Asleep.{due_of}
 use Rattle.exn_flight.proofs.SortedLeaving.{leaves_in_order}
 use Rattle.slot_laws.specs.SlotRules.{ret}
 use Rattle.slot_states.specs.SlotStates.{SlotState, wakes, Represents, Enters, MainGoes}
-use Rattle.slot_states.proofs.Following.{follow_start, follow_resume}
-use Rattle.slot_states.proofs.Entering.{entered}
+use Rattle.slot_states.proofs.Following.{follow_start, follow_resume, entered}
 use Rattle.slot_states.proofs.Reading.{main_going, same_cell}
 use Rattle.slot_states.proofs.Asleep.{first_due, sleeps_until}
 use Rattle.slot_states.proofs.Leaving.{Silent, flight_stays}
