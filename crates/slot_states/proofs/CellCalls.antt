@@ -1,5 +1,5 @@
 -- What an operation on a cell makes of a state of the rules: who is blocked after it, and what stays.
-use Rattle.std.proofs.Common.{◌≡◌, ◌≢◌, ℕ, true, false, List, [], ◌∷◌, ◌++◌, length, slice_get, Option, Some, None, refl, sym, ap, ◌∙◌, subst}
+use Rattle.std.proofs.Common.{◌≡◌, ◌≢◌, ℕ, true, false, List, [], ◌∷◌, ◌++◌, length, slice_get, Option, Some, None, refl, sym, ap, ◌∙◌}
 use Rattle.rules_meaning.specs.Values.{V, UnitValue, Truth, Just}
 use Rattle.hs_rules.specs.Terms.{Part, Ret}
 use Rattle.rules_waiting.specs.OneCell as one
@@ -10,12 +10,12 @@ use Rattle.hs_rules.specs.Primitives.{moves_in, taken, goes_in, read_by_all, giv
 use Rattle.hs_laws.specs.CellLaw.{told}
 use Rattle.hs_laws.specs.CellLaw as law
 use Rattle.hs_laws.specs.Standing.{Once}
-use Rattle.hs_laws.proofs.Lists.{ones_changed}
-use Rattle.hs_laws.proofs.CellSteps.{line_leaves, not_blocked_line, all_line, Follows, take_follows, read_follows, put_follows, try_take_follows, try_put_follows, Still, take_still, read_still, put_still, try_take_still, try_put_still}
+use Rattle.hs_laws.proofs.Lists.{once_left, ones_changed}
+use Rattle.hs_laws.proofs.CellSteps.{line_leaves, not_blocked_line, Follows, take_follows, read_follows, put_follows, try_take_follows, try_put_follows, Still, take_still, read_still, put_still, try_take_still, try_put_still}
 use Rattle.slot_states.specs.SlotStates.{SlotThread, told_all}
 use Rattle.slot_states.specs.SlotStates as slots
 use Rattle.slot_states.proofs.Following.{set_long}
-use Rattle.slot_states.proofs.Lines.{left_by, EachReply, left_both, left_swap, leaves_swap, each_both, each_shown, Quiet, free_quiet, stands_quiet, all_quiet, block_quiet, OnceIn, line_once, put_stands, take_stands, readers_stand, same_taker}
+use Rattle.slot_states.proofs.Lines.{left_by, EachReply, left_both, left_swap, leaves_swap, each_both, each_shown, Quiet, free_quiet, stands_quiet, all_quiet, block_quiet, put_stands, take_stands, readers_stand, same_taker}
 
 -- ---- all but threads, cells and the blocked stays, and there are as many cells
 
@@ -152,9 +152,7 @@ module _ (m t : ℕ) (s : State) (o : Option V) (ps : List (Place V)) (h : HasCe
       let v : State = read_by_all m a u in
       let rs : List (Reply V) = shown a (readers ps) in
       let blocked : v.blocked ≡ leaves t (left_by rs s.blocked) = ap (λ ts. (resume_all ts (Ret a) u).blocked) (ap readers own_line) ∙ (shown_blocked a (readers ps) u ∙ left_swap t rs s.blocked) in
-      let lines : line_of m v.blocked ≡ leave_line (readers ps) ps =
-      ap (λ ts. line_of m (resume_all ts (Ret a) u).blocked) (ap readers own_line) ∙ (all_line m (readers ps) (Ret a) u ∙ ap (leave_line (readers ps)) own_line) in
-      let taker : first_take (line_of m v.blocked) ≡ first_take ps = ap first_take lines ∙ same_taker ps (subst OnceIn line (line_once m s.blocked once)) in
+      let taker : first_take (line_of m v.blocked) ≡ first_take ps = same_taker m a u (once_left t s.blocked once) ∙ ap first_take own_line in
       answers
       (told_comes m t a (first_take ps) (leave_line (readers ps) ps) rs (reply_of t x))
       f.threads

@@ -1,18 +1,21 @@
 -- The lines of cells and the list of all that are blocked: who leaves, in which order, and what stays of exceptions in flight
 -- and sleepers.
-use Rattle.std.proofs.Common.{◌≡◌, ◌≢◌, ℕ, zero, suc, ◌==◌, Bool, true, false, cond, List, [], ◌∷◌, ◌++◌, slice_get, slice_set, Option, Some, None, refl, sym, ap, ◌∙◌, subst, arith, ⊎_elim, append-nil}
+use Rattle.std.proofs.Common.{◌≡◌, ◌≢◌, ℕ, zero, suc, ◌==◌, Bool, true, false, List, [], ◌∷◌, ◌++◌, slice_get, slice_set, Option, Some, None, refl, sym, ap, ◌∙◌, subst, arith, ⊎_elim, append-nil}
 use Rattle.rules_meaning.specs.Values.{V}
-use Rattle.rules_waiting.specs.OneCell.{Want, To_take, To_read, To_put, Place, Cell, Leave, Reply, cell_of, leaves_line, stands_in, put_of, takes_it, reads_it, first_put, first_take, readers, leave_line, shown, call}
-use Rattle.rules_waiting.specs.Waiting.{Reason, Throwing, Sleeping, Waiting, blocks, leaves, is_blocked, reason_of, want_at, with_place, line_of, at_cell, flight_of, withdrawn, sleepers_of, sorted_sleepers, still_asleep}
+use Rattle.rules_waiting.specs.OneCell.{Want, Place, Cell, Leave, Reply, cell_of, leaves_line, stands_in, put_of, takes_it, reads_it, first_put, first_take, readers, shown, call}
+use Rattle.rules_waiting.specs.Waiting.{Reason, Taking, Throwing, Sleeping, Waiting, blocks, leaves, is_blocked, reason_of, want_at, with_place, line_of, at_cell, flight_of, withdrawn, sleepers_of, sorted_sleepers, still_asleep}
 use Rattle.hs_laws.specs.Standing.{Once}
-use Rattle.hs_laws.proofs.Lists.{cond_cases, cond_true, cond_false, equal_or, Ones, ones_changed}
+use Rattle.hs_rules.specs.Terms.{Ret}
+use Rattle.hs_rules.specs.State.{State, resume_all}
+use Rattle.hs_rules.specs.Primitives.{read_by_all}
+use Rattle.hs_laws.proofs.Lists.{cond_cases, cond_true, cond_false, equal_or, first_of_kind, takes, reads_at, those, take_is_first, only_thread, readers_are, distinct_those, ones_those_if, once_reason, Ones, ones_changed}
 use Rattle.hs_laws.proofs.Stranding.{reason_blocked}
 use Rattle.hs_laws.proofs.CellSteps.{leaves_absent, line_leaves, Away, away_leaves}
 use Rattle.exn_flight.proofs.OneList.{flight_blocks, flight_leaves, sleepers_block, sleepers_leave}
 use Rattle.exn_flight.proofs.SortedLeaving.{leaves_in_order}
 use Rattle.slot_states.specs.SlotStates.{cell_at, left_lines}
 use Rattle.slot_states.specs.Resting.{NotThrowing, NotAsleep}
-use Rattle.slot_states.proofs.Leaving.{Silent, Awake, no_flying, no_sleeper, cell_waits, flight_stays, sleepers_stay}
+use Rattle.slot_states.proofs.Leaving.{Silent, Awake, no_flying, no_sleeper, cell_waits, flight_stays, sleepers_stay, stays_all}
 
 -- ---- threads leave in either order
 
@@ -163,19 +166,6 @@ free_stands m u (w ∷ ws) h =
 pub stands_quiet : (m u : ℕ) (ws : List (Waiting V)) → Once ws → stands_in u (line_of m ws) ≡ true → Quiet ws u
 stands_quiet m u ws o h = let k = stands_waits m u ws o h in cell_quiet u k.reason ws o k.is (want_cell m k.reason k.want k.wants)
 
--- nobody stands twice in a line
-abbrev pub OnceIn : List (Place V) → Type 0
-OnceIn [] = Unit {0}
-OnceIn (p ∷ ps) = (stands_in p.thread ps ≡ false) × OnceIn ps
-
-once_placed : (t : ℕ) (o : Option (Want V)) (ps : List (Place V)) → stands_in t ps ≡ false → OnceIn ps → OnceIn (with_place t o ps)
-once_placed t None ps n h = h
-once_placed t (Some w) ps n h = (n, h)
-
-pub line_once : (m : ℕ) (ws : List (Waiting V)) → Once ws → OnceIn (line_of m ws)
-line_once m [] o = tt
-line_once m (w ∷ ws) o = once_placed w.thread (want_at m w.reason) (line_of m ws) (free_stands m w.thread ws o.0) (line_once m ws o.1)
-
 -- ---- whom a cell serves stands in its line
 
 pub put_stands : (ps : List (Place V)) (w : ℕ × V) → first_put ps ≡ Some w → stands_in w.0 ps ≡ true
@@ -214,59 +204,27 @@ readers_stand (p ∷ ps) =
     ones_changed (λ u. stands_in u ps ≡ true) (λ u. stands_in u (p ∷ ps) ≡ true) (readers ps) (λ u h. cond_cases (λ b. b ≡ true) (p.thread == u) true (stands_in u ps) (λ f. refl) (λ f. h)) (readers_stand ps) in
     cond_cases (Ones (λ u. stands_in u (p ∷ ps) ≡ true)) (reads_it p.want) (p.thread ∷ readers ps) (readers ps) (λ q. (own_stands p ps, rest)) (λ q. rest)
 
--- ---- after all that read have left, the same thread is the first that takes
+-- ---- after all that read a cell were answered, the same thread is the first that takes
 
--- this thread takes nothing in the line
-abbrev TakesNot : ℕ → List (Place V) → Type 0
-TakesNot u [] = Unit {0}
-TakesNot u (p ∷ ps) = (p.thread ≡ u → takes_it p.want ≡ false) × TakesNot u ps
+abbrev TakesNot : ℕ → Option (Reason V) → Type 0
+TakesNot m None = Unit {0}
+TakesNot m (Some r) = takes m r ≡ None
 
-taker_left : (u : ℕ) (ps : List (Place V)) → TakesNot u ps → first_take (leaves_line u ps) ≡ first_take ps
-taker_left u [] h = refl
-taker_left u (p ∷ ps) h =
-    ⊎_elim
-    (λ e. ap first_take (cond_true (p.thread == u) (leaves_line u ps) (p ∷ leaves_line u ps) e.0) ∙ (taker_left u ps h.1 ∙ sym (cond_false (takes_it p.want) (Some p.thread) (first_take ps) (h.0 e.1))))
-    (λ e. ap first_take (cond_false (p.thread == u) (leaves_line u ps) (p ∷ leaves_line u ps) e.0) ∙ ap (cond (takes_it p.want) (Some p.thread)) (taker_left u ps h.1))
-    (equal_or p.thread u)
+abbrev taker_or : ℕ → ℕ → Reason V → Option (ℕ × Unit {0}) → Option (ℕ × Unit {0})
+taker_or m t r o = elim (takes m r) [ None ↦ o | Some a ↦ Some (t, a) ]
 
-takes_not_left : (u v : ℕ) (ps : List (Place V)) → TakesNot u ps → TakesNot u (leaves_line v ps)
-takes_not_left u v [] h = tt
-takes_not_left u v (p ∷ ps) h = cond_cases (TakesNot u) (p.thread == v) (leaves_line v ps) (p ∷ leaves_line v ps) (λ e. takes_not_left u v ps h.1) (λ e. (h.0, takes_not_left u v ps h.1))
+reader_takes_not : (m : ℕ) (r : Reason V) → reads_at m r ≡ true → takes m r ≡ None
+reader_takes_not m (Taking k) e = absurd (cc e)
+reader_takes_not m _ e = refl
 
-takers_left : (us : List ℕ) (ps : List (Place V)) → Ones (λ u. TakesNot u ps) us → first_take (leave_line us ps) ≡ first_take ps
-takers_left [] ps h = refl
-takers_left (u ∷ us) ps h =
-    takers_left us (leaves_line u ps) (ones_changed (λ v. TakesNot v ps) (λ v. TakesNot v (leaves_line u ps)) us (λ v k. takes_not_left v u ps k) h.1)
-    ∙ taker_left u ps h.0
-
-takes_not_away : (u : ℕ) (ps : List (Place V)) → stands_in u ps ≡ false → TakesNot u ps
-takes_not_away u [] h = tt
-takes_not_away u (p ∷ ps) h =
-    ⊎_elim
-    (λ e. let z : true ≡ false = sym (cond_true (p.thread == u) true (stands_in u ps) e.0) ∙ h in absurd (cc z))
-    (λ e. ((λ q. absurd (e.1 q)), takes_not_away u ps (sym (cond_false (p.thread == u) true (stands_in u ps) e.0) ∙ h)))
-    (equal_or p.thread u)
-
-read_not_take : (w : Want V) → reads_it w ≡ true → takes_it w ≡ false
-read_not_take To_take e = absurd (cc e)
-read_not_take To_read e = refl
-read_not_take (To_put v) e = refl
-
-ones_and : (P Q : ℕ → Type 0) (us : List ℕ) → Ones P us → Ones Q us → Ones (λ u. P u × Q u) us
-ones_and P Q [] h g = tt
-ones_and P Q (u ∷ us) h g = ((h.0, g.0), ones_and P Q us h.1 g.1)
-
-readers_take_not : (ps : List (Place V)) → OnceIn ps → Ones (λ u. TakesNot u ps) (readers ps)
-readers_take_not [] o = tt
-readers_take_not (p ∷ ps) o =
-    let rest : Ones (λ u. TakesNot u (p ∷ ps)) (readers ps) =
-    ones_changed (λ u. TakesNot u ps × (stands_in u ps ≡ true)) (λ u. TakesNot u (p ∷ ps)) (readers ps)
-    (λ u h. ((λ q. let z : true ≡ false = sym h.1 ∙ subst (λ v. stands_in v ps ≡ false) q o.0 in absurd (cc z)), h.0))
-    (ones_and (λ u. TakesNot u ps) (λ u. stands_in u ps ≡ true) (readers ps) (readers_take_not ps o.1) (readers_stand ps)) in
-    cond_cases (Ones (λ u. TakesNot u (p ∷ ps))) (reads_it p.want) (p.thread ∷ readers ps) (readers ps) (λ q. (((λ k. read_not_take p.want q), takes_not_away p.thread ps o.0), rest)) (λ q. rest)
-
-pub same_taker : (ps : List (Place V)) → OnceIn ps → first_take (leave_line (readers ps) ps) ≡ first_take ps
-same_taker ps o = takers_left (readers ps) ps (readers_take_not ps o)
+pub same_taker : (m : ℕ) (v : V) (u : State) → Once u.blocked → first_take (line_of m (read_by_all m v u).blocked) ≡ first_take (line_of m u.blocked)
+same_taker m v u o =
+    let read : List ℕ = those (λ t. reads_at m) u.blocked in
+    let none = ones_those_if (λ t r. reason_of t u.blocked ≡ Some r) (λ t. TakesNot m (reason_of t u.blocked)) (λ t. reads_at m) u.blocked (λ t r b e. subst (TakesNot m) (sym e) (reader_takes_not m r b)) (once_reason u.blocked o) in
+    let one : first_of_kind (takes m) (resume_all read (Ret v) u).blocked ≡ first_of_kind (takes m) u.blocked =
+    stays_all (first_of_kind (takes m)) (taker_or m) (TakesNot m) (λ w ws. refl) (λ t r q h. ap (λ z. elim z [ None ↦ q | Some a ↦ Some (t, a) ]) h) read (Ret v) u o (distinct_those (λ t. reads_at m) u.blocked o) none in
+    let two = subst (λ us. first_of_kind (takes m) (resume_all us (Ret v) u).blocked ≡ first_of_kind (takes m) u.blocked) (sym (readers_are m u.blocked)) one in
+    take_is_first m (read_by_all m v u).blocked ∙ (ap only_thread two ∙ sym (take_is_first m u.blocked))
 
 -- ---- a thread leaves all lines
 
