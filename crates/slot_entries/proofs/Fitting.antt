@@ -1,5 +1,5 @@
 -- A primitive whose values are of its types leaves a state.
-use Rattle.std.proofs.Common.{◌≡◌, ℕ, ℤ, ◌==◌, Bool, true, false, cond, List, [], ◌∷◌, Option, Some, None, refl, ap, ◌∙◌, slice_get}
+use Rattle.std.proofs.Common.{◌≡◌, ℕ, ◌==◌, Bool, true, false, cond, List, [], ◌∷◌, Option, Some, None, refl, ap, ◌∙◌, slice_get}
 use Rattle.hs_base.specs.declared.mask.Mask.{Mask}
 use Rattle.hs_base.specs.declared.exn.Exn.{Exn}
 use Rattle.rules_trees.specs.Trees.{T}
@@ -9,9 +9,7 @@ use Rattle.rules_meaning.specs.Values.{V, UnitValue, Int, Text, Exception, Inst}
 use Rattle.rules_expansion.specs.declared.primitive.Primitive.{Primitive}
 use Rattle.rules_expansion.specs.declared.primitive.Primitive.TheVariants.{ThrowTo}
 use Rattle.rules_sorts.specs.Sorts.{Sort}
-use Rattle.rules_sorts.specs.TypedMeaning.{of_int, of_text, of_thread, of_exn, of_cell}
 use Rattle.hs_rules.specs.Terms as named
-use Rattle.hs_soundness.specs.CoreSorts.{of_instance}
 use Rattle.hs_progress.specs.CoreTyping.{Asks, asks_put_str, asks_put_str_ln, asks_h_put_str_ln, asks_new, asks_new_empty, asks_new_scope_cell, asks_take, asks_put, asks_put_end, asks_read, asks_read_end, asks_try_take, asks_try_put, asks_my_thread, asks_masking, asks_clock, asks_delay, asks_throw_to, asks_new_timeout, asks_acquired, asks_release}
 use Rattle.hs_progress.specs.TypedStates.{AllOfSorts, no_values, one_value}
 use Rattle.slot_laws.specs.SlotRules.{SlotOp, calls, forks, forks_unmask, performs}
@@ -26,31 +24,6 @@ IsThere o = (y : SlotState) × (o ≡ Some y)
 pub one_or_other : (b : Bool) (y z : SlotState) → IsThere (cond b (Some y) (Some z))
 one_or_other true y z = (y, refl)
 one_or_other false y z = (z, refl)
-
--- ---- a value of a type has its form
-by_text : (P : V → Type 0) → ((b : List ℕ) → P (Text b)) → (v : V) → of_text v → P v
-by_text P f (Text b) h = f b
-by_text P f _ h = absurd h
-
-by_int : (P : V → Type 0) → ((n : ℤ) → P (Int n)) → (v : V) → of_int v → P v
-by_int P f (Int n) h = f n
-by_int P f _ h = absurd h
-
-by_exn : (P : V → Type 0) → ((e : Exn) → P (Exception e)) → (v : V) → of_exn v → P v
-by_exn P f (Exception e) h = f e
-by_exn P f _ h = absurd h
-
-by_instance : (P : V → Type 0) → ((i : ℕ) → P (Inst i)) → (v : V) → of_instance v → P v
-by_instance P f (Inst i) h = f i
-by_instance P f _ h = absurd h
-
-by_cell : (Q : ℕ → Type 0) (P : V → Type 0) → ((m : ℕ) → P (val.Cell m)) → (v : V) → of_cell Q v → P v
-by_cell Q P f (val.Cell m) h = f m
-by_cell Q P f _ h = absurd h
-
-by_thread : (Q : ℕ → Type 0) (P : V → Type 0) → ((m : ℕ) → P (val.Thread m)) → (v : V) → of_thread Q v → P v
-by_thread Q P f (val.Thread m) h = f m
-by_thread Q P f _ h = absurd h
 
 -- ---- throwing, where the target is there
 module _ (t : ℕ) (x : SlotState) where
@@ -72,29 +45,30 @@ module _ (t : ℕ) (x : SlotState) where
     TargetThere p vs = (u : ℕ) (e : Exn) → p ≡ ThrowTo → vs ≡ val.Thread u ∷ Exception e ∷ [] → (th : SlotThread) × (slice_get x.threads u ≡ Some th)
 
     call_there : (p : Primitive) (vs : List V) {ks : List Sort} {k : Sort} → Asks p ks k → AllOfSorts cells ks vs → TargetThere p vs → IsThere (performed t m p vs x)
-    call_there p vs asks_put_str (one_value {v} h no_values) there = by_text (λ w. IsThere (performed t m p (w ∷ []) x)) (λ b. (_, refl)) v h
-    call_there p vs asks_put_str_ln (one_value {v} h no_values) there = by_text (λ w. IsThere (performed t m p (w ∷ []) x)) (λ b. (_, refl)) v h
-    call_there p vs asks_h_put_str_ln (one_value {v} h no_values) there = by_text (λ w. IsThere (performed t m p (w ∷ []) x)) (λ b. (_, refl)) v h
-    call_there p vs asks_new (one_value {v} h no_values) there = (_, refl)
+    call_there p vs asks_put_str (one_value {v = Text b} h no_values) there = (_, refl)
+    call_there p vs asks_put_str_ln (one_value {v = Text b} h no_values) there = (_, refl)
+    call_there p vs asks_h_put_str_ln (one_value {v = Text b} h no_values) there = (_, refl)
+    call_there p vs asks_new (one_value h no_values) there = (_, refl)
     call_there p vs asks_new_empty no_values there = (_, refl)
     call_there p vs asks_new_scope_cell no_values there = (_, refl)
-    call_there p vs (asks_take {t = a}) (one_value {v} h no_values) there = by_cell (λ n. cells n _) (λ w. IsThere (performed t m p (w ∷ []) x)) (λ n. (_, refl)) v h
-    call_there p vs asks_put (one_value {v} h (one_value {v = w} g no_values)) there = by_cell (λ n. cells n _) (λ z. IsThere (performed t m p (z ∷ w ∷ []) x)) (λ n. (_, refl)) v h
-    call_there p vs asks_put_end (one_value {v} h (one_value {v = w} g no_values)) there = by_cell (λ n. cells n _) (λ z. IsThere (performed t m p (z ∷ w ∷ []) x)) (λ n. (_, refl)) v h
-    call_there p vs asks_read (one_value {v} h no_values) there = by_cell (λ n. cells n _) (λ w. IsThere (performed t m p (w ∷ []) x)) (λ n. (_, refl)) v h
-    call_there p vs asks_read_end (one_value {v} h no_values) there = by_cell (λ n. cells n _) (λ w. IsThere (performed t m p (w ∷ []) x)) (λ n. (_, refl)) v h
-    call_there p vs asks_try_take (one_value {v} h no_values) there = by_cell (λ n. cells n _) (λ w. IsThere (performed t m p (w ∷ []) x)) (λ n. (_, refl)) v h
-    call_there p vs asks_try_put (one_value {v} h (one_value {v = w} g no_values)) there = by_cell (λ n. cells n _) (λ z. IsThere (performed t m p (z ∷ w ∷ []) x)) (λ n. (_, refl)) v h
+    call_there p vs asks_take (one_value {v = val.Cell n} h no_values) there = (_, refl)
+    call_there p vs asks_put (one_value {v = val.Cell n} h (one_value g no_values)) there = (_, refl)
+    call_there p vs asks_put_end (one_value {v = val.Cell n} h (one_value g no_values)) there = (_, refl)
+    call_there p vs asks_read (one_value {v = val.Cell n} h no_values) there = (_, refl)
+    call_there p vs asks_read_end (one_value {v = val.Cell n} h no_values) there = (_, refl)
+    call_there p vs asks_try_take (one_value {v = val.Cell n} h no_values) there = (_, refl)
+    call_there p vs asks_try_put (one_value {v = val.Cell n} h (one_value g no_values)) there = (_, refl)
     call_there p vs asks_my_thread no_values there = (_, refl)
     call_there p vs asks_masking no_values there = (_, refl)
     call_there p vs asks_clock no_values there = (_, refl)
-    call_there p vs asks_delay (one_value {v} h no_values) there = by_int (λ w. IsThere (performed t m p (w ∷ []) x)) (λ n. (_, refl)) v h
-    call_there p vs asks_throw_to (one_value {v} h (one_value {v = w} g no_values)) there =
-        by_thread (λ n. cells n _) (λ z. TargetThere p (z ∷ w ∷ []) → IsThere (performed t m p (z ∷ w ∷ []) x))
-        (λ u. by_exn (λ z. TargetThere p (val.Thread u ∷ z ∷ []) → IsThere (performed t m p (val.Thread u ∷ z ∷ []) x)) (λ e it. let k = it u e refl refl in throw_there u e k.0 k.1) w g) v h there
+    call_there p vs asks_delay (one_value {v = Int n} h no_values) there = (_, refl)
+    call_there p vs asks_throw_to (one_value {v = val.Thread u} h (one_value {v = Exception e} g no_values)) there = let k = there u e refl refl in throw_there u e k.0 k.1
+    call_there p vs asks_throw_to (one_value {v = val.Thread u} h (one_value g no_values)) there = absurd g
     call_there p vs asks_new_timeout no_values there = (_, refl)
     call_there p vs asks_acquired no_values there = (_, refl)
-    call_there p vs asks_release (one_value {v} h no_values) there = by_instance (λ w. IsThere (performed t m p (w ∷ []) x)) (λ i. (_, refl)) v h
+    call_there p vs asks_release (one_value {v = Inst i} h no_values) there = (_, refl)
+    -- a value of another form isn't of the type
+    call_there p vs _ (one_value h g) there = absurd h
 
     -- ---- any operation that stands for a named one
     pub operation_there : (ds : List Fn) (p : SlotOp) {q : named.Part} {k : Sort} → PartStands cells ds (performs p) q k → ((u : ℕ) (e : Exn) → p ≡ calls ThrowTo (val.Thread u ∷ Exception e ∷ []) → (th : SlotThread) × (slice_get x.threads u ≡ Some th)) → IsThere (operated t m p x)
