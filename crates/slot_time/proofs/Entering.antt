@@ -8,7 +8,7 @@ use Rattle.hs_rules.specs.Entries.{uncaught_line}
 use Rattle.hs_rules.specs.Endings.{IsTick}
 use Rattle.rules_code.specs.CodeTrees.{SlottedFunction}
 use Rattle.rules_waiting.specs.Waiting.{Sleeper, flying_to, first_thrown}
-use Rattle.slot_laws.specs.SlotRules.{SlotPart, ret, throw, doing, performs, SlotFrame, SlotTerm, mask_from, locals}
+use Rattle.slot_laws.specs.SlotRules.{SlotPart, ret, throw, performs, SlotFrame, SlotTerm, mask_from, locals}
 use Rattle.slot_states.specs.SlotStates.{SlotThread, SlotState, receives, moves, finishes, strands}
 use Rattle.slot_states.specs.Resting.{is_receptive}
 use Rattle.slot_entries.specs.Entering.{moved, local_entry, operates, op_entry, received, receive_entry, ended, finish_entry, rest_from, waiting_from, stranded, strand_entry, entered, next}
@@ -35,10 +35,8 @@ module _ (funs : List SlottedFunction) (x : SlotState) where
   local_alike t (suc k) th = either_alike th.blocked None (moved t (locals funs Unmasked (suc k) th.term) (untimed x)) None (moved t (locals funs Unmasked (suc k) th.term) x) refl (moved_alike t (locals funs Unmasked (suc k) th.term))
 
   part_alike : (t : ℕ) (fs : List SlotFrame) (q : SlotPart) → part_reads_clock q ≡ false → Alikes (operates t fs q (untimed x)) (operates t fs q x)
-  part_alike t fs (ret v) n = refl
-  part_alike t fs (throw e) n = refl
-  part_alike t fs (doing a vs) n = refl
   part_alike t fs (performs p) n = operation_alike x t (mask_from Unmasked fs) p n
+  part_alike t fs _ n = refl
 
   op_alike : (t : ℕ) (th : SlotThread) → part_reads_clock th.term.part ≡ false → Alikes (op_entry t th (untimed x)) (op_entry t th x)
   op_alike t th n = either_alike th.blocked None (operates t th.term.frames th.term.part (untimed x)) None (operates t th.term.frames th.term.part x) refl (part_alike t th.term.frames th.term.part n)
@@ -55,9 +53,7 @@ module _ (funs : List SlottedFunction) (x : SlotState) where
   ended_alike : (t : ℕ) (fs : List SlotFrame) (q : SlotPart) → Alikes (ended t fs q (untimed x)) (ended t fs q x)
   ended_alike t [] (ret v) = again (finishes t 0 x)
   ended_alike t [] (throw e) = again (finishes t (length (uncaught_line t e)) x)
-  ended_alike t [] (doing a vs) = refl
-  ended_alike t [] (performs p) = refl
-  ended_alike t (f ∷ fs) q = refl
+  ended_alike t _ _ = refl
 
   finish_alike : (t : ℕ) (th : SlotThread) → Alikes (finish_entry t th (untimed x)) (finish_entry t th x)
   finish_alike t th = either_alike th.blocked None (ended t th.term.frames th.term.part (untimed x)) None (ended t th.term.frames th.term.part x) refl (ended_alike t th.term.frames th.term.part)

@@ -14,7 +14,7 @@ use Rattle.timing_laws.specs.WithoutTime as named
 use Rattle.timing_laws.specs.WithoutTime.{timeless, timeless_blocked}
 use Rattle.timing_laws.proofs.Alike.{due_now, blocked_still, line_still, flight_still, sleepers_still}
 use Rattle.slot_laws.specs.SlotRules.{SlotPart}
-use Rattle.slot_laws.specs.Standing.{PartStands, ret_stands, throw_stands, do_stands, op_stands, calls_stands, forks_stands, forks_unmask_stands}
+use Rattle.slot_laws.specs.Standing.{PartStands, op_stands, calls_stands}
 use Rattle.slot_states.specs.SlotStates.{SlotThread, SlotState, SameThread, Represents}
 use Rattle.slot_states.proofs.Reading.{named_of, same_cell, slotted_of}
 use Rattle.slot_time.specs.WithoutTime.{undue, untimed, part_reads_clock, thread_reads_clock, ReadsClock}
@@ -51,12 +51,8 @@ untimed_stands ds x s r =
 -- ---- what reads the clock
 
 part_reads : (cells : ℕ → T → Type 0) (ds : List Fn) {p : SlotPart} {q : terms.Part} {k : Sort} → PartStands cells ds p q k → part_reads_clock p ≡ named.part_reads_clock q
-part_reads cells ds (ret_stands h) = refl
-part_reads cells ds throw_stands = refl
-part_reads cells ds (do_stands h) = refl
 part_reads cells ds (op_stands (calls_stands a h)) = refl
-part_reads cells ds (op_stands (forks_stands h)) = refl
-part_reads cells ds (op_stands (forks_unmask_stands h)) = refl
+part_reads cells ds _ = refl
 
 module _ (ds : List Fn) (x : SlotState) (s : State) (r : Represents ds x s) where
   reads_forth : (t : ℕ) (o : Option SlotThread) → slice_get x.threads t ≡ o → thread_reads_clock o ≡ true → named.thread_reads_clock (slice_get s.threads t) ≡ true

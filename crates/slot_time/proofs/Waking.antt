@@ -93,22 +93,13 @@ module _ (funs : List SlottedFunction) where
   other_back x z e h a = alike_there (next funs x e) z (sym (subst (λ o. Alikes o (next funs x e)) h a))
 
   pub next_forth : (x y : SlotState) (e : Entry) → next funs x e ≡ Some y → ¬ IsTick e → ¬ ReadsClock x e → (z : SlotState) × (next funs (untimed x) e ≡ Some z) × (untimed z ≡ untimed y)
-  next_forth x y (entry.Local t k) h a c = other_forth x y (entry.Local t k) h (next_alike funs x (entry.Local t k) a (λ n. n) c)
-  next_forth x y (entry.Op t) h a c = other_forth x y (entry.Op t) h (next_alike funs x (entry.Op t) a (λ n. n) c)
-  next_forth x y (entry.Receive t) h a c = other_forth x y (entry.Receive t) h (next_alike funs x (entry.Receive t) a (λ n. n) c)
   next_forth x y (entry.Wake t) h a c = wake_forth t x y h
-  next_forth x y (entry.Finish t) h a c = other_forth x y (entry.Finish t) h (next_alike funs x (entry.Finish t) a (λ n. n) c)
-  next_forth x y (entry.Tick now) h a c = absurd (a tt)
-  next_forth x y entry.Stranded h a c = other_forth x y entry.Stranded h (next_alike funs x entry.Stranded a (λ n. n) c)
+  next_forth x y e h a c = other_forth x y e h (next_alike funs x e a (λ n. n) c)
 
   pub next_back : (x z : SlotState) (e : Entry) → next funs (untimed x) e ≡ Some z → ¬ IsTick e → ¬ ReadsClock x e → (y : SlotState) × (next funs (due_first x e) e ≡ Some y) × (untimed y ≡ untimed z)
-  next_back x z (entry.Local t k) h a c = other_back x z (entry.Local t k) h (next_alike funs x (entry.Local t k) a (λ n. n) c)
-  next_back x z (entry.Op t) h a c = other_back x z (entry.Op t) h (next_alike funs x (entry.Op t) a (λ n. n) c)
-  next_back x z (entry.Receive t) h a c = other_back x z (entry.Receive t) h (next_alike funs x (entry.Receive t) a (λ n. n) c)
   next_back x z (entry.Wake t) h a c = wake_back t x z h
-  next_back x z (entry.Finish t) h a c = other_back x z (entry.Finish t) h (next_alike funs x (entry.Finish t) a (λ n. n) c)
   next_back x z (entry.Tick now) h a c = absurd (a tt)
-  next_back x z entry.Stranded h a c = other_back x z entry.Stranded h (next_alike funs x entry.Stranded a (λ n. n) c)
+  next_back x z e h a c = other_back x z e h (next_alike funs x e a (λ n. n) c)
 
   -- the state in which an entry is entered is the state itself, or left by a Tick
   abbrev OrTicks : SlotState → Entry → Type 0
