@@ -1,5 +1,5 @@
 -- For each typed term there is a term with slots that stands for it.
-use Rattle.std.proofs.Common.{◌≡◌, ℕ, zero, suc, ◌==◌, List, [], ◌∷◌, ◌++◌, length, Bool, true, false, cond, Option, Some, None, refl, sym, ap, ◌∙◌, subst, arith, slice_get, length-append, eqb-true}
+use Rattle.std.proofs.Common.{◌≡◌, ℕ, ◌==◌, List, [], ◌∷◌, ◌++◌, length, Bool, true, false, cond, Option, Some, None, refl, sym, ap, ◌∙◌, subst, arith, slice_get, length-append, eqb-true}
 use Rattle.std.proofs.lemmas.Slice.Eq.{bytes_eq-Decides}
 use Rattle.hs_base.specs.declared.tree.script.Script.{Script}
 use Rattle.hs_rules.specs.declared.entry.Entry.{Entry}
@@ -17,6 +17,7 @@ use Rattle.rules_code.specs.Matching.{Seen}
 use Rattle.hs_rules.specs.Terms as named
 use Rattle.hs_rules.specs.State.{Thread, State}
 use Rattle.hs_rules.specs.Runs.{IsRun}
+use Rattle.hs_laws.proofs.Lists.{item_append}
 use Rattle.hs_soundness.specs.CoreSorts.{names_of, FitsAt, FitsScope, SlotsFit}
 use Rattle.hs_progress.specs.TypedStates as typed
 use Rattle.hs_progress.specs.TypedStates.{Runs, OpTyped, calls_typed, forks_typed, forks_unmask_typed, PartTyped, ret_typed, throw_typed, do_typed, op_typed, FramesTyped, no_frames, bind_typed, then_typed, catch_typed, mask_typed, ThreadTyped, has, TypedState}
@@ -55,11 +56,6 @@ abbrev value_or : Option V → V
 value_or None = UnitValue
 value_or (Some v) = v
 
-pub get_left : {A : Type 0} (xs ys : List A) (k : ℕ) (v : A) → slice_get xs k ≡ Some v → slice_get (xs ++ ys) k ≡ Some v
-get_left [] ys k v h = absurd (cc h)
-get_left (x ∷ xs) ys zero v h = h
-get_left (x ∷ xs) ys (suc k) v h = get_left xs ys k v h
-
 pub last_item : {A : Type 0} (xs : List A) (y : A) → slice_get (xs ++ y ∷ []) (length xs) ≡ Some y
 last_item [] y = refl
 last_item (x ∷ xs) y = last_item xs y
@@ -83,7 +79,7 @@ module _ (env : Env) where
 
   agree_more : (o : Option Sort) (n : Option ℕ) (w : Option V) (vs us : List V) → Agree o n w vs → Agree o n w (vs ++ us)
   agree_more None None w vs us h = h
-  agree_more (Some k) (Some n) (Some v) vs us h = get_left vs us n v h
+  agree_more (Some k) (Some n) (Some v) vs us h = item_append vs us n v h
   agree_more _ _ _ vs us h = h
 
   agree_end : (k : Sort) (n : ℕ) (w r : Option V) (vs : List V) → length vs ≡ n → r ≡ w → Agree (Some k) (Some n) w (vs ++ value_or r ∷ [])
