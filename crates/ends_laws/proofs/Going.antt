@@ -12,21 +12,19 @@ use Rattle.rules_meaning.specs.CoreMeaning.{Code, code_of}
 use Rattle.rules_typing.specs.TypingScripts.{Accepted}
 use Rattle.rules_code.specs.CodeTrees.{SlottedFunction, code_trees}
 use Rattle.hs_rules.specs.State.{State}
-use Rattle.hs_rules.specs.Endings.{IsTick}
 use Rattle.hs_rules.specs.Runs.{first_of, IsRun}
 use Rattle.timing_laws.specs.WithoutTime.{without_ticks}
 use Rattle.outcome_laws.specs.Timings.{MayTick, TickFits, TimedRun, RunsPast, IsEndless}
 use Rattle.outcome_laws.proofs.Timed.{timed_join, run_of_timed}
 use Rattle.outcome_laws.proofs.Going.{count_more}
 use Rattle.slot_states.specs.SlotStates.{SlotState, Represents}
-use Rattle.slot_states.proofs.Settled.{same_due}
 use Rattle.slot_entries.specs.Entering.{next}
 use Rattle.slot_rests.specs.Rests.{EagerMoves}
 use Rattle.search_laws.specs.Shown.{forget, Shown, Arrives}
-use Rattle.search_laws.specs.Going.{MayTake, Leaves, Takes}
+use Rattle.search_laws.specs.Going.{Leaves, Takes}
 use Rattle.search_laws.specs.Found.{Edge, AreTrueEdges}
 use Rattle.search_laws.proofs.Cited.{entered, reads, back, ticked, move_enters}
-use Rattle.search_laws.proofs.Walking.{still_quiet}
+use Rattle.search_laws.proofs.Walking.{taken_fits, no_tick}
 use Rattle.search_laws.proofs.Following.{exactly, moves_of}
 use Rattle.ends_laws.specs.Rounds.{LeadOn}
 
@@ -42,16 +40,6 @@ work edges i (p ∷ ps) j h = worth h.0.entry + work edges h.0.to ps j h.3
 worth_last : (es : List Entry) (e : Entry) → length (without_ticks (es ++ e ∷ [])) ≡ length (without_ticks es) + worth e
 worth_last [] e = omega arith
 worth_last (x ∷ xs) e = omega (arith, count_more x (xs ++ e ∷ []), count_more x xs, worth_last xs e)
-
--- in real timing no Tick is taken
-never_tick : (clock : ClockChoice) (funs : List SlottedFunction) (x : SlotState) (e : Entry) → MayTake clock funs x e → clock ≡ Real → ¬ IsTick e
-never_tick clock funs x (entry.Tick at) m real h = let z : Real ≡ Virtual = sym real ∙ m.0 in cc z
-never_tick clock funs x (entry.Local t k) m real h = h
-never_tick clock funs x (entry.Op t) m real h = h
-never_tick clock funs x (entry.Receive t) m real h = h
-never_tick clock funs x (entry.Wake t) m real h = h
-never_tick clock funs x (entry.Finish t) m real h = h
-never_tick clock funs x entry.Stranded m real h = h
 
 module _ (script : Script) (accepted : Accepted script) (limits : Limits) where
   abbrev ds : List Fn
@@ -97,20 +85,6 @@ module _ (script : Script) (accepted : Accepted script) (limits : Limits) where
 
   -- ---- an entry that is taken
 
-  module _ (es : List Entry) (s : State) (run : IsRun ds es s) (x : SlotState) (r : Represents ds x s) where
-    tick_fits : (clock : ClockChoice) (at : ℕ) → MayTake clock funs (forget clock x) (entry.Tick at) → MayTick clock code s at
-    tick_fits Real at m = tt
-    tick_fits Virtual at m = (still_quiet Virtual script accepted limits es s run x r m.1, same_due ds x s r ∙ m.2)
-
-    taken_fits : (clock : ClockChoice) (e : Entry) → MayTake clock funs (forget clock x) e → TickFits (MayTick clock code) s e
-    taken_fits clock (entry.Tick at) m = tick_fits clock at m
-    taken_fits clock (entry.Local t k) m = tt
-    taken_fits clock (entry.Op t) m = tt
-    taken_fits clock (entry.Receive t) m = tt
-    taken_fits clock (entry.Wake t) m = tt
-    taken_fits clock (entry.Finish t) m = tt
-    taken_fits clock entry.Stranded m = tt
-
   -- a state that is kept so, and a run that leaves one for which it stands
   abbrev pub Exactly : ClockChoice → (begin : State) → first_of ds ≡ Some begin → ℕ → SlotState → Type 0
   Exactly clock begin begins m z = (x : SlotState) × (forget clock x ≡ z) × On clock begin begins m x
@@ -118,12 +92,12 @@ module _ (script : Script) (accepted : Accepted script) (limits : Limits) where
   module _ (begin : State) (begins : first_of ds ≡ Some begin) where
     -- with its Tick in real timing
     entry_on : (clock : ClockChoice) (m : ℕ) (x z : SlotState) (e : Entry) → Leaves clock funs (forget clock x) e z → On clock begin begins m x → Exactly clock begin begins (m + worth e) (forget clock z)
-    entry_on Virtual m x z e l a = (z, refl, one_on Virtual begin begins m x z e l.leaves a (taken_fits a.entries a.state (is_run Virtual begin begins m x a) x a.represents Virtual e l.may))
+    entry_on Virtual m x z e l a = (z, refl, one_on Virtual begin begins m x z e l.leaves a (taken_fits Virtual script accepted limits Virtual a.entries a.state (is_run Virtual begin begins m x a) x a.represents e l.may))
     entry_on Real m x z e l a =
-        let plain = never_tick Real funs (forget Real x) e l.may refl in
+        let plain = no_tick funs (forget Real x) e l.may in
         let k = back funs x z e l.leaves plain (λ q. l.timeless ((reads x e).1 q)) in
         ⊎_elim
-        (λ same. (k.0, k.2, one_on Real begin begins m x k.0 e (subst (λ q. next funs q e ≡ Some k.0) same k.1) a (taken_fits a.entries a.state (is_run Real begin begins m x a) x a.represents Real e l.may)))
+        (λ same. (k.0, k.2, one_on Real begin begins m x k.0 e (subst (λ q. next funs q e ≡ Some k.0) same k.1) a (taken_fits Real script accepted limits Real a.entries a.state (is_run Real begin begins m x a) x a.represents e l.may)))
         (λ d.
         let b = one_on Real begin begins m x _ (entry.Tick d.1) d.4 a tt in
         (k.0, k.2, fewer Real begin begins (m + worth e) ((m + 0) + worth e) k.0 (omega arith) (one_on Real begin begins (m + 0) _ k.0 e k.1 b (subst (TickFits (MayTick Real code) b.state) (sym d.2) tt))))

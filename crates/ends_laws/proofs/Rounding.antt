@@ -23,21 +23,11 @@ later due now h = grind arith
 
 ticks_alone : (e : Entry) → worth e ≡ 0 → (at : ℕ) × (e ≡ entry.Tick at)
 ticks_alone (entry.Tick at) h = (at, refl)
-ticks_alone (entry.Local t k) h = absurd (cc h)
-ticks_alone (entry.Op t) h = absurd (cc h)
-ticks_alone (entry.Receive t) h = absurd (cc h)
-ticks_alone (entry.Wake t) h = absurd (cc h)
-ticks_alone (entry.Finish t) h = absurd (cc h)
-ticks_alone entry.Stranded h = absurd (cc h)
+ticks_alone _ h = absurd (cc h)
 
 tick_or_not : (e : Entry) → (worth e ≡ 0) ⊎ (¬ IsTick e)
 tick_or_not (entry.Tick at) = inl refl
-tick_or_not (entry.Local t k) = inr (λ h. h)
-tick_or_not (entry.Op t) = inr (λ h. h)
-tick_or_not (entry.Receive t) = inr (λ h. h)
-tick_or_not (entry.Wake t) = inr (λ h. h)
-tick_or_not (entry.Finish t) = inr (λ h. h)
-tick_or_not entry.Stranded = inr (λ h. h)
+tick_or_not _ = inr (λ h. h)
 
 -- where there is work on a way, an edge isn't a Tick
 pub has_work : (edges : List Edge) (i : ℕ) (places : List ℕ) (j : ℕ) (h : LeadOn edges i places j) → 0 < work edges i places j h → HasWork edges places

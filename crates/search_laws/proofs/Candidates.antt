@@ -1,5 +1,5 @@
 -- Whatever has a next state is among the entries to try.
-use Rattle.std.proofs.Common.{◌≡◌, ◌<◌, ◌+◌, ◌==◌, ℕ, zero, suc, Bool, true, false, cond, List, [], ◌∷◌, ◌++◌, length, map, Option, Some, None, slice_get, refl, sym, ap, ◌∙◌, subst, arith}
+use Rattle.std.proofs.Common.{◌≡◌, ◌+◌, ◌==◌, ℕ, zero, suc, Bool, true, false, cond, List, [], ◌∷◌, ◌++◌, map, Option, Some, None, slice_get, refl, sym, ap, ◌∙◌, subst, arith}
 use Rattle.std.specs.List.{Contains}
 use Rattle.std.proofs.lemmas.Option.{same_Some}
 use Rattle.std.proofs.lemmas.List.Elements.{Contains-append_left, Contains-append_right}
@@ -11,10 +11,11 @@ use Rattle.hs_rules.specs.Endings.{IsTick}
 use Rattle.rules_code.specs.CodeTrees.{SlottedFunction}
 use Rattle.rules_waiting.specs.Waiting.{Sleeper}
 use Rattle.exn_flight.specs.Asleep.{due_of}
+pub use Rattle.hs_laws.proofs.Lists.{item_below as there_below}
 use Rattle.slot_laws.specs.SlotRules.{SlotTerm, on_term, local, locals}
 use Rattle.slot_states.specs.SlotStates.{SlotThread, SlotState}
 use Rattle.slot_entries.specs.Entering.{next, on_thread, entered, local_entry, moved, operates, receive_entry, ended, woken}
-use Rattle.slot_entries.proofs.Passing.{passed_not, thread_there, thread_leaves}
+use Rattle.slot_entries.proofs.Passing.{passed_not, thread_there, thread_leaves, none_or}
 use Rattle.search_laws.specs.Shown.{Shown}
 use Rattle.search_laws.specs.Going.{IsStill, MayTake}
 use Rattle.search_laws.specs.Found.{Edge, IsFollowed, IsGone, entries_at, entries_from, wake_of, candidates}
@@ -29,12 +30,6 @@ goes_contains : (x : SlotState) (main : SlotThread) → slice_get x.threads 0 �
 goes_contains x main is f e c = rw is (rw f c)
 
 -- ---- by threads
-
-pub there_below : {A : Type 0} → (xs : List A) (t : ℕ) (x : A) → slice_get xs t ≡ Some x → t < length xs
-there_below [] zero x e = absurd (cc e)
-there_below [] (suc t) x e = absurd (cc e)
-there_below (y ∷ ys) zero x e = omega arith
-there_below (y ∷ ys) (suc t) x e = let h = there_below ys t x e in omega arith
 
 from_contain : (ths : List SlotThread) (t i : ℕ) (th : SlotThread) → slice_get ths i ≡ Some th → (e : Entry) → Contains (entries_at (t + i) th) e → Contains (entries_from t ths) e
 from_contain [] t i th is e c = absurd (cc is)
@@ -102,12 +97,7 @@ woken_due t (Some due) x z e = (due, refl)
 -- a Local of one step, and any entry of another kind
 abbrev pub IsOneStep : Entry → Type 0
 IsOneStep (entry.Local t k) = k ≡ 1
-IsOneStep (entry.Op t) = Unit {0}
-IsOneStep (entry.Receive t) = Unit {0}
-IsOneStep (entry.Wake t) = Unit {0}
-IsOneStep (entry.Finish t) = Unit {0}
-IsOneStep (entry.Tick at) = Unit {0}
-IsOneStep entry.Stranded = Unit {0}
+IsOneStep _ = Unit {0}
 
 module _ (funs : List SlottedFunction) (x z : SlotState) where
   main_entered : (e : Entry) → next funs x e ≡ Some z → entered funs x e ≡ Some z
@@ -162,10 +152,6 @@ local_once funs x z t k h =
 
 -- ---- all
 
-some_or : (o : Option SlotState) → ((z : SlotState) → o ≡ Some z → ⊥) → o ≡ None
-some_or None h = refl
-some_or (Some z) h = absurd (h z refl)
-
 module _ (funs : List SlottedFunction) (x : SlotState) (none : (e : Entry) → Contains (candidates x) e → next funs x e ≡ None) where
   none_leads : (e : Entry) → IsOneStep e → ¬ IsTick e → (z : SlotState) → next funs x e ≡ Some z → ⊥
   none_leads e one plain z h = let q : ◌≡◌ {A = Option SlotState} None (Some z) = sym (none e (leads_among funs x z e one plain h)) ∙ h in cc q
@@ -175,24 +161,16 @@ module _ (funs : List SlottedFunction) (x : SlotState) (none : (e : Entry) → C
       let th = thread_there (slice_get x.threads t) (λ v. local_entry funs t zero v x) z (main_entered funs x z (entry.Local t zero) h) in
       let q : ◌≡◌ {A = Option SlotState} None (Some z) = th.3 in cc q
   no_next (entry.Local t (suc k)) plain z h = let y = local_once funs x z t k h in none_leads (entry.Local t 1) refl plain y.0 y.1
-  no_next (entry.Op t) plain z h = none_leads (entry.Op t) tt plain z h
-  no_next (entry.Receive t) plain z h = none_leads (entry.Receive t) tt plain z h
-  no_next (entry.Wake t) plain z h = none_leads (entry.Wake t) tt plain z h
-  no_next (entry.Finish t) plain z h = none_leads (entry.Finish t) tt plain z h
   no_next (entry.Tick at) plain z h = absurd (plain tt)
-  no_next entry.Stranded plain z h = none_leads entry.Stranded tt plain z h
+  no_next e plain z h = none_leads e tt plain z h
 
   -- where none of them has a next state, no entry but a Tick has
   pub all_still : IsStill funs x
-  all_still e plain = some_or (next funs x e) (λ z h. no_next e plain z h)
+  all_still e plain = none_or (next funs x e) (λ z h. no_next e plain z h)
 
 -- where each of them that has a next state has its edge, and so a Tick, each entry that may be taken has
 pub all_gone : (clock : ClockChoice) (funs : List SlottedFunction) (edges : List Edge) (i : ℕ) (c : Shown) → ((e : Entry) → Contains (candidates c.slots) e → IsFollowed funs edges i c e)
     → ((at : ℕ) → MayTake clock funs c.slots (entry.Tick at) → IsFollowed funs edges i c (entry.Tick at)) → IsGone clock funs edges i c
 all_gone clock funs edges i c each tick (entry.Tick at) m z h = tick at m z h
 all_gone clock funs edges i c each tick (entry.Local t k) m z h = each (entry.Local t k) (leads_among funs c.slots z (entry.Local t k) m (λ q. q) h) z h
-all_gone clock funs edges i c each tick (entry.Op t) m z h = each (entry.Op t) (leads_among funs c.slots z (entry.Op t) tt (λ q. q) h) z h
-all_gone clock funs edges i c each tick (entry.Receive t) m z h = each (entry.Receive t) (leads_among funs c.slots z (entry.Receive t) tt (λ q. q) h) z h
-all_gone clock funs edges i c each tick (entry.Wake t) m z h = each (entry.Wake t) (leads_among funs c.slots z (entry.Wake t) tt (λ q. q) h) z h
-all_gone clock funs edges i c each tick (entry.Finish t) m z h = each (entry.Finish t) (leads_among funs c.slots z (entry.Finish t) tt (λ q. q) h) z h
-all_gone clock funs edges i c each tick entry.Stranded m z h = each entry.Stranded (leads_among funs c.slots z entry.Stranded tt (λ q. q) h) z h
+all_gone clock funs edges i c each tick e m z h = each e (leads_among funs c.slots z e tt (λ q. q) h) z h

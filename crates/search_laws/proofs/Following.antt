@@ -1,5 +1,5 @@
 -- Each entry that is taken follows an edge of a search that has gone on from each of its states.
-use Rattle.std.proofs.Common.{◌≡◌, ◌⊎◌, ℕ, List, [], ◌∷◌, ◌++◌, length, Option, Some, None, slice_get, refl, sym, ap, ◌∙◌, subst, inl, inr, append-nil}
+use Rattle.std.proofs.Common.{◌≡◌, ◌⊎◌, ℕ, List, [], ◌∷◌, ◌++◌, length, Some, slice_get, refl, sym, ap, ◌∙◌, subst, inl, inr, append-nil}
 use Rattle.std.proofs.lemmas.Option.{same_Some}
 use Rattle.hs_base.specs.declared.clock_choice.ClockChoice.{ClockChoice}
 use Rattle.hs_base.specs.declared.clock_choice.ClockChoice.TheVariants.{Real, Virtual}
@@ -22,13 +22,13 @@ use Rattle.reduction_laws.specs.Paths.{IsTaken}
 use Rattle.slot_states.specs.SlotStates.{SlotState, ticks, Represents}
 use Rattle.slot_states.specs.Printing.{output_by, errors_by}
 use Rattle.slot_states.proofs.Settled.{same_due}
-use Rattle.slot_states.proofs.Printed.{next_adds}
+use Rattle.slot_states.proofs.Printed.{nothing_yet, run_prints, next_adds}
 use Rattle.slot_entries.specs.Entering.{entered, next}
-use Rattle.slot_entries.proofs.Passing.{passed, thread_there}
+use Rattle.slot_entries.proofs.Passing.{passed, thread_there, none_or}
 use Rattle.slot_time.specs.WithoutTime.{untimed}
 use Rattle.slot_rests.specs.Rests.{EagerMoves}
 use Rattle.slot_rests.proofs.Untimed.{timed_moves}
-use Rattle.search_laws.specs.Shown.{forget, Shown, StandsAs}
+use Rattle.search_laws.specs.Shown.{forget, Shown, StandsAs, IsFirst}
 use Rattle.search_laws.specs.Going.{EagerEntries, IsStill, ReadsTime, MayTake, Takes}
 use Rattle.search_laws.specs.Found.{Edge, AreTrueEdges, AreGone}
 use Rattle.search_laws.proofs.Cited as cited
@@ -69,15 +69,19 @@ kept_errors Virtual x e = refl
 -- a Tick of real timing, or another entry
 pub tick_or : (clock : ClockChoice) (e : Entry) → ((clock ≡ Real) × (at : ℕ) × (e ≡ entry.Tick at)) ⊎ (clock ≡ Real → ¬ IsTick e)
 tick_or Real (entry.Tick at) = inl (refl, at, refl)
-tick_or Real (entry.Local t k) = inr (λ r h. h)
-tick_or Real (entry.Op t) = inr (λ r h. h)
-tick_or Real (entry.Receive t) = inr (λ r h. h)
-tick_or Real (entry.Wake t) = inr (λ r h. h)
-tick_or Real (entry.Finish t) = inr (λ r h. h)
-tick_or Real entry.Stranded = inr (λ r h. h)
 tick_or Virtual e = inr (λ r. let z : Virtual ≡ Real = r in absurd (cc z))
+tick_or Real _ = inr (λ r h. h)
 
 -- ---- edges
+
+-- a run leaves this state, for which one of the search stands
+pub record Visited (clock : ClockChoice) (ds : List Fn) (states : List Shown) (s : State) : Type 0 where
+  pub number : ℕ
+  pub shown : Shown
+  pub is : slice_get states number ≡ Some shown
+  pub entries : List Entry
+  pub run : IsRun ds entries s
+  pub stands : StandsAs clock ds shown s
 
 -- an edge of the search from the state of this number, and eager steps from u to a state for which the one stands to which it leads
 pub record Follows (clock : ClockChoice) (ds : List Fn) (states : List Shown) (edges : List Edge) (i : ℕ) (u : State) : Type 0 where
@@ -85,17 +89,10 @@ pub record Follows (clock : ClockChoice) (ds : List Fn) (states : List Shown) (e
   pub edge : Edge
   pub is : slice_get edges place ≡ Some edge
   pub from : edge.from ≡ i
-  pub other : Shown
-  pub there : slice_get states edge.to ≡ Some other
   pub state : State
   pub eager : EagerSteps (code_of ds) edge.eager u state
-  pub entries : List Entry
-  pub run : IsRun ds entries state
-  pub stands : StandsAs clock ds other state
-
-none_or : (o : Option SlotState) → ((y : SlotState) → ¬ (o ≡ Some y)) → o ≡ None
-none_or None n = refl
-none_or (Some y) n = absurd (n y refl)
+  pub visited : Visited clock ds states state
+  pub to : visited.number ≡ edge.to
 
 module _ (script : Script) (accepted : Accepted script) where
   abbrev ds : List Fn
@@ -120,11 +117,7 @@ module _ (script : Script) (accepted : Accepted script) where
     may_take : (clock : ClockChoice) (e : Entry) → IsTaken (MayTick clock code) s e → (clock ≡ Real → ¬ IsTick e) → MayTake clock funs (forget clock x) e
     may_take clock (entry.Tick at) t plain = tick_may clock at t (λ q. plain q tt)
     may_take clock (entry.Local i k) t plain = t
-    may_take clock (entry.Op i) t plain = tt
-    may_take clock (entry.Receive i) t plain = tt
-    may_take clock (entry.Wake i) t plain = tt
-    may_take clock (entry.Finish i) t plain = tt
-    may_take clock entry.Stranded t plain = tt
+    may_take clock _ t plain = tt
 
   module _ (clock : ClockChoice) (limits : Limits) where
     -- ---- eager local rules
@@ -178,13 +171,10 @@ module _ (script : Script) (accepted : Accepted script) where
             edge = led.edge;
             is = led.is;
             from = led.from;
-            other = g.other;
-            there = g.there;
             state = k.0;
             eager = subst (λ n. EagerSteps code n u k.0) g.many k.1;
-            entries = k.2;
-            run = k.3;
-            stands = k.4;
+            visited = record { number = led.edge.to; shown = g.other; is = g.there; entries = k.2; run = k.3; stands = k.4 };
+            to = refl;
           }
 
   -- ---- a Tick of real timing
@@ -202,3 +192,25 @@ module _ (script : Script) (accepted : Accepted script) where
         output = adds.0 ∙ (append-nil s.output ∙ a.output);
         errors = adds.1 ∙ (append-nil s.errors ∙ a.errors);
       }
+
+  -- so the state of the search stays the same
+  abbrev pub stays : (clock : ClockChoice) (states : List Shown) (s u : State) (v : Visited clock ds states s) (e : Entry) → Leads code s e u → (clock ≡ Real) × (at : ℕ) × (e ≡ entry.Tick at) → Visited clock ds states u
+  stays clock states s u v e l k = record {
+    number = v.number;
+    shown = v.shown;
+    is = v.is;
+    entries = v.entries ++ e ∷ [];
+    run = run_more ds v.entries e s u v.run l;
+    stands = subst (λ c. StandsAs c ds v.shown u) (sym k.0) (tick_stays v.entries s v.run v.shown (subst (λ c. StandsAs c ds v.shown s) k.0 v.stands) k.1 u (subst (λ z. Leads code s z u) k.2 l));
+  }
+
+  -- ---- the begin
+
+  -- eager steps lead from the first state to the first of a search
+  abbrev pub begun : (clock : ClockChoice) (limits : Limits) (first : SlotState) (states : List Shown) (edges : List Edge) (is : IsFirst ds first) (gone : AreGone clock funs limits first states edges)
+      → (r : State) × EagerSteps code (length gone.source.locals) is.0 r × Visited clock ds states r
+  begun clock limits first states edges is gone =
+      let p = run_prints ds [] is.0 is.1 in
+      let q = nothing_yet ds in
+      let k = rested clock limits [] is.0 is.1 first first is.2 refl gone.source.locals gone.begin gone.comes.rests (sym p.0 ∙ (q.0 ∙ sym gone.comes.output)) (sym p.1 ∙ (q.1 ∙ sym gone.comes.errors)) in
+      (k.0, k.1, record { number = 0; shown = gone.begin; is = gone.is; entries = k.2; run = k.3; stands = k.4 })

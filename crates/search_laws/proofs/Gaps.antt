@@ -57,9 +57,7 @@ loose limits x = record {
 
 loose_allows : (limits : Limits) (x : SlotState) (kind : LimitKind) → (allowed kind limits ≤ allowed kind (loose limits x)) × (used kind x ≤ allowed kind (loose limits x))
 loose_allows limits x limit.Threads = (omega arith, omega arith)
-loose_allows limits x limit.Cells = (omega arith, omega arith)
-loose_allows limits x limit.Frames = (omega arith, omega arith)
-loose_allows limits x limit.Output = (omega arith, omega arith)
+loose_allows limits x _ = (omega arith, omega arith)
 
 loosened : (clock : ClockChoice) (ds : List Fn) (limits : Limits) (y : SlotState) (n : ℕ) (x : SlotState) (o r : List ℕ) → At clock ds limits n x o r → At clock ds (loose limits y) n x o r
 loosened clock ds limits y n x o r a = record {

@@ -9,6 +9,8 @@ use Rattle.hs_rules.specs.declared.entry.LimitKind.TheVariants as limit
 use Rattle.rules_code.specs.CodeTrees.{SlottedFunction}
 use Rattle.slot_states.specs.SlotStates.{SlotState}
 use Rattle.slot_states.specs.Resting.{used}
+pub use Rattle.hs_laws.proofs.Lists.{item_append as there_before}
+pub use Rattle.slot_laws.proofs.Building.{last_item as there_last}
 use Rattle.slot_rests.specs.Rests.{EagerMove}
 use Rattle.search_laws.specs.Shown.{Shown}
 use Rattle.search_laws.specs.Going.{EagerEntries}
@@ -16,16 +18,6 @@ use Rattle.search_laws.specs.Found.{Source, ComesOf, Comes, IsBefore, HasSource,
 use Rattle.search_laws.proofs.Candidates.{there_below}
 
 -- ---- lists
-
-pub there_before : {A : Type 0} → (xs ys : List A) (i : ℕ) (x : A) → slice_get xs i ≡ Some x → slice_get (xs ++ ys) i ≡ Some x
-there_before [] ys zero x e = absurd (cc e)
-there_before [] ys (suc i) x e = absurd (cc e)
-there_before (y ∷ xs) ys zero x e = e
-there_before (y ∷ xs) ys (suc i) x e = there_before xs ys i x e
-
-pub there_last : {A : Type 0} → (xs : List A) (x : A) → slice_get (xs ++ x ∷ []) (length xs) ≡ Some x
-there_last [] x = refl
-there_last (y ∷ xs) x = there_last xs x
 
 -- what is there was there before, or is the last
 pub before_or_last : {A : Type 0} → (xs : List A) (y : A) (i : ℕ) (x : A) → slice_get (xs ++ y ∷ []) i ≡ Some x → (slice_get xs i ≡ Some x) ⊎ ((i ≡ length xs) × (y ≡ x))

@@ -19,13 +19,14 @@ use Rattle.hs_rules.specs.Endings as endings
 use Rattle.hs_rules.specs.Runs.{IsRun}
 use Rattle.outcome_laws.specs.Outcomes.{Final, Done, Uncaught, Deadlock, EndsBy}
 use Rattle.slot_laws.specs.SlotRules.{SlotPart}
-use Rattle.slot_laws.specs.Standing.{PartStands, ret_stands, throw_stands, do_stands, op_stands}
+use Rattle.slot_laws.specs.Standing.{PartStands, ret_stands}
 use Rattle.hs_progress.specs.TypedStates.{has}
 use Rattle.slot_states.specs.SlotStates.{SlotThread, SlotState, Represents, SameThread}
 use Rattle.slot_states.proofs.AtRest.{nobody_sleeps}
 use Rattle.slot_states.proofs.Settled.{none_asleep}
 use Rattle.slot_states.proofs.Reading.{named_of}
 use Rattle.slot_entries.specs.Entering.{next}
+use Rattle.slot_entries.proofs.Passing.{none_or}
 use Rattle.slot_time.specs.WithoutTime.{untimed, undue, ticked_to, due_first}
 use Rattle.exn_flight.specs.Asleep.{due_of}
 use Rattle.slot_time.proofs.Sleepers.{none_sleeps}
@@ -38,9 +39,7 @@ use Rattle.search_laws.proofs.Reading.{reads_or, reads_any, next_forgotten}
 
 same_value : (cells : ℕ → T → Type 0) (ds : List Fn) (p : SlotPart) (q : Part) (k : Sort) → PartStands cells ds p q k → is_ret q ≡ is_value p
 same_value cells ds _ _ _ (ret_stands h) = refl
-same_value cells ds _ _ _ throw_stands = refl
-same_value cells ds _ _ _ (do_stands h) = refl
-same_value cells ds _ _ _ (op_stands h) = refl
+same_value cells ds _ _ _ _ = refl
 
 -- what a thread with this part has ended by
 abbrev final_by : Bool → Bool → Option Final
@@ -97,12 +96,7 @@ none_kept Virtual x e = e
 -- where nobody sleeps no Tick is waited for
 none_due : (x : SlotState) (e : Entry) → x.sleepers ≡ [] → due_first x e ≡ x
 none_due x (entry.Wake t) none = ap (λ ss. ticked_to (due_of t ss) x) none
-none_due x (entry.Tick at) none = refl
-none_due x (entry.Local t k) none = refl
-none_due x (entry.Op t) none = refl
-none_due x (entry.Receive t) none = refl
-none_due x (entry.Finish t) none = refl
-none_due x entry.Stranded none = refl
+none_due x _ none = refl
 
 next_exact : (clock : ClockChoice) (funs : List SlottedFunction) (x z : SlotState) (e : Entry) → x.sleepers ≡ [] → ¬ IsTick e → next funs (forget clock x) e ≡ Some z → (y : SlotState) × (next funs x e ≡ Some y)
 next_exact Virtual funs x z e none plain h = (z, h)
@@ -111,10 +105,6 @@ next_exact Real funs x z e none plain h =
     (λ r. reads_any funs (untimed x) x z e refl ((reads x e).0 r) h)
     (λ r. let k = back funs x z e h plain r in (k.0, subst (λ q. next funs q e ≡ Some k.0) (none_due x e none) k.1))
     (reads_or x e)
-
-some_or : (o : Option SlotState) → ((z : SlotState) → o ≡ Some z → ⊥) → o ≡ None
-some_or None h = refl
-some_or (Some z) h = absurd (h z refl)
 
 module _ (clock : ClockChoice) (script : Script) (accepted : Accepted script) (es : List Entry) (s : State) (run : IsRun (script_of script) es s) (x : SlotState) (r : Represents (script_of script) x s) where
   abbrev ds : List Fn
@@ -135,7 +125,7 @@ module _ (clock : ClockChoice) (script : Script) (accepted : Accepted script) (e
   is_stuck : IsDeadlock (code_of ds) s → IsStuck funs (forget clock x)
   is_stuck (quiet, none) =
       let awake = none_asleep ds x s r none in (
-        λ e plain. some_or (next funs (forget clock x) e) (λ z h.
+        λ e plain. none_or (next funs (forget clock x) e) (λ z h.
             let k = next_exact clock funs x z e awake plain h in
             let l = entered script accepted x k.0 e k.1 es s run r in
             quiet e plain (l.0, l.1)),
@@ -148,14 +138,10 @@ module _ (clock : ClockChoice) (script : Script) (accepted : Accepted script) (e
 
   -- what main has ended by
   by_main : (o : Option Final) → MainEnds s o → (f : Final) → o ≡ Some f → EndsBy f (code_of ds) s
-  by_main None m f e = absurd (cc e)
   by_main (Some Done) m Done e = m
-  by_main (Some Done) m Uncaught e = absurd (cc e)
-  by_main (Some Done) m Deadlock e = absurd (cc e)
-  by_main (Some Uncaught) m Done e = absurd (cc e)
   by_main (Some Uncaught) m Uncaught e = m
-  by_main (Some Uncaught) m Deadlock e = absurd (cc e)
   by_main (Some Deadlock) m f e = absurd m
+  by_main _ m _ e = absurd (cc e)
 
   kind_right : (o : Option Final) (end : Option Final) → MainEnds s o → EndsAs funs (forget clock x) o end → (f : Final) → end ≡ Some f → EndsBy f (code_of ds) s
   kind_right (Some g) end m h f e = by_main (Some g) m f (sym h ∙ e)
@@ -179,9 +165,8 @@ module _ (clock : ClockChoice) (script : Script) (accepted : Accepted script) (e
   kind_there None end m h Done e = absurd (m.0 e)
   kind_there None end m h Uncaught e = absurd (m.1 e.1)
   kind_there None None m h Deadlock e = absurd (h (is_stuck e.2))
-  kind_there None (Some Done) m h Deadlock e = absurd h
-  kind_there None (Some Uncaught) m h Deadlock e = absurd h
   kind_there None (Some Deadlock) m h Deadlock e = refl
+  kind_there None _ m h Deadlock e = absurd h
 
   abbrev main_end : Shown → Option Final
   main_end c = ended_by (slice_get c.slots.threads 0)

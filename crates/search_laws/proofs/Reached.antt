@@ -18,7 +18,7 @@ use Rattle.slot_states.specs.Printing.{output_by, errors_by}
 use Rattle.slot_states.specs.Resting.{used}
 use Rattle.slot_states.proofs.Printed.{nothing_yet, run_prints}
 use Rattle.slot_time.specs.WithoutTime.{untimed}
-use Rattle.slot_rests.specs.Rests.{EagerMove}
+use Rattle.slot_rests.proofs.Untimed.{timed_move}
 use Rattle.search_laws.specs.Shown.{forget, Shown, FitsIn, IsFirst, Arrives}
 use Rattle.search_laws.specs.Going.{EagerEntries, steps_by, Leaves, Takes}
 use Rattle.search_laws.specs.Found.{Source, ComesFirst, ComesBy, ComesOf, Comes, IsBefore, HaveSources}
@@ -26,27 +26,13 @@ use Rattle.search_laws.proofs.Walking.{At, within_by, rest_on, led, at_same}
 
 -- ---- eager local rules in exact time
 
-exact_move : (funs : List SlottedFunction) (x m : SlotState) (move : EagerMove funs (untimed x) m) → EagerMove funs x (moves move.number move.term x)
-exact_move funs x m move = record {
-  number = move.number;
-  thread = move.thread;
-  is = move.is;
-  unfinished = move.unfinished;
-  free = move.free;
-  main = record { main = move.main.main; is = move.main.is; unfinished = move.main.unfinished };
-  term = move.term;
-  leads = move.leads;
-  eager = move.eager;
-  moved = refl;
-}
-
 real_rests : (funs : List SlottedFunction) (most : ℕ) (ls : List Entry) (x y : SlotState) → EagerEntries funs most ls (untimed x) y → (z : SlotState) × EagerEntries funs most ls x z × (untimed z ≡ y)
-unfolding exact_move
+unfolding timed_move
 real_rests funs most [] x y h = (x, refl, h)
 real_rests funs most (e ∷ es) x y (m, move, is, few, h) =
     let here : SlotState = moves move.number move.term x in
     let k = real_rests funs most es here y (subst (λ z. EagerEntries funs most es z y) move.moved h) in
-    (k.0, (here, exact_move funs x m move, is, subst (λ z. used limit.Frames z ≤ most) move.moved few, k.1), k.2)
+    (k.0, (here, timed_move funs x m move, is, subst (λ z. used limit.Frames z ≤ most) move.moved few, k.1), k.2)
 
 -- what a chain of eager local rules comes to, the chain from the state itself comes to, but for what is forgotten
 pub exact_rests : (clock : ClockChoice) (funs : List SlottedFunction) (most : ℕ) (ls : List Entry) (x y : SlotState) → EagerEntries funs most ls (forget clock x) y → (z : SlotState) × EagerEntries funs most ls x z × (forget clock z ≡ y)

@@ -12,7 +12,7 @@ use Rattle.rules_expansion.specs.declared.primitive.Primitive.TheVariants.{Clock
 use Rattle.rules_code.specs.CodeTrees.{SlottedFunction}
 use Rattle.hs_rules.specs.Endings.{IsTick}
 use Rattle.timing_laws.specs.WithoutTime.{is_clock_reading}
-use Rattle.slot_laws.specs.SlotRules.{calls, forks, forks_unmask, SlotPart, ret, throw, doing, performs, SlotFrame, mask_from}
+use Rattle.slot_laws.specs.SlotRules.{calls, forks, forks_unmask, SlotPart, performs, SlotFrame, mask_from}
 use Rattle.slot_states.specs.SlotStates.{SlotThread, SlotState}
 use Rattle.slot_entries.specs.Operating.{performed}
 use Rattle.slot_entries.specs.Entering.{next, on_thread, operates, op_entry}
@@ -29,12 +29,10 @@ primitive_any t m ClockMicros (v ∷ vs) x z y h e = absurd (cc e)
 primitive_any t m _ vs x z y h e = absurd (cc h)
 
 part_any : (t : ℕ) (fs : List SlotFrame) (p : SlotPart) (x z y : SlotState) → part_reads_clock p ≡ true → operates t fs p x ≡ Some y → (w : SlotState) × (operates t fs p z ≡ Some w)
-part_any t fs (ret v) x z y h e = absurd (cc e)
-part_any t fs (throw v) x z y h e = absurd (cc e)
-part_any t fs (doing a vs) x z y h e = absurd (cc e)
 part_any t fs (performs (calls q vs)) x z y h e = primitive_any t (mask_from Unmasked fs) q vs x z y h e
 part_any t fs (performs (forks tree vs)) x z y h e = absurd (cc h)
 part_any t fs (performs (forks_unmask tree vs)) x z y h e = absurd (cc h)
+part_any t fs _ x z y h e = absurd (cc e)
 
 -- of a thread that is there, in states with the same threads
 reading_any : (funs : List SlottedFunction) (t : ℕ) (x z y : SlotState) → z.threads ≡ x.threads → thread_reads_clock (slice_get x.threads t) ≡ true → next funs x (entry.Op t) ≡ Some y → (w : SlotState) × (next funs z (entry.Op t) ≡ Some w)
@@ -51,21 +49,11 @@ reading_any funs t x z y same h e =
 
 pub reads_any : (funs : List SlottedFunction) (x z y : SlotState) (e : Entry) → z.threads ≡ x.threads → ReadsClock x e → next funs x e ≡ Some y → (w : SlotState) × (next funs z e ≡ Some w)
 reads_any funs x z y (entry.Op t) same h e = reading_any funs t x z y same h e
-reads_any funs x z y (entry.Tick at) same h e = absurd h
-reads_any funs x z y (entry.Local t k) same h e = absurd h
-reads_any funs x z y (entry.Receive t) same h e = absurd h
-reads_any funs x z y (entry.Wake t) same h e = absurd h
-reads_any funs x z y (entry.Finish t) same h e = absurd h
-reads_any funs x z y entry.Stranded same h e = absurd h
+reads_any funs x z y _ same h e = absurd h
 
 pub reads_or : (x : SlotState) (e : Entry) → ReadsClock x e ⊎ ¬ ReadsClock x e
 reads_or x (entry.Op t) = elim (thread_reads_clock (slice_get x.threads t)) as (λ b. (b ≡ true) ⊎ ¬ (b ≡ true)) [ true ↦ inl refl | false ↦ inr (λ h. cc h) ]
-reads_or x (entry.Tick at) = inr (λ h. h)
-reads_or x (entry.Local t k) = inr (λ h. h)
-reads_or x (entry.Receive t) = inr (λ h. h)
-reads_or x (entry.Wake t) = inr (λ h. h)
-reads_or x (entry.Finish t) = inr (λ h. h)
-reads_or x entry.Stranded = inr (λ h. h)
+reads_or x _ = inr (λ h. h)
 
 -- an entry other than a Tick that has a next state has one without time, in whatever timing
 pub next_forgotten : (clock : ClockChoice) (funs : List SlottedFunction) (x y : SlotState) (e : Entry) → next funs x e ≡ Some y → ¬ IsTick e → (z : SlotState) × (next funs (forget clock x) e ≡ Some z)

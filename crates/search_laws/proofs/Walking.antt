@@ -10,18 +10,18 @@ use Rattle.hs_rules.specs.declared.entry.Entry.TheVariants as entry
 use Rattle.hs_rules.specs.declared.entry.LimitKind.{LimitKind}
 use Rattle.hs_rules.specs.declared.entry.LimitKind.TheVariants as limit
 use Rattle.rules_trees.specs.Programs.{Fn, script_of}
-use Rattle.rules_meaning.specs.CoreMeaning.{Code, code_of}
+use Rattle.rules_meaning.specs.CoreMeaning.{code_of}
 use Rattle.rules_typing.specs.TypingScripts.{Accepted}
 use Rattle.rules_code.specs.CodeTrees.{SlottedFunction, code_trees}
 use Rattle.hs_rules.specs.State.{State}
-use Rattle.hs_rules.specs.Entries.{Leads}
 use Rattle.hs_rules.specs.Endings.{IsTick, IsQuiet, IsWithin, allowed}
 use Rattle.hs_rules.specs.Histories.{cost_of, steps_of}
-use Rattle.hs_rules.specs.Runs.{Run, first_of, IsRun}
+use Rattle.hs_rules.specs.Runs.{first_of, IsRun}
 use Rattle.hs_laws.specs.HistoryEndings.{StaysWithin}
 use Rattle.hs_laws.proofs.RunParts.{is_after, run_more}
 use Rattle.hs_laws.proofs.HowItEnds.{within_more}
-use Rattle.outcome_laws.specs.Timings.{MayTick, TickFits, RunWithTicks, TimedRun}
+use Rattle.outcome_laws.specs.Timings.{MayTick, TickFits, TimedRun}
+use Rattle.outcome_laws.proofs.Timed.{timed_join, run_of_timed}
 use Rattle.slot_states.specs.SlotStates.{SlotThread, SlotState, moving, ticks, Represents}
 use Rattle.slot_states.specs.Printing.{output_by, errors_by}
 use Rattle.slot_states.specs.Resting.{used}
@@ -39,15 +39,6 @@ use Rattle.search_laws.proofs.Cited.{entered, legal, reads, same_output, same_er
 
 -- ---- runs
 
--- one more entry
-timed_more : (code : Code) (T : State → ℕ → Type 0) (es : List Entry) (e : Entry) (s m u : State) → RunWithTicks code T s es m → Leads code m e u → TickFits T m e → RunWithTicks code T s (es ++ e ∷ []) u
-timed_more code T [] e s m u r l f = subst (λ z. RunWithTicks code T z (e ∷ []) u) (sym r) (u, l, f, refl)
-timed_more code T (x ∷ xs) e s m u r l f = (r.0, r.1, r.2, timed_more code T xs e r.0 m u r.3 l f)
-
-pub timed_run : (code : Code) (T : State → ℕ → Type 0) (es : List Entry) (s u : State) → RunWithTicks code T s es u → Run code s es u
-timed_run code T [] s u r = r
-timed_run code T (e ∷ es) s u r = (r.0, r.1, timed_run code T es r.0 u r.3)
-
 steps_more : (es : List Entry) (e : Entry) → steps_of (es ++ e ∷ []) ≡ steps_of es + cost_of e
 steps_more [] e = omega arith
 steps_more (x ∷ xs) e = omega (arith, steps_more xs e)
@@ -57,9 +48,7 @@ steps_more (x ∷ xs) e = omega (arith, steps_more xs e)
 -- time is no part of what limits ask
 pub used_untimed : (kind : LimitKind) (x : SlotState) → used kind (untimed x) ≡ used kind x
 used_untimed limit.Threads x = refl
-used_untimed limit.Cells x = refl
-used_untimed limit.Frames x = refl
-used_untimed limit.Output x = refl
+used_untimed _ x = refl
 
 pub used_forgotten : (clock : ClockChoice) (kind : LimitKind) (x : SlotState) → used kind (forget clock x) ≡ used kind x
 used_forgotten Real kind x = used_untimed kind x
@@ -67,9 +56,7 @@ used_forgotten Virtual kind x = refl
 
 pub used_ticked : (kind : LimitKind) (at : ℕ) (x : SlotState) → used kind (ticks at x) ≡ used kind x
 used_ticked limit.Threads at x = refl
-used_ticked limit.Cells at x = refl
-used_ticked limit.Frames at x = refl
-used_ticked limit.Output at x = refl
+used_ticked _ at x = refl
 
 -- states that are the same but for time use the same
 fits_alike : (clock : ClockChoice) (limits : Limits) (x y : SlotState) → forget clock x ≡ forget clock y → FitsIn limits x → FitsIn limits y
@@ -94,19 +81,14 @@ pub record At (clock : ClockChoice) (ds : List Fn) (limits : Limits) (n : ℕ) (
   pub errors_is : state.errors ≡ errors
 
 pub is_run : (clock : ClockChoice) (ds : List Fn) (es : List Entry) (s u : State) → first_of ds ≡ Some s → TimedRun clock (code_of ds) s es u → IsRun ds es u
-is_run clock ds es s u b r = (s, b, timed_run (code_of ds) (MayTick clock (code_of ds)) es s u r)
+is_run clock ds es s u b r = (s, b, run_of_timed (code_of ds) (MayTick clock (code_of ds)) es s u r)
 
 -- ---- entries that can be entered
 
 -- an entry that isn't a Tick stands where it may
 fits_untimed : (T : State → ℕ → Type 0) (s : State) (e : Entry) → ¬ IsTick e → TickFits T s e
 fits_untimed T s (entry.Tick at) h = absurd (h tt)
-fits_untimed T s (entry.Local t k) h = tt
-fits_untimed T s (entry.Op t) h = tt
-fits_untimed T s (entry.Receive t) h = tt
-fits_untimed T s (entry.Wake t) h = tt
-fits_untimed T s (entry.Finish t) h = tt
-fits_untimed T s entry.Stranded h = tt
+fits_untimed T s _ h = tt
 
 -- a thread that is there goes on with one function where it does with another
 on_other : (o : Option SlotThread) (k l : SlotThread → Option SlotState) (y z : SlotState) → on_thread o k ≡ Some y → ((th : SlotThread) → l th ≡ Some z) → on_thread o l ≡ Some z
@@ -134,13 +116,8 @@ used_moved limits funs x m move few fits limit.Output = subst (λ (z : SlotState
 
 -- a Local of one step, or another entry, is one step
 one_step : (clock : ClockChoice) (funs : List SlottedFunction) (x : SlotState) (e : Entry) → MayTake clock funs x e → cost_of e ≡ 1
-one_step clock funs x (entry.Tick at) m = refl
 one_step clock funs x (entry.Local t k) m = m
-one_step clock funs x (entry.Op t) m = refl
-one_step clock funs x (entry.Receive t) m = refl
-one_step clock funs x (entry.Wake t) m = refl
-one_step clock funs x (entry.Finish t) m = refl
-one_step clock funs x entry.Stranded m = refl
+one_step clock funs x _ m = refl
 
 module _ (clock : ClockChoice) (script : Script) (accepted : Accepted script) (limits : Limits) where
   abbrev ds : List Fn
@@ -175,7 +152,7 @@ module _ (clock : ClockChoice) (script : Script) (accepted : Accepted script) (l
         begins = a.begins;
         entries = a.entries ++ e ∷ [];
         state = k.0;
-        run = timed_more (code_of ds) T a.entries e a.begin a.state k.0 a.run k.1 (ticks a);
+        run = timed_join (code_of ds) T a.entries (e ∷ []) a.begin a.state k.0 a.run (k.0, k.1, ticks a, refl);
         steps_are = steps_more a.entries e ∙ ap (λ m. m + cost_of e) a.steps_are;
         within = within_more limits ds a.entries e k.0 a.within (is_after ds (a.entries ++ e ∷ []) k.0 more) (within_by script limits y k.0 k.2 fits);
         represents = k.2;
@@ -210,16 +187,10 @@ module _ (clock : ClockChoice) (script : Script) (accepted : Accepted script) (l
       let k = legal script accepted es s u run x r e l in
       let z : ◌≡◌ {A = Option SlotState} None (Some k.0) = sym (still e plain) ∙ k.1 in cc z
 
-  virtual_fits : (virtual : clock ≡ Virtual) (n : ℕ) (x : SlotState) (o r : List ℕ) (e : Entry) → MayTake clock funs x e → (a : At clock ds limits n x o r) → TickFits T a.state e
-  virtual_fits virtual n x o r (entry.Tick at) m a =
-      let quiet = still_quiet a.entries a.state (run_of n x o r a) x a.represents m.1 in
-      subst (λ c. MayTick c (code_of ds) a.state at) (sym virtual) (quiet, same_due ds x a.state a.represents ∙ m.2)
-  virtual_fits virtual n x o r (entry.Local t k) m a = tt
-  virtual_fits virtual n x o r (entry.Op t) m a = tt
-  virtual_fits virtual n x o r (entry.Receive t) m a = tt
-  virtual_fits virtual n x o r (entry.Wake t) m a = tt
-  virtual_fits virtual n x o r (entry.Finish t) m a = tt
-  virtual_fits virtual n x o r entry.Stranded m a = tt
+  pub taken_fits : (c : ClockChoice) (es : List Entry) (s : State) → IsRun ds es s → (x : SlotState) → Represents ds x s → (e : Entry) → MayTake c funs (forget c x) e → TickFits (MayTick c (code_of ds)) s e
+  taken_fits Real es s run x r (entry.Tick at) m = tt
+  taken_fits Virtual es s run x r (entry.Tick at) m = (still_quiet es s run x r m.1, same_due ds x s r ∙ m.2)
+  taken_fits c es s run x r _ m = tt
 
 -- where an entry leads exactly, and that the search knows
 pub record Led (clock : ClockChoice) (ds : List Fn) (limits : Limits) (n : ℕ) (z : SlotState) (o r : List ℕ) : Type 0 where
@@ -228,14 +199,9 @@ pub record Led (clock : ClockChoice) (ds : List Fn) (limits : Limits) (n : ℕ) 
   pub at : At clock ds limits n exact o r
 
 -- in real timing no Tick is taken
-no_tick : (funs : List SlottedFunction) (x : SlotState) (e : Entry) → MayTake Real funs x e → ¬ IsTick e
+pub no_tick : (funs : List SlottedFunction) (x : SlotState) (e : Entry) → MayTake Real funs x e → ¬ IsTick e
 no_tick funs x (entry.Tick at) m t = let q : Real ≡ Virtual = m.0 in cc q
-no_tick funs x (entry.Local t k) m h = h
-no_tick funs x (entry.Op t) m h = h
-no_tick funs x (entry.Receive t) m h = h
-no_tick funs x (entry.Wake t) m h = h
-no_tick funs x (entry.Finish t) m h = h
-no_tick funs x entry.Stranded m h = h
+no_tick funs x _ m h = h
 
 module _ (script : Script) (accepted : Accepted script) (limits : Limits) where
   abbrev sds : List Fn
@@ -247,7 +213,7 @@ module _ (script : Script) (accepted : Accepted script) (limits : Limits) where
   -- in virtual timing
   virtual_led : (n : ℕ) (x z : SlotState) (o r : List ℕ) (e : Entry) → Leaves Virtual sfuns x e z → FitsIn limits z → At Virtual sds limits n x o r → Led Virtual sds limits (n + steps_by Virtual e) z (o ++ output_by x e) (r ++ errors_by x e)
   virtual_led n x z o r e l fits a =
-      let b = one_on Virtual script accepted limits n x z o r e l.leaves fits (virtual_fits Virtual script accepted limits refl n x o r e l.may) a in
+      let b = one_on Virtual script accepted limits n x z o r e l.leaves fits (λ q. taken_fits Virtual script accepted limits Virtual q.entries q.state (run_of Virtual script accepted limits n x o r q) x q.represents e l.may) a in
       record { exact = z; forgotten = refl; at = subst (λ k. At Virtual sds limits (n + k) z (o ++ output_by x e) (r ++ errors_by x e)) (one_step Virtual sfuns x e l.may) b }
 
   -- in real timing an entry that is no Wake
@@ -289,10 +255,7 @@ module _ (script : Script) (accepted : Accepted script) (limits : Limits) where
   real_led n x z o r (entry.Wake t) l fits a = wake_led n x z o r t l fits a
   real_led n x z o r (entry.Tick at) l fits a = absurd (no_tick sfuns (untimed x) (entry.Tick at) l.may tt)
   real_led n x z o r (entry.Local t k) l fits a = awake_led n x z o r (entry.Local t k) refl l.may (λ h. h) l fits a
-  real_led n x z o r (entry.Op t) l fits a = awake_led n x z o r (entry.Op t) refl refl (λ h. h) l fits a
-  real_led n x z o r (entry.Receive t) l fits a = awake_led n x z o r (entry.Receive t) refl refl (λ h. h) l fits a
-  real_led n x z o r (entry.Finish t) l fits a = awake_led n x z o r (entry.Finish t) refl refl (λ h. h) l fits a
-  real_led n x z o r entry.Stranded l fits a = awake_led n x z o r entry.Stranded refl refl (λ h. h) l fits a
+  real_led n x z o r e l fits a = awake_led n x z o r e refl refl (λ h. h) l fits a
 
   pub led : (clock : ClockChoice) (n : ℕ) (x z : SlotState) (o r : List ℕ) (e : Entry) → Leaves clock sfuns (forget clock x) e z → FitsIn limits z → At clock sds limits n x o r →
       Led clock sds limits (n + steps_by clock e) z (o ++ output_by (forget clock x) e) (r ++ errors_by (forget clock x) e)

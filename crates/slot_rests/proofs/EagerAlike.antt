@@ -32,9 +32,7 @@ unmasked_alike Uninterruptible = refl
 module _ (cells : ℕ → T → Type 0) (ds : List Fn) where
   throw_alike : {p : SlotPart} {q : named.Part} {k : Sort} → PartStands cells ds p q k → by_slots.is_throw p ≡ entries.is_throw q
   throw_alike (ret_stands h) = refl
-  throw_alike throw_stands = refl
-  throw_alike (do_stands r) = refl
-  throw_alike (op_stands h) = refl
+  throw_alike _ = refl
 
   passes_alike : {k : Sort} {ss : List SlotFrame} {fs : List named.Frame} → FramesStand cells ds k ss fs → by_slots.passes_all ss ≡ by_names.passes_all fs
   passes_alike none_stand = refl

@@ -7,7 +7,7 @@ use Rattle.slot_rests.specs.Rests.{EagerMove, EagerMoves}
 
 module _ (funs : List SlottedFunction) where
   -- the same move of the state itself
-  timed_move : (x z : SlotState) (m : EagerMove funs (untimed x) z) → EagerMove funs x (moves m.number m.term x)
+  unfoldable pub timed_move : (x z : SlotState) (m : EagerMove funs (untimed x) z) → EagerMove funs x (moves m.number m.term x)
   timed_move x z m = record {
     number = m.number;
     thread = m.thread;
