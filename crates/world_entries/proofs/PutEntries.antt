@@ -72,10 +72,10 @@ readers_still_stand m old base live cells list u h =
     record { thread = at.thread; is = ap (λ l. slice_get l.items u) list ∙ at.is; holds = at.holds }
 
 -- from what the calls say
-pub were_shown : {v : Value} {m : ℕ} {old base mid : World} → m < length old.cells.cells → FullUnread m old.cells → SameState old base → base.cells ≡ old.cells → base.threads.list ≡ old.threads.list
+pub were_shown : {v : Value} {m : ℕ} (old : World) {base mid : World} → m < length old.cells.cells → FullUnread m old.cells → SameState old base → base.cells ≡ old.cells → base.threads.list ≡ old.threads.list
     → AreAllReaders (readers (cell_at m base.cells).line) m base.cells mid.cells × (mid.threads.list.items ≡ all_answered v (readers (cell_at m base.cells).line) base.threads.list.items)
     → Rest base mid → AllShown v m old base mid
-were_shown {v} {m} {old} {base} {mid} lt unread same cells list h r =
+were_shown {v} {m} old {base} {mid} lt unread same cells list h r =
     record {
       exists = lt;
       unread = unread;
