@@ -57,13 +57,6 @@ under_bl_at gs x b = λ xs s. rule.worst_bl gs xs (masked x ∷ s) (bl_of b)
 abbrev pub act_arms_at : List Sig → BlockArms → At
 act_arms_at gs ks = λ xs s. rule.worst_arms gs xs s (act_arms_of ks)
 
--- the same of what is one expression, or one action
-pub tree_is : {gs : List Sig} {o : Meter} {a b : Ex} → a ≡ b → at (tree_at gs a) o ≡ at (tree_at gs b) o
-tree_is {gs} {o} e = ap (λ z. at (tree_at gs z) o) e
-
-pub act_is : {gs : List Sig} {o : Meter} {a b : SurfaceAction} → a ≡ b → at (act_at gs a) o ≡ at (act_at gs b) o
-act_is {gs} {o} e = ap (λ z. at (act_at gs z) o) e
-
 -- an equation for each of two parts
 pub both : (f : Expr → Expr → rule.Extent) (a x b y : Expr) → a ≡ x → b ≡ y → f x y ≡ f a b
 both f a x b y h k = ap (λ z. f z y) (sym h) ∙ ap (f a) (sym k)

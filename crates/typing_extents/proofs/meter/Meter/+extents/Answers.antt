@@ -5,52 +5,85 @@ use Rattle.rules_trees.specs.Trees.{ex_of, exs_of, arms_of, links_of, sum_links_
 use Rattle.rules_trees.proofs.Equations.{ex-If, ex-Case, ex-Let, ex-Or, ex-And, ex-Product, ex-Sum, ex-Cons, ex-Compare, ex-Call, ex-List, ex-Unary, ex-Empty, ex-Side, ex-Div, ex-Mod, ex-Pair, ex-Int, ex-Text, ex-Constant, ex-Unit}
 use Rattle.rules_typing.specs.TypingSizes as rule
 use Rattle.typing_parts.specs.Views.{sigs_of}
-use Rattle.typing_extents.proofs.Steps.{At, at, tree_at, tree_is, ex_at, exs_at, name_at, under_at, links_at, arms_at, both, leaf, two, over_parts, higher_parts, tail0, tail2}
+use Rattle.typing_extents.proofs.Steps.{At, at, tree_at, ex_at, exs_at, name_at, under_at, links_at, arms_at, both, leaf, two, over_parts, higher_parts, tail0, tail2}
 use Rattle.typing_extents.proofs.meter.Meter.+extents.Goals as goal
 
 pub extent-returns-in-Int : goal.extent-returns-in-Int
 extent-returns-in-Int t c =
-    leaf _ c.nothing.result _ _ (tree_is (ap ex_of c.in-Int.is ∙ ex-Int _ _)) c.nothing.ensures c.over.ensures
+    let gs = sigs_of c.args.funs.now.types.nodes c.args.funs.now.sigs in
+    let o = c.args.self.now in
+    let v = c.in-Int in
+    leaf o c.nothing.result _ _ (ap (λ z. at (tree_at gs z) o) (ap ex_of v.is ∙ ex-Int _ _)) c.nothing.ensures c.over.ensures
 
 pub extent-returns-in-Text : goal.extent-returns-in-Text
 extent-returns-in-Text t c =
-    leaf _ c.nothing-in-Text.result _ _ (tree_is (ap ex_of c.in-Text.is ∙ ex-Text _ _)) c.nothing-in-Text.ensures c.over-in-Text.ensures
+    let gs = sigs_of c.args.funs.now.types.nodes c.args.funs.now.sigs in
+    let o = c.args.self.now in
+    let v = c.in-Text in
+    leaf o c.nothing-in-Text.result _ _ (ap (λ z. at (tree_at gs z) o) (ap ex_of v.is ∙ ex-Text _ _)) c.nothing-in-Text.ensures c.over-in-Text.ensures
 
 pub extent-returns-in-Constant : goal.extent-returns-in-Constant
 extent-returns-in-Constant t c =
-    leaf _ c.nothing-in-Constant.result _ _ (tree_is (ap ex_of c.in-Constant.is ∙ ex-Constant _ _)) c.nothing-in-Constant.ensures c.over-in-Constant.ensures
+    let gs = sigs_of c.args.funs.now.types.nodes c.args.funs.now.sigs in
+    let o = c.args.self.now in
+    let v = c.in-Constant in
+    leaf o c.nothing-in-Constant.result _ _ (ap (λ z. at (tree_at gs z) o) (ap ex_of v.is ∙ ex-Constant _ _)) c.nothing-in-Constant.ensures c.over-in-Constant.ensures
 
 pub extent-returns-in-Unit : goal.extent-returns-in-Unit
 extent-returns-in-Unit t c =
-    leaf _ c.nothing-in-Unit.result _ _ (tree_is (ap ex_of c.in-Unit.is ∙ ex-Unit _)) c.nothing-in-Unit.ensures c.over-in-Unit.ensures
+    let gs = sigs_of c.args.funs.now.types.nodes c.args.funs.now.sigs in
+    let o = c.args.self.now in
+    let v = c.in-Unit in
+    leaf o c.nothing-in-Unit.result _ _ (ap (λ z. at (tree_at gs z) o) (ap ex_of v.is ∙ ex-Unit _)) c.nothing-in-Unit.ensures c.over-in-Unit.ensures
 
 pub extent-returns-in-Empty : goal.extent-returns-in-Empty
 extent-returns-in-Empty t c =
-    leaf _ c.nothing-in-Empty.result _ _ (tree_is (ap ex_of c.in-Empty.is ∙ ex-Empty _ _ _)) c.nothing-in-Empty.ensures c.over-in-Empty.ensures
+    let gs = sigs_of c.args.funs.now.types.nodes c.args.funs.now.sigs in
+    let o = c.args.self.now in
+    let v = c.in-Empty in
+    leaf o c.nothing-in-Empty.result _ _ (ap (λ z. at (tree_at gs z) o) (ap ex_of v.is ∙ ex-Empty _ _ _)) c.nothing-in-Empty.ensures c.over-in-Empty.ensures
 
 pub extent-returns-in-Unary : goal.extent-returns-in-Unary
 extent-returns-in-Unary t c =
-    tail0 _ _ _ _ _ (tree_is (ap ex_of c.in-Unary.is ∙ ex-Unary _ _ c.in-Unary.a) ∙ ap (λ z. rule.over (at (ex_at _ z) _)) (sym c.get.ensures)) c.around.ensures
+    let gs = sigs_of c.args.funs.now.types.nodes c.args.funs.now.sigs in
+    let o = c.args.self.now in
+    let v = c.in-Unary in
+    tail0 _ _ _ _ _ (ap (λ z. at (tree_at gs z) o) (ap ex_of v.is ∙ ex-Unary _ _ v.a) ∙ ap (λ z. rule.over (at (ex_at gs z) o)) (sym c.get.ensures)) c.around.ensures
 
 pub extent-returns-in-Side : goal.extent-returns-in-Side
 extent-returns-in-Side t c =
-    tail0 _ _ _ _ _ (tree_is (ap ex_of c.in-Side.is ∙ ex-Side _ _ _ _ c.in-Side.a) ∙ ap (λ z. rule.over (at (ex_at _ z) _)) (sym c.get-in-Side.ensures)) c.around-in-Side.ensures
+    let gs = sigs_of c.args.funs.now.types.nodes c.args.funs.now.sigs in
+    let o = c.args.self.now in
+    let v = c.in-Side in
+    tail0 _ _ _ _ _ (ap (λ z. at (tree_at gs z) o) (ap ex_of v.is ∙ ex-Side _ _ _ _ v.a) ∙ ap (λ z. rule.over (at (ex_at gs z) o)) (sym c.get-in-Side.ensures)) c.around-in-Side.ensures
 
 pub extent-returns-in-Compare : goal.extent-returns-in-Compare
 extent-returns-in-Compare t c =
-    tail0 _ _ _ _ _ (tree_is (ap ex_of c.in-Compare.is ∙ ex-Compare c.in-Compare.a _ _ c.in-Compare.b) ∙ both (λ x y. rule.over (rule.beside (at (ex_at _ x) _) (at (ex_at _ y) _))) c.get-in-Compare.result.now c.in-Compare.a c.get-in-Compare-2.result.now c.in-Compare.b c.get-in-Compare.ensures c.get-in-Compare-2.ensures) c.around_both.ensures
+    let gs = sigs_of c.args.funs.now.types.nodes c.args.funs.now.sigs in
+    let o = c.args.self.now in
+    let v = c.in-Compare in
+    tail0 _ _ _ _ _ (ap (λ z. at (tree_at gs z) o) (ap ex_of v.is ∙ ex-Compare v.a _ _ v.b) ∙ both (λ x y. rule.over (rule.beside (at (ex_at gs x) o) (at (ex_at gs y) o))) c.get-in-Compare.result.now v.a c.get-in-Compare-2.result.now v.b c.get-in-Compare.ensures c.get-in-Compare-2.ensures) c.around_both.ensures
 
 pub extent-returns-in-Div : goal.extent-returns-in-Div
 extent-returns-in-Div t c =
-    tail0 _ _ _ _ _ (tree_is (ap ex_of c.in-Div.is ∙ ex-Div _ c.in-Div.a c.in-Div.b) ∙ both (λ x y. rule.over (rule.beside (at (ex_at _ x) _) (at (ex_at _ y) _))) c.get-in-Div.result.now c.in-Div.a c.get-in-Div-2.result.now c.in-Div.b c.get-in-Div.ensures c.get-in-Div-2.ensures) c.around_both-in-Div.ensures
+    let gs = sigs_of c.args.funs.now.types.nodes c.args.funs.now.sigs in
+    let o = c.args.self.now in
+    let v = c.in-Div in
+    tail0 _ _ _ _ _ (ap (λ z. at (tree_at gs z) o) (ap ex_of v.is ∙ ex-Div _ v.a v.b) ∙ both (λ x y. rule.over (rule.beside (at (ex_at gs x) o) (at (ex_at gs y) o))) c.get-in-Div.result.now v.a c.get-in-Div-2.result.now v.b c.get-in-Div.ensures c.get-in-Div-2.ensures) c.around_both-in-Div.ensures
 
 pub extent-returns-in-Mod : goal.extent-returns-in-Mod
 extent-returns-in-Mod t c =
-    tail0 _ _ _ _ _ (tree_is (ap ex_of c.in-Mod.is ∙ ex-Mod _ c.in-Mod.a c.in-Mod.b) ∙ both (λ x y. rule.over (rule.beside (at (ex_at _ x) _) (at (ex_at _ y) _))) c.get-in-Mod.result.now c.in-Mod.a c.get-in-Mod-2.result.now c.in-Mod.b c.get-in-Mod.ensures c.get-in-Mod-2.ensures) c.around_both-in-Mod.ensures
+    let gs = sigs_of c.args.funs.now.types.nodes c.args.funs.now.sigs in
+    let o = c.args.self.now in
+    let v = c.in-Mod in
+    tail0 _ _ _ _ _ (ap (λ z. at (tree_at gs z) o) (ap ex_of v.is ∙ ex-Mod _ v.a v.b) ∙ both (λ x y. rule.over (rule.beside (at (ex_at gs x) o) (at (ex_at gs y) o))) c.get-in-Mod.result.now v.a c.get-in-Mod-2.result.now v.b c.get-in-Mod.ensures c.get-in-Mod-2.ensures) c.around_both-in-Mod.ensures
 
 pub extent-returns-in-Pair : goal.extent-returns-in-Pair
 extent-returns-in-Pair t c =
-    tail0 _ _ _ _ _ (tree_is (ap ex_of c.in-Pair.is ∙ ex-Pair _ c.in-Pair.a c.in-Pair.b) ∙ both (λ x y. rule.over (rule.beside (at (ex_at _ x) _) (at (ex_at _ y) _))) c.get-in-Pair.result.now c.in-Pair.a c.get-in-Pair-2.result.now c.in-Pair.b c.get-in-Pair.ensures c.get-in-Pair-2.ensures) c.around_both-in-Pair.ensures
+    let gs = sigs_of c.args.funs.now.types.nodes c.args.funs.now.sigs in
+    let o = c.args.self.now in
+    let v = c.in-Pair in
+    tail0 _ _ _ _ _ (ap (λ z. at (tree_at gs z) o) (ap ex_of v.is ∙ ex-Pair _ v.a v.b) ∙ both (λ x y. rule.over (rule.beside (at (ex_at gs x) o) (at (ex_at gs y) o))) c.get-in-Pair.result.now v.a c.get-in-Pair-2.result.now v.b c.get-in-Pair.ensures c.get-in-Pair-2.ensures) c.around_both-in-Pair.ensures
 
 pub around_both-returns : goal.around_both-returns
 around_both-returns t c =
@@ -60,15 +93,24 @@ around_both-returns t c =
 
 pub extent-returns-in-Or : goal.extent-returns-in-Or
 extent-returns-in-Or t c =
-    tail0 _ _ _ _ _ (tree_is (ap ex_of c.in-Or.is ∙ ex-Or c.in-Or.a c.in-Or.ks) ∙ ap (λ z. rule.higher (rule.beside (at (ex_at _ z) _) (at (links_at _ (links_of bf.Or c.in-Or.ks)) _))) (sym c.get-in-Or.ensures)) c.chain.ensures
+    let gs = sigs_of c.args.funs.now.types.nodes c.args.funs.now.sigs in
+    let o = c.args.self.now in
+    let v = c.in-Or in
+    tail0 _ _ _ _ _ (ap (λ z. at (tree_at gs z) o) (ap ex_of v.is ∙ ex-Or v.a v.ks) ∙ ap (λ z. rule.higher (rule.beside (at (ex_at gs z) o) (at (links_at gs (links_of bf.Or v.ks)) o))) (sym c.get-in-Or.ensures)) c.chain.ensures
 
 pub extent-returns-in-And : goal.extent-returns-in-And
 extent-returns-in-And t c =
-    tail0 _ _ _ _ _ (tree_is (ap ex_of c.in-And.is ∙ ex-And c.in-And.a c.in-And.ks) ∙ ap (λ z. rule.higher (rule.beside (at (ex_at _ z) _) (at (links_at _ (links_of bf.And c.in-And.ks)) _))) (sym c.get-in-And.ensures)) c.chain-in-And.ensures
+    let gs = sigs_of c.args.funs.now.types.nodes c.args.funs.now.sigs in
+    let o = c.args.self.now in
+    let v = c.in-And in
+    tail0 _ _ _ _ _ (ap (λ z. at (tree_at gs z) o) (ap ex_of v.is ∙ ex-And v.a v.ks) ∙ ap (λ z. rule.higher (rule.beside (at (ex_at gs z) o) (at (links_at gs (links_of bf.And v.ks)) o))) (sym c.get-in-And.ensures)) c.chain-in-And.ensures
 
 pub extent-returns-in-Product : goal.extent-returns-in-Product
 extent-returns-in-Product t c =
-    tail0 _ _ _ _ _ (tree_is (ap ex_of c.in-Product.is ∙ ex-Product c.in-Product.a c.in-Product.ks) ∙ ap (λ z. rule.higher (rule.beside (at (ex_at _ z) _) (at (links_at _ (links_of bf.Times c.in-Product.ks)) _))) (sym c.get-in-Product.ensures)) c.chain-in-Product.ensures
+    let gs = sigs_of c.args.funs.now.types.nodes c.args.funs.now.sigs in
+    let o = c.args.self.now in
+    let v = c.in-Product in
+    tail0 _ _ _ _ _ (ap (λ z. at (tree_at gs z) o) (ap ex_of v.is ∙ ex-Product v.a v.ks) ∙ ap (λ z. rule.higher (rule.beside (at (ex_at gs z) o) (at (links_at gs (links_of bf.Times v.ks)) o))) (sym c.get-in-Product.ensures)) c.chain-in-Product.ensures
 
 pub chain-returns : goal.chain-returns
 chain-returns t c =

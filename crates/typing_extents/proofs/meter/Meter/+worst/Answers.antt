@@ -3,44 +3,71 @@ use Rattle.rules_trees.specs.Programs.{act_of}
 use Rattle.rules_trees.proofs.EquationsOfActions.{act-Bare, act-NewEmptyMVar, act-ThrowIo, act-Call, act-Unary, act-Binary, act-Scoped, act-Masking, act-Restore, act-If, act-Case, act-ModifyMVar, act-Catch, act-Guard, act-Bracket, act-Timeout, act-WithAsync}
 use Rattle.rules_typing.specs.TypingSizes as rule
 use Rattle.typing_parts.specs.Views.{sigs_of}
-use Rattle.typing_extents.proofs.Steps.{at, act_at, act_is, ex_at, bl_at, under_bl_at, act_arms_at, empty, worse_two, tail0}
+use Rattle.typing_extents.proofs.Steps.{at, act_at, ex_at, bl_at, under_bl_at, act_arms_at, empty, worse_two, tail0}
 use Rattle.typing_extents.proofs.meter.Meter.+worst.Goals as goal
 
 pub action-returns-in-Bare : goal.action-returns-in-Bare
 action-returns-in-Bare t c =
-    empty _ c.nothing.result _ (act_is (ap act_of c.in-Bare.is ∙ act-Bare _ _)) c.nothing.ensures
+    let gs = sigs_of c.args.funs.now.types.nodes c.args.funs.now.sigs in
+    let o = c.args.self.now in
+    let v = c.in-Bare in
+    empty o c.nothing.result _ (ap (λ z. at (act_at gs z) o) (ap act_of v.is ∙ act-Bare _ _)) c.nothing.ensures
 
 pub action-returns-in-NewEmptyMVar : goal.action-returns-in-NewEmptyMVar
 action-returns-in-NewEmptyMVar t c =
-    empty _ c.nothing-in-NewEmptyMVar.result _ (act_is (ap act_of c.in-NewEmptyMVar.is ∙ act-NewEmptyMVar _ _)) c.nothing-in-NewEmptyMVar.ensures
+    let gs = sigs_of c.args.funs.now.types.nodes c.args.funs.now.sigs in
+    let o = c.args.self.now in
+    let v = c.in-NewEmptyMVar in
+    empty o c.nothing-in-NewEmptyMVar.result _ (ap (λ z. at (act_at gs z) o) (ap act_of v.is ∙ act-NewEmptyMVar _ _)) c.nothing-in-NewEmptyMVar.ensures
 
 pub action-returns-in-Unary : goal.action-returns-in-Unary
 action-returns-in-Unary t c =
-    tail0 _ _ _ _ _ (act_is (ap act_of c.in-Unary.is ∙ act-Unary _ _ c.in-Unary.e)) c.extent.ensures
+    let gs = sigs_of c.args.funs.now.types.nodes c.args.funs.now.sigs in
+    let o = c.args.self.now in
+    let v = c.in-Unary in
+    tail0 _ _ _ _ _ (ap (λ z. at (act_at gs z) o) (ap act_of v.is ∙ act-Unary _ _ v.e)) c.extent.ensures
 
 pub action-returns-in-ThrowIo : goal.action-returns-in-ThrowIo
 action-returns-in-ThrowIo t c =
-    tail0 _ _ _ _ _ (act_is (ap act_of c.in-ThrowIo.is ∙ act-ThrowIo _ _ c.in-ThrowIo.e)) c.extent-in-ThrowIo.ensures
+    let gs = sigs_of c.args.funs.now.types.nodes c.args.funs.now.sigs in
+    let o = c.args.self.now in
+    let v = c.in-ThrowIo in
+    tail0 _ _ _ _ _ (ap (λ z. at (act_at gs z) o) (ap act_of v.is ∙ act-ThrowIo _ _ v.e)) c.extent-in-ThrowIo.ensures
 
 pub action-returns-in-Binary : goal.action-returns-in-Binary
 action-returns-in-Binary t c =
-    tail0 _ _ _ _ _ (act_is (ap act_of c.in-Binary.is ∙ act-Binary _ _ c.in-Binary.e c.in-Binary.f)) c.both.ensures
+    let gs = sigs_of c.args.funs.now.types.nodes c.args.funs.now.sigs in
+    let o = c.args.self.now in
+    let v = c.in-Binary in
+    tail0 _ _ _ _ _ (ap (λ z. at (act_at gs z) o) (ap act_of v.is ∙ act-Binary _ _ v.e v.f)) c.both.ensures
 
 pub action-returns-in-Call : goal.action-returns-in-Call
 action-returns-in-Call t c =
-    tail0 _ _ _ _ _ (act_is (ap act_of c.in-Call.is ∙ act-Call _ c.in-Call.es)) c.each.ensures
+    let gs = sigs_of c.args.funs.now.types.nodes c.args.funs.now.sigs in
+    let o = c.args.self.now in
+    let v = c.in-Call in
+    tail0 _ _ _ _ _ (ap (λ z. at (act_at gs z) o) (ap act_of v.is ∙ act-Call _ v.es)) c.each.ensures
 
 pub action-returns-in-Scoped : goal.action-returns-in-Scoped
 action-returns-in-Scoped t c =
-    tail0 _ _ _ _ _ (act_is (ap act_of c.in-Scoped.is ∙ act-Scoped _ _ c.in-Scoped.b)) c.block-in-Scoped.ensures
+    let gs = sigs_of c.args.funs.now.types.nodes c.args.funs.now.sigs in
+    let o = c.args.self.now in
+    let v = c.in-Scoped in
+    tail0 _ _ _ _ _ (ap (λ z. at (act_at gs z) o) (ap act_of v.is ∙ act-Scoped _ _ v.b)) c.block-in-Scoped.ensures
 
 pub action-returns-in-Restore : goal.action-returns-in-Restore
 action-returns-in-Restore t c =
-    tail0 _ _ _ _ _ (act_is (ap act_of c.in-Restore.is ∙ act-Restore _ _ c.in-Restore.b)) c.block-in-Restore.ensures
+    let gs = sigs_of c.args.funs.now.types.nodes c.args.funs.now.sigs in
+    let o = c.args.self.now in
+    let v = c.in-Restore in
+    tail0 _ _ _ _ _ (ap (λ z. at (act_at gs z) o) (ap act_of v.is ∙ act-Restore _ _ v.b)) c.block-in-Restore.ensures
 
 pub action-returns-in-Masking : goal.action-returns-in-Masking
 action-returns-in-Masking t c =
-    tail0 _ _ _ _ _ (act_is (ap act_of c.in-Masking.is ∙ act-Masking _ _ c.in-Masking.v c.in-Masking.b)) c.under_block-in-Masking.ensures
+    let gs = sigs_of c.args.funs.now.types.nodes c.args.funs.now.sigs in
+    let o = c.args.self.now in
+    let v = c.in-Masking in
+    tail0 _ _ _ _ _ (ap (λ z. at (act_at gs z) o) (ap act_of v.is ∙ act-Masking _ _ v.v v.b)) c.under_block-in-Masking.ensures
 
 pub action-returns-in_ok-y-in-Case : goal.action-returns-in_ok-y-in-Case
 action-returns-in_ok-y-in-Case t c =
