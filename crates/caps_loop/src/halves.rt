@@ -11,9 +11,7 @@ ghost use Rattle.conc_hands.specs.Lists.{hands_in};
 ghost use Rattle.conc_hands.specs.declared.hands.Hands.{Hands};
 ghost use Rattle.caps_loop.specs.Halves.{IsHalf};
 
-use crate::capability::Capability;
-use crate::working::work;
-use caps_visits::{Parkers, Runs, parkers_for};
+use caps_visits::{Capability, Parkers, Runs, Shared, parkers_for, work};
 use conc_hands::{HandList, Hands};
 use conc_turn::{Seat, Turn};
 use hs_base::NoMemory;
@@ -58,39 +56,36 @@ fn parts_for<D: Runs<J, S>, J: Ticketed + Drop, S: Ticketed + Drop>(
 fn run_one<D: Runs<J, S>, J: Ticketed + Drop, S: Ticketed + Drop, G: Gate, R: Wait>(
     rt: &R,
     alloc: Global,
-    turn: &Turn<D>,
-    hands: &Hands<J, S>,
-    code: &Code,
-    parkers: &Parkers,
-    gate: &G,
+    shared: &Shared<'_, Turn<D>, J, S, G>,
     seat: Seat,
     list: HandList<J, S>,
 ) -> Seat
-    requires seat { IsSeatOf D.plan turn.now seat }
+    requires seat { IsSeatOf D.plan shared.now.turn.now seat }
     requires some { 0 < length (hands_in list) }
-    requires list { All (IsHandOf hands.now) (hands_in list) }
-    requires code { (hands_code hands.now ≡ (turn_plan D.plan turn.now).body) × (body_of code.now ≡ hands_code hands.now) }
-    requires parkers { vec_len parkers.now.berths ≡ hands_count hands.now }
+    requires list { All (IsHandOf shared.now.hands.now) (hands_in list) }
     ensures { IsLater seat result }
 {
     let mut list = list;
     let hand = list.take().unwrap();
     let me = Capability { seat, hand };
-    let Capability { seat, hand: _hand } = work(rt, alloc, turn, hands, code, parkers, gate, me);
+    let Capability { seat, hand: _hand } = work(rt, alloc, shared, me);
     seat
 }
 
-// Takes the last hands out, or none where memory is refused.
+// Takes the last hands out; or none, where none are asked for or memory is refused.
 fn cut_list<J: Ticketed + Drop, S: Ticketed + Drop>(
     list: HandList<J, S>,
     count: u32,
 ) -> (HandList<J, S>, Option<HandList<J, S>>)
     requires { count ≤ length (hands_in list) }
-    ensures counts { MatchOption result.1 (result.0 ≡ list) (λ others. (length (hands_in result.0) + count ≡ length (hands_in list)) × (length (hands_in others) ≡ count)) }
+    ensures counts { MatchOption result.1 (result.0 ≡ list) (λ others. (0 < count) × (length (hands_in result.0) + count ≡ length (hands_in list)) × (length (hands_in others) ≡ count)) }
     ensures first { (h : Hands J S) → All (IsHandOf h) (hands_in list) → All (IsHandOf h) (hands_in result.0) }
     ensures last { IfSome result.1 (λ others. (h : Hands J S) → All (IsHandOf h) (hands_in list) → All (IsHandOf h) (hands_in others)) }
 {
     let mut list = list;
+    if count == 0 {
+        return (list, None);
+    }
     match list.halve(count) {
         Ok(others) => (list, Some(others)),
         Err(NoMemory) => (list, None),
@@ -124,12 +119,16 @@ fn run<
     ensures { IsLater seat result }
 {
     let theirs = count / 2;
-    if theirs == 0 {
-        return run_one(rt, alloc, turn, hands, code, parkers, gate, seat, list);
-    }
     let (list, others) = cut_list(list, theirs);
     let Some(their_list) = others else {
-        return run_one(rt, alloc, turn, hands, code, parkers, gate, seat, list);
+        let shared = Shared {
+            turn,
+            hands,
+            code,
+            parkers,
+            gate,
+        };
+        return run_one(rt, alloc, &shared, seat, list);
     };
     let mine = count - theirs;
     let (my_seat, their_seat) = turn.split(seat, theirs);

@@ -12,11 +12,6 @@
 //! long a capability waits, nor that two slices ran at the same time.
 #![tactic(auto)]
 
-mod asking;
-mod capability;
 mod halves;
-mod next;
-mod running;
-mod working;
 
 pub use halves::run_caps;

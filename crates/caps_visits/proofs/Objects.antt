@@ -1,9 +1,6 @@
 -- A hand is of any object that is the same one.
 use Rattle.std.proofs.Common.{◌≡◌, ℕ, zero, suc, List, [], ◌∷◌, map, length, slice_get, Some, refl, ◌∙◌, ap, subst, arith}
 use Rattle.std.proofs.Props.{props}
-use Rattle.std.specs.Coded.{Coded-set}
-use Rattle.rules_code.specs.contracts.code.CodeBody as body
-use Rattle.rules_code.specs.declared.code.CodeBody.{CodeBody}
 use Rattle.crossbeam_queue.specs.SegTies.{IsSegPassOf}
 use Rattle.ticket_queues.specs.declared.deque.Door.{Door}
 use Rattle.ticket_queues.specs.Deques.{door_id, IsDequePass}
@@ -11,6 +8,7 @@ use Rattle.conc_hands.specs.declared.hand.Hand.{Hand}
 use Rattle.conc_hands.specs.declared.hands.Hands.{Hands}
 use Rattle.conc_hands.specs.Ends.{IsDealt}
 use Rattle.conc_hands.specs.Hands.{IsHandOf, HasInboxShares, hands_count, number_of, inbox_view_of}
+use Rattle.caps_visits.specs.Sets.{bodies_are_a_set}
 use Rattle.caps_visits.specs.Objects.{ObjectId, object_of}
 
 module _ {J : Type 0} where
@@ -56,8 +54,5 @@ module _ {J S : Type 0} (h k : Hands J S) (same : object_of h ≡ object_of k) (
     one_share = own.one_share;
   }
 
-body_set : IsSet CodeBody
-body_set = Coded-set body.the_row.coded
-
 pub hand_prop : {J S : Type 0} → IsSet J → IsSet S → (h : Hands J S) (x : Hand J S) → IsProp (IsHandOf h x)
-hand_prop jobs slices h x = hlevel (props, body_set, jobs, slices)
+hand_prop jobs slices h x = hlevel (props, bodies_are_a_set, jobs, slices)

@@ -1,16 +1,16 @@
 //! How a capability runs a slice.
 ghost use Rattle.std.specs.Prelude.{◌≡◌, ℕ, Some, IfOk};
-ghost use Rattle.rules_code.specs.Codes.{body_of};
 ghost use Rattle.conc_hands.specs.Hands.{IsHandOf, hands_code};
 ghost use Rattle.caps_visits.specs.Objects.{object_of};
 
 use crate::object::LooksAt;
-use crate::parkers::Parkers;
 use crate::runs::{Runs, Unsliced};
+use crate::shared::Shared;
 use crate::watch::Watch;
 use conc_hands::{Hand, Hands};
+use conc_turn::Turn;
 use hs_io::{Cutter, Gate};
-use hs_rules::{Code, Ticketed};
+use hs_rules::Ticketed;
 use std::alloc::Global;
 use std::marker::{Brand, PhantomData};
 
@@ -45,52 +45,44 @@ fn read_flag<J: Ticketed, S: Ticketed>(
 
 /// Runs the slice of a job. At its first look it calls the gate. Each look cuts it where there is an ending, or where the flag of
 /// its ticket says so.
-pub fn run_slice<D: Runs<J, S>, J: Ticketed, S: Ticketed, G: Gate>(
+pub(crate) fn run_slice<D: Runs<J, S>, J: Ticketed, S: Ticketed, G: Gate>(
     alloc: Global,
-    hands: &Hands<J, S>,
-    code: &Code,
-    parkers: &Parkers,
-    gate: &G,
+    shared: &Shared<'_, Turn<D>, J, S, G>,
     hand: Hand<J, S>,
     job: J,
 ) -> (Hand<J, S>, Result<S, Unsliced>)
-    requires hand { IsHandOf hands.now hand }
-    requires code { body_of code.now ≡ hands_code hands.now }
-    requires job { J.belongs job ≡ hands_code hands.now }
-    ensures hand { IsHandOf hands.now result.0 }
-    ensures slice { IfOk result.1 (λ slice. S.belongs slice ≡ hands_code hands.now) }
+    requires hand { IsHandOf shared.now.hands.now hand }
+    requires job { J.belongs job ≡ hands_code shared.now.hands.now }
+    ensures hand { IsHandOf shared.now.hands.now result.0 }
+    ensures slice { IfOk result.1 (λ slice. S.belongs slice ≡ hands_code shared.now.hands.now) }
 {
-    run_watched::<Brand, D, J, S, G>(alloc, hands, code, parkers, gate, hand, job)
+    run_watched::<Brand, D, J, S, G>(alloc, shared, hand, job)
 }
 
 // The same, with a name for the object of hands.
 fn run_watched<N: LooksAt, D: Runs<J, S>, J: Ticketed, S: Ticketed, G: Gate>(
     alloc: Global,
-    hands: &Hands<J, S>,
-    code: &Code,
-    parkers: &Parkers,
-    gate: &G,
+    shared: &Shared<'_, Turn<D>, J, S, G>,
     hand: Hand<J, S>,
     job: J,
 ) -> (Hand<J, S>, Result<S, Unsliced>)
-    requires object { N.object ≡ Some (object_of hands.now) }
-    requires hand { IsHandOf hands.now hand }
-    requires code { body_of code.now ≡ hands_code hands.now }
-    requires job { J.belongs job ≡ hands_code hands.now }
-    ensures hand { IsHandOf hands.now result.0 }
-    ensures slice { IfOk result.1 (λ slice. S.belongs slice ≡ hands_code hands.now) }
+    requires object { N.object ≡ Some (object_of shared.now.hands.now) }
+    requires hand { IsHandOf shared.now.hands.now hand }
+    requires job { J.belongs job ≡ hands_code shared.now.hands.now }
+    ensures hand { IsHandOf shared.now.hands.now result.0 }
+    ensures slice { IfOk result.1 (λ slice. S.belongs slice ≡ hands_code shared.now.hands.now) }
 {
     let ticket = job.ticket();
     let mut watch: Watch<'_, J, S, G, N> = Watch {
-        hands,
+        hands: shared.hands,
         hand,
-        parkers,
-        gate,
+        parkers: shared.parkers,
+        gate: shared.gate,
         ticket,
         began: false,
         last: 0,
         named: PhantomData,
     };
-    let slice = D::slice(alloc, code, job, &mut watch);
+    let slice = D::slice(alloc, shared.code, job, &mut watch);
     (watch.hand, slice)
 }

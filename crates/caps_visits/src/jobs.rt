@@ -2,6 +2,7 @@
 ghost use Rattle.std.specs.Prelude.{◌≡◌, ◌⊎◌, ◌<◌, ◌≤◌, IfSome};
 ghost use Rattle.conc_hands.specs.Hands.{IsHandOf, number_of, hands_code, hands_count};
 
+use crate::shared::{Planned, Shared};
 use conc_hands::{Hand, Hands};
 use hs_rules::Ticketed;
 use std::hint;
@@ -13,38 +14,36 @@ const LOOKS: u32 = 4;
 const PAUSE: u32 = 64;
 
 /// The first job of its own deque, or one that another leaves on its own for some microseconds.
-pub fn find_job<J: Ticketed, S: Ticketed, R: Wait>(
+pub(crate) fn find_job<T: Planned, J: Ticketed, S: Ticketed, G, R: Wait>(
     rt: &R,
-    hands: &Hands<J, S>,
+    shared: &Shared<'_, T, J, S, G>,
     hand: &mut Hand<J, S>,
-    caps: u32,
 ) -> Option<J>
-    requires { IsHandOf hands.now hand.old × (caps ≡ hands_count hands.now) }
-    ensures hand { IsHandOf hands.now hand.new }
-    ensures job { IfSome result (λ job. J.belongs job ≡ hands_code hands.now) }
+    requires { IsHandOf shared.now.hands.now hand.old }
+    ensures hand { IsHandOf shared.now.hands.now hand.new }
+    ensures job { IfSome result (λ job. J.belongs job ≡ hands_code shared.now.hands.now) }
 {
-    match hands.pop(hand) {
+    match shared.hands.pop(hand) {
         Some(job) => Some(job),
-        None => steal_later(rt, hands, hand, caps),
+        None => steal_later(rt, shared, hand),
     }
 }
 
 // A job of another's deque, after a pause.
-fn steal_later<J: Ticketed, S: Ticketed, R: Wait>(
+fn steal_later<T: Planned, J: Ticketed, S: Ticketed, G, R: Wait>(
     rt: &R,
-    hands: &Hands<J, S>,
+    shared: &Shared<'_, T, J, S, G>,
     hand: &mut Hand<J, S>,
-    caps: u32,
 ) -> Option<J>
-    requires { IsHandOf hands.now hand.old × (caps ≡ hands_count hands.now) }
-    ensures hand { IsHandOf hands.now hand.new }
-    ensures job { IfSome result (λ job. J.belongs job ≡ hands_code hands.now) }
+    requires { IsHandOf shared.now.hands.now hand.old }
+    ensures hand { IsHandOf shared.now.hands.now hand.new }
+    ensures job { IfSome result (λ job. J.belongs job ≡ hands_code shared.now.hands.now) }
 {
     for _ in 0..LOOKS {
         for _ in 0..PAUSE {
             hint::spin_loop();
         }
-        if let Some(job) = steal_job(rt, hands, hand, caps) {
+        if let Some(job) = steal_job(rt, shared, hand) {
             return Some(job);
         }
     }
@@ -52,20 +51,20 @@ fn steal_later<J: Ticketed, S: Ticketed, R: Wait>(
 }
 
 /// The first job of another's deque: in order of number, from the one after its own.
-pub fn steal_job<J: Ticketed, S: Ticketed, R: Wait>(
+pub(crate) fn steal_job<T: Planned, J: Ticketed, S: Ticketed, G, R: Wait>(
     rt: &R,
-    hands: &Hands<J, S>,
+    shared: &Shared<'_, T, J, S, G>,
     hand: &mut Hand<J, S>,
-    caps: u32,
 ) -> Option<J>
-    requires { IsHandOf hands.now hand.old × (caps ≡ hands_count hands.now) }
-    ensures hand { IsHandOf hands.now hand.new }
-    ensures job { IfSome result (λ job. J.belongs job ≡ hands_code hands.now) }
+    requires { IsHandOf shared.now.hands.now hand.old }
+    ensures hand { IsHandOf shared.now.hands.now hand.new }
+    ensures job { IfSome result (λ job. J.belongs job ≡ hands_code shared.now.hands.now) }
 {
     let own = hand.number();
-    match steal_among(rt, hands, hand, own + 1, caps) {
+    let caps = shared.parkers.berths.len() as u32;
+    match steal_among(rt, shared.hands, hand, own + 1, caps) {
         Some(job) => Some(job),
-        None => steal_among(rt, hands, hand, 0, own),
+        None => steal_among(rt, shared.hands, hand, 0, own),
     }
 }
 

@@ -8,22 +8,27 @@
 //! each job and slice that it answers belongs to the code of the hands. It holds because no visit can give the turn back with
 //! a value of another plan, or with a history that doesn't begin with the one that was found.
 //!
-//! Which of these a capability does next is left to `caps_loop`, which alone calls them. That they stand apart from it is for
-//! the prover's cost. Nothing is said of how long a call waits, of who is woken, or of what a visit commits.
+//! Which jobs a capability runs, and when it waits, is left to the schedule. Nothing is said of how long it waits, of who is woken,
+//! or of what a visit commits. That all of them together stand apart, in `caps_loop`, is for the prover's cost.
 #![tactic(auto)]
 
+mod asking;
+mod capability;
 mod cutting;
 mod jobs;
+mod next;
 mod object;
 mod parkers;
+mod running;
 mod runs;
+mod shared;
 mod turns;
 mod visiting;
 mod watch;
+mod working;
 
-pub use cutting::run_slice;
-pub use jobs::{find_job, steal_job};
+pub use capability::Capability;
 pub use parkers::{Berth, Parkers, parkers_for};
 pub use runs::{Runs, Unsliced};
-pub use turns::{give_up, try_commit, try_visit, visit};
-pub use visiting::Visit;
+pub use shared::{Planned, Shared};
+pub use working::work;

@@ -14,17 +14,17 @@ const MOST_JOBS: u32 = 64;
 
 /// What a capability did while it had the turn.
 #[derive(Drop)]
-pub struct Visit<J> {
+pub(crate) struct Visit<J> {
     /// The tickets of the slices that were taken, in order.
-    pub committed: Vec<u64>,
+    pub(crate) committed: Vec<u64>,
     /// A job that the deque had no room for.
-    pub kept: Option<J>,
+    pub(crate) kept: Option<J>,
     /// A slice came back or a job came.
-    pub stirred: bool,
+    pub(crate) stirred: bool,
     /// There is an ending.
-    pub ended: bool,
+    pub(crate) ended: bool,
     /// How many jobs it left for others.
-    pub spare: u32,
+    pub(crate) spare: u32,
 }
 
 /// Commits this slice, if there is one, and all that are in the inbox; lets the value do what

@@ -7,8 +7,8 @@ use Rattle.conc_turn.proofs.Prefixes.{prefix_trans}
 use Rattle.caps_loop.proofs.Cuts.{cut_counts, cut_last}
 use Rattle.caps_loop.proofs.halves.+halves.Goals as goal
 
-pub run_one-requires-in_default-clause-list : goal.run_one-requires-in_default-clause-list
-run_one-requires-in_default-clause-list g t c = c.cut_list-list.ensures.first c.args.hands.now c.requires.list
+pub run_one-requires-clause-list : goal.run_one-requires-clause-list
+run_one-requires-clause-list g t c = c.cut_list-list.ensures.first c.args.hands.now c.requires.list
 
 pub join-a-requires-after_bounds : goal.join-a-requires-after_bounds
 join-a-requires-after_bounds g t c κs within =
@@ -17,8 +17,8 @@ join-a-requires-after_bounds g t c κs within =
     let counts = cut_counts c.cut_list-list.result.0 c.args.list (c.args.count / 2) c.cut_list-list.result.1 c.in-Some.their_list c.in-Some.is c.cut_list-list.ensures.counts in
     let last = cut_last c.args.list c.cut_list-list.result.1 c.in-Some.their_list c.in-Some.is c.cut_list-list.ensures.last in
     let few = c.requires.count in (
-      (search rules, ((λ a m. m), ((λ a m. m), ((λ a m. m), ((λ a m. m), ((λ a m. m), ((search rules, search rules, search rules, search rules, search rules, record { seated = first.0; some = omega (arith, few.0); shared = omega (arith, few.1, first.1); handed = omega (arith, counts.0, few.2); own = c.cut_list-list.ensures.first c.args.hands.now c.requires.list; planned = c.requires.code.0; coded = c.requires.code.1; berthed = c.requires.parkers }), (search rules, search rules, search rules, search rules, search rules)))))))),
-      (search rules, ((λ a m. m), ((λ a m. m), ((λ a m. m), ((λ a m. m), ((λ a m. m), ((search rules, search rules, search rules, search rules, search rules, record { seated = second.0; some = search rules; shared = omega (arith, second.1); handed = counts.1; own = last c.args.hands.now c.requires.list; planned = c.requires.code.0; coded = c.requires.code.1; berthed = c.requires.parkers }), (search rules, search rules, search rules, search rules, search rules)))))))),
+      (search rules, ((λ a m. m), ((λ a m. m), ((λ a m. m), ((λ a m. m), ((λ a m. m), ((search rules, search rules, search rules, search rules, search rules, record { seated = first.0; some = omega (arith, few.0); shared = omega (arith, few.1, first.1); handed = omega (arith, counts.1, few.2); own = c.cut_list-list.ensures.first c.args.hands.now c.requires.list; planned = c.requires.code.0; coded = c.requires.code.1; berthed = c.requires.parkers }), (search rules, search rules, search rules, search rules, search rules)))))))),
+      (search rules, ((λ a m. m), ((λ a m. m), ((λ a m. m), ((λ a m. m), ((λ a m. m), ((search rules, search rules, search rules, search rules, search rules, record { seated = second.0; some = counts.0; shared = omega (arith, second.1); handed = counts.2; own = last c.args.hands.now c.requires.list; planned = c.requires.code.0; coded = c.requires.code.1; berthed = c.requires.parkers }), (search rules, search rules, search rules, search rules, search rules)))))))),
     )
 
 pub join-requires : goal.join-requires

@@ -6,4 +6,5 @@ use Rattle.caps_loop.proofs.halves.run_one.Goals as goal
 
 pub work-seat-requires-clause-hand : goal.work-seat-requires-clause-hand
 work-seat-requires-clause-hand g c =
-    All-head (IsHandOf c.args.hands.now) c.unwrap-hand.result _ (subst (All (IsHandOf c.args.hands.now)) (said_of _ _ c.take.result c.unwrap-hand.result c.unwrap-hand.ensures c.take.ensures).0 c.requires.list)
+    let hands = c.args.shared.now.hands.now in
+    All-head (IsHandOf hands) c.unwrap-hand.result _ (subst (All (IsHandOf hands)) (said_of _ _ c.take.result c.unwrap-hand.result c.unwrap-hand.ensures c.take.ensures).0 c.requires.list)

@@ -1,5 +1,5 @@
 use Rattle.conc_turn.proofs.Later.{later_trans}
-use Rattle.caps_loop.proofs.running.bring.Goals as goal
+use Rattle.caps_visits.proofs.running.bring.Goals as goal
 
 pub returns-in-Ok-clause-seat : goal.returns-in-Ok-clause-seat
 returns-in-Ok-clause-seat g c = c.try_commit-seat.ensures.seat

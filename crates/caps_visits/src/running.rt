@@ -1,22 +1,22 @@
 //! One job of a capability, and what becomes of its slice.
 ghost use Rattle.std.specs.Prelude.{◌≡◌, IfSome};
-ghost use Rattle.rules_code.specs.Codes.{body_of};
-ghost use Rattle.hs_rules.specs.declared.kept.Plan.{Plan};
 ghost use Rattle.rules_code.specs.declared.code.CodeBody.{CodeBody};
 ghost use Rattle.conc_turn.specs.Seats.{IsLater};
-ghost use Rattle.conc_turn.specs.Turns.{IsSeatOf, turn_plan};
+ghost use Rattle.conc_turn.specs.Turns.{IsSeatOf};
 ghost use Rattle.conc_hands.specs.Hands.{IsHandOf, hands_code};
-ghost use Rattle.caps_loop.specs.Nexts.{RunsOf};
+ghost use Rattle.caps_visits.specs.Nexts.{RunsOf};
 
 use crate::capability::Capability;
+use crate::cutting::run_slice;
 use crate::next::Decision;
-use caps_visits::{
-    Parkers, Runs, Unsliced, Visit, give_up, run_slice, try_commit, try_visit, visit,
-};
-use conc_hands::Hands;
+use crate::parkers::Parkers;
+use crate::runs::{Runs, Unsliced};
+use crate::shared::Shared;
+use crate::turns::{give_up, try_commit, try_visit, visit};
+use crate::visiting::Visit;
 use conc_turn::Turn;
 use hs_io::Gate;
-use hs_rules::{Code, Ticketed};
+use hs_rules::Ticketed;
 use std::alloc::Global;
 use std::sync::Wait;
 
@@ -24,31 +24,26 @@ use std::sync::Wait;
 pub(crate) fn run_job<D: Runs<J, S>, J: Ticketed + Drop, S: Ticketed + Drop, G: Gate, R: Wait>(
     rt: &R,
     alloc: Global,
-    turn: &Turn<D>,
-    hands: &Hands<J, S>,
-    code: &Code,
-    parkers: &Parkers,
-    gate: &G,
+    shared: &Shared<'_, Turn<D>, J, S, G>,
     me: Capability<J, S>,
     job: J,
 ) -> (Capability<J, S>, Decision<J>)
-    requires seat { IsSeatOf D.plan turn.now me.seat }
-    requires hand { IsHandOf hands.now me.hand }
-    requires code { (hands_code hands.now ≡ (turn_plan D.plan turn.now).body) × (body_of code.now ≡ hands_code hands.now) }
-    requires job { J.belongs job ≡ hands_code hands.now }
+    requires seat { IsSeatOf D.plan shared.now.turn.now me.seat }
+    requires hand { IsHandOf shared.now.hands.now me.hand }
+    requires job { J.belongs job ≡ hands_code shared.now.hands.now }
     ensures seat { IsLater me.seat result.0.seat }
-    ensures hand { IsHandOf hands.now result.0.hand }
-    ensures next { RunsOf J.belongs (hands_code hands.now) result.1 }
+    ensures hand { IsHandOf shared.now.hands.now result.0.hand }
+    ensures next { RunsOf J.belongs (hands_code shared.now.hands.now) result.1 }
 {
     let Capability { seat, hand } = me;
-    let (hand, slice) = run_slice::<D, J, S, G>(alloc, hands, code, parkers, gate, hand, job);
+    let (hand, slice) = run_slice::<D, J, S, G>(alloc, shared, hand, job);
     match slice {
         Ok(slice) => {
             let me = Capability { seat, hand };
-            bring(rt, alloc, turn, hands, parkers, gate, me, slice)
+            bring(rt, alloc, shared, me, slice)
         }
         Err(Unsliced::Cut) => {
-            let next = if parkers.has_ended() {
+            let next = if shared.parkers.has_ended() {
                 Decision::Stop
             } else {
                 Decision::Look
@@ -56,8 +51,8 @@ pub(crate) fn run_job<D: Runs<J, S>, J: Ticketed + Drop, S: Ticketed + Drop, G: 
             (Capability { seat, hand }, next)
         }
         Err(Unsliced::NoMemory) => {
-            let seat = give_up(rt, turn, seat);
-            parkers.end();
+            let seat = give_up(rt, shared.turn, seat);
+            shared.parkers.end();
             (Capability { seat, hand }, Decision::Stop)
         }
     }
@@ -67,27 +62,23 @@ pub(crate) fn run_job<D: Runs<J, S>, J: Ticketed + Drop, S: Ticketed + Drop, G: 
 fn bring<D: Runs<J, S>, J: Ticketed + Drop, S: Ticketed + Drop, G: Gate, R: Wait>(
     rt: &R,
     alloc: Global,
-    turn: &Turn<D>,
-    hands: &Hands<J, S>,
-    parkers: &Parkers,
-    gate: &G,
+    shared: &Shared<'_, Turn<D>, J, S, G>,
     me: Capability<J, S>,
     slice: S,
 ) -> (Capability<J, S>, Decision<J>)
-    requires seat { IsSeatOf D.plan turn.now me.seat }
-    requires hand { IsHandOf hands.now me.hand }
-    requires code { hands_code hands.now ≡ (turn_plan D.plan turn.now).body }
-    requires slice { S.belongs slice ≡ hands_code hands.now }
+    requires seat { IsSeatOf D.plan shared.now.turn.now me.seat }
+    requires hand { IsHandOf shared.now.hands.now me.hand }
+    requires slice { S.belongs slice ≡ hands_code shared.now.hands.now }
     ensures seat { IsLater me.seat result.0.seat }
-    ensures hand { IsHandOf hands.now result.0.hand }
-    ensures next { RunsOf J.belongs (hands_code hands.now) result.1 }
+    ensures hand { IsHandOf shared.now.hands.now result.0.hand }
+    ensures next { RunsOf J.belongs (hands_code shared.now.hands.now) result.1 }
 {
     let Capability { seat, mut hand } = me;
-    let (seat, tried) = try_commit(rt, alloc, turn, hands, seat, &mut hand, slice);
+    let (seat, tried) = try_commit(rt, alloc, shared, seat, &mut hand, slice);
     let me = Capability { seat, hand };
     match tried {
-        Ok(visit) => (me, leave(parkers, gate, visit)),
-        Err(slice) => hand_over(rt, alloc, turn, hands, parkers, gate, me, slice),
+        Ok(visit) => (me, leave(shared.parkers, shared.gate, visit)),
+        Err(slice) => hand_over(rt, alloc, shared, me, slice),
     }
 }
 
@@ -96,34 +87,33 @@ fn bring<D: Runs<J, S>, J: Ticketed + Drop, S: Ticketed + Drop, G: Gate, R: Wait
 fn hand_over<D: Runs<J, S>, J: Ticketed + Drop, S: Ticketed + Drop, G: Gate, R: Wait>(
     rt: &R,
     alloc: Global,
-    turn: &Turn<D>,
-    hands: &Hands<J, S>,
-    parkers: &Parkers,
-    gate: &G,
+    shared: &Shared<'_, Turn<D>, J, S, G>,
     me: Capability<J, S>,
     slice: S,
 ) -> (Capability<J, S>, Decision<J>)
-    requires seat { IsSeatOf D.plan turn.now me.seat }
-    requires hand { IsHandOf hands.now me.hand }
-    requires code { hands_code hands.now ≡ (turn_plan D.plan turn.now).body }
-    requires slice { S.belongs slice ≡ hands_code hands.now }
+    requires seat { IsSeatOf D.plan shared.now.turn.now me.seat }
+    requires hand { IsHandOf shared.now.hands.now me.hand }
+    requires slice { S.belongs slice ≡ hands_code shared.now.hands.now }
     ensures seat { IsLater me.seat result.0.seat }
-    ensures hand { IsHandOf hands.now result.0.hand }
-    ensures next { RunsOf J.belongs (hands_code hands.now) result.1 }
+    ensures hand { IsHandOf shared.now.hands.now result.0.hand }
+    ensures next { RunsOf J.belongs (hands_code shared.now.hands.now) result.1 }
 {
     let Capability { seat, mut hand } = me;
-    match hands.hand_in(rt, &mut hand, slice) {
+    match shared.hands.hand_in(rt, &mut hand, slice) {
         Ok(()) => {
-            let (seat, visit) = try_visit(rt, alloc, turn, hands, seat, &mut hand);
+            let (seat, visit) = try_visit(rt, alloc, shared, seat, &mut hand);
             let me = Capability { seat, hand };
             match visit {
-                Some(visit) => (me, leave(parkers, gate, visit)),
+                Some(visit) => (me, leave(shared.parkers, shared.gate, visit)),
                 None => (me, Decision::Look),
             }
         }
         Err(slice) => {
-            let (seat, visit) = visit(rt, alloc, turn, hands, seat, &mut hand, Some(slice));
-            (Capability { seat, hand }, leave(parkers, gate, visit))
+            let (seat, visit) = visit(rt, alloc, shared, seat, &mut hand, Some(slice));
+            (
+                Capability { seat, hand },
+                leave(shared.parkers, shared.gate, visit),
+            )
         }
     }
 }

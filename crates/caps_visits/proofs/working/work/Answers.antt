@@ -1,5 +1,5 @@
 use Rattle.conc_turn.proofs.Later.{later_self, later_trans}
-use Rattle.caps_loop.proofs.working.work.Goals as goal
+use Rattle.caps_visits.proofs.working.work.Goals as goal
 
 pub loop-init : goal.loop-init
 loop-init g c = (later_self c.args.me.seat, c.requires.hand, tt)

@@ -4,7 +4,7 @@ use hs_rules::Ticketed;
 
 /// One capability: its right to ask for the turn, and its hand.
 #[derive(Drop)]
-pub(crate) struct Capability<J: Ticketed, S: Ticketed> {
-    pub(crate) seat: Seat,
-    pub(crate) hand: Hand<J, S>,
+pub struct Capability<J: Ticketed, S: Ticketed> {
+    pub seat: Seat,
+    pub hand: Hand<J, S>,
 }

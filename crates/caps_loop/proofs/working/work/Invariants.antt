@@ -1,7 +1,0 @@
-use Rattle.conc_turn.specs.Seats.{IsLater}
-use Rattle.conc_hands.specs.Hands.{IsHandOf, hands_code}
-use Rattle.caps_loop.specs.Nexts.{RunsOf}
-use Rattle.caps_loop.proofs.working.work.Given as goal
-
-abbrev pub invariant-loop : goal.invariant-loop
-invariant-loop g l = IsLater l.initial.now.seat l.now.seat × IsHandOf l.hands l.now.hand × RunsOf g.J.Ticketed.belongs (hands_code l.hands) l.next
