@@ -28,7 +28,7 @@ mod watch;
 mod working;
 
 pub use capability::Capability;
-pub use parkers::{Berth, Parkers, parkers_for};
+pub use parkers::{Parkers, parkers_for};
 pub use runs::{Runs, Unsliced};
 pub use shared::{Planned, Shared};
 pub use working::work;

@@ -32,32 +32,32 @@ impl Berth {
     }
 
     /// It begins to watch. A wake that comes from now on isn't lost.
-    pub fn watch(&self) {
+    pub(crate) fn watch(&self) {
         self.does.store(WATCHES, Ordering::SeqCst);
     }
 
     /// It goes on with its work.
-    pub fn work(&self) {
+    pub(crate) fn work(&self) {
         self.does.store(WORKS, Ordering::SeqCst);
     }
 
     /// Whether somebody woke it since it began to watch.
-    pub fn is_woken(&self) -> bool {
+    pub(crate) fn is_woken(&self) -> bool {
         self.does.load(Ordering::SeqCst) == WORKS
     }
 
     /// Waits until somebody wakes it, at most so many microseconds.
-    pub fn doze<R: Wait>(&self, rt: &R, micros: u64) {
+    pub(crate) fn doze<R: Wait>(&self, rt: &R, micros: u64) {
         self.parker.park_timeout(rt, Duration::from_micros(micros));
     }
 
     /// From now on each visit that finds something wakes it. Whether nobody woke it before.
-    pub fn announce(&self) -> bool {
+    pub(crate) fn announce(&self) -> bool {
         self.changes(WATCHES, PARKED)
     }
 
     /// Waits until somebody wakes it.
-    pub fn park<R: Wait>(&self, rt: &R) {
+    pub(crate) fn park<R: Wait>(&self, rt: &R) {
         self.parker.park(rt);
     }
 
@@ -103,7 +103,7 @@ pub fn parkers_for(alloc: Global, caps: u32) -> Result<Parkers, NoMemory>
 
 impl Parkers {
     /// Tells all that there is an ending, and wakes them.
-    pub fn end(&self) {
+    pub(crate) fn end(&self) {
         self.ended.store(true, Ordering::SeqCst);
         // In this order, since one that watches may park between the two.
         self.wake_watching(u32::MAX);
@@ -111,19 +111,19 @@ impl Parkers {
     }
 
     /// Whether somebody told that there is an ending.
-    pub fn has_ended(&self) -> bool {
+    pub(crate) fn has_ended(&self) -> bool {
         self.ended.load(Ordering::SeqCst)
     }
 
     /// Wakes all that are parked.
-    pub fn wake_parked(&self) {
+    pub(crate) fn wake_parked(&self) {
         for berth in &self.berths {
             berth.wake(PARKED);
         }
     }
 
     /// Wakes so many of those that watch.
-    pub fn wake_watching(&self, most: u32) {
+    pub(crate) fn wake_watching(&self, most: u32) {
         let mut left = most;
         for berth in &self.berths {
             if left == 0 {

@@ -1,12 +1,7 @@
 -- What follows from the answers of a desk.
 use Rattle.std.proofs.Common.{◌≡◌, false, true≢false, refl, sym, subst}
-use Rattle.std.specs.Prelude.{Option, Some, None, Result, Ok, Err, IfOk, IsSome, MatchOption}
+use Rattle.std.specs.Prelude.{Option, Some, None, IsSome, MatchOption}
 use Rattle.std.specs.Option.{is_some}
-
--- what follows from it holds too of an answer that is there
-pub ok_also : {T E : Type 0} {P Q : T → Type 0} (r : Result T E) → ((x : T) → P x → Q x) → IfOk r P → IfOk r Q
-ok_also (Ok x) more is = more x is
-ok_also (Err e) more is = tt
 
 -- no ending was answered, so there is none
 pub no_ending : {R E : Type 0} (P : R → Type 0) (answer : Option R) (end : Option E) → is_some answer ≡ false → MatchOption answer (end ≡ None) P → IsSome end → ⊥

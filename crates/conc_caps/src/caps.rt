@@ -2,15 +2,14 @@
 ghost use Rattle.std.specs.Prelude.{◌≡◌, ◌≤◌, IsSome};
 ghost use mathlib.Core.List.{IsPrefix};
 
-use crate::lent::LentAs;
-use crate::lent_desk::LentDesk;
 use caps_loop::run_caps as run_loop;
 use conc_world::Desk;
 use frame_stack::{Job, Slice};
 use hs_io::{Clock, Gate, Sink};
 use hs_rules::Kept;
+use lent_desk::{LentAs, LentDesk};
 use std::alloc::{AllocFailed, Global};
-use std::marker::{Brand, PhantomData};
+use std::marker::Brand;
 use std::sync::Wait;
 use std::thread::Threads;
 
@@ -70,10 +69,6 @@ fn run_lent<
             return desk;
         }
     };
-    let desk: LentDesk<O, E, K, N> = LentDesk {
-        desk,
-        named: PhantomData,
-    };
-    let desk = run_loop::<LentDesk<O, E, K, N>, Job, Slice, G, R>(alloc, rt, desk, caps, gate);
-    Box::into_inner(desk.desk)
+    let desk: LentDesk<O, E, K, N> = LentDesk::new(desk);
+    run_loop::<LentDesk<O, E, K, N>, Job, Slice, G, R>(alloc, rt, desk, caps, gate).into_desk()
 }

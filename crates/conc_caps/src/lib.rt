@@ -1,7 +1,7 @@
 //! One desk, run by several capabilities.
 //!
 //! To a contract a `Desk` is what `conc_world` says: its plan, its history, its ending, and what was lent to it. `run_caps`
-//! is the loop of `caps_loop` over a desk whose jobs and slices are those of `frame_stack`.
+//! is the loop of `caps_loop` over a desk with a name for what it was lent (`lent_desk`).
 //!
 //! The promise: the desk that comes back has the same plan, an ending, and a history that begins with the one that was handed
 //! in; and the sinks and the clock that it was lent are those that the first desk was lent, as far as they can tell. What an
@@ -9,8 +9,5 @@
 #![tactic(auto)]
 
 mod caps;
-mod lent;
-mod lent_desk;
-mod runs;
 
 pub use caps::run_caps;

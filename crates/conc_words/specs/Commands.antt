@@ -82,10 +82,11 @@ command_in = option_and_then named
 abbrev pub command_of : List Text → Option Command
 command_of words = if takes program words then command_in (subcommand_of program words) else None
 
--- the same of strings
+-- the bytes of each word
 abbrev pub texts_of : {Y : Type 0} → List (String Y) → List Text
 texts_of words = map (λ word. string_bytes word) words
 
+-- the command that strings are
 abbrev pub command_by : {Y : Type 0} → List (String Y) → Option Command
 command_by words = command_of (texts_of words)
 

@@ -1,6 +1,6 @@
--- What is known where no refusal was found, and that what became of a slice became of it or of one made anew.
+-- What is known where a refusal was found, and where none was.
 use Rattle.std.specs.Prelude.{◌≤◌, Result, Ok, Err, OnErr, MatchOption}
-use Rattle.std.proofs.Common.{◌≡◌, Option, Some, None, ap, refl, subst, sym}
+use Rattle.std.proofs.Common.{◌≡◌, Option, Some, None, ap, subst, sym}
 use Rattle.frame_stack.specs.declared.sliced.Slice.{Slice}
 use Rattle.world_entries.specs.Worlds.{state_of, Starts}
 use Rattle.run_record.specs.declared.record.Record.{Record}
@@ -8,7 +8,7 @@ use Rattle.run_record.specs.Records.{Same}
 use Rattle.run_course.specs.declared.ends.RunEnd.{RunEnd}
 use Rattle.conc_world.specs.declared.answers.Committed.{Committed}
 use Rattle.conc_world.specs.Jobs.{left}
-use Rattle.conc_world.specs.Committing.{IsCommitted, IsCommittedAnew}
+use Rattle.conc_world.specs.Committing.{IsCommitted}
 
 -- what holds anyway holds where there is an error
 pub on_err : {T E : Type 0} (P : Type 0) (r : Result T E) → P → OnErr r P
@@ -18,14 +18,11 @@ on_err P (Err e) p = p
 pub none_found : (s : Slice) (ended : Option RunEnd) (r : Record) (o : Option Committed) → o ≡ None → MatchOption o ((ended ≡ None) × Starts s r.world × (s.steps ≤ left r)) (λ why. IsCommitted why s ended r ended r) → (ended ≡ None) × Starts s r.world × (s.steps ≤ left r)
 none_found s ended r o e h = subst (λ z. MatchOption z ((ended ≡ None) × Starts s r.world × (s.steps ≤ left r)) (λ why. IsCommitted why s ended r ended r)) e h
 
-pub itself : (c : Committed) (s : Slice) (old_end : Option RunEnd) (old : Record) (new_end : Option RunEnd) (new : Record) → IsCommitted c s old_end old new_end new → IsCommittedAnew c s old_end old new_end new
-itself c s old_end old new_end new h = record { slice = s; ticket = refl; tid = refl; committed = h }
-
 -- the answer of a refusal after which all is as it was
-pub refused_itself : (s : Slice) (ended : Option RunEnd) (r : Record) (o : Option Committed) (why : Committed) → o ≡ Some why → MatchOption o ((ended ≡ None) × Starts s r.world × (s.steps ≤ left r)) (λ why. IsCommitted why s ended r ended r) → (new_end : Option RunEnd) (new : Record) → new_end ≡ ended → new ≡ r → IsCommittedAnew why s ended r new_end new
-refused_itself s ended r o why e h new_end new same_end same =
+pub refused_here : (s : Slice) (ended : Option RunEnd) (r : Record) (o : Option Committed) (why : Committed) → o ≡ Some why → MatchOption o ((ended ≡ None) × Starts s r.world × (s.steps ≤ left r)) (λ why. IsCommitted why s ended r ended r) → (new_end : Option RunEnd) (new : Record) → new_end ≡ ended → new ≡ r → IsCommitted why s ended r new_end new
+refused_here s ended r o why e h new_end new same_end same =
     let is : IsCommitted why s ended r ended r = subst (λ z. MatchOption z ((ended ≡ None) × Starts s r.world × (s.steps ≤ left r)) (λ why. IsCommitted why s ended r ended r)) e h in
-    itself why s ended r new_end new (subst (λ x. IsCommitted why s ended r new_end x) (sym same) (subst (λ x. IsCommitted why s ended r x r) (sym same_end) is))
+    subst (λ x. IsCommitted why s ended r new_end x) (sym same) (subst (λ x. IsCommitted why s ended r x r) (sym same_end) is)
 
 -- a record that didn't change
 pub unchanged : (old new : Record) → new ≡ old → Same old new

@@ -106,10 +106,10 @@ begins_alike old new e = ([], e ∙ sym (append-nil old))
 
 -- ---- the calls of a turn, one after the other
 
-pub three_begin : (a b c d : Record) → Begins a.history.list b.history.list → Same b c → Begins c.history.list d.history.list → Begins a.history.list d.history.list
+pub three_begin : (a b c d : Record) → Begins a.history.list b.history.list → c.history.list ≡ b.history.list → Begins c.history.list d.history.list → Begins a.history.list d.history.list
 three_begin a b c d x y z =
     begins_again a.history.list b.history.list d.history.list x
-    (begins_again b.history.list c.history.list d.history.list (begins_alike b.history.list c.history.list y.history) z)
+    (begins_again b.history.list c.history.list d.history.list (begins_alike b.history.list c.history.list y) z)
 
 -- no history that begins with another has fewer steps
 begins_most : (a b : List Entry) → Begins a b → steps_of a ≤ steps_of b

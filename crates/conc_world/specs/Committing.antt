@@ -15,6 +15,8 @@ use Rattle.conc_world.specs.declared.answers.Why.{Why}
 use Rattle.conc_world.specs.declared.answers.Why.TheVariants as why
 use Rattle.conc_world.specs.declared.answers.Committed.{Committed}
 use Rattle.conc_world.specs.declared.answers.Committed.TheVariants.{Taken, Stale, Short, Ended, NoMemory}
+use Rattle.conc_world.specs.declared.answers.Made.{Made}
+use Rattle.conc_world.specs.declared.answers.Made.TheVariants.{Before, Anew}
 use Rattle.conc_world.specs.Jobs.{left, TakenBack, SameJobs}
 
 -- thread t is there and hasn't finished, and this is true of it
@@ -48,12 +50,17 @@ IsCommitted (Short n) s old_end old new_end new = (old_end ≡ None) × Starts s
 IsCommitted Taken s old_end old new_end new = (old_end ≡ None) × Starts s old.world × (s.steps ≤ left old) × Accepted s new_end old new
 IsCommitted NoMemory s old_end old new_end new = (old_end ≡ None) × Same old new × (new_end ≡ Some end.Memory)
 
--- What became of a slice, or of one of the same job that was made anew in its place.
+-- What became of a slice of the same job that was made anew in its place.
 pub record IsCommittedAnew (c : Committed) (s : Slice) (old_end : Option RunEnd) (old : Record) (new_end : Option RunEnd) (new : Record) : Type 0 where
   pub slice : Slice
   pub ticket : slice.ticket ≡ s.ticket
   pub tid : slice.tid ≡ s.tid
   pub committed : IsCommitted c slice old_end old new_end new
+
+-- What became of a slice, or of the one that was judged in its place.
+abbrev pub IsCommittedBy : Made → Committed → Slice → (old_end : Option RunEnd) (old : Record) (new_end : Option RunEnd) (new : Record) → Type 0
+IsCommittedBy Before c s old_end old new_end new = IsCommitted c s old_end old new_end new
+IsCommittedBy Anew c s old_end old new_end new = IsCommittedAnew c s old_end old new_end new
 
 -- every answer but Ended and NoMemory takes the ticket back where it is out
 abbrev pub TicketBack : Committed → ℕ → Tickets → Tickets → Type 0

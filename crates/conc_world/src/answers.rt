@@ -25,6 +25,15 @@ pub enum Committed {
     NoMemory,
 }
 
+/// Which slice was judged, where one came back.
+#[derive(Clone, Copy, Debug, PartialEq, Eq)]
+pub enum Made {
+    /// The one that came back.
+    Before,
+    /// One of the same job, made where its thread stands.
+    Anew,
+}
+
 /// What is lent to a run.
 #[derive(Drop)]
 pub struct Parts<O, E, K> {

@@ -22,7 +22,7 @@ use std::alloc::Global;
 use std::snapshot::Snapshot;
 
 /// A slice has so many steps at most.
-const MOST_STEPS: u64 = 1024;
+pub(crate) const MOST_STEPS: u32 = 1024;
 
 /// A copy of a control that is to do an action.
 fn start_of(alloc: Global, control: &Control) -> Result<Control, NoMemory>
@@ -170,20 +170,22 @@ impl<O: Sink, E: Sink, K: Clock> Desk<O, E, K> {
             tid: t,
             start,
             mask: thread.stack.mask(),
-            budget: left.min(MOST_STEPS) as u32,
+            budget: left.min(u64::from(MOST_STEPS)) as u32,
             of: Snapshot::of(body),
         })
     }
 
-    /// The slice of a thread that is to do an action, from where it stands.
-    pub(crate) fn slice_of(&self, t: u32, ticket: u64) -> Result<Slice, NoMemory>
+    /// The slice of a thread that is to do an action, from where it stands, of so many rules at most.
+    pub(crate) fn slice_of(&self, t: u32, ticket: u64, most: u32) -> Result<Slice, NoMemory>
         requires none { self.now.course.end ≡ None }
+        requires some { 0 < most }
         requires goes { IsAt t Goes self.now.course.clocked.record.world.threads.list.items }
         ensures of { IfOk result (λ s. (s.tid ≡ t) × (s.ticket ≡ ticket) × (s.of.value ≡ self.now.course.clocked.record.of.value)) }
         ensures starts { IfOk result (λ s. Starts s self.now.course.clocked.record.world) }
         ensures fuel { IfOk result (λ s. s.steps ≤ left self.now.course.clocked.record) }
     {
-        let job = self.job_of(t, ticket)?;
+        let mut job = self.job_of(t, ticket)?;
+        job.budget = job.budget.min(most);
         let alloc = self.course.clocked.record.world.alloc;
         match slice(alloc, &self.code, job, &mut NeverCut) {
             Ok(slice) => Ok(slice),

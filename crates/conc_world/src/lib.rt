@@ -6,7 +6,7 @@
 //! an ending comes for its cause (`specs/Runs`, `close`). `settle` appends entries until only slices are left; `next_job`
 //! makes a job of a thread that is to do an action; `commit` appends the local rules of a slice, or says why not
 //! (`specs/Committing`), and `commit_or_redo` does so in a time that the slice's own steps bound; `overtaken` names jobs that
-//! an exception has overtaken (`specs/Jobs`); `alone` runs it all.
+//! an exception has overtaken (`specs/Jobs`); `go_on` runs short slices in place; `alone` runs it all.
 //!
 //! The promise: whatever is committed, in whatever order, the history is a run, and after an ending it stays as it is. That
 //! slices run beside each other, and who runs them, is left to the caller.
@@ -19,7 +19,7 @@ mod jobs;
 mod redoing;
 mod running;
 
-pub use answers::{Closed, Committed, Parts, Why};
+pub use answers::{Closed, Committed, Made, Parts, Why};
 pub use desk::Desk;
 pub use run_course::RunEnd;
 pub use running::alone;

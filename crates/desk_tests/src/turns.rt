@@ -54,7 +54,7 @@ fn is_committed(desk: &mut Quiet, job: Option<Job>) -> bool
     let Ok(slice) = ran(desk, job) else {
         return false;
     };
-    matches!(desk.commit_or_redo(slice), Committed::Taken)
+    matches!(desk.commit_or_redo(slice).0, Committed::Taken)
 }
 
 // What a try reads, where it loses.

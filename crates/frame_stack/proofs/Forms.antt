@@ -1,5 +1,5 @@
--- Values that aren't of a primitive's types: by the primitive and the values' forms.
-use Rattle.std.proofs.Common.{◌≡◌, ◌<◌, ◌≤◌, arith, ℕ, ℤ, Bool, List, [], ◌∷◌, ◌++◌, length, length-append, Option, Some, None, refl, ap, sym, subst, ◌∙◌}
+-- Values that a primitive doesn't take: by the primitive and the values' forms.
+use Rattle.std.proofs.Common.{◌≡◌, ◌<◌, ◌≤◌, arith, ℕ, suc, ℤ, Bool, true, false, cond, List, [], ◌∷◌, ◌++◌, length, length-append, Option, Some, None, refl, ap, ap₂, sym, subst, ◌∙◌}
 use Rattle.std.specs.Prelude.{MatchOption}
 use Rattle.hs_base.specs.declared.exn.Exn.{Exn}
 use Rattle.hs_base.specs.declared.mask.Mask.{Mask}
@@ -7,18 +7,17 @@ use Rattle.hs_base.specs.declared.value.Value.{Value}
 use Rattle.hs_base.specs.declared.value.Value.TheVariants as raw
 use Rattle.hs_base.specs.declared.value.ValueList.{ValueList}
 use Rattle.rules_expansion.specs.declared.primitive.Primitive.{Primitive}
-use Rattle.rules_expansion.specs.declared.primitive.Primitive.TheVariants.{PutStr, PutStrLn, HPutStrLn, NewMVar, NewEmptyMVar, TakeMVar, PutMVar, ReadMVar, TryTakeMVar, TryPutMVar, MyThreadId, GetMaskingState, ClockMicros, ThreadDelay, ThrowTo, NewTimeout, Acquired, Release}
+use Rattle.rules_expansion.specs.declared.primitive.Primitive.TheVariants.{PutStr, PutStrLn, HPutStrLn, NewMVar, TakeMVar, PutMVar, ReadMVar, TryTakeMVar, TryPutMVar, ThreadDelay, ThrowTo, Release}
 use Rattle.rules_meaning.specs.Values as val
 use Rattle.rules_meaning.specs.Values.{V, value_of, values_of, list_value_of}
 use Rattle.rules_meaning.proofs.Values.{value_of-Pair, value_of-Just, value_of-Left, value_of-Right, value_of-List, list_value_of-Nil, list_value_of-before}
 use Rattle.rules_sorts.specs.Sorts.{Sort}
 use Rattle.rules_sorts.specs.TypedMeaning.{any_cell, of_int, of_text, of_exn, of_thread, of_cell}
-use Rattle.rules_expansion.specs.declared.primitive.Primitive.{Primitive as Asked}
-use Rattle.rules_expansion.specs.declared.primitive.Primitive.TheVariants as p
 use Rattle.hs_eval.proofs.Cases.{by_form, by_list, value_of-Unit, value_of-Int, value_of-Bool, value_of-Text, value_of-Nothing, value_of-Cell, value_of-Thread, value_of-Exn, value_of-Restore, value_of-Inst}
 use Rattle.hs_soundness.specs.CoreSorts.{of_instance}
-use Rattle.hs_progress.specs.CoreTyping.{Asks, asks_put_str, asks_put_str_ln, asks_h_put_str_ln, asks_new, asks_new_empty, asks_new_scope_cell, asks_take, asks_put, asks_put_end, asks_read, asks_read_end, asks_try_take, asks_try_put, asks_my_thread, asks_masking, asks_clock, asks_delay, asks_throw_to, asks_new_timeout, asks_acquired, asks_release}
+use Rattle.hs_progress.specs.CoreTyping.{Asks, asks_put_str, asks_put_str_ln, asks_h_put_str_ln, asks_new, asks_new_empty, asks_take, asks_put, asks_put_end, asks_read, asks_read_end, asks_try_take, asks_try_put, asks_delay, asks_throw_to, asks_release}
 use Rattle.hs_progress.specs.TypedStates.{AllOfSorts, no_values, one_value}
+use Rattle.frame_stack.specs.Kinds.{Kind, a_text, a_number, a_cell, a_thread, an_exception, an_instance, kinds_of, is_of, are_of, AreOthers}
 use Rattle.frame_stack.specs.Slicing.{Unfit}
 
 -- a statement of each form of value and what it stands for is one of each value
@@ -39,203 +38,146 @@ forms P unit int bool text pair nothing just left right nil cons cell thread exn
     list : (vs : ValueList) → P (raw.List vs) (list_value_of vs)
     list vs = by_list (λ us. P (raw.List vs) (list_value_of us)) (subst (P (raw.List vs)) (sym list_value_of-Nil) (nil vs)) (λ a rest. subst (P (raw.List vs)) (sym (list_value_of-before a rest)) (cons vs (value_of a) (list_value_of rest))) vs
 
--- ---- a value that hasn't a form isn't of its type
+-- ---- a value that hasn't a form isn't of its kind
 
-pub not_text : (v : Value) → ((t : List ℕ) → v ≡ raw.Text t → ⊥) → of_text (value_of v) → ⊥
-not_text = forms (λ w x. ((t : List ℕ) → w ≡ raw.Text t → ⊥) → of_text x → ⊥) (λ h x. x) (λ m h x. x) (λ t h x. x) (λ t h x. h t refl) (λ a c h x. x) (λ h x. x) (λ a h x. x) (λ a h x. x) (λ a h x. x) (λ vs h x. x) (λ vs a c h x. x) (λ m h x. x) (λ m h x. x) (λ e h x. x) (λ m h x. x) (λ m h x. x)
+pub not_text : (v : Value) → ((t : List ℕ) → v ≡ raw.Text t → ⊥) → is_of a_text (value_of v) ≡ false
+not_text = forms (λ w x. ((t : List ℕ) → w ≡ raw.Text t → ⊥) → is_of a_text x ≡ false) (λ h. refl) (λ m h. refl) (λ t h. refl) (λ t h. absurd (h t refl)) (λ a c h. refl) (λ h. refl) (λ a h. refl) (λ a h. refl) (λ a h. refl) (λ vs h. refl) (λ vs a c h. refl) (λ m h. refl) (λ m h. refl) (λ e h. refl) (λ m h. refl) (λ m h. refl)
 
-pub not_int : (v : Value) → ((t : ℤ) → v ≡ raw.Int t → ⊥) → of_int (value_of v) → ⊥
-not_int = forms (λ w x. ((t : ℤ) → w ≡ raw.Int t → ⊥) → of_int x → ⊥) (λ h x. x) (λ m h x. h m refl) (λ t h x. x) (λ t h x. x) (λ a c h x. x) (λ h x. x) (λ a h x. x) (λ a h x. x) (λ a h x. x) (λ vs h x. x) (λ vs a c h x. x) (λ m h x. x) (λ m h x. x) (λ e h x. x) (λ m h x. x) (λ m h x. x)
+pub not_int : (v : Value) → ((t : ℤ) → v ≡ raw.Int t → ⊥) → is_of a_number (value_of v) ≡ false
+not_int = forms (λ w x. ((t : ℤ) → w ≡ raw.Int t → ⊥) → is_of a_number x ≡ false) (λ h. refl) (λ m h. absurd (h m refl)) (λ t h. refl) (λ t h. refl) (λ a c h. refl) (λ h. refl) (λ a h. refl) (λ a h. refl) (λ a h. refl) (λ vs h. refl) (λ vs a c h. refl) (λ m h. refl) (λ m h. refl) (λ e h. refl) (λ m h. refl) (λ m h. refl)
 
-pub not_cell : (v : Value) → ((t : ℕ) → v ≡ raw.Cell t → ⊥) → of_cell (λ m. Unit {0}) (value_of v) → ⊥
-not_cell = forms (λ w x. ((t : ℕ) → w ≡ raw.Cell t → ⊥) → of_cell (λ m. Unit {0}) x → ⊥) (λ h x. x) (λ m h x. x) (λ t h x. x) (λ t h x. x) (λ a c h x. x) (λ h x. x) (λ a h x. x) (λ a h x. x) (λ a h x. x) (λ vs h x. x) (λ vs a c h x. x) (λ m h x. h m refl) (λ m h x. x) (λ e h x. x) (λ m h x. x) (λ m h x. x)
+pub not_cell : (v : Value) → ((t : ℕ) → v ≡ raw.Cell t → ⊥) → is_of a_cell (value_of v) ≡ false
+not_cell = forms (λ w x. ((t : ℕ) → w ≡ raw.Cell t → ⊥) → is_of a_cell x ≡ false) (λ h. refl) (λ m h. refl) (λ t h. refl) (λ t h. refl) (λ a c h. refl) (λ h. refl) (λ a h. refl) (λ a h. refl) (λ a h. refl) (λ vs h. refl) (λ vs a c h. refl) (λ m h. absurd (h m refl)) (λ m h. refl) (λ e h. refl) (λ m h. refl) (λ m h. refl)
 
-pub not_thread : (v : Value) → ((t : ℕ) → v ≡ raw.Thread t → ⊥) → of_thread (λ m. Unit {0}) (value_of v) → ⊥
-not_thread = forms (λ w x. ((t : ℕ) → w ≡ raw.Thread t → ⊥) → of_thread (λ m. Unit {0}) x → ⊥) (λ h x. x) (λ m h x. x) (λ t h x. x) (λ t h x. x) (λ a c h x. x) (λ h x. x) (λ a h x. x) (λ a h x. x) (λ a h x. x) (λ vs h x. x) (λ vs a c h x. x) (λ m h x. x) (λ m h x. h m refl) (λ e h x. x) (λ m h x. x) (λ m h x. x)
+pub not_thread : (v : Value) → ((t : ℕ) → v ≡ raw.Thread t → ⊥) → is_of a_thread (value_of v) ≡ false
+not_thread = forms (λ w x. ((t : ℕ) → w ≡ raw.Thread t → ⊥) → is_of a_thread x ≡ false) (λ h. refl) (λ m h. refl) (λ t h. refl) (λ t h. refl) (λ a c h. refl) (λ h. refl) (λ a h. refl) (λ a h. refl) (λ a h. refl) (λ vs h. refl) (λ vs a c h. refl) (λ m h. refl) (λ m h. absurd (h m refl)) (λ e h. refl) (λ m h. refl) (λ m h. refl)
 
-pub not_exn : (v : Value) → ((t : Exn) → v ≡ raw.Exn t → ⊥) → of_exn (value_of v) → ⊥
-not_exn = forms (λ w x. ((t : Exn) → w ≡ raw.Exn t → ⊥) → of_exn x → ⊥) (λ h x. x) (λ m h x. x) (λ t h x. x) (λ t h x. x) (λ a c h x. x) (λ h x. x) (λ a h x. x) (λ a h x. x) (λ a h x. x) (λ vs h x. x) (λ vs a c h x. x) (λ m h x. x) (λ m h x. x) (λ e h x. h e refl) (λ m h x. x) (λ m h x. x)
+pub not_exn : (v : Value) → ((t : Exn) → v ≡ raw.Exn t → ⊥) → is_of an_exception (value_of v) ≡ false
+not_exn = forms (λ w x. ((t : Exn) → w ≡ raw.Exn t → ⊥) → is_of an_exception x ≡ false) (λ h. refl) (λ m h. refl) (λ t h. refl) (λ t h. refl) (λ a c h. refl) (λ h. refl) (λ a h. refl) (λ a h. refl) (λ a h. refl) (λ vs h. refl) (λ vs a c h. refl) (λ m h. refl) (λ m h. refl) (λ e h. absurd (h e refl)) (λ m h. refl) (λ m h. refl)
 
-pub not_instance : (v : Value) → ((t : ℕ) → v ≡ raw.Inst t → ⊥) → of_instance (value_of v) → ⊥
-not_instance = forms (λ w x. ((t : ℕ) → w ≡ raw.Inst t → ⊥) → of_instance x → ⊥) (λ h x. x) (λ m h x. x) (λ t h x. x) (λ t h x. x) (λ a c h x. x) (λ h x. x) (λ a h x. x) (λ a h x. x) (λ a h x. x) (λ vs h x. x) (λ vs a c h x. x) (λ m h x. x) (λ m h x. x) (λ e h x. x) (λ m h x. x) (λ m h x. h m refl)
+pub not_instance : (v : Value) → ((t : ℕ) → v ≡ raw.Inst t → ⊥) → is_of an_instance (value_of v) ≡ false
+not_instance = forms (λ w x. ((t : ℕ) → w ≡ raw.Inst t → ⊥) → is_of an_instance x ≡ false) (λ h. refl) (λ m h. refl) (λ t h. refl) (λ t h. refl) (λ a c h. refl) (λ h. refl) (λ a h. refl) (λ a h. refl) (λ a h. refl) (λ vs h. refl) (λ vs a c h. refl) (λ m h. refl) (λ m h. refl) (λ e h. refl) (λ m h. refl) (λ m h. absurd (h m refl))
 
--- ---- a primitive whose values aren't of its types
+-- ---- values that aren't of their kinds
 
-pub text_unfit : (v : V) → (of_text v → ⊥) → Unfit PutStr (v ∷ [])
-text_unfit v n ks k asks_put_str (one_value h no_values) = n h
+none_of : (b : Bool) → cond b false false ≡ false
+none_of true = refl
+none_of false = refl
 
-pub line_unfit : (v : V) → (of_text v → ⊥) → Unfit PutStrLn (v ∷ [])
-line_unfit v n ks k asks_put_str_ln (one_value h no_values) = n h
+pub one_other : (k : Kind) (v : V) → is_of k v ≡ false → are_of (k ∷ []) (v ∷ []) ≡ false
+one_other k v n = ap (λ b. cond b true false) n
 
-pub fault_unfit : (v : V) → (of_text v → ⊥) → Unfit HPutStrLn (v ∷ [])
-fault_unfit v n ks k asks_h_put_str_ln (one_value h no_values) = n h
+pub first_other : (k j : Kind) (v w : V) → is_of k v ≡ false → are_of (k ∷ j ∷ []) (v ∷ w ∷ []) ≡ false
+first_other k j v w n = ap (λ b. cond b (are_of (j ∷ []) (w ∷ [])) false) n
 
-pub take_unfit : (v : V) → (of_cell (λ m. Unit {0}) v → ⊥) → Unfit TakeMVar (v ∷ [])
-take_unfit v n ks k asks_take (one_value h no_values) = n h
+pub second_other : (k j : Kind) (v w : V) → is_of j w ≡ false → are_of (k ∷ j ∷ []) (v ∷ w ∷ []) ≡ false
+second_other k j v w n = ap (λ b. cond (is_of k v) (cond b true false) false) n ∙ none_of (is_of k v)
 
-pub read_unfit : (v : V) → (of_cell (λ m. Unit {0}) v → ⊥) → Unfit ReadMVar (v ∷ [])
-read_unfit v n ks k asks_read (one_value h no_values) = n h
-read_unfit v n ks k asks_read_end (one_value h no_values) = n h
+pub ruleset two_others = (first_other, second_other)
 
-pub try_take_unfit : (v : V) → (of_cell (λ m. Unit {0}) v → ⊥) → Unfit TryTakeMVar (v ∷ [])
-try_take_unfit v n ks k asks_try_take (one_value h no_values) = n h
+-- ---- values that aren't as many as a primitive takes
 
-pub delay_unfit : (v : V) → (of_int v → ⊥) → Unfit ThreadDelay (v ∷ [])
-delay_unfit v n ks k asks_delay (one_value h no_values) = n h
-
-pub release_unfit : (v : V) → (of_instance v → ⊥) → Unfit Release (v ∷ [])
-release_unfit v n ks k asks_release (one_value h no_values) = n h
-
-pub put_unfit : (v w : V) → (of_cell (λ m. Unit {0}) v → ⊥) → Unfit PutMVar (v ∷ w ∷ [])
-put_unfit v w n ks k asks_put (one_value h (one_value g no_values)) = n h
-put_unfit v w n ks k asks_put_end (one_value h (one_value g no_values)) = n h
-
-pub try_put_unfit : (v w : V) → (of_cell (λ m. Unit {0}) v → ⊥) → Unfit TryPutMVar (v ∷ w ∷ [])
-try_put_unfit v w n ks k asks_try_put (one_value h (one_value g no_values)) = n h
-
-pub thread_unfit : (v w : V) → (of_thread (λ m. Unit {0}) v → ⊥) → Unfit ThrowTo (v ∷ w ∷ [])
-thread_unfit v w n ks k asks_throw_to (one_value h (one_value g no_values)) = n h
-
-pub exn_unfit : (v w : V) → (of_exn w → ⊥) → Unfit ThrowTo (v ∷ w ∷ [])
-exn_unfit v w n ks k asks_throw_to (one_value h (one_value g no_values)) = n g
-
-pub ruleset one_unfit = (text_unfit, line_unfit, fault_unfit, take_unfit, read_unfit, try_take_unfit, delay_unfit, release_unfit)
-
-pub ruleset two_unfit = (put_unfit, try_put_unfit, thread_unfit, exn_unfit)
-
--- ---- as many values as a primitive takes
-
-abbrev count_of : Primitive → ℕ
-count_of PutStr = 1
-count_of PutStrLn = 1
-count_of HPutStrLn = 1
-count_of NewMVar = 1
-count_of NewEmptyMVar = 0
-count_of TakeMVar = 1
-count_of PutMVar = 2
-count_of ReadMVar = 1
-count_of TryTakeMVar = 1
-count_of TryPutMVar = 2
-count_of MyThreadId = 0
-count_of GetMaskingState = 0
-count_of ClockMicros = 0
-count_of ThreadDelay = 1
-count_of ThrowTo = 2
-count_of NewTimeout = 0
-count_of Acquired = 0
-count_of Release = 1
-
-two_at_most : (q : Primitive) → count_of q ≤ 2
-two_at_most PutStr = omega arith
-two_at_most PutStrLn = omega arith
-two_at_most HPutStrLn = omega arith
-two_at_most NewMVar = omega arith
-two_at_most NewEmptyMVar = omega arith
-two_at_most TakeMVar = omega arith
-two_at_most PutMVar = omega arith
-two_at_most ReadMVar = omega arith
-two_at_most TryTakeMVar = omega arith
-two_at_most TryPutMVar = omega arith
-two_at_most MyThreadId = omega arith
-two_at_most GetMaskingState = omega arith
-two_at_most ClockMicros = omega arith
-two_at_most ThreadDelay = omega arith
-two_at_most ThrowTo = omega arith
-two_at_most NewTimeout = omega arith
-two_at_most Acquired = omega arith
-two_at_most Release = omega arith
-
-asks_count : {q : Primitive} {ks : List Sort} {k : Sort} → Asks q ks k → length ks ≡ count_of q
-asks_count asks_put_str = refl
-asks_count asks_put_str_ln = refl
-asks_count asks_h_put_str_ln = refl
-asks_count asks_new = refl
-asks_count asks_new_empty = refl
-asks_count asks_new_scope_cell = refl
-asks_count asks_take = refl
-asks_count asks_put = refl
-asks_count asks_put_end = refl
-asks_count asks_read = refl
-asks_count asks_read_end = refl
-asks_count asks_try_take = refl
-asks_count asks_try_put = refl
-asks_count asks_my_thread = refl
-asks_count asks_masking = refl
-asks_count asks_clock = refl
-asks_count asks_delay = refl
-asks_count asks_throw_to = refl
-asks_count asks_new_timeout = refl
-asks_count asks_acquired = refl
-asks_count asks_release = refl
-
-each_one : {ks : List Sort} {us : List V} → AllOfSorts any_cell ks us → length us ≡ length ks
-each_one no_values = refl
-each_one (one_value h hs) = let e = each_one hs in omega (arith, e)
-
-wrong_count : (q : Primitive) (us : List V) → (length us ≡ count_of q → ⊥) → Unfit q us
-wrong_count q us n ks k a h = n (each_one h ∙ asks_count a)
+wrong_count : (ks : List Kind) (us : List V) → (length us ≡ length ks → ⊥) → are_of ks us ≡ false
+wrong_count [] [] n = absurd (n refl)
+wrong_count [] (u ∷ us) n = refl
+wrong_count (k ∷ ks) [] n = refl
+wrong_count (k ∷ ks) (u ∷ us) n = ap (λ b. cond (is_of k u) b false) (wrong_count ks us (λ e. n (ap suc e))) ∙ none_of (is_of k u)
 
 -- a primitive that takes no one value
-pub other_one : (q : Asked) (v : V) → (q ≡ p.PutStr → ⊥) → (q ≡ p.PutStrLn → ⊥) → (q ≡ p.HPutStrLn → ⊥) → (q ≡ p.NewMVar → ⊥) → (q ≡ p.TakeMVar → ⊥) → (q ≡ p.ReadMVar → ⊥) → (q ≡ p.TryTakeMVar → ⊥) → (q ≡ p.ThreadDelay → ⊥) → (q ≡ p.Release → ⊥) → Unfit q (v ∷ [])
-other_one p.PutStr v n0 n1 n2 n3 n4 n5 n6 n7 n8 = absurd (n0 refl)
-other_one p.PutStrLn v n0 n1 n2 n3 n4 n5 n6 n7 n8 = absurd (n1 refl)
-other_one p.HPutStrLn v n0 n1 n2 n3 n4 n5 n6 n7 n8 = absurd (n2 refl)
-other_one p.NewMVar v n0 n1 n2 n3 n4 n5 n6 n7 n8 = absurd (n3 refl)
-other_one p.NewEmptyMVar v n0 n1 n2 n3 n4 n5 n6 n7 n8 = wrong_count NewEmptyMVar (v ∷ []) (λ e. omega (arith, e))
-other_one p.TakeMVar v n0 n1 n2 n3 n4 n5 n6 n7 n8 = absurd (n4 refl)
-other_one p.PutMVar v n0 n1 n2 n3 n4 n5 n6 n7 n8 = wrong_count PutMVar (v ∷ []) (λ e. omega (arith, e))
-other_one p.ReadMVar v n0 n1 n2 n3 n4 n5 n6 n7 n8 = absurd (n5 refl)
-other_one p.TryTakeMVar v n0 n1 n2 n3 n4 n5 n6 n7 n8 = absurd (n6 refl)
-other_one p.TryPutMVar v n0 n1 n2 n3 n4 n5 n6 n7 n8 = wrong_count TryPutMVar (v ∷ []) (λ e. omega (arith, e))
-other_one p.MyThreadId v n0 n1 n2 n3 n4 n5 n6 n7 n8 = wrong_count MyThreadId (v ∷ []) (λ e. omega (arith, e))
-other_one p.GetMaskingState v n0 n1 n2 n3 n4 n5 n6 n7 n8 = wrong_count GetMaskingState (v ∷ []) (λ e. omega (arith, e))
-other_one p.ClockMicros v n0 n1 n2 n3 n4 n5 n6 n7 n8 = wrong_count ClockMicros (v ∷ []) (λ e. omega (arith, e))
-other_one p.ThreadDelay v n0 n1 n2 n3 n4 n5 n6 n7 n8 = absurd (n7 refl)
-other_one p.ThrowTo v n0 n1 n2 n3 n4 n5 n6 n7 n8 = wrong_count ThrowTo (v ∷ []) (λ e. omega (arith, e))
-other_one p.NewTimeout v n0 n1 n2 n3 n4 n5 n6 n7 n8 = wrong_count NewTimeout (v ∷ []) (λ e. omega (arith, e))
-other_one p.Acquired v n0 n1 n2 n3 n4 n5 n6 n7 n8 = wrong_count Acquired (v ∷ []) (λ e. omega (arith, e))
-other_one p.Release v n0 n1 n2 n3 n4 n5 n6 n7 n8 = absurd (n8 refl)
+pub not_one : (q : Primitive) (v : V) → (q ≡ PutStr → ⊥) → (q ≡ PutStrLn → ⊥) → (q ≡ HPutStrLn → ⊥) → (q ≡ NewMVar → ⊥) → (q ≡ TakeMVar → ⊥) → (q ≡ ReadMVar → ⊥) → (q ≡ TryTakeMVar → ⊥) → (q ≡ ThreadDelay → ⊥) → (q ≡ Release → ⊥) → AreOthers q (v ∷ [])
+not_one PutStr v n0 n1 n2 n3 n4 n5 n6 n7 n8 = absurd (n0 refl)
+not_one PutStrLn v n0 n1 n2 n3 n4 n5 n6 n7 n8 = absurd (n1 refl)
+not_one HPutStrLn v n0 n1 n2 n3 n4 n5 n6 n7 n8 = absurd (n2 refl)
+not_one NewMVar v n0 n1 n2 n3 n4 n5 n6 n7 n8 = absurd (n3 refl)
+not_one TakeMVar v n0 n1 n2 n3 n4 n5 n6 n7 n8 = absurd (n4 refl)
+not_one ReadMVar v n0 n1 n2 n3 n4 n5 n6 n7 n8 = absurd (n5 refl)
+not_one TryTakeMVar v n0 n1 n2 n3 n4 n5 n6 n7 n8 = absurd (n6 refl)
+not_one ThreadDelay v n0 n1 n2 n3 n4 n5 n6 n7 n8 = absurd (n7 refl)
+not_one Release v n0 n1 n2 n3 n4 n5 n6 n7 n8 = absurd (n8 refl)
+not_one q v n0 n1 n2 n3 n4 n5 n6 n7 n8 = wrong_count (kinds_of q) (v ∷ []) (λ e. omega (arith, e))
 
 -- a primitive that takes no two values
-pub other_two : (q : Asked) (v w : V) → (q ≡ p.PutMVar → ⊥) → (q ≡ p.TryPutMVar → ⊥) → (q ≡ p.ThrowTo → ⊥) → Unfit q (v ∷ w ∷ [])
-other_two p.PutStr v w n0 n1 n2 = wrong_count PutStr (v ∷ w ∷ []) (λ e. omega (arith, e))
-other_two p.PutStrLn v w n0 n1 n2 = wrong_count PutStrLn (v ∷ w ∷ []) (λ e. omega (arith, e))
-other_two p.HPutStrLn v w n0 n1 n2 = wrong_count HPutStrLn (v ∷ w ∷ []) (λ e. omega (arith, e))
-other_two p.NewMVar v w n0 n1 n2 = wrong_count NewMVar (v ∷ w ∷ []) (λ e. omega (arith, e))
-other_two p.NewEmptyMVar v w n0 n1 n2 = wrong_count NewEmptyMVar (v ∷ w ∷ []) (λ e. omega (arith, e))
-other_two p.TakeMVar v w n0 n1 n2 = wrong_count TakeMVar (v ∷ w ∷ []) (λ e. omega (arith, e))
-other_two p.PutMVar v w n0 n1 n2 = absurd (n0 refl)
-other_two p.ReadMVar v w n0 n1 n2 = wrong_count ReadMVar (v ∷ w ∷ []) (λ e. omega (arith, e))
-other_two p.TryTakeMVar v w n0 n1 n2 = wrong_count TryTakeMVar (v ∷ w ∷ []) (λ e. omega (arith, e))
-other_two p.TryPutMVar v w n0 n1 n2 = absurd (n1 refl)
-other_two p.MyThreadId v w n0 n1 n2 = wrong_count MyThreadId (v ∷ w ∷ []) (λ e. omega (arith, e))
-other_two p.GetMaskingState v w n0 n1 n2 = wrong_count GetMaskingState (v ∷ w ∷ []) (λ e. omega (arith, e))
-other_two p.ClockMicros v w n0 n1 n2 = wrong_count ClockMicros (v ∷ w ∷ []) (λ e. omega (arith, e))
-other_two p.ThreadDelay v w n0 n1 n2 = wrong_count ThreadDelay (v ∷ w ∷ []) (λ e. omega (arith, e))
-other_two p.ThrowTo v w n0 n1 n2 = absurd (n2 refl)
-other_two p.NewTimeout v w n0 n1 n2 = wrong_count NewTimeout (v ∷ w ∷ []) (λ e. omega (arith, e))
-other_two p.Acquired v w n0 n1 n2 = wrong_count Acquired (v ∷ w ∷ []) (λ e. omega (arith, e))
-other_two p.Release v w n0 n1 n2 = wrong_count Release (v ∷ w ∷ []) (λ e. omega (arith, e))
+pub not_two : (q : Primitive) (v w : V) → (q ≡ PutMVar → ⊥) → (q ≡ TryPutMVar → ⊥) → (q ≡ ThrowTo → ⊥) → AreOthers q (v ∷ w ∷ [])
+not_two PutMVar v w n0 n1 n2 = absurd (n0 refl)
+not_two TryPutMVar v w n0 n1 n2 = absurd (n1 refl)
+not_two ThrowTo v w n0 n1 n2 = absurd (n2 refl)
+not_two q v w n0 n1 n2 = wrong_count (kinds_of q) (v ∷ w ∷ []) (λ e. omega (arith, e))
 
--- ---- more than two values
+two_at_most : (q : Primitive) → length (kinds_of q) ≤ 2
+two_at_most PutMVar = omega arith
+two_at_most q = omega arith
 
 as_many : (vs : List Value) → length (values_of vs) ≡ length vs
 as_many [] = refl
 as_many (v ∷ vs) = let e = as_many vs in omega (arith, e)
 
-more_unfit : (q : Asked) (vs : List Value) → 2 < length vs → Unfit q (values_of vs)
-more_unfit q vs l = wrong_count q (values_of vs) (λ e. let m = two_at_most q in let n = as_many vs in omega (arith, m, e, n, l))
-
 none_longer : (xs : List Value) → (xs ≡ [] → ⊥) → 0 < length xs
 none_longer [] n = absurd (n refl)
 none_longer (x ∷ xs) n = omega arith
 
+more_than_two : (q : Primitive) (vs : List Value) → 2 < length vs → AreOthers q (values_of vs)
+more_than_two q vs l = wrong_count (kinds_of q) (values_of vs) (λ e. let m = two_at_most q in let n = as_many vs in omega (arith, m, e, n, l))
+
 -- values from which two were taken, and some are left
-pub left_unfit : (q : Asked) (vs ms rest : List Value) (last first : Option Value) → MatchOption last ((vs ≡ []) × (ms ≡ [])) (λ x. vs ≡ ms ++ x ∷ []) → MatchOption first ((ms ≡ []) × (rest ≡ [])) (λ x. ms ≡ rest ++ x ∷ [])
-    → (rest ≡ [] → ⊥) → Unfit q (values_of vs)
-left_unfit q vs ms rest last None h g n = absurd (n g.1)
-left_unfit q vs ms rest None (Some y) h g n =
+pub some_left : (q : Primitive) (vs ms rest : List Value) (last first : Option Value) → MatchOption last ((vs ≡ []) × (ms ≡ [])) (λ x. vs ≡ ms ++ x ∷ []) → MatchOption first ((ms ≡ []) × (rest ≡ [])) (λ x. ms ≡ rest ++ x ∷ [])
+    → (rest ≡ [] → ⊥) → AreOthers q (values_of vs)
+some_left q vs ms rest last None h g n = absurd (n g.1)
+some_left q vs ms rest None (Some y) h g n =
     let e = ap length (sym h.1 ∙ g) in let a = length-append rest (y ∷ []) in absurd (omega (arith, e, a))
-left_unfit q vs ms rest (Some x) (Some y) h g n =
+some_left q vs ms rest (Some x) (Some y) h g n =
     let e = ap length h in let a = length-append ms (x ∷ []) in let d = ap length g in let b = length-append rest (y ∷ []) in let l = none_longer rest n in
-    more_unfit q vs (omega (arith, e, a, d, b, l))
+    more_than_two q vs (omega (arith, e, a, d, b, l))
+
+-- ---- values of the types that a primitive takes are of its kinds
+
+text_is : (v : V) → of_text v → is_of a_text v ≡ true
+text_is (val.Text t) h = refl
+text_is _ h = absurd h
+
+number_is : (v : V) → of_int v → is_of a_number v ≡ true
+number_is (val.Int n) h = refl
+number_is _ h = absurd h
+
+cell_is : (v : V) → of_cell (λ m. Unit {0}) v → is_of a_cell v ≡ true
+cell_is (val.Cell m) h = refl
+cell_is _ h = absurd h
+
+thread_is : (v : V) → of_thread (λ m. Unit {0}) v → is_of a_thread v ≡ true
+thread_is (val.Thread m) h = refl
+thread_is _ h = absurd h
+
+exn_is : (v : V) → of_exn v → is_of an_exception v ≡ true
+exn_is (val.Exception e) h = refl
+exn_is _ h = absurd h
+
+instance_is : (v : V) → of_instance v → is_of an_instance v ≡ true
+instance_is (val.Inst i) h = refl
+instance_is _ h = absurd h
+
+-- one value of its kind, or two
+alone : {b : Bool} → b ≡ true → cond b true false ≡ true
+alone e = ap (λ b. cond b true false) e
+
+both : {b c : Bool} → b ≡ true → c ≡ true → cond b (cond c true false) false ≡ true
+both e f = ap₂ (λ b c. cond b (cond c true false) false) e f
+
+are_typed : {q : Primitive} {ks : List Sort} {k : Sort} {us : List V} → Asks q ks k → AllOfSorts any_cell ks us → are_of (kinds_of q) us ≡ true
+are_typed asks_put_str (one_value h no_values) = alone (text_is _ h)
+are_typed asks_put_str_ln (one_value h no_values) = alone (text_is _ h)
+are_typed asks_h_put_str_ln (one_value h no_values) = alone (text_is _ h)
+are_typed asks_new (one_value h no_values) = refl
+are_typed asks_new_empty no_values = refl
+are_typed asks_take (one_value h no_values) = alone (cell_is _ h)
+are_typed asks_put (one_value h (one_value g no_values)) = both (cell_is _ h) refl
+are_typed asks_put_end (one_value h (one_value g no_values)) = both (cell_is _ h) refl
+are_typed asks_read (one_value h no_values) = alone (cell_is _ h)
+are_typed asks_read_end (one_value h no_values) = alone (cell_is _ h)
+are_typed asks_try_take (one_value h no_values) = alone (cell_is _ h)
+are_typed asks_try_put (one_value h (one_value g no_values)) = both (cell_is _ h) refl
+are_typed asks_delay (one_value h no_values) = alone (number_is _ h)
+are_typed asks_throw_to (one_value h (one_value g no_values)) = both (thread_is _ h) (exn_is _ g)
+are_typed asks_release (one_value h no_values) = alone (instance_is _ h)
+are_typed _ no_values = refl
+
+pub others_unfit : (q : Primitive) (us : List V) → AreOthers q us → Unfit q us
+others_unfit q us n ks k a h = let e : false ≡ true = sym n ∙ are_typed a h in cc e

@@ -1,3 +1,4 @@
 pub mod Advancing
+pub mod Kinds
 pub mod Parts
 pub mod Slicing

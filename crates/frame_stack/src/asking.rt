@@ -1,21 +1,20 @@
 //! The primitive that a thread stands at.
-ghost use Rattle.std.specs.Prelude.{◌≡◌, [], ◌∷◌, MatchOption};
+ghost use Rattle.std.specs.Prelude.{◌≡◌, [], ◌∷◌, MatchOption, false};
 ghost use Rattle.rules_meaning.specs.Values as val;
 ghost use Rattle.rules_meaning.specs.Values.{value_of, values_of};
-ghost use Rattle.rules_sorts.specs.TypedMeaning.{of_int, of_text, of_exn, of_thread, of_cell};
 ghost use Rattle.rules_code.specs.declared.code.CodeBody.{CodeBody};
-ghost use Rattle.hs_soundness.specs.CoreSorts.{of_instance};
 ghost use Rattle.slot_laws.specs.SlotRules.{calls};
+ghost use Rattle.frame_stack.specs.Kinds.{is_of, AreOthers};
+ghost use Rattle.frame_stack.specs.Kinds as kind;
 ghost use Rattle.frame_stack.specs.Parts.{op_of};
-ghost use Rattle.frame_stack.specs.Slicing.{Unfit};
 
 use crate::control::Operation;
 use hs_base::{Exn, Txt, Value, Values};
 use rules_code::Primitive;
 
-/// A primitive with its values, where they are of its types.
+/// A primitive with its values, where they are as many as it takes and of its kinds.
 pub fn asked(primitive: Primitive, values: Values) -> Option<Operation>
-    ensures { MatchOption result (Unfit primitive (values_of values)) (λ p. (b : CodeBody) → op_of b p ≡ calls primitive (values_of values)) }
+    ensures { MatchOption result (AreOthers primitive (values_of values)) (λ p. (b : CodeBody) → op_of b p ≡ calls primitive (values_of values)) }
 {
     let mut values = values;
     let last = values.pop();
@@ -33,7 +32,7 @@ pub fn asked(primitive: Primitive, values: Values) -> Option<Operation>
 
 /// A primitive that takes no value.
 fn bare(primitive: Primitive) -> Option<Operation>
-    ensures { MatchOption result (Unfit primitive []) (λ p. (b : CodeBody) → op_of b p ≡ calls primitive []) }
+    ensures { MatchOption result (AreOthers primitive []) (λ p. (b : CodeBody) → op_of b p ≡ calls primitive []) }
 {
     match primitive {
         Primitive::NewEmptyMVar => Some(Operation::NewEmptyMVar),
@@ -47,9 +46,9 @@ fn bare(primitive: Primitive) -> Option<Operation>
 }
 
 /// A primitive that takes one value.
-#[tactic(auto, using(crate::proofs::Forms::one_unfit))]
+#[tactic(auto, using(crate::proofs::Forms::one_other))]
 fn of_one(primitive: Primitive, value: Value) -> Option<Operation>
-    ensures { MatchOption result (Unfit primitive (value_of value ∷ [])) (λ p. (b : CodeBody) → op_of b p ≡ calls primitive (value_of value ∷ [])) }
+    ensures { MatchOption result (AreOthers primitive (value_of value ∷ [])) (λ p. (b : CodeBody) → op_of b p ≡ calls primitive (value_of value ∷ [])) }
 {
     match primitive {
         Primitive::PutStr => Some(Operation::PutStr(text(value)?)),
@@ -66,9 +65,9 @@ fn of_one(primitive: Primitive, value: Value) -> Option<Operation>
 }
 
 /// A primitive that takes two values.
-#[tactic(auto, using(crate::proofs::Forms::two_unfit))]
+#[tactic(auto, using(crate::proofs::Forms::two_others))]
 fn of_two(primitive: Primitive, first: Value, second: Value) -> Option<Operation>
-    ensures { MatchOption result (Unfit primitive (value_of first ∷ value_of second ∷ [])) (λ p. (b : CodeBody) → op_of b p ≡ calls primitive (value_of first ∷ value_of second ∷ [])) }
+    ensures { MatchOption result (AreOthers primitive (value_of first ∷ value_of second ∷ [])) (λ p. (b : CodeBody) → op_of b p ≡ calls primitive (value_of first ∷ value_of second ∷ [])) }
 {
     match primitive {
         Primitive::PutMVar => Some(Operation::PutMVar(cell(first)?, second)),
@@ -81,7 +80,7 @@ fn of_two(primitive: Primitive, first: Value, second: Value) -> Option<Operation
 /// The text that a value is.
 #[tactic(auto, using(crate::proofs::Forms::not_text, hs_eval::proofs::Cases::value_forms))]
 fn text(value: Value) -> Option<Txt>
-    ensures { MatchOption result (of_text (value_of value) → ⊥) (λ t. value_of value ≡ val.Text t) }
+    ensures { MatchOption result (is_of kind.a_text (value_of value) ≡ false) (λ t. value_of value ≡ val.Text t) }
 {
     match &value {
         Value::Text(_) => value.into_text(),
@@ -92,7 +91,7 @@ fn text(value: Value) -> Option<Txt>
 /// The number that a value is.
 #[tactic(auto, using(crate::proofs::Forms::not_int, hs_eval::proofs::Cases::value_forms))]
 fn int(value: Value) -> Option<i64>
-    ensures { MatchOption result (of_int (value_of value) → ⊥) (λ n. value_of value ≡ val.Int n) }
+    ensures { MatchOption result (is_of kind.a_number (value_of value) ≡ false) (λ n. value_of value ≡ val.Int n) }
 {
     match &value {
         Value::Int(number) => Some(*number),
@@ -103,7 +102,7 @@ fn int(value: Value) -> Option<i64>
 /// The cell that a value is.
 #[tactic(auto, using(crate::proofs::Forms::not_cell, hs_eval::proofs::Cases::value_forms))]
 fn cell(value: Value) -> Option<u32>
-    ensures { MatchOption result (of_cell (λ m. Unit {0}) (value_of value) → ⊥) (λ m. value_of value ≡ val.Cell m) }
+    ensures { MatchOption result (is_of kind.a_cell (value_of value) ≡ false) (λ m. value_of value ≡ val.Cell m) }
 {
     match &value {
         Value::Cell(cell) => Some(*cell),
@@ -114,7 +113,7 @@ fn cell(value: Value) -> Option<u32>
 /// The thread that a value is.
 #[tactic(auto, using(crate::proofs::Forms::not_thread, hs_eval::proofs::Cases::value_forms))]
 fn thread(value: Value) -> Option<u32>
-    ensures { MatchOption result (of_thread (λ m. Unit {0}) (value_of value) → ⊥) (λ m. value_of value ≡ val.Thread m) }
+    ensures { MatchOption result (is_of kind.a_thread (value_of value) ≡ false) (λ m. value_of value ≡ val.Thread m) }
 {
     match &value {
         Value::Thread(thread) => Some(*thread),
@@ -125,7 +124,7 @@ fn thread(value: Value) -> Option<u32>
 /// The exception that a value is.
 #[tactic(auto, using(crate::proofs::Forms::not_exn, hs_eval::proofs::Cases::value_forms))]
 fn exn(value: Value) -> Option<Exn>
-    ensures { MatchOption result (of_exn (value_of value) → ⊥) (λ e. value_of value ≡ val.Exception e) }
+    ensures { MatchOption result (is_of kind.an_exception (value_of value) ≡ false) (λ e. value_of value ≡ val.Exception e) }
 {
     match &value {
         Value::Exn(_) => value.into_exn(),
@@ -136,7 +135,7 @@ fn exn(value: Value) -> Option<Exn>
 /// The use of `bracket` that a value is.
 #[tactic(auto, using(crate::proofs::Forms::not_instance, hs_eval::proofs::Cases::value_forms))]
 fn instance(value: Value) -> Option<u32>
-    ensures { MatchOption result (of_instance (value_of value) → ⊥) (λ i. value_of value ≡ val.Inst i) }
+    ensures { MatchOption result (is_of kind.an_instance (value_of value) ≡ false) (λ i. value_of value ≡ val.Inst i) }
 {
     match &value {
         Value::Inst(number) => Some(*number),

@@ -22,6 +22,7 @@ mod slicing;
 mod stack;
 mod ticketed;
 
+pub use asking::asked;
 pub use control::{Control, Operation as Prim};
 pub use fault::SliceFault;
 pub use job::Job;

@@ -135,6 +135,7 @@ pub fn active(alloc: Global, start: &Control) -> Result<Active, NoMemory>
 }
 
 /// The control that an active part is.
+#[tactic(auto, using(crate::proofs::Forms::others_unfit))]
 pub fn control(active: Active) -> Control
     requires { Fits active }
     ensures { (b : CodeBody) → part_of b result ≡ active_of b active }

@@ -1,3 +1,4 @@
 pub mod Founds
 pub mod Evaluation
 pub mod Readings
+pub mod Evaluators

@@ -101,22 +101,21 @@ fn number_at(
     }
 }
 
-/// What a form with two parts gives, where both are numbers in nodes without parts.
+/// What a part gives with one link, where both are numbers in nodes without parts.
 fn of_two(
     nodes: &Items<Node>,
     above: usize,
-    form: BinaryForm,
-    i: ExprId,
-    j: ExprId,
+    first: ExprId,
+    link: NodeLink,
     outer: &[Value],
     inner: &[Value],
 ) -> Option<Found>
-    ensures value { IfSome result (λ o. out_of o ≡ then (run (part_of nodes.now above i) (slots outer.now inner.now)) (λ v. then (run (part_of nodes.now above j) (slots outer.now inner.now)) (binary_of form v))) }
-    ensures link { IfSome result (λ o. out_of o ≡ linked form (run (part_of nodes.now above i) (slots outer.now inner.now)) (run (part_of nodes.now above j) (slots outer.now inner.now))) }
+    ensures value { IfSome result (λ o. out_of o ≡ then (run (part_of nodes.now above first) (slots outer.now inner.now)) (λ v. then (run (part_of nodes.now above link.operand) (slots outer.now inner.now)) (binary_of link.form v))) }
+    ensures link { IfSome result (λ o. out_of o ≡ linked link.form (run (part_of nodes.now above first) (slots outer.now inner.now)) (run (part_of nodes.now above link.operand) (slots outer.now inner.now))) }
 {
-    let m = number_at(nodes, above, i, outer, inner)?;
-    let n = number_at(nodes, above, j, outer, inner)?;
-    of_numbers(form, m, n)
+    let m = number_at(nodes, above, first, outer, inner)?;
+    let n = number_at(nodes, above, link.operand, outer, inner)?;
+    of_numbers(link.form, m, n)
 }
 
 /// What a chain with one link gives, where both are numbers in nodes without parts.
@@ -131,7 +130,7 @@ fn of_link(
     ensures { IfSome result (λ o. out_of o ≡ run_left (slots outer.now inner.now) (run (part_of nodes.now above i) (slots outer.now inner.now)) (links_in (take above (trees nodes.now)) links.now)) }
 {
     match links.as_slice() {
-        [link] => of_two(nodes, above, link.form, i, link.operand, outer, inner),
+        [link] => of_two(nodes, above, i, *link, outer, inner),
         _ => None,
     }
 }
@@ -147,7 +146,13 @@ pub fn of_node(
     ensures { IfSome result (λ o. out_of o ≡ run (decode (take above (trees nodes.now)) node.now) (slots outer.now inner.now)) }
 {
     match node {
-        Node::Binary(form, i, j) => of_two(nodes, above, *form, *i, *j, outer, inner),
+        Node::Binary(form, i, j) => {
+            let link = NodeLink {
+                form: *form,
+                operand: *j,
+            };
+            of_two(nodes, above, *i, link, outer, inner)
+        }
         Node::Chain(i, links) => of_link(nodes, above, *i, links, outer, inner),
         _ => None,
     }
@@ -157,17 +162,16 @@ pub fn of_node(
 fn compared_at(
     nodes: &Items<Node>,
     above: usize,
-    form: BinaryForm,
-    i: ExprId,
-    j: ExprId,
+    first: ExprId,
+    link: NodeLink,
     outer: &[Value],
     inner: &[Value],
 ) -> Option<bool>
-    ensures { IfSome result (λ t. then (run (part_of nodes.now above i) (slots outer.now inner.now)) (λ v. then (run (part_of nodes.now above j) (slots outer.now inner.now)) (binary_of form v)) ≡ Gives (Truth t)) }
+    ensures { IfSome result (λ t. then (run (part_of nodes.now above first) (slots outer.now inner.now)) (λ v. then (run (part_of nodes.now above link.operand) (slots outer.now inner.now)) (binary_of link.form v)) ≡ Gives (Truth t)) }
 {
-    let m = number_at(nodes, above, i, outer, inner)?;
-    let n = number_at(nodes, above, j, outer, inner)?;
-    compared(form, m, n)
+    let m = number_at(nodes, above, first, outer, inner)?;
+    let n = number_at(nodes, above, link.operand, outer, inner)?;
+    compared(link.form, m, n)
 }
 
 /// What the node of a number says, where it compares two numbers in nodes without parts. The values of the slots are those of
@@ -176,7 +180,13 @@ pub fn test_at(nodes: &Items<Node>, id: ExprId, outer: &[Value], inner: &[Value]
     ensures { IfSome result (λ t. run (tree_at nodes.now id) (slots outer.now inner.now) ≡ Gives (Truth t)) }
 {
     match nodes.get(id.0) {
-        Some(Node::Binary(form, i, j)) => compared_at(nodes, id.0, *form, *i, *j, outer, inner),
+        Some(Node::Binary(form, i, j)) => {
+            let link = NodeLink {
+                form: *form,
+                operand: *j,
+            };
+            compared_at(nodes, id.0, *i, link, outer, inner)
+        }
         _ => None,
     }
 }

@@ -100,9 +100,8 @@ fine_concurrent_side f =
     (fine_either (fine_bind tt (fine_primitive tt) fine_throw) (fine_bind tt (fine_primitive tt) fine_return)))
 
 fine_bare : (w : BareAction) → Fine (bare_core w)
-fine_bare z.MyThreadId = fine_primitive tt
 fine_bare z.ClockMicros = fine_primitive tt
-fine_bare z.GetMaskingState = fine_primitive tt
+fine_bare _ = fine_primitive tt
 
 fine_unary : (w : UnaryAction) (e : CoreEx) → Fine (unary_core w e)
 fine_unary u.Return e = fine_return

@@ -64,47 +64,36 @@ fn check_once(checker: &mut Checker, funs: &Funs, x: &Name)
 /// Binds a name to a written type.
 fn bind_written(
     checker: &mut Checker,
-    alloc: Global,
     types: &TypeTable,
     x: &Name,
     w: &Written,
 ) -> Result<(), NoMemory>
     ensures { OnOk result ((names types.now.nodes checker.new ≡ bound x.now (wr_of w.now).ty ∷ names types.now.nodes checker.old) × (kept types.now.nodes checker.new ≡ kept types.now.nodes checker.old)) }
 {
-    let t = from_written(alloc, &w.ty)?;
-    checker.bind(alloc, types, x, t)
+    let t = from_written(checker.alloc, &w.ty)?;
+    checker.bind(types, x, t)
 }
 
 /// Binds a parameter, and says whether it is sound.
 #[tactic(auto, using(typing_parts::proofs::ScriptSteps::script_rules))]
-fn param(
-    checker: &mut Checker,
-    alloc: Global,
-    types: &TypeTable,
-    p: &Param,
-) -> Result<bool, NoMemory>
+fn param(checker: &mut Checker, types: &TypeTable, p: &Param) -> Result<bool, NoMemory>
     ensures { IfOk result (λ b. (names types.now.nodes checker.new ≡ bound p.now.name (wr_of p.now.ty).ty ∷ names types.now.nodes checker.old) × (kept types.now.nodes checker.new ≡ least (kept types.now.nodes checker.old) (wide_faults (wr_of p.now.ty) ++ room_faults (names types.now.nodes checker.old) p.now.name)) × (b ≡ none_of (wide_faults (wr_of p.now.ty) ++ room_faults (names types.now.nodes checker.old) p.now.name))) }
 {
     let narrow = check_width(checker, types, &p.ty);
     let full = checker.is_full(types);
     checker.check_room(types, &p.name);
-    bind_written(checker, alloc, types, &p.name, &p.ty)?;
+    bind_written(checker, types, &p.name, &p.ty)?;
     Ok(narrow && !full)
 }
 
 /// Binds the parameters, and says whether each is sound.
 #[tactic(auto, using(typing_parts::proofs::ScriptSteps::script_rules))]
-fn params(
-    checker: &mut Checker,
-    alloc: Global,
-    types: &TypeTable,
-    ps: &Items<Param>,
-) -> Result<bool, NoMemory>
+fn params(checker: &mut Checker, types: &TypeTable, ps: &Items<Param>) -> Result<bool, NoMemory>
     ensures { IfOk result (λ b. (names types.now.nodes checker.new ≡ params_in (names types.now.nodes checker.old) (map par_of ps.now)) × (kept types.now.nodes checker.new ≡ least (kept types.now.nodes checker.old) (param_faults (names types.now.nodes checker.old) (map par_of ps.now))) × (b ≡ none_of (param_faults (names types.now.nodes checker.old) (map par_of ps.now)))) }
 {
     let mut sound = true;
     'each: for p in ps.as_slice() {
-        let one = param(checker, alloc, types, p)?;
+        let one = param(checker, types, p)?;
         sound = sound && one;
     }
     Ok(sound)
@@ -112,32 +101,27 @@ fn params(
 
 /// The name and the head of a definition; it says whether the head is sound.
 #[tactic(auto, using(typing_parts::proofs::ScriptSteps::script_rules))]
-fn head(checker: &mut Checker, alloc: Global, funs: &Funs, d: &Def) -> Result<bool, NoMemory>
+fn head(checker: &mut Checker, funs: &Funs, d: &Def) -> Result<bool, NoMemory>
     requires { names funs.now.types.nodes checker.old ≡ [] }
     ensures { IfOk result (λ b. (names funs.now.types.nodes checker.new ≡ params_in [] (fn_of d.now).params) × (kept funs.now.types.nodes checker.new ≡ least (kept funs.now.types.nodes checker.old) (twice_faults (ctx_of funs.now) d.now.name ++ head_faults (fn_of d.now))) × (b ≡ none_of (head_faults (fn_of d.now)))) }
 {
     check_once(checker, funs, &d.name);
-    let a = params(checker, alloc, &funs.types, &d.params)?;
+    let a = params(checker, &funs.types, &d.params)?;
     let b = check_width(checker, &funs.types, written_of(&d.body));
     Ok(a && b)
 }
 
 /// The type of a body, where it has one.
-fn type_of_body(
-    checker: &mut Checker,
-    alloc: Global,
-    funs: &Funs,
-    b: &Body,
-) -> Result<Option<TypeTerm>, NoMemory>
+fn type_of_body(checker: &mut Checker, funs: &Funs, b: &Body) -> Result<Option<TypeTerm>, NoMemory>
     ensures { IfOk result (λ t. Judged funs.now.types.nodes checker.old checker.new (opt_ty funs.now.types.nodes t) (judge_body (ctx_of funs.now) (names funs.now.types.nodes checker.old) (bd_of b.now))) }
 {
     match b {
         Body::Pure(_, e) => {
-            let t = type_of(checker, alloc, funs, e)?;
+            let t = type_of(checker, funs, e)?;
             Ok(t)
         }
         Body::Action(_, b) => {
-            let t = type_of_block(checker, alloc, funs, b)?;
+            let t = type_of_block(checker, funs, b)?;
             Ok(t)
         }
     }
@@ -146,7 +130,6 @@ fn type_of_body(
 /// Notes where the type of the body isn't the declared one.
 fn check_result(
     checker: &mut Checker,
-    alloc: Global,
     types: &TypeTable,
     x: &Name,
     w: &Written,
@@ -157,8 +140,8 @@ fn check_result(
     match t {
         None => Ok(()),
         Some(t) => {
-            let want = from_written(alloc, &w.ty)?;
-            checker.is(alloc, types, x.pos, &want, &t)?;
+            let want = from_written(checker.alloc, &w.ty)?;
+            checker.is(types, x.pos, &want, &t)?;
             Ok(())
         }
     }
@@ -166,19 +149,23 @@ fn check_result(
 
 /// The body of a definition whose head is sound.
 #[tactic(auto, using(typing_parts::proofs::ScriptSteps::script_rules))]
-fn tail(checker: &mut Checker, alloc: Global, funs: &Funs, d: &Def) -> Result<(), NoMemory>
+fn tail(checker: &mut Checker, funs: &Funs, d: &Def) -> Result<(), NoMemory>
     requires { names funs.now.types.nodes checker.old ≡ params_in [] (fn_of d.now).params }
     ensures { OnOk result (kept funs.now.types.nodes checker.new ≡ least (kept funs.now.types.nodes checker.old) (part (judge_body (ctx_of funs.now) (params_in [] (fn_of d.now).params) (fn_of d.now).body) (ends d.now.name (result_of (fn_of d.now).body))).faults) }
 {
-    let t = type_of_body(checker, alloc, funs, &d.body)?;
-    check_result(checker, alloc, &funs.types, &d.name, written_of(&d.body), t)?;
+    let t = type_of_body(checker, funs, &d.body)?;
+    check_result(checker, &funs.types, &d.name, written_of(&d.body), t)?;
     Ok(())
 }
 
 fn fault_in(checker: Checker) -> Option<Broken>
     ensures { result ≡ checker.first.fault }
 {
-    let Checker { scope: _, first } = checker;
+    let Checker {
+        alloc: _,
+        scope: _,
+        first,
+    } = checker;
     let First { fault } = first;
     fault
 }
@@ -189,12 +176,13 @@ pub fn judge(alloc: Global, funs: &Funs, d: &Def) -> Result<Judgement, NoMemory>
     ensures { IfOk result (λ j. (kept_of funs.now.types.nodes j.fault ≡ least None (def_faults (ctx_of funs.now) (fn_of d.now))) × (j.head ≡ none_of (head_faults (fn_of d.now)))) }
 {
     let mut checker = Checker {
+        alloc,
         scope: Table::new(alloc),
         first: First::new(),
     };
-    let sound = head(&mut checker, alloc, funs, d)?;
+    let sound = head(&mut checker, funs, d)?;
     if sound {
-        tail(&mut checker, alloc, funs, d)?;
+        tail(&mut checker, funs, d)?;
     }
     Ok(Judgement {
         fault: fault_in(checker),

@@ -14,14 +14,23 @@ pub fn act_at(body: &CodeBody, at: ActId) -> Option<&Act>
     body.acts.get(at.0)
 }
 
-/// A part of the action with the number `above`. One that isn't lower stands for nothing.
-#[tactic(auto, using(slot_laws::proofs::ActNodes::act_rules))]
-pub fn lower(body: &CodeBody, above: usize, part: ActId) -> ActId
-    ensures { act_of body.now result ≡ below_of body.now above part }
-{
-    if part.0 < above {
-        part
-    } else {
-        ActId(body.acts.len())
+/// The parts of the action with the number `above`.
+#[derive(Clone, Copy)]
+pub struct Parts<'a> {
+    pub body: &'a CodeBody,
+    pub above: usize,
+}
+
+impl Parts<'_> {
+    /// A part, whose number is lower. One that isn't lower stands for nothing.
+    #[tactic(auto, using(slot_laws::proofs::ActNodes::act_rules))]
+    pub fn at(&self, part: ActId) -> ActId
+        ensures { act_of self.now.body.now result ≡ below_of self.now.body.now self.now.above part }
+    {
+        if part.0 < self.above {
+            part
+        } else {
+            ActId(self.body.acts.len())
+        }
     }
 }

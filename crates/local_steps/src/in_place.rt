@@ -2,7 +2,7 @@
 //! its environment alone, so the part isn't moved, and no frame is touched.
 //!
 //! This is the quick way; `stepping` has all rules.
-ghost use Rattle.std.specs.Prelude.{◌≡◌, List, Some, IfOk, IfSome, IsTrue, length, slice_get};
+ghost use Rattle.std.specs.Prelude.{◌≡◌, List, None, Some, IfOk, IfSome, IsTrue, length, slice_get};
 ghost use Rattle.hs_base.specs.declared.mask.Mask.{Mask};
 ghost use Rattle.rules_meaning.specs.Values.{V, values_of};
 ghost use Rattle.rules_code.specs.Slots.{run, run_all, trees, tree_at, trees_in};
@@ -11,7 +11,7 @@ ghost use Rattle.slot_laws.specs.SlotRules.{SlotFrame, at, doing, just_part, loc
 ghost use Rattle.local_steps.specs.Machine.{act_of, active_of, below_of, funs_of};
 
 use crate::active::Active;
-use crate::acts::{act_at, lower};
+use crate::acts::{Parts, act_at};
 use crate::parts::eval_all;
 use hs_base::NoMemory;
 use hs_eval::FoundAll;
@@ -35,7 +35,13 @@ pub fn step_in_place(
     };
     match act_at(body, *at) {
         Some(Act::If(e, i, j)) => Ok(branch(body, at, *e, *i, *j, env)),
-        Some(Act::Call(f, ids)) => call(alloc, body, at, *f, ids, env, spare),
+        Some(Act::Call(f, ids)) => match call(alloc, body, *f, ids, env, spare)? {
+            None => Ok(false),
+            Some(first) => {
+                *at = first;
+                Ok(true)
+            }
+        },
         _ => Ok(false),
     }
 }
@@ -48,7 +54,8 @@ fn branch(body: &CodeBody, at: &mut ActId, e: ExprId, i: ActId, j: ActId, env: &
     match env.test(&body.nodes, e) {
         None => false,
         Some(test) => {
-            *at = lower(body, at.0, if test { i } else { j });
+            let parts = Parts { body, above: at.0 };
+            *at = parts.at(if test { i } else { j });
             true
         }
     }
@@ -65,30 +72,28 @@ fn fun_for(body: &CodeBody, f: u32, count: usize) -> Option<Fun>
     }
 }
 
-/// `f e ..`
+/// `f e ..`, whose arguments are the environment from then on. The body of the function, or nothing, where all is as before.
 #[tactic(auto, using(slot_laws::proofs::ActNodes::values_count))]
 fn call(
     alloc: Global,
     body: &CodeBody,
-    at: &mut ActId,
     f: u32,
     ids: &Items<ExprId>,
     env: &mut Env,
     spare: &mut Spare,
-) -> Result<bool, NoMemory>
-    ensures rule { IfOk result (λ done. IsTrue done → rules.on_values (run_all (trees_in (trees body.now.nodes) ids.now) (values_of env.old)) (rules.called (slice_get (funs_of body.now) f)) ≡ just_part (doing (act_of body.now at.new) (values_of env.new))) }
-    ensures same { IfOk result (λ done. (IsTrue done → ⊥) → (at.new ≡ at.old) × (env.new ≡ env.old)) }
+) -> Result<Option<ActId>, NoMemory>
+    ensures rule { IfOk result (λ next. IfSome next (λ to. rules.on_values (run_all (trees_in (trees body.now.nodes) ids.now) (values_of env.old)) (rules.called (slice_get (funs_of body.now) f)) ≡ just_part (doing (act_of body.now to) (values_of env.new)))) }
+    ensures same { IfOk result (λ next. next ≡ None → env.new ≡ env.old) }
 {
     let room = spare.take(alloc);
     let FoundAll::Values(args) = eval_all(alloc, &body.nodes, ids, env, room)? else {
-        return Ok(false);
+        return Ok(None);
     };
     match fun_for(body, f, args.len()) {
-        None => Ok(false),
+        None => Ok(None),
         Some(fun) => {
             env.refill(alloc, args, spare)?;
-            *at = fun.body;
-            Ok(true)
+            Ok(Some(fun.body))
         }
     }
 }

@@ -4,12 +4,11 @@ ghost use Rattle.rules_code.specs.declared.code.CodeBody.{CodeBody};
 ghost use Rattle.rules_meaning.specs.Values.{values_of};
 ghost use Rattle.rules_code.specs.Slots.{run, run_all, trees, tree_at, trees_in};
 ghost use Rattle.hs_eval.specs.Evaluation.{outs_of};
-ghost use Rattle.local_steps.specs.Machine.{act_of, below_of, alone_of, funs_of};
+ghost use Rattle.local_steps.specs.Machine.{act_of, alone_of, funs_of};
 ghost use Rattle.slot_laws.specs.SlotRules as rules;
 ghost use Rattle.slot_laws.specs.SlotRules.{just_part, ret, doing, performs, calls};
 
 use crate::active::{Active, StepResult};
-use crate::acts::lower;
 use crate::choices::{
     bound, choose, choose_either, choose_list, choose_maybe, choose_pair, returned, thrown,
 };
@@ -78,39 +77,31 @@ pub fn do_throw(alloc: Global, body: &CodeBody, e: ExprId, env: Env) -> Result<S
 pub fn do_let(
     alloc: Global,
     body: &CodeBody,
-    above: usize,
     e: ExprId,
     i: ActId,
     env: Env,
 ) -> Result<StepResult, NoMemory>
-    ensures { IfOk result (λ n. alone_of body.now n ≡ rules.on_value (run (tree_at body.now.nodes e) (values_of env)) (λ u. just_part (doing (below_of body.now above i) (values_of env ++ u ∷ [])))) }
+    ensures { IfOk result (λ n. alone_of body.now n ≡ rules.on_value (run (tree_at body.now.nodes e) (values_of env)) (λ u. just_part (doing (act_of body.now i) (values_of env ++ u ∷ [])))) }
 {
     let mut env = env;
     let found = env.eval(alloc, &body.nodes, e)?;
-    let at = lower(body, above, i);
-    bound(alloc, found, env, at)
+    bound(alloc, found, env, i)
 }
 
 /// `if`
 pub fn do_if(
     alloc: Global,
     body: &CodeBody,
-    above: usize,
     e: ExprId,
     i: ActId,
     j: ActId,
     env: Env,
 ) -> Result<StepResult, NoMemory>
-    ensures { IfOk result (λ n. alone_of body.now n ≡ rules.on_value (run (tree_at body.now.nodes e) (values_of env)) (rules.chosen (below_of body.now above i) (below_of body.now above j) (values_of env))) }
+    ensures { IfOk result (λ n. alone_of body.now n ≡ rules.on_value (run (tree_at body.now.nodes e) (values_of env)) (rules.chosen (act_of body.now i) (act_of body.now j) (values_of env))) }
 {
     let mut env = env;
-    let found = env.eval(alloc, &body.nodes, e)?;
-    match found {
-        Found::Value(value) => {
-            let first = lower(body, above, i);
-            let second = lower(body, above, j);
-            Ok(choose(value, env, first, second))
-        }
+    match env.eval(alloc, &body.nodes, e)? {
+        Found::Value(value) => Ok(choose(value, env, i, j)),
         Found::Throws(exn) => Ok(StepResult::To(Active::Throw(exn))),
         Found::Stuck => Ok(StepResult::Stuck),
     }
@@ -120,22 +111,16 @@ pub fn do_if(
 pub fn do_maybe(
     alloc: Global,
     body: &CodeBody,
-    above: usize,
     e: ExprId,
     i: ActId,
     j: ActId,
     env: Env,
 ) -> Result<StepResult, NoMemory>
-    ensures { IfOk result (λ n. alone_of body.now n ≡ rules.on_value (run (tree_at body.now.nodes e) (values_of env)) (rules.chosen_maybe (below_of body.now above i) (below_of body.now above j) (values_of env))) }
+    ensures { IfOk result (λ n. alone_of body.now n ≡ rules.on_value (run (tree_at body.now.nodes e) (values_of env)) (rules.chosen_maybe (act_of body.now i) (act_of body.now j) (values_of env))) }
 {
     let mut env = env;
-    let found = env.eval(alloc, &body.nodes, e)?;
-    match found {
-        Found::Value(value) => {
-            let first = lower(body, above, i);
-            let second = lower(body, above, j);
-            choose_maybe(alloc, value, env, first, second)
-        }
+    match env.eval(alloc, &body.nodes, e)? {
+        Found::Value(value) => choose_maybe(alloc, value, env, i, j),
         Found::Throws(exn) => Ok(StepResult::To(Active::Throw(exn))),
         Found::Stuck => Ok(StepResult::Stuck),
     }
@@ -145,22 +130,16 @@ pub fn do_maybe(
 pub fn do_either(
     alloc: Global,
     body: &CodeBody,
-    above: usize,
     e: ExprId,
     i: ActId,
     j: ActId,
     env: Env,
 ) -> Result<StepResult, NoMemory>
-    ensures { IfOk result (λ n. alone_of body.now n ≡ rules.on_value (run (tree_at body.now.nodes e) (values_of env)) (rules.chosen_either (below_of body.now above i) (below_of body.now above j) (values_of env))) }
+    ensures { IfOk result (λ n. alone_of body.now n ≡ rules.on_value (run (tree_at body.now.nodes e) (values_of env)) (rules.chosen_either (act_of body.now i) (act_of body.now j) (values_of env))) }
 {
     let mut env = env;
-    let found = env.eval(alloc, &body.nodes, e)?;
-    match found {
-        Found::Value(value) => {
-            let first = lower(body, above, i);
-            let second = lower(body, above, j);
-            choose_either(alloc, value, env, first, second)
-        }
+    match env.eval(alloc, &body.nodes, e)? {
+        Found::Value(value) => choose_either(alloc, value, env, i, j),
         Found::Throws(exn) => Ok(StepResult::To(Active::Throw(exn))),
         Found::Stuck => Ok(StepResult::Stuck),
     }
@@ -170,22 +149,16 @@ pub fn do_either(
 pub fn do_list(
     alloc: Global,
     body: &CodeBody,
-    above: usize,
     e: ExprId,
     i: ActId,
     j: ActId,
     env: Env,
 ) -> Result<StepResult, NoMemory>
-    ensures { IfOk result (λ n. alone_of body.now n ≡ rules.on_value (run (tree_at body.now.nodes e) (values_of env)) (rules.chosen_list (below_of body.now above i) (below_of body.now above j) (values_of env))) }
+    ensures { IfOk result (λ n. alone_of body.now n ≡ rules.on_value (run (tree_at body.now.nodes e) (values_of env)) (rules.chosen_list (act_of body.now i) (act_of body.now j) (values_of env))) }
 {
     let mut env = env;
-    let found = env.eval(alloc, &body.nodes, e)?;
-    match found {
-        Found::Value(value) => {
-            let first = lower(body, above, i);
-            let second = lower(body, above, j);
-            choose_list(alloc, value, env, first, second)
-        }
+    match env.eval(alloc, &body.nodes, e)? {
+        Found::Value(value) => choose_list(alloc, value, env, i, j),
         Found::Throws(exn) => Ok(StepResult::To(Active::Throw(exn))),
         Found::Stuck => Ok(StepResult::Stuck),
     }
@@ -195,20 +168,15 @@ pub fn do_list(
 pub fn do_pair(
     alloc: Global,
     body: &CodeBody,
-    above: usize,
     e: ExprId,
     i: ActId,
     env: Env,
 ) -> Result<StepResult, NoMemory>
-    ensures { IfOk result (λ n. alone_of body.now n ≡ rules.on_value (run (tree_at body.now.nodes e) (values_of env)) (rules.chosen_pair (below_of body.now above i) (values_of env))) }
+    ensures { IfOk result (λ n. alone_of body.now n ≡ rules.on_value (run (tree_at body.now.nodes e) (values_of env)) (rules.chosen_pair (act_of body.now i) (values_of env))) }
 {
     let mut env = env;
-    let found = env.eval(alloc, &body.nodes, e)?;
-    match found {
-        Found::Value(value) => {
-            let at = lower(body, above, i);
-            choose_pair(alloc, value, env, at)
-        }
+    match env.eval(alloc, &body.nodes, e)? {
+        Found::Value(value) => choose_pair(alloc, value, env, i),
         Found::Throws(exn) => Ok(StepResult::To(Active::Throw(exn))),
         Found::Stuck => Ok(StepResult::Stuck),
     }

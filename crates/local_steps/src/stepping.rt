@@ -10,10 +10,10 @@ ghost use Rattle.slot_laws.specs.SlotRules as rules;
 ghost use Rattle.slot_laws.specs.SlotRules.{at, just_part, performs, forks, forks_unmask, on_top, first_step, bind_to, then_to, catch_by, mask_in, doing, local};
 ghost use Rattle.local_steps.specs.declared.active.StepResult.TheVariants as next;
 ghost use Rattle.local_steps.specs.Frames.{mask_inside};
-ghost use Rattle.local_steps.specs.Machine.{act_of, below_of, active_of, frames_of, next_of, alone_of, funs_of};
+ghost use Rattle.local_steps.specs.Machine.{act_of, active_of, frames_of, next_of, alone_of, funs_of};
 
 use crate::active::{Active, Frame, StepResult};
-use crate::acts::{act_at, lower};
+use crate::acts::{Parts, act_at};
 use crate::choices::with_one;
 use crate::frames::Frames;
 use crate::parts::{
@@ -27,58 +27,52 @@ use std::alloc::Global;
 /// `x <- A; B`
 fn bind(
     alloc: Global,
-    body: &CodeBody,
-    above: usize,
     i: ActId,
     j: ActId,
     env: Env,
     frames: &mut Frames,
 ) -> Result<StepResult, NoMemory>
-    ensures rule { IfOk result (λ n. next_of body.now n frames.new.list ≡ Some (at (doing (below_of body.now above i) (values_of env)) (bind_to (below_of body.now above j) (values_of env) ∷ frames_of body.now frames.old.list))) }
+    ensures rule { IfOk result (λ n. (b : CodeBody) → next_of b n frames.new.list ≡ Some (at (doing (act_of b i) (values_of env)) (bind_to (act_of b j) (values_of env) ∷ frames_of b frames.old.list))) }
     ensures below { frames.new.below ≡ frames.old.below }
     ensures err { OnErr result (frames.new ≡ frames.old) }
 {
     let rest = env.waiting(alloc)?;
-    frames.add(Frame::Bind(lower(body, above, j), rest))?;
-    Ok(StepResult::To(Active::Doing(lower(body, above, i), env)))
+    frames.add(Frame::Bind(j, rest))?;
+    Ok(StepResult::To(Active::Doing(i, env)))
 }
 
 /// `A; B`
 fn then(
     alloc: Global,
-    body: &CodeBody,
-    above: usize,
     i: ActId,
     j: ActId,
     env: Env,
     frames: &mut Frames,
 ) -> Result<StepResult, NoMemory>
-    ensures rule { IfOk result (λ n. next_of body.now n frames.new.list ≡ Some (at (doing (below_of body.now above i) (values_of env)) (then_to (below_of body.now above j) (values_of env) ∷ frames_of body.now frames.old.list))) }
+    ensures rule { IfOk result (λ n. (b : CodeBody) → next_of b n frames.new.list ≡ Some (at (doing (act_of b i) (values_of env)) (then_to (act_of b j) (values_of env) ∷ frames_of b frames.old.list))) }
     ensures below { frames.new.below ≡ frames.old.below }
     ensures err { OnErr result (frames.new ≡ frames.old) }
 {
     let rest = env.copy(alloc)?;
-    frames.add(Frame::Then(lower(body, above, j), rest))?;
-    Ok(StepResult::To(Active::Doing(lower(body, above, i), env)))
+    frames.add(Frame::Then(j, rest))?;
+    Ok(StepResult::To(Active::Doing(i, env)))
 }
 
 /// `catch A x B`
 fn catch(
     alloc: Global,
-    body: &CodeBody,
-    above: usize,
     i: ActId,
     j: ActId,
     env: Env,
     frames: &mut Frames,
 ) -> Result<StepResult, NoMemory>
-    ensures rule { IfOk result (λ n. next_of body.now n frames.new.list ≡ Some (at (doing (below_of body.now above i) (values_of env)) (catch_by (below_of body.now above j) (values_of env) ∷ frames_of body.now frames.old.list))) }
+    ensures rule { IfOk result (λ n. (b : CodeBody) → next_of b n frames.new.list ≡ Some (at (doing (act_of b i) (values_of env)) (catch_by (act_of b j) (values_of env) ∷ frames_of b frames.old.list))) }
     ensures below { frames.new.below ≡ frames.old.below }
     ensures err { OnErr result (frames.new ≡ frames.old) }
 {
     let rest = env.waiting(alloc)?;
-    frames.add(Frame::Catch(lower(body, above, j), rest))?;
-    Ok(StepResult::To(Active::Doing(lower(body, above, i), env)))
+    frames.add(Frame::Catch(j, rest))?;
+    Ok(StepResult::To(Active::Doing(i, env)))
 }
 
 /// An action in a masking scope with the state `inside`, with the state outside of it in its next slot.
@@ -122,15 +116,8 @@ fn state_at(env: &Env, slot: usize) -> Option<Mask>
 }
 
 /// `restore r A`
-fn restore(
-    body: &CodeBody,
-    above: usize,
-    slot: usize,
-    i: ActId,
-    env: Env,
-    frames: &mut Frames,
-) -> Result<StepResult, NoMemory>
-    ensures rule { IfOk result (λ n. next_of body.now n frames.new.list ≡ on_top (frames_of body.now frames.old.list) (rules.restored (below_of body.now above i) (values_of env) (slice_get (values_of env) slot))) }
+fn restore(slot: usize, i: ActId, env: Env, frames: &mut Frames) -> Result<StepResult, NoMemory>
+    ensures rule { IfOk result (λ n. (b : CodeBody) → next_of b n frames.new.list ≡ on_top (frames_of b frames.old.list) (rules.restored (act_of b i) (values_of env) (slice_get (values_of env) slot))) }
     ensures below { frames.new.below ≡ frames.old.below }
     ensures stuck { IfOk result (λ n. n ≡ next.Stuck → frames.new ≡ frames.old) }
     ensures err { OnErr result (frames.new ≡ frames.old) }
@@ -139,7 +126,7 @@ fn restore(
         None => Ok(StepResult::Stuck),
         Some(mask) => {
             frames.enter(mask)?;
-            Ok(StepResult::To(Active::Doing(lower(body, above, i), env)))
+            Ok(StepResult::To(Active::Doing(i, env)))
         }
     }
 }
@@ -192,31 +179,31 @@ fn act_step(
     ensures stuck { IfOk result (λ n. n ≡ next.Stuck → frames.new ≡ frames.old) }
     ensures err { OnErr result (frames.new ≡ frames.old) }
 {
+    let parts = Parts { body, above };
     match act {
         Act::Return(e) => do_return(alloc, body, *e, env),
         Act::Throw(e) => do_throw(alloc, body, *e, env),
-        Act::Let(e, i) => do_let(alloc, body, above, *e, *i, env),
-        Act::Bind(i, j) => bind(alloc, body, above, *i, *j, env, frames),
-        Act::Then(i, j) => then(alloc, body, above, *i, *j, env, frames),
-        Act::If(e, i, j) => do_if(alloc, body, above, *e, *i, *j, env),
-        Act::CaseMaybe(e, i, j) => do_maybe(alloc, body, above, *e, *i, *j, env),
-        Act::CaseEither(e, i, j) => do_either(alloc, body, above, *e, *i, *j, env),
-        Act::CaseList(e, i, j) => do_list(alloc, body, above, *e, *i, *j, env),
-        Act::CasePair(e, i) => do_pair(alloc, body, above, *e, *i, env),
+        Act::Let(e, i) => do_let(alloc, body, *e, parts.at(*i), env),
+        Act::Bind(i, j) => bind(alloc, parts.at(*i), parts.at(*j), env, frames),
+        Act::Then(i, j) => then(alloc, parts.at(*i), parts.at(*j), env, frames),
+        Act::If(e, i, j) => do_if(alloc, body, *e, parts.at(*i), parts.at(*j), env),
+        Act::CaseMaybe(e, i, j) => do_maybe(alloc, body, *e, parts.at(*i), parts.at(*j), env),
+        Act::CaseEither(e, i, j) => do_either(alloc, body, *e, parts.at(*i), parts.at(*j), env),
+        Act::CaseList(e, i, j) => do_list(alloc, body, *e, parts.at(*i), parts.at(*j), env),
+        Act::CasePair(e, i) => do_pair(alloc, body, *e, parts.at(*i), env),
         Act::Call(f, ids) => do_call(alloc, body, *f, ids, env),
         Act::Perform(primitive, ids) => do_perform(alloc, body, *primitive, ids, env),
-        Act::Fork(i) => Ok(forked(lower(body, above, *i), env)),
-        Act::ForkUnmask(i) => Ok(forked_unmask(lower(body, above, *i), env)),
-        Act::Catch(i, j) => catch(alloc, body, above, *i, *j, env, frames),
+        Act::Fork(i) => Ok(forked(parts.at(*i), env)),
+        Act::ForkUnmask(i) => Ok(forked_unmask(parts.at(*i), env)),
+        Act::Catch(i, j) => catch(alloc, parts.at(*i), parts.at(*j), env, frames),
         Act::Mask(i) => {
             let inside = Mask::Masked.join(frames.mask());
-            masked(alloc, lower(body, above, *i), env, inside, frames)
+            masked(alloc, parts.at(*i), env, inside, frames)
         }
         Act::UninterruptibleMask(i) => {
-            let at = lower(body, above, *i);
-            masked(alloc, at, env, Mask::Uninterruptible, frames)
+            masked(alloc, parts.at(*i), env, Mask::Uninterruptible, frames)
         }
-        Act::Restore(slot, i) => restore(body, above, *slot, *i, env, frames),
+        Act::Restore(slot, i) => restore(*slot, parts.at(*i), env, frames),
     }
 }
 

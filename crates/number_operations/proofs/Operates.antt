@@ -22,6 +22,7 @@ use Rattle.local_steps.specs.declared.active.Active.TheVariants as a
 use Rattle.local_steps.specs.Machine.{active_of, funs_of}
 use Rattle.frame_stack.specs.declared.control.Operation.{Operation}
 use Rattle.frame_stack.specs.declared.control.Operation.TheVariants as p
+use Rattle.frame_stack.specs.Kinds.{AreOthers}
 use Rattle.frame_stack.specs.Parts.{op_of}
 use Rattle.number_states.specs.declared.state.NumberThread.{NumberThread}
 use Rattle.number_states.specs.declared.state.NumberState.{NumberState}
@@ -30,16 +31,17 @@ use Rattle.number_states.specs.States.{Contents, contents, slots_of, slots, thre
 use Rattle.number_states.proofs.Changes.{got_mapped}
 use Rattle.number_operations.specs.declared.operating.Standing.{Standing}
 use Rattle.number_changes.specs.Moves.{Makes, Enters, IsActing}
-use Rattle.number_operations.specs.Standing.{IsRefused, IsIdle, Stands, HasTarget}
+use Rattle.number_operations.specs.Standing.{IsIdle, Stands, HasTarget}
+use Rattle.number_operations.proofs.Refused.{refused}
 use Rattle.number_changes.proofs.Made.{makes, on_acting, acting_term}
 use Rattle.number_changes.proofs.Written.{on_ok}
 use Rattle.number_changes.proofs.Thrown.{unequal}
 
 -- ---- the operation of a part
 
-pub asked_performs : (b : CodeBody) (part : Active) (q : Primitive) (vs us : List Value) (found : Option Operation) → part ≡ a.Asks q vs → us ≡ vs → MatchOption found (IsRefused q (values_of us)) (λ o. (b' : CodeBody) → op_of b' o ≡ calls q (values_of us))
+pub asked_performs : (b : CodeBody) (part : Active) (q : Primitive) (vs us : List Value) (found : Option Operation) → part ≡ a.Asks q vs → us ≡ vs → MatchOption found (AreOthers q (values_of us)) (λ o. (b' : CodeBody) → op_of b' o ≡ calls q (values_of us))
     → MatchOption found (IsIdle (active_of b part)) (λ o. active_of b part ≡ performs (op_of b o))
-asked_performs b part q vs us None e k h = subst (λ z. IsIdle (active_of b z)) (sym e) (λ t fs x. subst (λ ws. IsRefused q (values_of ws)) k h t (mask_from Unmasked fs) x)
+asked_performs b part q vs us None e k h = subst (λ z. IsIdle (active_of b z)) (sym e) (λ t fs x. refused t (mask_from Unmasked fs) x q (values_of vs) (subst (λ ws. AreOthers q (values_of ws)) k h))
 asked_performs b part q vs us (Some o) e k h = ap (active_of b) e ∙ ap (λ ws. performs (calls q (values_of ws))) (sym k) ∙ ap performs (sym (h b))
 
 -- ---- a thread that acts and isn't blocked

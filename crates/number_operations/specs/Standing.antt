@@ -1,12 +1,8 @@
 -- The operations at which threads in numbers stand (own).
 use Rattle.std.specs.Prelude.{◌≡◌, ℕ, ◌<◌, false, List, None}
-use Rattle.hs_base.specs.declared.mask.Mask.{Mask}
-use Rattle.rules_meaning.specs.Values.{V}
-use Rattle.rules_expansion.specs.declared.primitive.Primitive.{Primitive}
 use Rattle.rules_code.specs.declared.code.CodeBody.{CodeBody}
 use Rattle.slot_laws.specs.SlotRules.{SlotPart, performs, SlotFrame}
 use Rattle.slot_states.specs.SlotStates.{SlotState}
-use Rattle.slot_entries.specs.Operating.{performed}
 use Rattle.slot_entries.specs.Entering.{operates}
 use Rattle.frame_stack.specs.declared.control.Operation.{Operation}
 use Rattle.frame_stack.specs.declared.control.Operation.TheVariants as p
@@ -15,10 +11,6 @@ use Rattle.number_states.specs.declared.state.NumberState.{NumberState}
 use Rattle.number_states.specs.Stocks.{Stock, term_at, IsTerm}
 use Rattle.number_operations.specs.declared.operating.Standing.{Standing}
 use Rattle.number_changes.specs.Moves.{IsActing}
-
--- a primitive with these values does nothing, whoever performs it
-abbrev pub IsRefused : Primitive → List V → Type 0
-IsRefused p vs = (t : ℕ) (m : Mask) (x : SlotState) → performed t m p vs x ≡ None
 
 -- a thread with this part, whoever it is, performs nothing
 abbrev pub IsIdle : SlotPart → Type 0

@@ -8,7 +8,6 @@
 //! It is a crate apart from `number_moves` for the prover's cost alone.
 #![tactic(auto)]
 
-mod asking;
 mod operating;
 
 pub use operating::operate;

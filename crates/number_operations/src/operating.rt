@@ -14,8 +14,7 @@ ghost use Rattle.number_states.specs.States.{AreIn, slots};
 ghost use Rattle.number_changes.specs.Moves.{Makes, Enters};
 ghost use Rattle.number_operations.specs.Standing.{IsIdle, Stands, HasTarget};
 
-use crate::asking::asked;
-use frame_stack::Prim;
+use frame_stack::{Prim, asked};
 use hs_base::{NoMemory, Value, Values};
 use local_steps::Active;
 use number_changes::{

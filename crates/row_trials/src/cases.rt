@@ -1,10 +1,10 @@
 //! The cases of a row.
 
-use crate::came::call;
 use crate::kept::first_difference;
 use crate::witnesses::{Search, problem_witnessed};
 use crate::written::problem_written;
 use row_answers::{Case, Cases, Flaw, Row, Wanted};
+use row_calls::call;
 use std::alloc::Global;
 use std::sync::Wait;
 use std::thread::Threads;

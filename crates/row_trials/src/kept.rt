@@ -1,8 +1,8 @@
 //! The history that a call kept, beside what a row says of it.
 
-use crate::came::Came;
 use hs_rules::{Entry, History};
 use row_answers::{Case, EntryLine, Flaw, Told, Wanted, difference, says};
+use row_calls::Came;
 use std::alloc::{AllocError, Global};
 
 /// The first difference between what is wanted and what came.

@@ -1,8 +1,8 @@
 //! The runs that come to the outcomes of a row: written and verified.
 
-use crate::came::answer_to;
 use crate::written::{ample_plan, with_name};
 use row_answers::{Answer, Flaw, Line, Listing, Outcome, head_of, says, shown};
+use row_calls::answer_to;
 use std::alloc::{AllocError, Global};
 use std::sync::Wait;
 use std::thread::Threads;

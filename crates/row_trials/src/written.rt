@@ -1,7 +1,7 @@
 //! The history of what a row runs: written, verified, and reported.
 
-use crate::came::answer_to;
-use row_answers::{Answer, Flaw, Plan, Text};
+use row_answers::{Answer, Flaw, Plan, Text, shown};
+use row_calls::answer_to;
 use std::alloc::{AllocError, Global};
 use std::sync::Wait;
 use std::thread::Threads;
@@ -56,20 +56,6 @@ fn problem_reported(alloc: Global, lines: &[u8], report: &[u8]) -> Result<Option
         }
     }
     Ok(None)
-}
-
-// Bytes of ASCII as they stand, and others as question marks.
-fn shown(alloc: Global, bytes: &[u8]) -> Result<String, AllocError> {
-    let mut text = String::new(alloc);
-    for byte in bytes {
-        let letter = if byte.is_ascii() {
-            char::from(*byte)
-        } else {
-            '?'
-        };
-        text.push(letter)?;
-    }
-    Ok(text)
 }
 
 /// No fault, and room for a document.

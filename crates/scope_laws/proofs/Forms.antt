@@ -51,9 +51,8 @@ fine_timeout e f =
     (fine_if (fine_return refl) fine_throw))))))
 
 fine_bare : (w : BareAction) → Fine (bare_core w)
-fine_bare z.MyThreadId = fine_primitive tt
 fine_bare z.ClockMicros = fine_primitive tt
-fine_bare z.GetMaskingState = fine_primitive tt
+fine_bare _ = fine_primitive tt
 
 fine_unary : (w : UnaryAction) (e : Ex) → Fine (unary_core w (OfScript e))
 fine_unary u.Return e = fine_return refl

@@ -1,22 +1,24 @@
 -- An operation other than a reading of the clock does alike without time.
-use Rattle.std.proofs.Common.{◌≡◌, ℕ, zero, suc, pos, negsuc, ◌+◌, min, ◌==◌, false, List, [], ◌∷◌, ◌++◌, length, Option, Some, None, refl, ap, slice_get}
+use Rattle.std.proofs.Common.{◌≡◌, ℕ, zero, suc, pos, negsuc, ◌+◌, min, ◌==◌, false, List, [], ◌∷◌, ◌++◌, Option, Some, None, refl, ap, slice_get}
 use Rattle.hs_base.specs.declared.mask.Mask.{Mask}
 use Rattle.hs_base.specs.declared.mask.Mask.TheVariants.{Unmasked}
 use Rattle.hs_base.specs.declared.exn.Exn.{Exn}
-use Rattle.hs_base.specs.declared.exn.Exn.TheVariants.{Timeout}
 use Rattle.rules_meaning.specs.Values as val
 use Rattle.rules_meaning.specs.Values.{V, UnitValue, Int, Text, Exception, Restore, Inst}
 use Rattle.rules_expansion.specs.declared.primitive.Primitive.{Primitive}
-use Rattle.rules_expansion.specs.declared.primitive.Primitive.TheVariants.{PutStr, PutStrLn, HPutStrLn, NewMVar, NewEmptyMVar, TakeMVar, PutMVar, ReadMVar, TryTakeMVar, TryPutMVar, MyThreadId, GetMaskingState, ClockMicros, ThreadDelay, ThrowTo, NewTimeout, Acquired, Release}
-use Rattle.rules_waiting.specs.OneCell.{Take, Read, Put, Try_take, Try_put}
-use Rattle.rules_waiting.specs.Waiting.{Sleeper}
-use Rattle.hs_rules.specs.Primitives.{masking_text}
+use Rattle.rules_expansion.specs.declared.primitive.Primitive.TheVariants.{ClockMicros, ThreadDelay, ThrowTo}
+use Rattle.rules_waiting.specs.Waiting.{Sleeper, sorted_sleepers}
 use Rattle.slot_laws.specs.SlotRules.{SlotOp, calls, forks, forks_unmask, doing, mask_in, at}
-use Rattle.slot_states.specs.SlotStates.{SlotThread, SlotState, answer, prints, makes, called, forks_to, throws, throws_at, sleeps}
+use Rattle.slot_states.specs.SlotStates.{SlotThread, SlotState, answer, forks_to, throws, throws_at, sleeps}
 use Rattle.slot_entries.specs.Operating.{thrown_at, thrown, performed, operated}
-use Rattle.slot_time.specs.WithoutTime.{untimed, op_reads_clock}
-use Rattle.slot_time.proofs.Sleepers.{added_alike}
+use Rattle.slot_time.specs.WithoutTime.{undue, untimed, op_reads_clock}
+use Rattle.slot_time.proofs.Sleepers.{untimed_twice, added_alike}
 use Rattle.slot_time.proofs.Untimed.{Alikes, again, either_alike}
+
+-- with these sleepers, at the clock 0
+abbrev pub slept : List Sleeper → Option SlotState → Option SlotState
+slept ss None = None
+slept ss (Some y) = Some (record y { sleepers = ss; clock = 0 })
 
 module _ (x : SlotState) (t : ℕ) where
   -- who goes to sleep does so for any time
@@ -34,28 +36,23 @@ module _ (x : SlotState) (t : ℕ) where
       either_alike (u == t) (Some (throws t e (untimed x))) (thrown_at t u e (slice_get x.threads u) (untimed x)) (Some (throws t e x)) (thrown_at t u e (slice_get x.threads u) x)
       (again (throws t e x)) (at_alike u e (slice_get x.threads u))
 
+  -- where neither the sleepers nor the clock are looked at
+  kept_alike : (o : Option SlotState) → slept (sorted_sleepers (undue (untimed x).sleepers)) o ≡ slept (untimed x).sleepers o
+  kept_alike o = ap (λ ss. slept ss o) (untimed_twice x.sleepers)
+
   call_alike : (m : Mask) (p : Primitive) (vs : List V) → op_reads_clock (calls p vs) ≡ false → Alikes (performed t m p vs (untimed x)) (performed t m p vs x)
-  call_alike m PutStr (Text b ∷ []) n = again (prints t (length b) x)
-  call_alike m PutStrLn (Text b ∷ []) n = again (prints t (length b + 1) x)
-  call_alike m HPutStrLn (Text b ∷ []) n = again (prints t (length b + 1) x)
-  call_alike m NewMVar (v ∷ []) n = again (makes t (Some v) x)
-  call_alike m NewEmptyMVar [] n = again (makes t None x)
-  call_alike m TakeMVar (val.Cell k ∷ []) n = again (called t k (Take t) x)
-  call_alike m PutMVar (val.Cell k ∷ v ∷ []) n = again (called t k (Put t v) x)
-  call_alike m ReadMVar (val.Cell k ∷ []) n = again (called t k (Read t) x)
-  call_alike m TryTakeMVar (val.Cell k ∷ []) n = again (called t k (Try_take t) x)
-  call_alike m TryPutMVar (val.Cell k ∷ v ∷ []) n = again (called t k (Try_put t v) x)
-  call_alike m MyThreadId [] n = again (answer t (val.Thread t) x)
-  call_alike m GetMaskingState [] n = again (answer t (Text (masking_text m)) x)
   call_alike m ClockMicros vs n = absurd (cc n)
   call_alike m ThreadDelay (Int (pos zero) ∷ []) n = again (answer t UnitValue x)
   call_alike m ThreadDelay (Int (pos (suc k)) ∷ []) n = ap Some (sleeps_alike (min (0 + suc k) 18446744073709551615) (min (x.clock + suc k) 18446744073709551615))
   call_alike m ThreadDelay (Int (negsuc k) ∷ []) n = again (answer t UnitValue x)
   call_alike m ThrowTo (val.Thread u ∷ Exception e ∷ []) n = throw_alike u e
-  call_alike m NewTimeout [] n = again (record (answer t (Exception (Timeout x.next_timeout)) x) { next_timeout = suc x.next_timeout })
-  call_alike m Acquired [] n = again (record (answer t (Inst x.next_instance) x) { next_instance = suc x.next_instance })
-  call_alike m Release (Inst i ∷ []) n = again (answer t UnitValue x)
-  call_alike m _ _ n = refl
+  call_alike m p [] n = kept_alike (performed t m p [] x)
+  call_alike m p (Text b ∷ []) n = kept_alike (performed t m p (Text b ∷ []) x)
+  call_alike m p (val.Cell k ∷ []) n = kept_alike (performed t m p (val.Cell k ∷ []) x)
+  call_alike m p (Inst i ∷ []) n = kept_alike (performed t m p (Inst i ∷ []) x)
+  call_alike m p (v ∷ []) n = kept_alike (performed t m p (v ∷ []) x)
+  call_alike m p (val.Cell k ∷ v ∷ []) n = kept_alike (performed t m p (val.Cell k ∷ v ∷ []) x)
+  call_alike m p vs n = kept_alike (performed t m p vs x)
 
   pub operation_alike : (m : Mask) (p : SlotOp) → op_reads_clock p ≡ false → Alikes (operated t m p (untimed x)) (operated t m p x)
   operation_alike m (calls p vs) n = call_alike m p vs n

@@ -1,11 +1,12 @@
 -- What has one key stands for the same in every code.
-use Rattle.std.proofs.Common.{◌≡◌, ℕ, List, [], ◌∷◌, ◌++◌, Some, slice_get, refl, sym, ap, ap₂, ◌∙◌, arith}
+use Rattle.std.proofs.Common.{◌≡◌, ℕ, List, [], ◌∷◌, ◌++◌, refl, sym, ap, ap₂, ◌∙◌, arith}
 use Rattle.std.proofs.lemmas.List.{append-nil, same_from_push}
 use Rattle.hs_base.specs.declared.value.Value.{Value}
 use Rattle.hs_base.specs.declared.value.Value.TheVariants as value
 use Rattle.rules_meaning.specs.Values.{V, value_of, values_of}
 use Rattle.rules_expansion.specs.declared.primitive.Primitive.{Primitive}
-use Rattle.rules_expansion.specs.declared.primitive.Primitive.TheVariants as p
+use Rattle.rules_expansion.specs.contracts.primitive.Primitive as p
+use denote.Enum.Bare.{tag_one}
 use Rattle.rules_code.specs.declared.act.ActId.{ActId}
 use Rattle.rules_code.specs.declared.code.CodeBody.{CodeBody}
 use Rattle.slot_laws.specs.SlotRules.{ret, throw, doing, performs, calls, forks, forks_unmask, bind_to, then_to, catch_by, mask_in}
@@ -29,31 +30,8 @@ rest_of (x ∷ xs) = xs
 
 -- ---- primitives
 
-abbrev primitives : List Primitive
-primitives = p.PutStr ∷ p.PutStrLn ∷ p.HPutStrLn ∷ p.NewMVar ∷ p.NewEmptyMVar ∷ p.TakeMVar ∷ p.PutMVar ∷ p.ReadMVar ∷ p.TryTakeMVar ∷ p.TryPutMVar ∷ p.MyThreadId ∷ p.GetMaskingState ∷ p.ClockMicros ∷ p.ThreadDelay ∷ p.ThrowTo ∷ p.NewTimeout ∷ p.Acquired ∷ p.Release ∷ []
-
-its_number : (q : Primitive) → slice_get primitives (primitive_number q) ≡ Some q
-its_number p.PutStr = refl
-its_number p.PutStrLn = refl
-its_number p.HPutStrLn = refl
-its_number p.NewMVar = refl
-its_number p.NewEmptyMVar = refl
-its_number p.TakeMVar = refl
-its_number p.PutMVar = refl
-its_number p.ReadMVar = refl
-its_number p.TryTakeMVar = refl
-its_number p.TryPutMVar = refl
-its_number p.MyThreadId = refl
-its_number p.GetMaskingState = refl
-its_number p.ClockMicros = refl
-its_number p.ThreadDelay = refl
-its_number p.ThrowTo = refl
-its_number p.NewTimeout = refl
-its_number p.Acquired = refl
-its_number p.Release = refl
-
 exact_primitive : (q r : Primitive) → primitive_number q ≡ primitive_number r → q ≡ r
-exact_primitive q r e = let x = its_number q in let y = its_number r in let z = ap (slice_get primitives) e in cc (x, y, z)
+exact_primitive q r e = tag_one p.the_type tt q r e
 
 -- ---- values, alone
 

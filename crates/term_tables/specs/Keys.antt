@@ -3,7 +3,8 @@
 use Rattle.std.specs.Prelude.{ℕ, List, [], ◌∷◌, ◌++◌}
 use Rattle.rules_meaning.specs.Values.{value_of, values_of}
 use Rattle.rules_expansion.specs.declared.primitive.Primitive.{Primitive}
-use Rattle.rules_expansion.specs.declared.primitive.Primitive.TheVariants as p
+use Rattle.rules_expansion.specs.contracts.primitive.Primitive as p
+use denote.Enum.Declared.{tag_of}
 use Rattle.rules_code.specs.declared.act.ActId.{ActId}
 use Rattle.hs_base.specs.declared.value.Value.{Value}
 use Rattle.hs_base.specs.declared.value.Value.TheVariants as value
@@ -13,25 +14,9 @@ use Rattle.local_steps.specs.declared.active.Frame.{Frame}
 use Rattle.local_steps.specs.declared.active.Frame.TheVariants as f
 use Rattle.value_keys.specs.Keys.{wide_key, mask_number, exn_key, value_key, values_key}
 
+-- the place of a primitive among them, which a cast gives
 abbrev pub primitive_number : Primitive → ℕ
-primitive_number p.PutStr = 0
-primitive_number p.PutStrLn = 1
-primitive_number p.HPutStrLn = 2
-primitive_number p.NewMVar = 3
-primitive_number p.NewEmptyMVar = 4
-primitive_number p.TakeMVar = 5
-primitive_number p.PutMVar = 6
-primitive_number p.ReadMVar = 7
-primitive_number p.TryTakeMVar = 8
-primitive_number p.TryPutMVar = 9
-primitive_number p.MyThreadId = 10
-primitive_number p.GetMaskingState = 11
-primitive_number p.ClockMicros = 12
-primitive_number p.ThreadDelay = 13
-primitive_number p.ThrowTo = 14
-primitive_number p.NewTimeout = 15
-primitive_number p.Acquired = 16
-primitive_number p.Release = 17
+primitive_number q = tag_of p.the_type q
 
 -- the number of an action, and the values of its slots
 abbrev pub action_key : ActId → List Value → List ℕ

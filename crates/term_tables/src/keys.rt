@@ -16,26 +16,7 @@ use value_keys::{mask_number, put, put_exn, put_value, put_wide};
 fn primitive_number(primitive: Primitive) -> u32
     ensures { result ≡ keys.primitive_number primitive }
 {
-    match primitive {
-        Primitive::PutStr => 0,
-        Primitive::PutStrLn => 1,
-        Primitive::HPutStrLn => 2,
-        Primitive::NewMVar => 3,
-        Primitive::NewEmptyMVar => 4,
-        Primitive::TakeMVar => 5,
-        Primitive::PutMVar => 6,
-        Primitive::ReadMVar => 7,
-        Primitive::TryTakeMVar => 8,
-        Primitive::TryPutMVar => 9,
-        Primitive::MyThreadId => 10,
-        Primitive::GetMaskingState => 11,
-        Primitive::ClockMicros => 12,
-        Primitive::ThreadDelay => 13,
-        Primitive::ThrowTo => 14,
-        Primitive::NewTimeout => 15,
-        Primitive::Acquired => 16,
-        Primitive::Release => 17,
-    }
+    primitive as u32
 }
 
 /// Puts the key of values at the end of a list.

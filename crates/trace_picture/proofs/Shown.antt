@@ -89,26 +89,8 @@ part_doing due (Throw e) = does.Running
 part_doing due (Do a env) = does.Running
 
 operation_same : (b : CodeBody) (due : Option ℕ) (p : control.Operation) → operation_doing due p ≡ slot_op_doing due (op_of b p)
-operation_same b due (o.PutStr t) = refl
-operation_same b due (o.PutStrLn t) = refl
-operation_same b due (o.HPutStrLn t) = refl
-operation_same b due (o.NewMVar v) = refl
-operation_same b due o.NewEmptyMVar = refl
 operation_same b due (o.TakeMVar m) = refl
-operation_same b due (o.PutMVar m v) = refl
-operation_same b due (o.ReadMVar m) = refl
-operation_same b due (o.TryTakeMVar m) = refl
-operation_same b due (o.TryPutMVar m v) = refl
-operation_same b due o.MyThreadId = refl
-operation_same b due o.GetMaskingState = refl
-operation_same b due o.ClockMicros = refl
-operation_same b due (o.ThreadDelay n) = refl
-operation_same b due (o.ThrowTo t e) = refl
-operation_same b due o.NewTimeout = refl
-operation_same b due o.Acquired = refl
-operation_same b due (o.Release i) = refl
-operation_same b due (o.Fork i vs) = refl
-operation_same b due (o.ForkUnmask i vs) = refl
+operation_same b due _ = refl
 
 control_same : (b : CodeBody) (due : Option ℕ) (k : Control) → control_doing due k ≡ slot_doing due (part_of b k)
 control_same b due (c.Doing i vs) = refl
@@ -158,26 +140,8 @@ slot_ends t (throw e) = event.Fails t e
 slot_ends t (doing a vs) = event.Nothing
 
 deed_same : (b : CodeBody) (p : control.Operation) → operation_deed p ≡ slot_deed (op_of b p)
-deed_same b (o.PutStr t) = refl
-deed_same b (o.PutStrLn t) = refl
-deed_same b (o.HPutStrLn t) = refl
-deed_same b (o.NewMVar v) = refl
-deed_same b o.NewEmptyMVar = refl
 deed_same b (o.TakeMVar m) = refl
-deed_same b (o.PutMVar m v) = refl
-deed_same b (o.ReadMVar m) = refl
-deed_same b (o.TryTakeMVar m) = refl
-deed_same b (o.TryPutMVar m v) = refl
-deed_same b o.MyThreadId = refl
-deed_same b o.GetMaskingState = refl
-deed_same b o.ClockMicros = refl
-deed_same b (o.ThreadDelay n) = refl
-deed_same b (o.ThrowTo t e) = refl
-deed_same b o.NewTimeout = refl
-deed_same b o.Acquired = refl
-deed_same b (o.Release i) = refl
-deed_same b (o.Fork i vs) = refl
-deed_same b (o.ForkUnmask i vs) = refl
+deed_same b _ = refl
 
 operates_same : (b : CodeBody) (t : ℕ) (k : Control) → operates t k ≡ slot_operates t (part_of b k)
 operates_same b t (c.Doing i vs) = refl

@@ -59,6 +59,7 @@ fulls_at (k ∷ ks) = is_some k.content ∷ fulls_at ks
 
 -- ---- an entry
 
+-- what only asks isn't named here
 abbrev pub operation_deed : Operation → Deed
 operation_deed (o.PutStr x) = deed.Prints x
 operation_deed (o.PutStrLn x) = deed.Prints x
@@ -70,16 +71,13 @@ operation_deed (o.PutMVar m v) = deed.Puts m
 operation_deed (o.ReadMVar m) = deed.Reads m
 operation_deed (o.TryTakeMVar m) = deed.TriesToTake m
 operation_deed (o.TryPutMVar m v) = deed.TriesToPut m
-operation_deed o.MyThreadId = deed.Asks
-operation_deed o.GetMaskingState = deed.Asks
-operation_deed o.ClockMicros = deed.Asks
 operation_deed (o.ThreadDelay n) = deed.Delays
 operation_deed (o.ThrowTo u e) = deed.Throws u e
-operation_deed o.NewTimeout = deed.Asks
 operation_deed o.Acquired = deed.Acquires
 operation_deed (o.Release i) = deed.Releases
 operation_deed (o.Fork a vs) = deed.Forks
 operation_deed (o.ForkUnmask a vs) = deed.Forks
+operation_deed _ = deed.Asks
 
 abbrev pub operates : ℕ → Control → Event
 operates t (c.Op p) = event.Does t (operation_deed p)

@@ -124,16 +124,13 @@ fn deed(alloc: Global, prim: &Prim) -> Result<Deed, NoMemory>
         Prim::ReadMVar(m) => Ok(Deed::Reads(*m)),
         Prim::TryTakeMVar(m) => Ok(Deed::TriesToTake(*m)),
         Prim::TryPutMVar(m, _) => Ok(Deed::TriesToPut(*m)),
-        Prim::MyThreadId => Ok(Deed::Asks),
-        Prim::GetMaskingState => Ok(Deed::Asks),
-        Prim::ClockMicros => Ok(Deed::Asks),
         Prim::ThreadDelay(_) => Ok(Deed::Delays),
         Prim::ThrowTo(u, exn) => Ok(Deed::Throws(*u, exn.copy(alloc)?)),
-        Prim::NewTimeout => Ok(Deed::Asks),
         Prim::Acquired => Ok(Deed::Acquires),
         Prim::Release(_) => Ok(Deed::Releases),
         Prim::Fork(_, _) => Ok(Deed::Forks),
         Prim::ForkUnmask(_, _) => Ok(Deed::Forks),
+        _ => Ok(Deed::Asks),
     }
 }
 

@@ -47,26 +47,8 @@ slot_touch (throw e) = touch.Nothing
 slot_touch (doing a vs) = touch.Nothing
 
 operation_same : (b : CodeBody) (p : Operation) → operation_touch p ≡ slot_op_touch (op_of b p)
-operation_same b (o.PutStr t) = refl
-operation_same b (o.PutStrLn t) = refl
-operation_same b (o.HPutStrLn t) = refl
-operation_same b (o.NewMVar v) = refl
-operation_same b o.NewEmptyMVar = refl
 operation_same b (o.TakeMVar m) = refl
-operation_same b (o.PutMVar m v) = refl
-operation_same b (o.ReadMVar m) = refl
-operation_same b (o.TryTakeMVar m) = refl
-operation_same b (o.TryPutMVar m v) = refl
-operation_same b o.MyThreadId = refl
-operation_same b o.GetMaskingState = refl
-operation_same b o.ClockMicros = refl
-operation_same b (o.ThreadDelay n) = refl
-operation_same b (o.ThrowTo t e) = refl
-operation_same b o.NewTimeout = refl
-operation_same b o.Acquired = refl
-operation_same b (o.Release i) = refl
-operation_same b (o.Fork i vs) = refl
-operation_same b (o.ForkUnmask i vs) = refl
+operation_same b _ = refl
 
 control_same : (b : CodeBody) (k : Control) → control_touch k ≡ slot_touch (part_of b k)
 control_same b (c.Doing i vs) = refl

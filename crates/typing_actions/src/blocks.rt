@@ -19,68 +19,62 @@ use crate::simple::{applied, binary, empty_cell, throw, unary};
 use hs_base::tree::forms::{BlockAction, MaskingAction};
 use hs_base::tree::{Action, Block, BlockArms, Name, Stmt};
 use hs_base::{NoMemory, Pos};
-use std::alloc::Global;
 use typing_exprs::type_of;
 use typing_parts::Form;
 use typing_parts::act_rows::bare_type;
 use typing_parts::checker::Checker;
 use typing_parts::funs::Funs;
-use typing_parts::parts::TypePart;
+use typing_parts::parts::{NamedPart, TypePart};
 use typing_table::ty::TypeTerm;
 
 /// The type of an action, where it has one.
 #[cycle(acts)]
 #[tactic(auto, using(crate::proofs::Acted::acted_rules))]
-fn action(
-    checker: &mut Checker,
-    alloc: Global,
-    funs: &Funs,
-    a: &Action,
-) -> Result<Option<TypeTerm>, NoMemory>
+fn action(checker: &mut Checker, funs: &Funs, a: &Action) -> Result<Option<TypeTerm>, NoMemory>
     ensures { IfOk result (λ t. Judged funs.now.types.nodes checker.old checker.new (opt_ty funs.now.types.nodes t) (judge_act (ctx_of funs.now) (names funs.now.types.nodes checker.old) (act_of a.now))) }
 {
     match a {
         Action::Bare(w, _) => Ok(Some(TypeTerm::Base(bare_type(*w)))),
-        Action::Unary(w, p, e) => unary(checker, alloc, funs, *p, *w, e),
-        Action::Binary(w, p, d, e) => binary(checker, alloc, funs, *p, *w, d, e),
-        Action::ThrowIo(p, w, e) => throw(checker, alloc, funs, *p, w, e),
-        Action::NewEmptyMVar(p, w) => empty_cell(checker, alloc, funs, *p, w),
-        Action::Call(x, es) => applied(checker, alloc, funs, x, es),
-        Action::Scoped(w, p, b) => in_block(checker, alloc, funs, b, *p, *w),
-        Action::Masking(w, p, x, b) => in_masking(checker, alloc, funs, b, *p, *w, x),
-        Action::Restore(_, x, b) => restored(checker, alloc, funs, b, x),
+        Action::Unary(w, p, e) => unary(checker, funs, *p, *w, e),
+        Action::Binary(w, p, d, e) => binary(checker, funs, *p, *w, d, e),
+        Action::ThrowIo(p, w, e) => throw(checker, funs, *p, w, e),
+        Action::NewEmptyMVar(p, w) => empty_cell(checker, funs, *p, w),
+        Action::Call(x, es) => applied(checker, funs, x, es),
+        Action::Scoped(w, p, b) => in_block(checker, funs, b, *p, *w),
+        Action::Masking(w, p, x, b) => in_masking(checker, funs, b, *p, *w, x),
+        Action::Restore(_, x, b) => restored(checker, funs, b, x),
         Action::If(p, e, b, d) => {
-            let t = type_of(checker, alloc, funs, e)?;
-            let u = block(checker, alloc, funs, b)?;
-            third(checker, alloc, funs, d, *p, t, u)
+            let t = type_of(checker, funs, e)?;
+            let u = block(checker, funs, b)?;
+            third(checker, funs, d, *p, t, u)
         }
         Action::Case(p, e, arms) => {
-            let t = type_of(checker, alloc, funs, e)?;
-            arms_at(checker, alloc, funs, arms.get(), *p, t)
+            let t = type_of(checker, funs, e)?;
+            arms_at(checker, funs, arms.get(), *p, t)
         }
         Action::ModifyMVar(p, e, x, b) => {
-            let t = type_of(checker, alloc, funs, e)?;
-            in_cell(checker, alloc, funs, b, *p, t, x)
+            let t = type_of(checker, funs, e)?;
+            in_cell(checker, funs, b, *p, t, x)
         }
         Action::Catch(p, b, x, d) => {
-            let t = block(checker, alloc, funs, b)?;
-            caught(checker, alloc, funs, d, *p, t, x)
+            let t = block(checker, funs, b)?;
+            caught(checker, funs, d, *p, t, x)
         }
         Action::Guard(w, p, b, d) => {
-            let t = block(checker, alloc, funs, b)?;
-            second(checker, alloc, funs, d, *p, TwoParts::Guard(*w), t)
+            let t = block(checker, funs, b)?;
+            second(checker, funs, d, *p, TwoParts::Guard(*w), t)
         }
         Action::Bracket(p, b, x, d, h) => {
-            let t = block(checker, alloc, funs, b)?;
-            in_bracket(checker, alloc, funs, d, h, *p, t, x)
+            let t = block(checker, funs, b)?;
+            in_bracket(checker, funs, d, h, *p, Acquired { name: x, ty: t })
         }
         Action::Timeout(p, e, b) => {
-            let t = type_of(checker, alloc, funs, e)?;
-            second(checker, alloc, funs, b, *p, TwoParts::Timeout, t)
+            let t = type_of(checker, funs, e)?;
+            second(checker, funs, b, *p, TwoParts::Timeout, t)
         }
         Action::WithAsync(p, b, x, d) => {
-            let t = block(checker, alloc, funs, b)?;
-            in_scope(checker, alloc, funs, d, *p, t, x)
+            let t = block(checker, funs, b)?;
+            in_scope(checker, funs, d, *p, t, x)
         }
     }
 }
@@ -90,7 +84,6 @@ fn action(
 #[tactic(auto, using(typing_parts::proofs::Noted::step_rules))]
 fn in_block(
     checker: &mut Checker,
-    alloc: Global,
     funs: &Funs,
     b: &Block,
     p: Pos,
@@ -98,8 +91,8 @@ fn in_block(
 ) -> Result<Option<TypeTerm>, NoMemory>
     ensures { IfOk result (λ t. Judged funs.now.types.nodes checker.old checker.new (opt_ty funs.now.types.nodes t) (judge_act (ctx_of funs.now) (names funs.now.types.nodes checker.old) (scoped o p (bl_of b.now)))) }
 {
-    let t = block(checker, alloc, funs, b)?;
-    let r = checker.close_scoped(alloc, &funs.types, p, o, t)?;
+    let t = block(checker, funs, b)?;
+    let r = checker.close_scoped(&funs.types, p, o, t)?;
     Ok(r)
 }
 
@@ -108,7 +101,6 @@ fn in_block(
 #[tactic(auto, using(typing_parts::proofs::Noted::step_rules))]
 fn in_masking(
     checker: &mut Checker,
-    alloc: Global,
     funs: &Funs,
     b: &Block,
     p: Pos,
@@ -117,12 +109,12 @@ fn in_masking(
 ) -> Result<Option<TypeTerm>, NoMemory>
     ensures { IfOk result (λ t. Judged funs.now.types.nodes checker.old checker.new (opt_ty funs.now.types.nodes t) (judge_act (ctx_of funs.now) (names funs.now.types.nodes checker.old) (masking o p x.now (bl_of b.now)))) }
 {
-    match open_mask(checker, alloc, &funs.types, x)? {
+    match open_mask(checker, &funs.types, x)? {
         false => Ok(None),
         true => {
-            let t = block(checker, alloc, funs, b)?;
+            let t = block(checker, funs, b)?;
             checker.unbind(&funs.types);
-            let r = checker.close_masking(alloc, &funs.types, p, o, t)?;
+            let r = checker.close_masking(&funs.types, p, o, t)?;
             Ok(r)
         }
     }
@@ -132,7 +124,6 @@ fn in_masking(
 #[cycle(acts)]
 fn restored(
     checker: &mut Checker,
-    alloc: Global,
     funs: &Funs,
     b: &Block,
     x: &Name,
@@ -140,7 +131,7 @@ fn restored(
     ensures { IfOk result (λ t. Judged funs.now.types.nodes checker.old checker.new (opt_ty funs.now.types.nodes t) (unless_wrong (no_mask (ctx_of funs.now) (names funs.now.types.nodes checker.old) x.now) (judge_bl (ctx_of funs.now) (names funs.now.types.nodes checker.old) (bl_of b.now)))) }
 {
     let is_mask = checker.check_mask(funs, x);
-    let t = block(checker, alloc, funs, b)?;
+    let t = block(checker, funs, b)?;
     Ok(kept_if(is_mask, t))
 }
 
@@ -149,7 +140,6 @@ fn restored(
 #[tactic(auto, using(typing_parts::proofs::Noted::step_rules))]
 fn second(
     checker: &mut Checker,
-    alloc: Global,
     funs: &Funs,
     b: &Block,
     p: Pos,
@@ -158,8 +148,8 @@ fn second(
 ) -> Result<Option<TypeTerm>, NoMemory>
     ensures { IfOk result (λ r. Judged funs.now.types.nodes checker.old checker.new (opt_ty funs.now.types.nodes r) (second_part (opt_ty funs.now.types.nodes t) (judge_bl (ctx_of funs.now) (names funs.now.types.nodes checker.old) (bl_of b.now)) (λ u v. own p (row_two o u v)))) }
 {
-    let u = block(checker, alloc, funs, b)?;
-    let r = close_two(checker, alloc, &funs.types, p, o, t, u)?;
+    let u = block(checker, funs, b)?;
+    let r = close_two(checker, &funs.types, p, o, t, u)?;
     Ok(r)
 }
 
@@ -168,7 +158,6 @@ fn second(
 #[tactic(auto, using(typing_parts::proofs::Noted::step_rules))]
 fn third(
     checker: &mut Checker,
-    alloc: Global,
     funs: &Funs,
     b: &Block,
     p: Pos,
@@ -177,8 +166,8 @@ fn third(
 ) -> Result<Option<TypeTerm>, NoMemory>
     ensures { IfOk result (λ r. Judged funs.now.types.nodes checker.old checker.new (opt_ty funs.now.types.nodes r) (third_part (opt_ty funs.now.types.nodes t) (opt_ty funs.now.types.nodes u) (judge_bl (ctx_of funs.now) (names funs.now.types.nodes checker.old) (bl_of b.now)) (λ u v w. own p (row_choose u v w)))) }
 {
-    let v = block(checker, alloc, funs, b)?;
-    let r = checker.close_choose(alloc, &funs.types, p, t, u, v)?;
+    let v = block(checker, funs, b)?;
+    let r = checker.close_choose(&funs.types, p, t, u, v)?;
     Ok(r)
 }
 
@@ -187,7 +176,6 @@ fn third(
 #[tactic(auto, using(crate::proofs::Acted::caught_rules))]
 fn caught(
     checker: &mut Checker,
-    alloc: Global,
     funs: &Funs,
     b: &Block,
     p: Pos,
@@ -196,12 +184,12 @@ fn caught(
 ) -> Result<Option<TypeTerm>, NoMemory>
     ensures { IfOk result (λ r. Judged funs.now.types.nodes checker.old checker.new (opt_ty funs.now.types.nodes r) (second_part (opt_ty funs.now.types.nodes t) (unless_full (names funs.now.types.nodes checker.old) x.now (judge_bl (ctx_of funs.now) (bound x.now exn ∷ names funs.now.types.nodes checker.old) (bl_of b.now))) (λ u v. own p (row_arms u v)))) }
 {
-    match open_exception(checker, alloc, &funs.types, x)? {
+    match open_exception(checker, &funs.types, x)? {
         false => Ok(dropped(t)),
         true => {
-            let u = block(checker, alloc, funs, b)?;
+            let u = block(checker, funs, b)?;
             checker.unbind(&funs.types);
-            let r = checker.close_arms(alloc, &funs.types, p, t, u)?;
+            let r = checker.close_arms(&funs.types, p, t, u)?;
             Ok(r)
         }
     }
@@ -212,7 +200,6 @@ fn caught(
 #[tactic(auto, using(typing_parts::proofs::Noted::step_rules))]
 fn in_cell(
     checker: &mut Checker,
-    alloc: Global,
     funs: &Funs,
     b: &Block,
     p: Pos,
@@ -224,11 +211,11 @@ fn in_cell(
     match t {
         None => Ok(None),
         Some(t) => {
-            if !checker.fits(alloc, &funs.types, p, Form::Cell, &t)? {
+            if !checker.fits(&funs.types, p, Form::Cell, &t)? {
                 return Ok(None);
             }
-            let u = under(checker, alloc, funs, b, x, TypePart::Inner, &t)?;
-            let r = checker.close_modify(alloc, &funs.types, p, &t, u)?;
+            let u = under(checker, funs, b, TypePart::Inner.named(x), &t)?;
+            let r = checker.close_modify(&funs.types, p, &t, u)?;
             Ok(r)
         }
     }
@@ -239,7 +226,6 @@ fn in_cell(
 #[tactic(auto, using(typing_parts::proofs::Noted::step_rules))]
 fn in_scope(
     checker: &mut Checker,
-    alloc: Global,
     funs: &Funs,
     b: &Block,
     p: Pos,
@@ -250,38 +236,44 @@ fn in_scope(
 {
     match t {
         None => Ok(None),
-        Some(t) => match checker.scope_type(alloc, &funs.types, p, &t)? {
+        Some(t) => match checker.scope_type(&funs.types, p, &t)? {
             None => Ok(None),
             Some(u) => {
-                let r = under(checker, alloc, funs, b, x, TypePart::Whole, &u)?;
+                let r = under(checker, funs, b, TypePart::Whole.named(x), &u)?;
                 Ok(r)
             }
         },
     }
 }
 
-/// The two blocks of a `bracket` under its name, after the type of the block before them.
+/// The name of a `bracket`, and the type of the block before it, where it has one.
+#[derive(Drop)]
+struct Acquired<'a> {
+    name: &'a Name,
+    ty: Option<TypeTerm>,
+}
+
+/// The two blocks of a `bracket` under its name.
 #[cycle(acts)]
 #[tactic(auto, using(typing_parts::proofs::Noted::step_rules))]
 fn in_bracket(
     checker: &mut Checker,
-    alloc: Global,
     funs: &Funs,
     b: &Block,
     d: &Block,
     p: Pos,
-    t: Option<TypeTerm>,
-    x: &Name,
+    acquired: Acquired,
 ) -> Result<Option<TypeTerm>, NoMemory>
-    ensures { IfOk result (λ r. Judged funs.now.types.nodes checker.old checker.new (opt_ty funs.now.types.nodes r) (with1 (opt_ty funs.now.types.nodes t) (λ u. unless_full (names funs.now.types.nodes checker.old) x.now (parts2 (judge_bl (ctx_of funs.now) (bound x.now u ∷ names funs.now.types.nodes checker.old) (bl_of b.now)) (judge_bl (ctx_of funs.now) (bound x.now u ∷ names funs.now.types.nodes checker.old) (bl_of d.now)) (λ v w. own p (row_bracket v w)))))) }
+    ensures { IfOk result (λ r. Judged funs.now.types.nodes checker.old checker.new (opt_ty funs.now.types.nodes r) (with1 (opt_ty funs.now.types.nodes acquired.entry.ty) (λ u. unless_full (names funs.now.types.nodes checker.old) acquired.entry.name.now (parts2 (judge_bl (ctx_of funs.now) (bound acquired.entry.name.now u ∷ names funs.now.types.nodes checker.old) (bl_of b.now)) (judge_bl (ctx_of funs.now) (bound acquired.entry.name.now u ∷ names funs.now.types.nodes checker.old) (bl_of d.now)) (λ v w. own p (row_bracket v w)))))) }
 {
-    match t {
+    let Acquired { name, ty } = acquired;
+    match ty {
         None => Ok(None),
-        Some(t) => match open(checker, alloc, &funs.types, x, t)? {
+        Some(t) => match open(checker, &funs.types, name, t)? {
             false => Ok(None),
             true => {
-                let u = block(checker, alloc, funs, b)?;
-                let r = second(checker, alloc, funs, d, p, TwoParts::Bracket, u)?;
+                let u = block(checker, funs, b)?;
+                let r = second(checker, funs, d, p, TwoParts::Bracket, u)?;
                 checker.unbind(&funs.types);
                 Ok(r)
             }
@@ -294,7 +286,6 @@ fn in_bracket(
 #[tactic(auto, using(typing_parts::proofs::Noted::step_rules))]
 fn arms_at(
     checker: &mut Checker,
-    alloc: Global,
     funs: &Funs,
     arms: &BlockArms,
     p: Pos,
@@ -306,10 +297,10 @@ fn arms_at(
         None => Ok(None),
         Some(t) => {
             let form = asked_form(arms);
-            if !checker.fits(alloc, &funs.types, p, form, &t)? {
+            if !checker.fits(&funs.types, p, form, &t)? {
                 return Ok(None);
             }
-            let r = in_arms(checker, alloc, funs, arms, p, &t)?;
+            let r = in_arms(checker, funs, arms, p, &t)?;
             Ok(r)
         }
     }
@@ -320,7 +311,6 @@ fn arms_at(
 #[tactic(auto, using(crate::proofs::Acted::arms_rules))]
 fn in_arms(
     checker: &mut Checker,
-    alloc: Global,
     funs: &Funs,
     arms: &BlockArms,
     p: Pos,
@@ -330,43 +320,37 @@ fn in_arms(
 {
     match arms {
         BlockArms::OfMaybe(a, x, b) => {
-            let u = block(checker, alloc, funs, a)?;
-            let v = under(checker, alloc, funs, b, x, TypePart::Inner, t)?;
-            let r = checker.close_arms(alloc, &funs.types, p, u, v)?;
+            let u = block(checker, funs, a)?;
+            let v = under(checker, funs, b, TypePart::Inner.named(x), t)?;
+            let r = checker.close_arms(&funs.types, p, u, v)?;
             Ok(r)
         }
         BlockArms::OfEither(x, a, y, b) => {
-            let u = under(checker, alloc, funs, a, x, TypePart::First, t)?;
-            let v = under(checker, alloc, funs, b, y, TypePart::Second, t)?;
-            let r = checker.close_arms(alloc, &funs.types, p, u, v)?;
+            let u = under(checker, funs, a, TypePart::First.named(x), t)?;
+            let v = under(checker, funs, b, TypePart::Second.named(y), t)?;
+            let r = checker.close_arms(&funs.types, p, u, v)?;
             Ok(r)
         }
         BlockArms::OfList(a, x, y, b) => {
-            let u = block(checker, alloc, funs, a)?;
+            let u = block(checker, funs, a)?;
             let v = under_two(
                 checker,
-                alloc,
                 funs,
                 b,
-                x,
-                TypePart::Inner,
-                y,
-                TypePart::Whole,
+                TypePart::Inner.named(x),
+                TypePart::Whole.named(y),
                 t,
             )?;
-            let r = checker.close_arms(alloc, &funs.types, p, u, v)?;
+            let r = checker.close_arms(&funs.types, p, u, v)?;
             Ok(r)
         }
         BlockArms::OfPair(x, y, a) => {
             let r = under_two(
                 checker,
-                alloc,
                 funs,
                 a,
-                x,
-                TypePart::First,
-                y,
-                TypePart::Second,
+                TypePart::First.named(x),
+                TypePart::Second.named(y),
                 t,
             )?;
             Ok(r)
@@ -378,19 +362,17 @@ fn in_arms(
 #[cycle(acts)]
 fn under(
     checker: &mut Checker,
-    alloc: Global,
     funs: &Funs,
     b: &Block,
-    x: &Name,
-    which: TypePart,
+    x: NamedPart,
     t: &TypeTerm,
 ) -> Result<Option<TypeTerm>, NoMemory>
-    ensures { IfOk result (λ r. Judged funs.now.types.nodes checker.old checker.new (opt_ty funs.now.types.nodes r) (unless_full (names funs.now.types.nodes checker.old) x.now (judge_bl (ctx_of funs.now) (bound x.now (part_of which (type_in funs.now.types.nodes t.now)) ∷ names funs.now.types.nodes checker.old) (bl_of b.now)))) }
+    ensures { IfOk result (λ r. Judged funs.now.types.nodes checker.old checker.new (opt_ty funs.now.types.nodes r) (unless_full (names funs.now.types.nodes checker.old) x.entry.name.now (judge_bl (ctx_of funs.now) (bound x.entry.name.now (part_of x.entry.part (type_in funs.now.types.nodes t.now)) ∷ names funs.now.types.nodes checker.old) (bl_of b.now)))) }
 {
-    match open_part(checker, alloc, &funs.types, x, which, t)? {
+    match open_part(checker, &funs.types, x, t)? {
         false => Ok(None),
         true => {
-            let r = block(checker, alloc, funs, b)?;
+            let r = block(checker, funs, b)?;
             checker.unbind(&funs.types);
             Ok(r)
         }
@@ -401,21 +383,18 @@ fn under(
 #[cycle(acts)]
 fn under_two(
     checker: &mut Checker,
-    alloc: Global,
     funs: &Funs,
     b: &Block,
-    x: &Name,
-    first: TypePart,
-    y: &Name,
-    second: TypePart,
+    x: NamedPart,
+    y: NamedPart,
     t: &TypeTerm,
 ) -> Result<Option<TypeTerm>, NoMemory>
-    ensures { IfOk result (λ r. Judged funs.now.types.nodes checker.old checker.new (opt_ty funs.now.types.nodes r) (unless_full (names funs.now.types.nodes checker.old) x.now (unless_full (bound x.now (part_of first (type_in funs.now.types.nodes t.now)) ∷ names funs.now.types.nodes checker.old) y.now (judge_bl (ctx_of funs.now) (bound y.now (part_of second (type_in funs.now.types.nodes t.now)) ∷ bound x.now (part_of first (type_in funs.now.types.nodes t.now)) ∷ names funs.now.types.nodes checker.old) (bl_of b.now))))) }
+    ensures { IfOk result (λ r. Judged funs.now.types.nodes checker.old checker.new (opt_ty funs.now.types.nodes r) (unless_full (names funs.now.types.nodes checker.old) x.entry.name.now (unless_full (bound x.entry.name.now (part_of x.entry.part (type_in funs.now.types.nodes t.now)) ∷ names funs.now.types.nodes checker.old) y.entry.name.now (judge_bl (ctx_of funs.now) (bound y.entry.name.now (part_of y.entry.part (type_in funs.now.types.nodes t.now)) ∷ bound x.entry.name.now (part_of x.entry.part (type_in funs.now.types.nodes t.now)) ∷ names funs.now.types.nodes checker.old) (bl_of b.now))))) }
 {
-    match open_part(checker, alloc, &funs.types, x, first, t)? {
+    match open_part(checker, &funs.types, x, t)? {
         false => Ok(None),
         true => {
-            let r = under(checker, alloc, funs, b, y, second, t)?;
+            let r = under(checker, funs, b, y, t)?;
             checker.unbind(&funs.types);
             Ok(r)
         }
@@ -425,24 +404,24 @@ fn under_two(
 /// Judges a statement and binds its name: false where it is broken.
 #[cycle(acts)]
 #[tactic(auto, using(crate::proofs::Acted::stated_rules))]
-fn stmt(checker: &mut Checker, alloc: Global, funs: &Funs, st: &Stmt) -> Result<bool, NoMemory>
+fn stmt(checker: &mut Checker, funs: &Funs, st: &Stmt) -> Result<bool, NoMemory>
     ensures { IfOk result (λ b. Stated funs.now.types.nodes (ctx_of funs.now) checker.old checker.new b (stmt_of st.now)) }
 {
     match st {
         Stmt::Do(a) => {
-            let t = action(checker, alloc, funs, a)?;
+            let t = action(checker, funs, a)?;
             Ok(t.is_some())
         }
         Stmt::Bind(x, a) => {
             checker.check_room(&funs.types, x);
-            let t = action(checker, alloc, funs, a)?;
-            let b = checker.begin(alloc, &funs.types, x, t)?;
+            let t = action(checker, funs, a)?;
+            let b = checker.begin(&funs.types, x, t)?;
             Ok(b)
         }
         Stmt::Let(x, e) => {
             checker.check_room(&funs.types, x);
-            let t = type_of(checker, alloc, funs, e)?;
-            let b = checker.begin(alloc, &funs.types, x, t)?;
+            let t = type_of(checker, funs, e)?;
+            let b = checker.begin(&funs.types, x, t)?;
             Ok(b)
         }
     }
@@ -451,22 +430,17 @@ fn stmt(checker: &mut Checker, alloc: Global, funs: &Funs, st: &Stmt) -> Result<
 /// The type of a block, where it has one.
 #[cycle(acts)]
 #[tactic(auto, using(rules_trees::proofs::EquationsOfActions::bl_is))]
-pub fn block(
-    checker: &mut Checker,
-    alloc: Global,
-    funs: &Funs,
-    b: &Block,
-) -> Result<Option<TypeTerm>, NoMemory>
+pub fn block(checker: &mut Checker, funs: &Funs, b: &Block) -> Result<Option<TypeTerm>, NoMemory>
     ensures { IfOk result (λ t. Judged funs.now.types.nodes checker.old checker.new (opt_ty funs.now.types.nodes t) (judge_bl (ctx_of funs.now) (names funs.now.types.nodes checker.old) (bl_of b.now))) }
 {
     let mark = mark(checker, &funs.types);
     'stmts: for st in b.stmts.as_slice() {
-        if !stmt(checker, alloc, funs, st)? {
+        if !stmt(checker, funs, st)? {
             back_to(checker, &funs.types, mark);
             return Ok(None);
         }
     }
-    let t = action(checker, alloc, funs, b.last.get())?;
+    let t = action(checker, funs, b.last.get())?;
     back_to(checker, &funs.types, mark);
     Ok(t)
 }

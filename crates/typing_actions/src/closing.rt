@@ -8,7 +8,6 @@ ghost use Rattle.typing_actions.specs.Parts.{row_two};
 
 use hs_base::tree::forms::GuardAction;
 use hs_base::{NoMemory, Pos};
-use std::alloc::Global;
 use typing_parts::checker::Checker;
 use typing_table::table::TypeTable;
 use typing_table::ty::TypeTerm;
@@ -26,7 +25,6 @@ pub enum TwoParts {
 /// The type of an action with two parts, where both have one.
 pub fn close_two(
     checker: &mut Checker,
-    alloc: Global,
     types: &TypeTable,
     p: Pos,
     o: TwoParts,
@@ -36,9 +34,9 @@ pub fn close_two(
     ensures { IfOk result (λ r. Judged types.now.nodes checker.old checker.new (opt_ty types.now.nodes r) (with2 (opt_ty types.now.nodes t) (opt_ty types.now.nodes u) (λ u v. own p (row_two o u v)))) }
 {
     match o {
-        TwoParts::Guard(w) => checker.close_guard(alloc, types, p, w, t, u),
+        TwoParts::Guard(w) => checker.close_guard(types, p, w, t, u),
         TwoParts::Bracket => Ok(checker.close_bracket(types, p, t, u)),
-        TwoParts::Timeout => checker.close_timeout(alloc, types, p, t, u),
+        TwoParts::Timeout => checker.close_timeout(types, p, t, u),
     }
 }
 

@@ -20,7 +20,6 @@ mod simple;
 
 use hs_base::NoMemory;
 use hs_base::tree::Block;
-use std::alloc::Global;
 use typing_parts::checker::Checker;
 use typing_parts::funs::Funs;
 use typing_table::ty::TypeTerm;
@@ -28,12 +27,11 @@ use typing_table::ty::TypeTerm;
 /// The type of a block, where it has one.
 pub fn type_of_block(
     checker: &mut Checker,
-    alloc: Global,
     funs: &Funs,
     b: &Block,
 ) -> Result<Option<TypeTerm>, NoMemory>
     ensures { IfOk result (λ t. Judged funs.now.types.nodes checker.old checker.new (opt_ty funs.now.types.nodes t) (judge_bl (ctx_of funs.now) (names funs.now.types.nodes checker.old) (bl_of b.now))) }
 {
-    let t = blocks::block(checker, alloc, funs, b)?;
+    let t = blocks::block(checker, funs, b)?;
     Ok(t)
 }

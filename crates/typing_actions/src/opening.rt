@@ -12,10 +12,9 @@ ghost use Rattle.typing_actions.specs.Opened.{Opened};
 
 use hs_base::NoMemory;
 use hs_base::tree::{BlockArms, Name};
-use std::alloc::Global;
 use typing_parts::Form;
 use typing_parts::checker::Checker;
-use typing_parts::parts::TypePart;
+use typing_parts::parts::NamedPart;
 use typing_table::base::Base;
 use typing_table::table::TypeTable;
 use typing_table::ty::TypeTerm;
@@ -23,7 +22,6 @@ use typing_table::ty::TypeTerm;
 /// Binds a name, or notes that the scope takes no more names.
 pub fn open(
     checker: &mut Checker,
-    alloc: Global,
     types: &TypeTable,
     x: &Name,
     t: TypeTerm,
@@ -34,56 +32,44 @@ pub fn open(
     if checker.is_full(types) {
         return Ok(false);
     }
-    checker.bind(alloc, types, x, t)?;
+    checker.bind(types, x, t)?;
     Ok(true)
 }
 
 /// Binds a name to an exception, or notes that the scope takes no more names.
 #[tactic(auto, using(typing_table::proofs::Equations::type_rules))]
-pub fn open_exception(
-    checker: &mut Checker,
-    alloc: Global,
-    types: &TypeTable,
-    x: &Name,
-) -> Result<bool, NoMemory>
+pub fn open_exception(checker: &mut Checker, types: &TypeTable, x: &Name) -> Result<bool, NoMemory>
     ensures { IfOk result (λ b. Opened types.now.nodes b checker.old checker.new x.now (bound x.now exn)) }
 {
-    open(checker, alloc, types, x, TypeTerm::Base(Base::Exn))
+    open(checker, types, x, TypeTerm::Base(Base::Exn))
 }
 
 /// Binds a name to a part of a type, or notes that the scope takes no more names.
 pub fn open_part(
     checker: &mut Checker,
-    alloc: Global,
     types: &TypeTable,
-    x: &Name,
-    which: TypePart,
+    x: NamedPart,
     t: &TypeTerm,
 ) -> Result<bool, NoMemory>
-    ensures { IfOk result (λ b. Opened types.now.nodes b checker.old checker.new x.now (bound x.now (part_of which (type_in types.now.nodes t.now)))) }
+    ensures { IfOk result (λ b. Opened types.now.nodes b checker.old checker.new x.entry.name.now (bound x.entry.name.now (part_of x.entry.part (type_in types.now.nodes t.now)))) }
 {
-    checker.check_room(types, x);
+    checker.check_room(types, x.name);
     if checker.is_full(types) {
         return Ok(false);
     }
-    checker.bind_part(alloc, types, x, which, t)?;
+    checker.bind_part(types, x.name, x.part, t)?;
     Ok(true)
 }
 
 /// Binds a masking name, or notes that the scope takes no more names.
-pub fn open_mask(
-    checker: &mut Checker,
-    alloc: Global,
-    types: &TypeTable,
-    x: &Name,
-) -> Result<bool, NoMemory>
+pub fn open_mask(checker: &mut Checker, types: &TypeTable, x: &Name) -> Result<bool, NoMemory>
     ensures { IfOk result (λ b. Opened types.now.nodes b checker.old checker.new x.now (masked x.now)) }
 {
     checker.check_room(types, x);
     if checker.is_full(types) {
         return Ok(false);
     }
-    checker.bind_mask(alloc, types, x)?;
+    checker.bind_mask(types, x)?;
     Ok(true)
 }
 

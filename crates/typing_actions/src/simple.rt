@@ -12,7 +12,6 @@ use hs_base::tree::forms::{BinaryAction, UnaryAction};
 use hs_base::tree::{Expr, Name, Written};
 use hs_base::{NoMemory, Pos};
 use hs_items::Items;
-use std::alloc::Global;
 use typing_exprs::{type_of, types_of};
 use typing_parts::checker::Checker;
 use typing_parts::funs::Funs;
@@ -22,7 +21,6 @@ use typing_table::ty::TypeTerm;
 #[tactic(auto, using(typing_parts::proofs::Noted::step_rules))]
 pub fn unary(
     checker: &mut Checker,
-    alloc: Global,
     funs: &Funs,
     p: Pos,
     o: UnaryAction,
@@ -30,8 +28,8 @@ pub fn unary(
 ) -> Result<Option<TypeTerm>, NoMemory>
     ensures { IfOk result (λ t. Judged funs.now.types.nodes checker.old checker.new (opt_ty funs.now.types.nodes t) (judge_act (ctx_of funs.now) (names funs.now.types.nodes checker.old) (unary_act o p (ex_of e.now)))) }
 {
-    let t = type_of(checker, alloc, funs, e)?;
-    let r = checker.close_unary_act(alloc, &funs.types, p, o, t)?;
+    let t = type_of(checker, funs, e)?;
+    let r = checker.close_unary_act(&funs.types, p, o, t)?;
     Ok(r)
 }
 
@@ -39,7 +37,6 @@ pub fn unary(
 #[tactic(auto, using(typing_parts::proofs::Noted::step_rules))]
 pub fn binary(
     checker: &mut Checker,
-    alloc: Global,
     funs: &Funs,
     p: Pos,
     o: BinaryAction,
@@ -48,9 +45,9 @@ pub fn binary(
 ) -> Result<Option<TypeTerm>, NoMemory>
     ensures { IfOk result (λ t. Judged funs.now.types.nodes checker.old checker.new (opt_ty funs.now.types.nodes t) (judge_act (ctx_of funs.now) (names funs.now.types.nodes checker.old) (binary_act o p (ex_of a.now) (ex_of b.now)))) }
 {
-    let t = type_of(checker, alloc, funs, a)?;
-    let u = type_of(checker, alloc, funs, b)?;
-    let r = checker.close_binary_act(alloc, &funs.types, p, o, t, u)?;
+    let t = type_of(checker, funs, a)?;
+    let u = type_of(checker, funs, b)?;
+    let r = checker.close_binary_act(&funs.types, p, o, t, u)?;
     Ok(r)
 }
 
@@ -58,7 +55,6 @@ pub fn binary(
 #[tactic(auto, using(typing_parts::proofs::Noted::step_rules))]
 pub fn throw(
     checker: &mut Checker,
-    alloc: Global,
     funs: &Funs,
     p: Pos,
     w: &Written,
@@ -66,9 +62,9 @@ pub fn throw(
 ) -> Result<Option<TypeTerm>, NoMemory>
     ensures { IfOk result (λ t. Judged funs.now.types.nodes checker.old checker.new (opt_ty funs.now.types.nodes t) (judge_act (ctx_of funs.now) (names funs.now.types.nodes checker.old) (throw_io p (wr_of w.now) (ex_of e.now)))) }
 {
-    let t = checker.written(alloc, &funs.types, w)?;
-    let u = type_of(checker, alloc, funs, e)?;
-    let r = checker.close_throw(alloc, &funs.types, p, t, u)?;
+    let t = checker.written(&funs.types, w)?;
+    let u = type_of(checker, funs, e)?;
+    let r = checker.close_throw(&funs.types, p, t, u)?;
     Ok(r)
 }
 
@@ -76,15 +72,14 @@ pub fn throw(
 #[tactic(auto, using(typing_parts::proofs::Noted::step_rules))]
 pub fn empty_cell(
     checker: &mut Checker,
-    alloc: Global,
     funs: &Funs,
     p: Pos,
     w: &Written,
 ) -> Result<Option<TypeTerm>, NoMemory>
     ensures { IfOk result (λ t. Judged funs.now.types.nodes checker.old checker.new (opt_ty funs.now.types.nodes t) (judge_act (ctx_of funs.now) (names funs.now.types.nodes checker.old) (new_empty p (wr_of w.now)))) }
 {
-    let t = checker.written(alloc, &funs.types, w)?;
-    let r = checker.close_new_empty(alloc, &funs.types, p, t)?;
+    let t = checker.written(&funs.types, w)?;
+    let r = checker.close_new_empty(&funs.types, p, t)?;
     Ok(r)
 }
 
@@ -92,14 +87,13 @@ pub fn empty_cell(
 #[tactic(auto, using(typing_parts::proofs::Noted::step_rules))]
 pub fn applied(
     checker: &mut Checker,
-    alloc: Global,
     funs: &Funs,
     x: &Name,
     es: &Items<Expr>,
 ) -> Result<Option<TypeTerm>, NoMemory>
     ensures { IfOk result (λ t. Judged funs.now.types.nodes checker.old checker.new (opt_ty funs.now.types.nodes t) (judge_act (ctx_of funs.now) (names funs.now.types.nodes checker.old) (call x.now (exs_of es.now)))) }
 {
-    let ts = types_of(checker, alloc, funs, es)?;
-    let t = checker.close_act_call(alloc, funs, x, es.len(), ts)?;
+    let ts = types_of(checker, funs, es)?;
+    let t = checker.close_act_call(funs, x, es.len(), ts)?;
     Ok(t)
 }

@@ -9,14 +9,14 @@ ghost use Rattle.typing_parts.specs.Judged.{Judged, pushed};
 ghost use Rattle.typing_exprs.specs.Entering.{Entered};
 
 use hs_base::tree::forms::EmptyForm;
-use hs_base::tree::{Constant, Name, Written};
+use hs_base::tree::{Constant, Written};
 use hs_base::{NoMemory, Pos};
 use hs_items::Items;
 use std::alloc::Global;
 use typing_parts::Form;
 use typing_parts::checker::Checker;
 use typing_parts::first::Broken;
-use typing_parts::parts::TypePart;
+use typing_parts::parts::NamedPart;
 use typing_table::base::Base;
 use typing_table::table::TypeTable;
 use typing_table::ty::TypeTerm;
@@ -39,7 +39,6 @@ pub fn constant_type(constant: Constant) -> Base
 #[tactic(auto, using(typing_parts::proofs::Noted::noted_rules))]
 pub fn empty(
     checker: &mut Checker,
-    alloc: Global,
     types: &TypeTable,
     p: Pos,
     o: EmptyForm,
@@ -47,15 +46,14 @@ pub fn empty(
 ) -> Result<Option<TypeTerm>, NoMemory>
     ensures { IfOk result (λ t. Judged types.now.nodes checker.old checker.new (opt_ty types.now.nodes t) (part (written (wr_of w.now)) (λ u. own p (row_empty o u)))) }
 {
-    let t = checker.written(alloc, types, w)?;
-    let r = checker.close_empty(alloc, types, p, o, t)?;
+    let t = checker.written(types, w)?;
+    let r = checker.close_empty(types, p, o, t)?;
     Ok(r)
 }
 
 /// The type of what a `case` looks at, where it is of the form that the alternatives ask for.
 pub fn fitting(
     checker: &mut Checker,
-    alloc: Global,
     types: &TypeTable,
     p: Pos,
     form: Form,
@@ -66,7 +64,7 @@ pub fn fitting(
     match t {
         None => Ok(None),
         Some(t) => {
-            if checker.fits(alloc, types, p, form, &t)? {
+            if checker.fits(types, p, form, &t)? {
                 Ok(Some(t))
             } else {
                 Ok(None)
@@ -78,19 +76,17 @@ pub fn fitting(
 /// Binds a name to a part of a type where the scope takes it, and else notes that it is full.
 pub fn enter(
     checker: &mut Checker,
-    alloc: Global,
     types: &TypeTable,
-    x: &Name,
-    which: TypePart,
+    x: NamedPart,
     t: &TypeTerm,
 ) -> Result<bool, NoMemory>
-    ensures { IfOk result (λ b. Entered types.now.nodes checker.old checker.new b x.now (part_of which (type_in types.now.nodes t.now))) }
+    ensures { IfOk result (λ b. Entered types.now.nodes checker.old checker.new b x.entry.name.now (part_of x.entry.part (type_in types.now.nodes t.now))) }
 {
     if checker.is_full(types) {
-        checker.first.note(types, Broken::Scope(x.pos));
+        checker.first.note(types, Broken::Scope(x.name.pos));
         return Ok(false);
     }
-    checker.bind_part(alloc, types, x, which, t)?;
+    checker.bind_part(types, x.name, x.part, t)?;
     Ok(true)
 }
 

@@ -13,25 +13,20 @@ ghost use Rattle.typing_parts.specs.Judged.{Judged, JudgedAll, Gathered, names};
 use crate::forms::{asked_form, compare_form, sum_form};
 use crate::leaves::{added, alone, constant_type, empty, enter, fitting};
 use hs_base::tree::forms::{BinaryForm, SideForm, UnaryForm};
-use hs_base::tree::{Expr, ExprArms, Link, ListLink, Name, SumLink, Written};
+use hs_base::tree::{Expr, ExprArms, Link, ListLink, Name, SumLink};
 use hs_base::{NoMemory, Pos};
 use hs_items::Items;
-use std::alloc::Global;
 use typing_parts::checker::Checker;
 use typing_parts::funs::Funs;
-use typing_parts::parts::TypePart;
+use typing_parts::parts::{NamedPart, TypePart};
+use typing_parts::rows::Sides;
 use typing_table::base::Base;
 use typing_table::ty::TypeTerm;
 
 /// The type of an expression, where it has one.
 #[cycle(walk)]
 #[tactic(auto, using(typing_parts::proofs::Noted::noted_rules))]
-pub fn type_of(
-    checker: &mut Checker,
-    alloc: Global,
-    funs: &Funs,
-    e: &Expr,
-) -> Result<Option<TypeTerm>, NoMemory>
+pub fn type_of(checker: &mut Checker, funs: &Funs, e: &Expr) -> Result<Option<TypeTerm>, NoMemory>
     ensures { IfOk result (λ t. Judged funs.now.types.nodes checker.old checker.new (opt_ty funs.now.types.nodes t) (judge (ctx_of funs.now) (names funs.now.types.nodes checker.old) (ex_of e.now))) }
 {
     match e {
@@ -39,43 +34,47 @@ pub fn type_of(
         Expr::Text(_, _) => Ok(Some(TypeTerm::Base(Base::Text))),
         Expr::Constant(_, c) => Ok(Some(TypeTerm::Base(constant_type(*c)))),
         Expr::Unit(_) => Ok(Some(TypeTerm::Base(Base::Unit))),
-        Expr::Empty(w, p, t) => empty(checker, alloc, &funs.types, *p, *w, t),
-        Expr::Unary(w, p, a) => unary(checker, alloc, funs, a.get(), *p, *w),
-        Expr::Side(w, p, s, t, a) => side(checker, alloc, funs, a.get(), *p, *w, s, t),
+        Expr::Empty(w, p, t) => empty(checker, &funs.types, *p, *w, t),
+        Expr::Unary(w, p, a) => unary(checker, funs, a.get(), *p, *w),
+        Expr::Side(w, p, s, t, a) => {
+            let left = checker.written(&funs.types, s)?;
+            let right = checker.written(&funs.types, t)?;
+            side(checker, funs, a.get(), *p, *w, Sides { left, right })
+        }
         Expr::Compare(a, o, p, b) => {
             let o = compare_form(*o);
-            two(checker, alloc, funs, a.get(), b.get(), *p, o)
+            two(checker, funs, a.get(), b.get(), *p, o)
         }
-        Expr::Div(p, a, b) => two(checker, alloc, funs, a.get(), b.get(), *p, BinaryForm::Div),
-        Expr::Mod(p, a, b) => two(checker, alloc, funs, a.get(), b.get(), *p, BinaryForm::Mod),
-        Expr::Pair(p, a, b) => two(checker, alloc, funs, a.get(), b.get(), *p, BinaryForm::Pair),
-        Expr::Or(a, ks) => chain(checker, alloc, funs, ks, BinaryForm::Or, a.get()),
-        Expr::And(a, ks) => chain(checker, alloc, funs, ks, BinaryForm::And, a.get()),
-        Expr::Product(a, ks) => chain(checker, alloc, funs, ks, BinaryForm::Times, a.get()),
+        Expr::Div(p, a, b) => two(checker, funs, a.get(), b.get(), *p, BinaryForm::Div),
+        Expr::Mod(p, a, b) => two(checker, funs, a.get(), b.get(), *p, BinaryForm::Mod),
+        Expr::Pair(p, a, b) => two(checker, funs, a.get(), b.get(), *p, BinaryForm::Pair),
+        Expr::Or(a, ks) => chain(checker, funs, ks, BinaryForm::Or, a.get()),
+        Expr::And(a, ks) => chain(checker, funs, ks, BinaryForm::And, a.get()),
+        Expr::Product(a, ks) => chain(checker, funs, ks, BinaryForm::Times, a.get()),
         Expr::Sum(a, ks) => {
-            let t = type_of(checker, alloc, funs, a.get())?;
-            sum_links(checker, alloc, funs, ks, t)
+            let t = type_of(checker, funs, a.get())?;
+            sum_links(checker, funs, ks, t)
         }
         Expr::Cons(a, ks) => {
-            let t = type_of(checker, alloc, funs, a.get())?;
-            conses(checker, alloc, funs, ks, t)
+            let t = type_of(checker, funs, a.get())?;
+            conses(checker, funs, ks, t)
         }
         Expr::If(p, c, a, b) => {
-            let t = type_of(checker, alloc, funs, c.get())?;
-            let u = type_of(checker, alloc, funs, a.get())?;
-            third(checker, alloc, funs, b.get(), *p, t, u)
+            let t = type_of(checker, funs, c.get())?;
+            let u = type_of(checker, funs, a.get())?;
+            third(checker, funs, b.get(), *p, t, u)
         }
         Expr::Let(_, x, a, b) => {
             checker.check_room(&funs.types, x);
-            let t = type_of(checker, alloc, funs, a.get())?;
-            given(checker, alloc, funs, b.get(), x, t)
+            let t = type_of(checker, funs, a.get())?;
+            given(checker, funs, b.get(), x, t)
         }
         Expr::Case(p, a, arms) => {
-            let t = type_of(checker, alloc, funs, a.get())?;
-            case(checker, alloc, funs, arms.get(), *p, t)
+            let t = type_of(checker, funs, a.get())?;
+            case(checker, funs, arms.get(), *p, t)
         }
-        Expr::Call(x, es) => call(checker, alloc, funs, es, x),
-        Expr::List(p, es) => list(checker, alloc, funs, es, *p),
+        Expr::Call(x, es) => call(checker, funs, es, x),
+        Expr::List(p, es) => list(checker, funs, es, *p),
     }
 }
 
@@ -84,7 +83,6 @@ pub fn type_of(
 #[tactic(auto, using(typing_parts::proofs::Noted::noted_rules))]
 fn unary(
     checker: &mut Checker,
-    alloc: Global,
     funs: &Funs,
     a: &Expr,
     p: Pos,
@@ -92,30 +90,26 @@ fn unary(
 ) -> Result<Option<TypeTerm>, NoMemory>
     ensures { IfOk result (λ t. Judged funs.now.types.nodes checker.old checker.new (opt_ty funs.now.types.nodes t) (part (judge (ctx_of funs.now) (names funs.now.types.nodes checker.old) (ex_of a.now)) (λ u. own p (row_unary o u)))) }
 {
-    let t = type_of(checker, alloc, funs, a)?;
-    let r = checker.close_unary(alloc, &funs.types, p, o, t)?;
+    let t = type_of(checker, funs, a)?;
+    let r = checker.close_unary(&funs.types, p, o, t)?;
     Ok(r)
 }
 
-/// `Left` or `Right`.
+/// `Left` or `Right`, after the types that it is written with.
 #[cycle(walk)]
 #[tactic(auto, using(typing_parts::proofs::Noted::noted_rules))]
 fn side(
     checker: &mut Checker,
-    alloc: Global,
     funs: &Funs,
     a: &Expr,
     p: Pos,
     o: SideForm,
-    s: &Written,
-    t: &Written,
+    sides: Sides,
 ) -> Result<Option<TypeTerm>, NoMemory>
-    ensures { IfOk result (λ r. Judged funs.now.types.nodes checker.old checker.new (opt_ty funs.now.types.nodes r) (parts3 (written (wr_of s.now)) (written (wr_of t.now)) (judge (ctx_of funs.now) (names funs.now.types.nodes checker.old) (ex_of a.now)) (λ u v w. own p (row_side o u v w)))) }
+    ensures { IfOk result (λ r. Judged funs.now.types.nodes checker.old checker.new (opt_ty funs.now.types.nodes r) (parts3 (typed (opt_ty funs.now.types.nodes sides.left)) (typed (opt_ty funs.now.types.nodes sides.right)) (judge (ctx_of funs.now) (names funs.now.types.nodes checker.old) (ex_of a.now)) (λ u v w. own p (row_side o u v w)))) }
 {
-    let u = checker.written(alloc, &funs.types, s)?;
-    let v = checker.written(alloc, &funs.types, t)?;
-    let w = type_of(checker, alloc, funs, a)?;
-    let r = checker.close_side(alloc, &funs.types, p, o, u, v, w)?;
+    let t = type_of(checker, funs, a)?;
+    let r = checker.close_side(&funs.types, p, o, sides, t)?;
     Ok(r)
 }
 
@@ -124,7 +118,6 @@ fn side(
 #[tactic(auto, using(typing_parts::proofs::Noted::noted_rules))]
 fn two(
     checker: &mut Checker,
-    alloc: Global,
     funs: &Funs,
     a: &Expr,
     b: &Expr,
@@ -133,8 +126,8 @@ fn two(
 ) -> Result<Option<TypeTerm>, NoMemory>
     ensures { IfOk result (λ r. Judged funs.now.types.nodes checker.old checker.new (opt_ty funs.now.types.nodes r) (judge (ctx_of funs.now) (names funs.now.types.nodes checker.old) (binary o p (ex_of a.now) (ex_of b.now)))) }
 {
-    let t = type_of(checker, alloc, funs, a)?;
-    second(checker, alloc, funs, b, p, o, t)
+    let t = type_of(checker, funs, a)?;
+    second(checker, funs, b, p, o, t)
 }
 
 /// A form with two parts, after its first.
@@ -142,7 +135,6 @@ fn two(
 #[tactic(auto, using(typing_parts::proofs::Noted::noted_rules))]
 fn second(
     checker: &mut Checker,
-    alloc: Global,
     funs: &Funs,
     b: &Expr,
     p: Pos,
@@ -151,8 +143,8 @@ fn second(
 ) -> Result<Option<TypeTerm>, NoMemory>
     ensures { IfOk result (λ r. Judged funs.now.types.nodes checker.old checker.new (opt_ty funs.now.types.nodes r) (parts2 (typed (opt_ty funs.now.types.nodes t)) (judge (ctx_of funs.now) (names funs.now.types.nodes checker.old) (ex_of b.now)) (λ u v. own p (row_binary o u v)))) }
 {
-    let u = type_of(checker, alloc, funs, b)?;
-    let r = checker.close_binary(alloc, &funs.types, p, o, t, u)?;
+    let u = type_of(checker, funs, b)?;
+    let r = checker.close_binary(&funs.types, p, o, t, u)?;
     Ok(r)
 }
 
@@ -161,7 +153,6 @@ fn second(
 #[tactic(auto, using(typing_parts::proofs::Noted::noted_rules))]
 fn third(
     checker: &mut Checker,
-    alloc: Global,
     funs: &Funs,
     b: &Expr,
     p: Pos,
@@ -170,8 +161,8 @@ fn third(
 ) -> Result<Option<TypeTerm>, NoMemory>
     ensures { IfOk result (λ r. Judged funs.now.types.nodes checker.old checker.new (opt_ty funs.now.types.nodes r) (parts3 (typed (opt_ty funs.now.types.nodes t)) (typed (opt_ty funs.now.types.nodes u)) (judge (ctx_of funs.now) (names funs.now.types.nodes checker.old) (ex_of b.now)) (λ u v w. own p (row_choose u v w)))) }
 {
-    let v = type_of(checker, alloc, funs, b)?;
-    let r = checker.close_choose(alloc, &funs.types, p, t, u, v)?;
+    let v = type_of(checker, funs, b)?;
+    let r = checker.close_choose(&funs.types, p, t, u, v)?;
     Ok(r)
 }
 
@@ -180,7 +171,6 @@ fn third(
 #[tactic(auto, using(typing_parts::proofs::Noted::noted_rules))]
 fn chain(
     checker: &mut Checker,
-    alloc: Global,
     funs: &Funs,
     ks: &Items<Link>,
     o: BinaryForm,
@@ -188,8 +178,8 @@ fn chain(
 ) -> Result<Option<TypeTerm>, NoMemory>
     ensures { IfOk result (λ r. Judged funs.now.types.nodes checker.old checker.new (opt_ty funs.now.types.nodes r) (judge (ctx_of funs.now) (names funs.now.types.nodes checker.old) (chain (ex_of a.now) (links_of o ks.now)))) }
 {
-    let t = type_of(checker, alloc, funs, a)?;
-    links(checker, alloc, funs, ks, o, t)
+    let t = type_of(checker, funs, a)?;
+    links(checker, funs, ks, o, t)
 }
 
 /// The links of one operator, after what stands before them.
@@ -197,7 +187,6 @@ fn chain(
 #[tactic(auto, using(typing_parts::proofs::Noted::noted_rules))]
 fn links(
     checker: &mut Checker,
-    alloc: Global,
     funs: &Funs,
     ks: &Items<Link>,
     o: BinaryForm,
@@ -207,7 +196,7 @@ fn links(
 {
     let mut t = t;
     'links: for k in ks.as_slice() {
-        t = second(checker, alloc, funs, &k.operand, k.pos, o, t)?;
+        t = second(checker, funs, &k.operand, k.pos, o, t)?;
     }
     Ok(t)
 }
@@ -217,7 +206,6 @@ fn links(
 #[tactic(auto, using(typing_parts::proofs::Noted::noted_rules))]
 fn sum_links(
     checker: &mut Checker,
-    alloc: Global,
     funs: &Funs,
     ks: &Items<SumLink>,
     t: Option<TypeTerm>,
@@ -226,7 +214,7 @@ fn sum_links(
 {
     let mut t = t;
     'links: for k in ks.as_slice() {
-        t = second(checker, alloc, funs, &k.operand, k.pos, sum_form(k.op), t)?;
+        t = second(checker, funs, &k.operand, k.pos, sum_form(k.op), t)?;
     }
     Ok(t)
 }
@@ -236,15 +224,14 @@ fn sum_links(
 #[tactic(auto, using(typing_parts::proofs::Noted::noted_rules))]
 fn conses(
     checker: &mut Checker,
-    alloc: Global,
     funs: &Funs,
     ks: &Items<ListLink>,
     t: Option<TypeTerm>,
 ) -> Result<Option<TypeTerm>, NoMemory>
     ensures { IfOk result (λ r. Judged funs.now.types.nodes checker.old checker.new (opt_ty funs.now.types.nodes r) (after (operand_faults (ctx_of funs.now) (names funs.now.types.nodes checker.old) (list_links_of ks.now)) (folded (opt_ty funs.now.types.nodes t ∷ operand_types (ctx_of funs.now) (names funs.now.types.nodes checker.old) (list_links_of ks.now)) (list_links_of ks.now)))) }
 {
-    let ts = operands(checker, alloc, funs, ks, t)?;
-    let r = checker.close_conses(alloc, &funs.types, &ts, ks)?;
+    let ts = operands(checker, funs, ks, t)?;
+    let r = checker.close_conses(&funs.types, &ts, ks)?;
     Ok(r)
 }
 
@@ -253,16 +240,15 @@ fn conses(
 #[tactic(auto, using(typing_parts::proofs::Noted::noted_rules))]
 fn operands(
     checker: &mut Checker,
-    alloc: Global,
     funs: &Funs,
     ks: &Items<ListLink>,
     t: Option<TypeTerm>,
 ) -> Result<Items<Option<TypeTerm>>, NoMemory>
     ensures { IfOk result (λ ts. Gathered funs.now.types.nodes (ctx_of funs.now) checker.old checker.new (opt_ty funs.now.types.nodes t) (opts_of funs.now.types.nodes ts) (list_links_of ks.now)) }
 {
-    let mut ts = alone(alloc, t)?;
+    let mut ts = alone(checker.alloc, t)?;
     'links: for k in ks.as_slice() {
-        let u = type_of(checker, alloc, funs, &k.operand)?;
+        let u = type_of(checker, funs, &k.operand)?;
         ts.add(u)?;
     }
     Ok(ts)
@@ -273,15 +259,14 @@ fn operands(
 #[tactic(auto, using(typing_parts::proofs::Noted::noted_rules))]
 fn call(
     checker: &mut Checker,
-    alloc: Global,
     funs: &Funs,
     es: &Items<Expr>,
     x: &Name,
 ) -> Result<Option<TypeTerm>, NoMemory>
     ensures { IfOk result (λ t. Judged funs.now.types.nodes checker.old checker.new (opt_ty funs.now.types.nodes t) (judge (ctx_of funs.now) (names funs.now.types.nodes checker.old) (name x.now (exs_of es.now)))) }
 {
-    let us = types_of(checker, alloc, funs, es)?;
-    let t = checker.close_call(alloc, funs, x, es.len(), us)?;
+    let us = types_of(checker, funs, es)?;
+    let t = checker.close_call(funs, x, es.len(), us)?;
     Ok(t)
 }
 
@@ -290,15 +275,14 @@ fn call(
 #[tactic(auto, using(typing_parts::proofs::Noted::noted_rules))]
 fn list(
     checker: &mut Checker,
-    alloc: Global,
     funs: &Funs,
     es: &Items<Expr>,
     p: Pos,
 ) -> Result<Option<TypeTerm>, NoMemory>
     ensures { IfOk result (λ t. Judged funs.now.types.nodes checker.old checker.new (opt_ty funs.now.types.nodes t) (judge (ctx_of funs.now) (names funs.now.types.nodes checker.old) (items p (exs_of es.now)))) }
 {
-    let ts = types_of(checker, alloc, funs, es)?;
-    let t = checker.close_items(alloc, &funs.types, p, ts)?;
+    let ts = types_of(checker, funs, es)?;
+    let t = checker.close_items(&funs.types, p, ts)?;
     Ok(t)
 }
 
@@ -307,15 +291,14 @@ fn list(
 #[tactic(auto, using(typing_parts::proofs::Noted::noted_rules))]
 pub fn types_of(
     checker: &mut Checker,
-    alloc: Global,
     funs: &Funs,
     es: &Items<Expr>,
 ) -> Result<Option<Items<TypeTerm>>, NoMemory>
     ensures { IfOk result (λ ts. JudgedAll funs.now.types.nodes checker.old checker.new (opt_tys funs.now.types.nodes ts) (judges (ctx_of funs.now) (names funs.now.types.nodes checker.old) (exs_of es.now))) }
 {
-    let mut ts = Some(Items::new(alloc));
+    let mut ts = Some(Items::new(checker.alloc));
     'parts: for e in es.as_slice() {
-        let t = type_of(checker, alloc, funs, e)?;
+        let t = type_of(checker, funs, e)?;
         ts = added(ts, t)?;
     }
     Ok(ts)
@@ -326,7 +309,6 @@ pub fn types_of(
 #[tactic(auto, using(typing_parts::proofs::Noted::noted_rules))]
 fn given(
     checker: &mut Checker,
-    alloc: Global,
     funs: &Funs,
     b: &Expr,
     x: &Name,
@@ -334,10 +316,10 @@ fn given(
 ) -> Result<Option<TypeTerm>, NoMemory>
     ensures { IfOk result (λ r. Judged funs.now.types.nodes checker.old checker.new (opt_ty funs.now.types.nodes r) (part (not_full (names funs.now.types.nodes checker.old) (typed (opt_ty funs.now.types.nodes t))) (λ u. judge (ctx_of funs.now) (bound x.now u ∷ names funs.now.types.nodes checker.old) (ex_of b.now)))) }
 {
-    match checker.begin(alloc, &funs.types, x, t)? {
+    match checker.begin(&funs.types, x, t)? {
         false => Ok(None),
         true => {
-            let body = type_of(checker, alloc, funs, b)?;
+            let body = type_of(checker, funs, b)?;
             checker.unbind(&funs.types);
             Ok(body)
         }
@@ -349,7 +331,6 @@ fn given(
 #[tactic(auto, using(typing_parts::proofs::Noted::noted_rules))]
 fn case(
     checker: &mut Checker,
-    alloc: Global,
     funs: &Funs,
     arms: &ExprArms,
     p: Pos,
@@ -357,10 +338,10 @@ fn case(
 ) -> Result<Option<TypeTerm>, NoMemory>
     ensures { IfOk result (λ r. Judged funs.now.types.nodes checker.old checker.new (opt_ty funs.now.types.nodes r) (part (typed (opt_ty funs.now.types.nodes t)) (λ u. needing p (of (form_of_arms (arms_of arms.now)) u ∷ []) (judge_arms (ctx_of funs.now) (names funs.now.types.nodes checker.old) p u (arms_of arms.now))))) }
 {
-    match fitting(checker, alloc, &funs.types, p, asked_form(arms), t)? {
+    match fitting(checker, &funs.types, p, asked_form(arms), t)? {
         None => Ok(None),
         Some(u) => {
-            let r = alternatives(checker, alloc, funs, arms, p, &u)?;
+            let r = alternatives(checker, funs, arms, p, &u)?;
             Ok(r)
         }
     }
@@ -371,7 +352,6 @@ fn case(
 #[tactic(auto, using(typing_parts::proofs::Noted::noted_rules))]
 fn alternatives(
     checker: &mut Checker,
-    alloc: Global,
     funs: &Funs,
     arms: &ExprArms,
     p: Pos,
@@ -381,43 +361,37 @@ fn alternatives(
 {
     match arms {
         ExprArms::OfMaybe(a, x, b) => {
-            let u = type_of(checker, alloc, funs, a)?;
-            let v = under(checker, alloc, funs, b, x, TypePart::Inner, t)?;
-            let r = checker.close_arms(alloc, &funs.types, p, u, v)?;
+            let u = type_of(checker, funs, a)?;
+            let v = under(checker, funs, b, TypePart::Inner.named(x), t)?;
+            let r = checker.close_arms(&funs.types, p, u, v)?;
             Ok(r)
         }
         ExprArms::OfEither(x, a, y, b) => {
-            let u = under(checker, alloc, funs, a, x, TypePart::First, t)?;
-            let v = under(checker, alloc, funs, b, y, TypePart::Second, t)?;
-            let r = checker.close_arms(alloc, &funs.types, p, u, v)?;
+            let u = under(checker, funs, a, TypePart::First.named(x), t)?;
+            let v = under(checker, funs, b, TypePart::Second.named(y), t)?;
+            let r = checker.close_arms(&funs.types, p, u, v)?;
             Ok(r)
         }
         ExprArms::OfList(a, x, y, b) => {
-            let u = type_of(checker, alloc, funs, a)?;
+            let u = type_of(checker, funs, a)?;
             let v = under_two(
                 checker,
-                alloc,
                 funs,
                 b,
-                x,
-                TypePart::Inner,
-                y,
-                TypePart::Whole,
+                TypePart::Inner.named(x),
+                TypePart::Whole.named(y),
                 t,
             )?;
-            let r = checker.close_arms(alloc, &funs.types, p, u, v)?;
+            let r = checker.close_arms(&funs.types, p, u, v)?;
             Ok(r)
         }
         ExprArms::OfPair(x, y, a) => {
             let r = under_two(
                 checker,
-                alloc,
                 funs,
                 a,
-                x,
-                TypePart::First,
-                y,
-                TypePart::Second,
+                TypePart::First.named(x),
+                TypePart::Second.named(y),
                 t,
             )?;
             Ok(r)
@@ -430,19 +404,17 @@ fn alternatives(
 #[tactic(auto, using(typing_parts::proofs::Noted::noted_rules))]
 fn under(
     checker: &mut Checker,
-    alloc: Global,
     funs: &Funs,
     e: &Expr,
-    x: &Name,
-    which: TypePart,
+    x: NamedPart,
     t: &TypeTerm,
 ) -> Result<Option<TypeTerm>, NoMemory>
-    ensures { IfOk result (λ r. Judged funs.now.types.nodes checker.old checker.new (opt_ty funs.now.types.nodes r) (unless_full (names funs.now.types.nodes checker.old) x.now (judge (ctx_of funs.now) (bound x.now (part_of which (type_in funs.now.types.nodes t.now)) ∷ names funs.now.types.nodes checker.old) (ex_of e.now)))) }
+    ensures { IfOk result (λ r. Judged funs.now.types.nodes checker.old checker.new (opt_ty funs.now.types.nodes r) (unless_full (names funs.now.types.nodes checker.old) x.entry.name.now (judge (ctx_of funs.now) (bound x.entry.name.now (part_of x.entry.part (type_in funs.now.types.nodes t.now)) ∷ names funs.now.types.nodes checker.old) (ex_of e.now)))) }
 {
-    match enter(checker, alloc, &funs.types, x, which, t)? {
+    match enter(checker, &funs.types, x, t)? {
         false => Ok(None),
         true => {
-            let u = type_of(checker, alloc, funs, e)?;
+            let u = type_of(checker, funs, e)?;
             checker.unbind(&funs.types);
             Ok(u)
         }
@@ -454,21 +426,18 @@ fn under(
 #[tactic(auto, using(typing_parts::proofs::Noted::noted_rules))]
 fn under_two(
     checker: &mut Checker,
-    alloc: Global,
     funs: &Funs,
     e: &Expr,
-    x: &Name,
-    of_x: TypePart,
-    y: &Name,
-    of_y: TypePart,
+    x: NamedPart,
+    y: NamedPart,
     t: &TypeTerm,
 ) -> Result<Option<TypeTerm>, NoMemory>
-    ensures { IfOk result (λ r. Judged funs.now.types.nodes checker.old checker.new (opt_ty funs.now.types.nodes r) (unless_full (names funs.now.types.nodes checker.old) x.now (unless_full (bound x.now (part_of of_x (type_in funs.now.types.nodes t.now)) ∷ names funs.now.types.nodes checker.old) y.now (judge (ctx_of funs.now) (bound y.now (part_of of_y (type_in funs.now.types.nodes t.now)) ∷ bound x.now (part_of of_x (type_in funs.now.types.nodes t.now)) ∷ names funs.now.types.nodes checker.old) (ex_of e.now))))) }
+    ensures { IfOk result (λ r. Judged funs.now.types.nodes checker.old checker.new (opt_ty funs.now.types.nodes r) (unless_full (names funs.now.types.nodes checker.old) x.entry.name.now (unless_full (bound x.entry.name.now (part_of x.entry.part (type_in funs.now.types.nodes t.now)) ∷ names funs.now.types.nodes checker.old) y.entry.name.now (judge (ctx_of funs.now) (bound y.entry.name.now (part_of y.entry.part (type_in funs.now.types.nodes t.now)) ∷ bound x.entry.name.now (part_of x.entry.part (type_in funs.now.types.nodes t.now)) ∷ names funs.now.types.nodes checker.old) (ex_of e.now))))) }
 {
-    match enter(checker, alloc, &funs.types, x, of_x, t)? {
+    match enter(checker, &funs.types, x, t)? {
         false => Ok(None),
         true => {
-            let u = under(checker, alloc, funs, e, y, of_y, t)?;
+            let u = under(checker, funs, e, y, t)?;
             checker.unbind(&funs.types);
             Ok(u)
         }

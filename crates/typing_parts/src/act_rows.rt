@@ -13,7 +13,6 @@ use hs_base::tree::forms::{
     BareAction, BinaryAction, BlockAction, GuardAction, MaskingAction, UnaryAction,
 };
 use hs_base::{NoMemory, Pos};
-use std::alloc::Global;
 use typing_table::base::Base;
 use typing_table::parts::inner_part;
 use typing_table::table::TypeTable;
@@ -34,7 +33,6 @@ pub fn bare_type(o: BareAction) -> Base
 impl Checker {
     fn row_unary_act(
         &mut self,
-        alloc: Global,
         types: &TypeTable,
         p: Pos,
         o: UnaryAction,
@@ -43,44 +41,42 @@ impl Checker {
         ensures { IfOk result (λ t. Judged types.now.nodes self.old self.new (opt_ty types.now.nodes t) (own p (row_unary_act o (type_in types.now.nodes a.now)))) }
     {
         match o {
-            UnaryAction::Return => Ok(Some(a.copy(alloc)?)),
-            UnaryAction::PutStr => self.one(alloc, types, p, Base::Text, a, Base::Unit),
-            UnaryAction::PutStrLn => self.one(alloc, types, p, Base::Text, a, Base::Unit),
-            UnaryAction::HPutStrLn => self.one(alloc, types, p, Base::Text, a, Base::Unit),
+            UnaryAction::Return => Ok(Some(a.copy(self.alloc)?)),
+            UnaryAction::PutStr => self.one(types, p, Base::Text, a, Base::Unit),
+            UnaryAction::PutStrLn => self.one(types, p, Base::Text, a, Base::Unit),
+            UnaryAction::HPutStrLn => self.one(types, p, Base::Text, a, Base::Unit),
             UnaryAction::NewMVar => {
-                let t = cell_of(alloc, a)?;
+                let t = cell_of(self.alloc, a)?;
                 Ok(self.unless_wide(types, p, t))
             }
-            UnaryAction::TakeMVar => self.its_part(alloc, types, p, Form::Cell, TypePart::Inner, a),
-            UnaryAction::ReadMVar => self.its_part(alloc, types, p, Form::Cell, TypePart::Inner, a),
-            UnaryAction::TryTakeMVar => self.row_try_take(alloc, types, p, a),
-            UnaryAction::KillThread => self.one(alloc, types, p, Base::Thread, a, Base::Unit),
-            UnaryAction::ThreadDelay => self.one(alloc, types, p, Base::Int, a, Base::Unit),
-            UnaryAction::Wait => self.its_part(alloc, types, p, Form::Async, TypePart::Inner, a),
-            UnaryAction::Cancel => self.of_form(alloc, types, p, Form::Async, a, Base::Unit),
+            UnaryAction::TakeMVar => self.its_part(types, p, Form::Cell, TypePart::Inner, a),
+            UnaryAction::ReadMVar => self.its_part(types, p, Form::Cell, TypePart::Inner, a),
+            UnaryAction::TryTakeMVar => self.row_try_take(types, p, a),
+            UnaryAction::KillThread => self.one(types, p, Base::Thread, a, Base::Unit),
+            UnaryAction::ThreadDelay => self.one(types, p, Base::Int, a, Base::Unit),
+            UnaryAction::Wait => self.its_part(types, p, Form::Async, TypePart::Inner, a),
+            UnaryAction::Cancel => self.of_form(types, p, Form::Async, a, Base::Unit),
         }
     }
 
     fn row_try_take(
         &mut self,
-        alloc: Global,
         types: &TypeTable,
         p: Pos,
         a: &TypeTerm,
     ) -> Result<Option<TypeTerm>, NoMemory>
         ensures { IfOk result (λ t. Judged types.now.nodes self.old self.new (opt_ty types.now.nodes t) (own p (row_unary_act UnaryAction.TryTakeMVar (type_in types.now.nodes a.now)))) }
     {
-        if !self.fits(alloc, types, p, Form::Cell, a)? {
+        if !self.fits(types, p, Form::Cell, a)? {
             return Ok(None);
         }
-        let part = inner_part(alloc, types, a)?;
-        let t = maybe_of(alloc, &part)?;
+        let part = inner_part(self.alloc, types, a)?;
+        let t = maybe_of(self.alloc, &part)?;
         Ok(self.unless_wide(types, p, t))
     }
 
     fn row_binary_act(
         &mut self,
-        alloc: Global,
         types: &TypeTable,
         p: Pos,
         o: BinaryAction,
@@ -90,15 +86,14 @@ impl Checker {
         ensures { IfOk result (λ t. Judged types.now.nodes self.old self.new (opt_ty types.now.nodes t) (own p (row_binary_act o (type_in types.now.nodes a.now) (type_in types.now.nodes b.now)))) }
     {
         match o {
-            BinaryAction::PutMVar => self.row_content(alloc, types, p, a, b, Base::Unit),
-            BinaryAction::TryPutMVar => self.row_content(alloc, types, p, a, b, Base::Bool),
-            BinaryAction::ThrowTo => self.row_throw_to(alloc, types, p, a, b),
+            BinaryAction::PutMVar => self.row_content(types, p, a, b, Base::Unit),
+            BinaryAction::TryPutMVar => self.row_content(types, p, a, b, Base::Bool),
+            BinaryAction::ThrowTo => self.row_throw_to(types, p, a, b),
         }
     }
 
     fn row_throw_to(
         &mut self,
-        alloc: Global,
         types: &TypeTable,
         p: Pos,
         a: &TypeTerm,
@@ -106,15 +101,14 @@ impl Checker {
     ) -> Result<Option<TypeTerm>, NoMemory>
         ensures { IfOk result (λ t. Judged types.now.nodes self.old self.new (opt_ty types.now.nodes t) (own p (row_binary_act BinaryAction.ThrowTo (type_in types.now.nodes a.now) (type_in types.now.nodes b.now)))) }
     {
-        if !self.is_base(alloc, types, p, Base::Thread, a)? {
+        if !self.is_base(types, p, Base::Thread, a)? {
             return Ok(None);
         }
-        self.one(alloc, types, p, Base::Exn, b, Base::Unit)
+        self.one(types, p, Base::Exn, b, Base::Unit)
     }
 
     pub fn close_unary_act(
         &mut self,
-        alloc: Global,
         types: &TypeTable,
         p: Pos,
         o: UnaryAction,
@@ -123,12 +117,11 @@ impl Checker {
         ensures { IfOk result (λ t. Judged types.now.nodes self.old self.new (opt_ty types.now.nodes t) (with1 (opt_ty types.now.nodes a) (λ u. own p (row_unary_act o u)))) }
     {
         let Some(a) = a else { return Ok(None) };
-        self.row_unary_act(alloc, types, p, o, &a)
+        self.row_unary_act(types, p, o, &a)
     }
 
     pub fn close_binary_act(
         &mut self,
-        alloc: Global,
         types: &TypeTable,
         p: Pos,
         o: BinaryAction,
@@ -139,12 +132,11 @@ impl Checker {
     {
         let Some(a) = a else { return Ok(None) };
         let Some(b) = b else { return Ok(None) };
-        self.row_binary_act(alloc, types, p, o, &a, &b)
+        self.row_binary_act(types, p, o, &a, &b)
     }
 
     pub fn close_throw(
         &mut self,
-        alloc: Global,
         types: &TypeTable,
         p: Pos,
         t: Option<TypeTerm>,
@@ -154,7 +146,7 @@ impl Checker {
     {
         let Some(t) = t else { return Ok(None) };
         let Some(a) = a else { return Ok(None) };
-        if self.is_base(alloc, types, p, Base::Exn, &a)? {
+        if self.is_base(types, p, Base::Exn, &a)? {
             Ok(Some(t))
         } else {
             Ok(None)
@@ -163,7 +155,6 @@ impl Checker {
 
     pub fn close_timeout(
         &mut self,
-        alloc: Global,
         types: &TypeTable,
         p: Pos,
         a: Option<TypeTerm>,
@@ -173,16 +164,15 @@ impl Checker {
     {
         let Some(a) = a else { return Ok(None) };
         let Some(b) = b else { return Ok(None) };
-        if !self.is_base(alloc, types, p, Base::Int, &a)? {
+        if !self.is_base(types, p, Base::Int, &a)? {
             return Ok(None);
         }
-        let t = maybe_of(alloc, &b)?;
+        let t = maybe_of(self.alloc, &b)?;
         Ok(self.unless_wide(types, p, t))
     }
 
     pub fn close_new_empty(
         &mut self,
-        alloc: Global,
         types: &TypeTable,
         p: Pos,
         t: Option<TypeTerm>,
@@ -190,13 +180,12 @@ impl Checker {
         ensures { IfOk result (λ r. Judged types.now.nodes self.old self.new (opt_ty types.now.nodes r) (with1 (opt_ty types.now.nodes t) (λ u. own p (row_new_empty u)))) }
     {
         let Some(t) = t else { return Ok(None) };
-        let made = cell_of(alloc, &t)?;
+        let made = cell_of(self.alloc, &t)?;
         Ok(self.unless_wide(types, p, made))
     }
 
     pub fn close_scoped(
         &mut self,
-        alloc: Global,
         types: &TypeTable,
         p: Pos,
         o: BlockAction,
@@ -206,7 +195,7 @@ impl Checker {
     {
         let Some(a) = a else { return Ok(None) };
         match o {
-            BlockAction::ForkIo => self.one(alloc, types, p, Base::Unit, &a, Base::Thread),
+            BlockAction::ForkIo => self.one(types, p, Base::Unit, &a, Base::Thread),
             BlockAction::MaskOnly => Ok(Some(a)),
             BlockAction::UninterruptibleMaskOnly => Ok(Some(a)),
         }
@@ -214,7 +203,6 @@ impl Checker {
 
     pub fn close_masking(
         &mut self,
-        alloc: Global,
         types: &TypeTable,
         p: Pos,
         o: MaskingAction,
@@ -224,9 +212,7 @@ impl Checker {
     {
         let Some(a) = a else { return Ok(None) };
         match o {
-            MaskingAction::ForkIoWithUnmask => {
-                self.one(alloc, types, p, Base::Unit, &a, Base::Thread)
-            }
+            MaskingAction::ForkIoWithUnmask => self.one(types, p, Base::Unit, &a, Base::Thread),
             MaskingAction::Mask => Ok(Some(a)),
             MaskingAction::UninterruptibleMask => Ok(Some(a)),
         }
@@ -235,7 +221,6 @@ impl Checker {
     /// The block of a modification of a cell of type `m`: it gives the cell's content.
     pub fn close_modify(
         &mut self,
-        alloc: Global,
         types: &TypeTable,
         p: Pos,
         m: &TypeTerm,
@@ -244,14 +229,13 @@ impl Checker {
         ensures { IfOk result (λ t. Judged types.now.nodes self.old self.new (opt_ty types.now.nodes t) (with1 (opt_ty types.now.nodes a) (λ v. own p (row_modify (type_in types.now.nodes m.now) v)))) }
     {
         let Some(a) = a else { return Ok(None) };
-        let part = inner_part(alloc, types, m)?;
-        self.of_type(alloc, types, p, &part, &a, Base::Unit)
+        let part = inner_part(self.alloc, types, m)?;
+        self.of_type(types, p, &part, &a, Base::Unit)
     }
 
     /// The first block's type, or one of both.
     fn row_guard(
         &mut self,
-        alloc: Global,
         types: &TypeTable,
         p: Pos,
         o: GuardAction,
@@ -264,11 +248,11 @@ impl Checker {
             GuardAction::OnException => Ok(Some(a)),
             GuardAction::Finally => Ok(Some(a)),
             GuardAction::Race => {
-                let t = either_of(alloc, &a, b)?;
+                let t = either_of(self.alloc, &a, b)?;
                 Ok(self.unless_wide(types, p, t))
             }
             GuardAction::Concurrently => {
-                let t = pair_of(alloc, &a, b)?;
+                let t = pair_of(self.alloc, &a, b)?;
                 Ok(self.unless_wide(types, p, t))
             }
         }
@@ -276,7 +260,6 @@ impl Checker {
 
     pub fn close_guard(
         &mut self,
-        alloc: Global,
         types: &TypeTable,
         p: Pos,
         o: GuardAction,
@@ -287,20 +270,19 @@ impl Checker {
     {
         let Some(a) = a else { return Ok(None) };
         let Some(b) = b else { return Ok(None) };
-        self.row_guard(alloc, types, p, o, a, &b)
+        self.row_guard(types, p, o, a, &b)
     }
 
     /// What a `withAsync` binds, where the action that runs beside its block has type `a`.
     pub fn scope_type(
         &mut self,
-        alloc: Global,
         types: &TypeTable,
         p: Pos,
         a: &TypeTerm,
     ) -> Result<Option<TypeTerm>, NoMemory>
         ensures { IfOk result (λ t. Judged types.now.nodes self.old self.new (opt_ty types.now.nodes t) (own p (row_async (type_in types.now.nodes a.now)))) }
     {
-        let t = async_of(alloc, a)?;
+        let t = async_of(self.alloc, a)?;
         Ok(self.unless_wide(types, p, t))
     }
 
@@ -321,7 +303,6 @@ impl Checker {
     /// A cell of some type, and a value of that type.
     fn row_content(
         &mut self,
-        alloc: Global,
         types: &TypeTable,
         p: Pos,
         a: &TypeTerm,
@@ -330,10 +311,10 @@ impl Checker {
     ) -> Result<Option<TypeTerm>, NoMemory>
         ensures { IfOk result (λ r. Judged types.now.nodes self.old self.new (opt_ty types.now.nodes r) (own p (gives (of a_cell (type_in types.now.nodes a.now) ∷ is (inner_of (type_in types.now.nodes a.now)) (type_in types.now.nodes b.now) ∷ []) (base_of t)))) }
     {
-        if !self.fits(alloc, types, p, Form::Cell, a)? {
+        if !self.fits(types, p, Form::Cell, a)? {
             return Ok(None);
         }
-        let part = inner_part(alloc, types, a)?;
-        self.of_type(alloc, types, p, &part, b, t)
+        let part = inner_part(self.alloc, types, a)?;
+        self.of_type(types, p, &part, b, t)
     }
 }

@@ -13,7 +13,6 @@ use crate::funs::Funs;
 use hs_base::tree::Name;
 use hs_base::{NoMemory, Pos};
 use hs_items::Items;
-use std::alloc::Global;
 use typing_table::table::TypeTable;
 use typing_table::ty::TypeTerm;
 
@@ -29,7 +28,6 @@ impl Checker {
     /// A name in an expression, with its arguments' types.
     pub fn close_call(
         &mut self,
-        alloc: Global,
         funs: &Funs,
         x: &Name,
         n: usize,
@@ -50,7 +48,7 @@ impl Checker {
                 }
                 match ts {
                     None => Ok(None),
-                    Some(_) => Ok(Some(t.copy(alloc)?)),
+                    Some(_) => Ok(Some(t.copy(self.alloc)?)),
                 }
             }
             None => match funs.find(&x.text) {
@@ -67,7 +65,7 @@ impl Checker {
                         self.first.note(&funs.types, Broken::Forward(x.pos));
                         return Ok(None);
                     }
-                    self.close_args(alloc, &funs.types, x.pos, n, f, ts)
+                    self.close_args(&funs.types, x.pos, n, f, ts)
                 }
             },
         }
@@ -75,7 +73,6 @@ impl Checker {
 
     fn close_args(
         &mut self,
-        alloc: Global,
         types: &TypeTable,
         p: Pos,
         n: usize,
@@ -94,7 +91,7 @@ impl Checker {
         match ts {
             None => Ok(None),
             Some(us) => {
-                if self.each_is(alloc, types, p, f.params.as_slice(), us.as_slice())? {
+                if self.each_is(types, p, f.params.as_slice(), us.as_slice())? {
                     Ok(Some(TypeTerm::Known(f.result)))
                 } else {
                     Ok(None)
@@ -106,7 +103,6 @@ impl Checker {
     /// A name in an action, with its arguments' types.
     pub fn close_act_call(
         &mut self,
-        alloc: Global,
         funs: &Funs,
         x: &Name,
         n: usize,
@@ -129,7 +125,7 @@ impl Checker {
                         self.first.note(&funs.types, Broken::Kind(x.pos));
                         return Ok(None);
                     }
-                    let t = self.close_args(alloc, &funs.types, x.pos, n, f, ts)?;
+                    let t = self.close_args(&funs.types, x.pos, n, f, ts)?;
                     Ok(t)
                 }
             },

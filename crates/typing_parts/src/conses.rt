@@ -36,7 +36,6 @@ fn copied(alloc: Global, t: &Option<TypeTerm>) -> Result<Option<TypeTerm>, NoMem
 impl Checker {
     fn close_link(
         &mut self,
-        alloc: Global,
         types: &TypeTable,
         p: Pos,
         o: BinaryForm,
@@ -49,7 +48,7 @@ impl Checker {
             None => Ok(None),
             Some(a) => match b {
                 None => Ok(None),
-                Some(b) => self.row_binary(alloc, types, p, o, a, &b),
+                Some(b) => self.row_binary(types, p, o, a, &b),
             },
         }
     }
@@ -57,7 +56,6 @@ impl Checker {
     /// The nodes of `:` and `++` from the right, over their operands' types.
     pub fn close_conses(
         &mut self,
-        alloc: Global,
         types: &TypeTable,
         ts: &Items<Option<TypeTerm>>,
         ks: &Items<ListLink>,
@@ -67,10 +65,10 @@ impl Checker {
     {
         let ts = ts.as_slice();
         let ks = ks.as_slice();
-        let mut t = copied(alloc, &ts[ks.len()])?;
+        let mut t = copied(self.alloc, &ts[ks.len()])?;
         'links: for i in (0..ks.len()).rev() {
             let k = &ks[i];
-            t = self.close_link(alloc, types, k.pos, joined(k.op), &ts[i], t)?;
+            t = self.close_link(types, k.pos, joined(k.op), &ts[i], t)?;
         }
         Ok(t)
     }

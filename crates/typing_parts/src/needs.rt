@@ -1,4 +1,5 @@
 ghost use Rattle.std.specs.Prelude.{◌≡◌, [], ◌∷◌, IfOk, map, true};
+ghost use Rattle.rules_trees.specs.Trees.{bool};
 ghost use Rattle.typing_table.specs.Meaning.{base_of, type_in};
 ghost use Rattle.rules_typing.specs.Typing.{is, of, gives, is_each};
 ghost use Rattle.typing_judge.specs.Judging.{own, made};
@@ -10,7 +11,6 @@ use crate::fault::Form;
 use crate::first::{Asked, Broken};
 use crate::parts::{TypePart, is_form, that_part};
 use hs_base::{NoMemory, Pos};
-use std::alloc::Global;
 use typing_table::base::Base;
 use typing_table::sameness::same_types;
 use typing_table::table::TypeTable;
@@ -22,7 +22,6 @@ impl Checker {
     /// The types are the same, or a mismatch is noted.
     pub fn is(
         &mut self,
-        alloc: Global,
         types: &TypeTable,
         p: Pos,
         want: &TypeTerm,
@@ -32,8 +31,8 @@ impl Checker {
     {
         let same = same_types(types, want, got);
         if !same {
-            let want = Asked::Exactly(want.copy(alloc)?);
-            let got = got.copy(alloc)?;
+            let want = Asked::Exactly(want.copy(self.alloc)?);
+            let got = got.copy(self.alloc)?;
             self.first.note(types, Broken::Mismatch(p, want, got));
         }
         Ok(same)
@@ -42,7 +41,6 @@ impl Checker {
     /// The type is of the form, or a mismatch is noted.
     pub fn fits(
         &mut self,
-        alloc: Global,
         types: &TypeTable,
         p: Pos,
         form: Form,
@@ -52,7 +50,7 @@ impl Checker {
     {
         let fits = is_form(types, form, got);
         if !fits {
-            let got = got.copy(alloc)?;
+            let got = got.copy(self.alloc)?;
             self.first
                 .note(types, Broken::Mismatch(p, Asked::Form(form), got));
         }
@@ -74,7 +72,6 @@ impl Checker {
     /// The type is this one without parts, or a mismatch is noted.
     pub fn is_base(
         &mut self,
-        alloc: Global,
         types: &TypeTable,
         p: Pos,
         want: Base,
@@ -83,14 +80,13 @@ impl Checker {
         ensures { IfOk result (λ b. Needed types.now.nodes self.old self.new b p (is (base_of want) (type_in types.now.nodes got.now))) }
     {
         let want = TypeTerm::Base(want);
-        let same = self.is(alloc, types, p, &want, got)?;
+        let same = self.is(types, p, &want, got)?;
         Ok(same)
     }
 
     /// A row with one need, that a part is of this type.
     pub fn of_type(
         &mut self,
-        alloc: Global,
         types: &TypeTable,
         p: Pos,
         want: &TypeTerm,
@@ -99,7 +95,7 @@ impl Checker {
     ) -> Result<Option<TypeTerm>, NoMemory>
         ensures { IfOk result (λ r. Judged types.now.nodes self.old self.new (opt_ty types.now.nodes r) (own p (gives (is (type_in types.now.nodes want.now) (type_in types.now.nodes got.now) ∷ []) (base_of t)))) }
     {
-        if self.is(alloc, types, p, want, got)? {
+        if self.is(types, p, want, got)? {
             Ok(Some(TypeTerm::Base(t)))
         } else {
             Ok(None)
@@ -109,7 +105,6 @@ impl Checker {
     /// A row with one need, that a part is of a form.
     pub fn of_form(
         &mut self,
-        alloc: Global,
         types: &TypeTable,
         p: Pos,
         form: Form,
@@ -118,7 +113,7 @@ impl Checker {
     ) -> Result<Option<TypeTerm>, NoMemory>
         ensures { IfOk result (λ r. Judged types.now.nodes self.old self.new (opt_ty types.now.nodes r) (own p (gives (of (form_of form) (type_in types.now.nodes got.now) ∷ []) (base_of t)))) }
     {
-        if self.fits(alloc, types, p, form, got)? {
+        if self.fits(types, p, form, got)? {
             Ok(Some(TypeTerm::Base(t)))
         } else {
             Ok(None)
@@ -128,7 +123,6 @@ impl Checker {
     /// A row that asks a form of its part, and gives what that part is of.
     pub fn its_part(
         &mut self,
-        alloc: Global,
         types: &TypeTable,
         p: Pos,
         form: Form,
@@ -137,8 +131,8 @@ impl Checker {
     ) -> Result<Option<TypeTerm>, NoMemory>
         ensures { IfOk result (λ r. Judged types.now.nodes self.old self.new (opt_ty types.now.nodes r) (own p (gives (of (form_of form) (type_in types.now.nodes got.now) ∷ []) (part_of which (type_in types.now.nodes got.now))))) }
     {
-        if self.fits(alloc, types, p, form, got)? {
-            Ok(Some(that_part(alloc, types, which, got)?))
+        if self.fits(types, p, form, got)? {
+            Ok(Some(that_part(self.alloc, types, which, got)?))
         } else {
             Ok(None)
         }
@@ -147,7 +141,6 @@ impl Checker {
     /// A row with one need, that a part is of a type.
     pub fn one(
         &mut self,
-        alloc: Global,
         types: &TypeTable,
         p: Pos,
         want: Base,
@@ -157,51 +150,46 @@ impl Checker {
         ensures { IfOk result (λ r. Judged types.now.nodes self.old self.new (opt_ty types.now.nodes r) (own p (gives (is (base_of want) (type_in types.now.nodes got.now) ∷ []) (base_of t)))) }
     {
         let want = TypeTerm::Base(want);
-        self.of_type(alloc, types, p, &want, got, t)
+        self.of_type(types, p, &want, got, t)
     }
 
-    /// A row that asks one type of two parts.
+    /// A row that asks one type of two parts, and gives that type.
     pub fn both(
         &mut self,
-        alloc: Global,
         types: &TypeTable,
         p: Pos,
-        want: Base,
+        base: Base,
         a: &TypeTerm,
         b: &TypeTerm,
-        t: Base,
     ) -> Result<Option<TypeTerm>, NoMemory>
-        ensures { IfOk result (λ r. Judged types.now.nodes self.old self.new (opt_ty types.now.nodes r) (own p (gives (is (base_of want) (type_in types.now.nodes a.now) ∷ is (base_of want) (type_in types.now.nodes b.now) ∷ []) (base_of t)))) }
+        ensures { IfOk result (λ r. Judged types.now.nodes self.old self.new (opt_ty types.now.nodes r) (own p (gives (is (base_of base) (type_in types.now.nodes a.now) ∷ is (base_of base) (type_in types.now.nodes b.now) ∷ []) (base_of base)))) }
     {
-        if !self.is_base(alloc, types, p, want, a)? {
+        if !self.is_base(types, p, base, a)? {
             return Ok(None);
         }
-        self.one(alloc, types, p, want, b, t)
+        self.one(types, p, base, b, base)
     }
 
-    /// A row that asks a form of its first part, and of the second that it is the same.
+    /// A row of a comparison: it asks a form of its first part, and of the second that it is the same.
     pub fn alike(
         &mut self,
-        alloc: Global,
         types: &TypeTable,
         p: Pos,
         form: Form,
         a: &TypeTerm,
         b: &TypeTerm,
-        t: Base,
     ) -> Result<Option<TypeTerm>, NoMemory>
-        ensures { IfOk result (λ r. Judged types.now.nodes self.old self.new (opt_ty types.now.nodes r) (own p (gives (of (form_of form) (type_in types.now.nodes a.now) ∷ is (type_in types.now.nodes a.now) (type_in types.now.nodes b.now) ∷ []) (base_of t)))) }
+        ensures { IfOk result (λ r. Judged types.now.nodes self.old self.new (opt_ty types.now.nodes r) (own p (gives (of (form_of form) (type_in types.now.nodes a.now) ∷ is (type_in types.now.nodes a.now) (type_in types.now.nodes b.now) ∷ []) bool))) }
     {
-        if !self.fits(alloc, types, p, form, a)? {
+        if !self.fits(types, p, form, a)? {
             return Ok(None);
         }
-        self.of_type(alloc, types, p, a, b, t)
+        self.of_type(types, p, a, b, Base::Bool)
     }
 
     /// Each is of the type, or a mismatch is noted for the first that isn't.
     pub fn all_are(
         &mut self,
-        alloc: Global,
         types: &TypeTable,
         p: Pos,
         t: &TypeTerm,
@@ -210,7 +198,7 @@ impl Checker {
         ensures { IfOk result (λ b. AllNeeded types.now.nodes self.old self.new b p (map (is (type_in types.now.nodes t.now)) (tys_of types.now.nodes us.now))) }
     {
         'each: for u in us {
-            if !self.is(alloc, types, p, t, u)? {
+            if !self.is(types, p, t, u)? {
                 return Ok(false);
             }
         }
@@ -220,7 +208,6 @@ impl Checker {
     /// Each is of the type at the parameter's place.
     pub fn each_is(
         &mut self,
-        alloc: Global,
         types: &TypeTable,
         p: Pos,
         params: &[usize],
@@ -232,7 +219,7 @@ impl Checker {
             match us.get(i) {
                 None => return Ok(true),
                 Some(u) => {
-                    if !self.is(alloc, types, p, &TypeTerm::Known(*place), u)? {
+                    if !self.is(types, p, &TypeTerm::Known(*place), u)? {
                         return Ok(false);
                     }
                 }

@@ -5,6 +5,7 @@ ghost use Rattle.typing_parts.specs.Views.{form_of, kind_has, part_of};
 
 use crate::fault::Form;
 use hs_base::NoMemory;
+use hs_base::tree::Name;
 use std::alloc::Global;
 use typing_table::base::Base;
 use typing_table::kind::{TypeKind, kind_in};
@@ -57,6 +58,21 @@ pub enum TypePart {
     First,
     /// the second of a pair or an `Either`
     Second,
+}
+
+/// A name, and the part of a type that it is bound to.
+#[derive(Clone, Copy)]
+pub struct NamedPart<'a> {
+    pub name: &'a Name,
+    pub part: TypePart,
+}
+
+impl TypePart {
+    pub fn named(self, name: &Name) -> NamedPart<'_>
+        ensures { (result.name.now ≡ name.now) × (result.part ≡ self) }
+    {
+        NamedPart { name, part: self }
+    }
 }
 
 /// That part of a type.

@@ -14,18 +14,23 @@ use hs_base::tree::Written;
 use hs_base::tree::forms::{BinaryForm, EmptyForm, SideForm, UnaryForm};
 use hs_base::{NoMemory, Pos};
 use hs_items::Items;
-use std::alloc::Global;
 use typing_table::base::Base;
 use typing_table::table::TypeTable;
 use typing_table::ty::{TypeTerm, either_of, list_of, maybe_of, pair_of};
 use typing_table::widths::is_wide_written;
 use typing_table::written::from_written;
 
+/// The types that `Left` or `Right` is written with, where they aren't too wide.
+#[derive(Drop)]
+pub struct Sides {
+    pub left: Option<TypeTerm>,
+    pub right: Option<TypeTerm>,
+}
+
 #[tactic(auto, using(typing_table::proofs::Equations::type_rules))]
 impl Checker {
     fn row_unary(
         &mut self,
-        alloc: Global,
         types: &TypeTable,
         p: Pos,
         o: UnaryForm,
@@ -35,21 +40,20 @@ impl Checker {
     {
         match o {
             UnaryForm::Just => {
-                let t = maybe_of(alloc, a)?;
+                let t = maybe_of(self.alloc, a)?;
                 Ok(self.unless_wide(types, p, t))
             }
-            UnaryForm::ErrorCall => self.one(alloc, types, p, Base::Text, a, Base::Exn),
-            UnaryForm::Not => self.one(alloc, types, p, Base::Bool, a, Base::Bool),
-            UnaryForm::Fst => self.its_part(alloc, types, p, Form::Pair, TypePart::First, a),
-            UnaryForm::Snd => self.its_part(alloc, types, p, Form::Pair, TypePart::Second, a),
-            UnaryForm::Show => self.of_form(alloc, types, p, Form::Show, a, Base::Text),
-            UnaryForm::Negate => self.one(alloc, types, p, Base::Int, a, Base::Int),
+            UnaryForm::ErrorCall => self.one(types, p, Base::Text, a, Base::Exn),
+            UnaryForm::Not => self.one(types, p, Base::Bool, a, Base::Bool),
+            UnaryForm::Fst => self.its_part(types, p, Form::Pair, TypePart::First, a),
+            UnaryForm::Snd => self.its_part(types, p, Form::Pair, TypePart::Second, a),
+            UnaryForm::Show => self.of_form(types, p, Form::Show, a, Base::Text),
+            UnaryForm::Negate => self.one(types, p, Base::Int, a, Base::Int),
         }
     }
 
     pub fn row_binary(
         &mut self,
-        alloc: Global,
         types: &TypeTable,
         p: Pos,
         o: BinaryForm,
@@ -60,30 +64,29 @@ impl Checker {
     {
         match o {
             BinaryForm::Pair => {
-                let t = pair_of(alloc, a, b)?;
+                let t = pair_of(self.alloc, a, b)?;
                 Ok(self.unless_wide(types, p, t))
             }
-            BinaryForm::Div => self.both(alloc, types, p, Base::Int, a, b, Base::Int),
-            BinaryForm::Mod => self.both(alloc, types, p, Base::Int, a, b, Base::Int),
-            BinaryForm::Equal => self.alike(alloc, types, p, Form::Equal, a, b, Base::Bool),
-            BinaryForm::Unequal => self.alike(alloc, types, p, Form::Equal, a, b, Base::Bool),
-            BinaryForm::Less => self.alike(alloc, types, p, Form::Order, a, b, Base::Bool),
-            BinaryForm::AtMost => self.alike(alloc, types, p, Form::Order, a, b, Base::Bool),
-            BinaryForm::Greater => self.alike(alloc, types, p, Form::Order, a, b, Base::Bool),
-            BinaryForm::AtLeast => self.alike(alloc, types, p, Form::Order, a, b, Base::Bool),
-            BinaryForm::Or => self.both(alloc, types, p, Base::Bool, a, b, Base::Bool),
-            BinaryForm::And => self.both(alloc, types, p, Base::Bool, a, b, Base::Bool),
-            BinaryForm::Plus => self.both(alloc, types, p, Base::Int, a, b, Base::Int),
-            BinaryForm::Minus => self.both(alloc, types, p, Base::Int, a, b, Base::Int),
-            BinaryForm::Times => self.both(alloc, types, p, Base::Int, a, b, Base::Int),
-            BinaryForm::Cons => self.row_cons(alloc, types, p, a, b),
-            BinaryForm::Append => self.both(alloc, types, p, Base::Text, a, b, Base::Text),
+            BinaryForm::Div => self.both(types, p, Base::Int, a, b),
+            BinaryForm::Mod => self.both(types, p, Base::Int, a, b),
+            BinaryForm::Equal => self.alike(types, p, Form::Equal, a, b),
+            BinaryForm::Unequal => self.alike(types, p, Form::Equal, a, b),
+            BinaryForm::Less => self.alike(types, p, Form::Order, a, b),
+            BinaryForm::AtMost => self.alike(types, p, Form::Order, a, b),
+            BinaryForm::Greater => self.alike(types, p, Form::Order, a, b),
+            BinaryForm::AtLeast => self.alike(types, p, Form::Order, a, b),
+            BinaryForm::Or => self.both(types, p, Base::Bool, a, b),
+            BinaryForm::And => self.both(types, p, Base::Bool, a, b),
+            BinaryForm::Plus => self.both(types, p, Base::Int, a, b),
+            BinaryForm::Minus => self.both(types, p, Base::Int, a, b),
+            BinaryForm::Times => self.both(types, p, Base::Int, a, b),
+            BinaryForm::Cons => self.row_cons(types, p, a, b),
+            BinaryForm::Append => self.both(types, p, Base::Text, a, b),
         }
     }
 
     fn row_cons(
         &mut self,
-        alloc: Global,
         types: &TypeTable,
         p: Pos,
         a: &TypeTerm,
@@ -91,8 +94,8 @@ impl Checker {
     ) -> Result<Option<TypeTerm>, NoMemory>
         ensures { IfOk result (λ t. Judged types.now.nodes self.old self.new (opt_ty types.now.nodes t) (own p (row_binary BinaryForm.Cons (type_in types.now.nodes a.now) (type_in types.now.nodes b.now)))) }
     {
-        let t = list_of(alloc, a)?;
-        if self.is(alloc, types, p, &t, b)? {
+        let t = list_of(self.alloc, a)?;
+        if self.is(types, p, &t, b)? {
             Ok(Some(t))
         } else {
             Ok(None)
@@ -101,7 +104,6 @@ impl Checker {
 
     fn row_arms(
         &mut self,
-        alloc: Global,
         types: &TypeTable,
         p: Pos,
         a: &TypeTerm,
@@ -109,32 +111,26 @@ impl Checker {
     ) -> Result<Option<TypeTerm>, NoMemory>
         ensures { IfOk result (λ t. Judged types.now.nodes self.old self.new (opt_ty types.now.nodes t) (own p (row_arms (type_in types.now.nodes a.now) (type_in types.now.nodes b.now)))) }
     {
-        if self.is(alloc, types, p, a, b)? {
-            Ok(Some(a.copy(alloc)?))
+        if self.is(types, p, a, b)? {
+            Ok(Some(a.copy(self.alloc)?))
         } else {
             Ok(None)
         }
     }
 
     /// A written type, where it isn't too wide.
-    pub fn written(
-        &mut self,
-        alloc: Global,
-        types: &TypeTable,
-        w: &Written,
-    ) -> Result<Option<TypeTerm>, NoMemory>
+    pub fn written(&mut self, types: &TypeTable, w: &Written) -> Result<Option<TypeTerm>, NoMemory>
         ensures { IfOk result (λ t. Judged types.now.nodes self.old self.new (opt_ty types.now.nodes t) (written (wr_of w.now))) }
     {
         if is_wide_written(&w.ty) {
             self.first.note(types, Broken::Wide(w.pos));
             return Ok(None);
         }
-        Ok(Some(from_written(alloc, &w.ty)?))
+        Ok(Some(from_written(self.alloc, &w.ty)?))
     }
 
     pub fn close_unary(
         &mut self,
-        alloc: Global,
         types: &TypeTable,
         p: Pos,
         o: UnaryForm,
@@ -143,12 +139,11 @@ impl Checker {
         ensures { IfOk result (λ t. Judged types.now.nodes self.old self.new (opt_ty types.now.nodes t) (with1 (opt_ty types.now.nodes a) (λ u. own p (row_unary o u)))) }
     {
         let Some(a) = a else { return Ok(None) };
-        self.row_unary(alloc, types, p, o, &a)
+        self.row_unary(types, p, o, &a)
     }
 
     pub fn close_binary(
         &mut self,
-        alloc: Global,
         types: &TypeTable,
         p: Pos,
         o: BinaryForm,
@@ -159,12 +154,11 @@ impl Checker {
     {
         let Some(a) = a else { return Ok(None) };
         let Some(b) = b else { return Ok(None) };
-        self.row_binary(alloc, types, p, o, &a, &b)
+        self.row_binary(types, p, o, &a, &b)
     }
 
     pub fn close_choose(
         &mut self,
-        alloc: Global,
         types: &TypeTable,
         p: Pos,
         c: Option<TypeTerm>,
@@ -176,15 +170,14 @@ impl Checker {
         let Some(c) = c else { return Ok(None) };
         let Some(a) = a else { return Ok(None) };
         let Some(b) = b else { return Ok(None) };
-        if !self.is_base(alloc, types, p, Base::Bool, &c)? {
+        if !self.is_base(types, p, Base::Bool, &c)? {
             return Ok(None);
         }
-        self.row_arms(alloc, types, p, &a, &b)
+        self.row_arms(types, p, &a, &b)
     }
 
     pub fn close_arms(
         &mut self,
-        alloc: Global,
         types: &TypeTable,
         p: Pos,
         a: Option<TypeTerm>,
@@ -194,12 +187,11 @@ impl Checker {
     {
         let Some(a) = a else { return Ok(None) };
         let Some(b) = b else { return Ok(None) };
-        self.row_arms(alloc, types, p, &a, &b)
+        self.row_arms(types, p, &a, &b)
     }
 
     pub fn close_empty(
         &mut self,
-        alloc: Global,
         types: &TypeTable,
         p: Pos,
         o: EmptyForm,
@@ -209,42 +201,40 @@ impl Checker {
     {
         let Some(t) = t else { return Ok(None) };
         let made = match o {
-            EmptyForm::Nothing => maybe_of(alloc, &t)?,
-            EmptyForm::EmptyList => list_of(alloc, &t)?,
+            EmptyForm::Nothing => maybe_of(self.alloc, &t)?,
+            EmptyForm::EmptyList => list_of(self.alloc, &t)?,
         };
         Ok(self.unless_wide(types, p, made))
     }
 
     pub fn close_side(
         &mut self,
-        alloc: Global,
         types: &TypeTable,
         p: Pos,
         o: SideForm,
-        s: Option<TypeTerm>,
-        t: Option<TypeTerm>,
+        sides: Sides,
         a: Option<TypeTerm>,
     ) -> Result<Option<TypeTerm>, NoMemory>
-        ensures { IfOk result (λ r. Judged types.now.nodes self.old self.new (opt_ty types.now.nodes r) (with3 (opt_ty types.now.nodes s) (opt_ty types.now.nodes t) (opt_ty types.now.nodes a) (λ u v w. own p (row_side o u v w)))) }
+        ensures { IfOk result (λ r. Judged types.now.nodes self.old self.new (opt_ty types.now.nodes r) (with3 (opt_ty types.now.nodes sides.left) (opt_ty types.now.nodes sides.right) (opt_ty types.now.nodes a) (λ u v w. own p (row_side o u v w)))) }
     {
-        let Some(s) = s else { return Ok(None) };
-        let Some(t) = t else { return Ok(None) };
+        let Sides { left, right } = sides;
+        let Some(left) = left else { return Ok(None) };
+        let Some(right) = right else { return Ok(None) };
         let Some(a) = a else { return Ok(None) };
         let part = match o {
-            SideForm::Left => &s,
-            SideForm::Right => &t,
+            SideForm::Left => &left,
+            SideForm::Right => &right,
         };
-        if !self.is(alloc, types, p, part, &a)? {
+        if !self.is(types, p, part, &a)? {
             return Ok(None);
         }
-        let made = either_of(alloc, &s, &t)?;
+        let made = either_of(self.alloc, &left, &right)?;
         Ok(self.unless_wide(types, p, made))
     }
 
     #[tactic(auto, using(typing_table::proofs::Equations::type_rules, crate::proofs::Noted::need_rules))]
     pub fn close_items(
         &mut self,
-        alloc: Global,
         types: &TypeTable,
         p: Pos,
         ts: Option<Items<TypeTerm>>,
@@ -256,12 +246,12 @@ impl Checker {
             Some(us) => {
                 match us.as_slice().split_first() {
                     None => {
-                        let t = list_of(alloc, &TypeTerm::Base(Base::Unit))?;
+                        let t = list_of(self.alloc, &TypeTerm::Base(Base::Unit))?;
                         Ok(self.unless_wide(types, p, t))
                     }
                     Some((first, rest)) => {
-                        if self.all_are(alloc, types, p, first, rest)? {
-                            let t = list_of(alloc, first)?;
+                        if self.all_are(types, p, first, rest)? {
+                            let t = list_of(self.alloc, first)?;
                             Ok(self.unless_wide(types, p, t))
                         } else {
                             Ok(None)

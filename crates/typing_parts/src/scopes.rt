@@ -12,7 +12,6 @@ use crate::first::Broken;
 use crate::parts::{TypePart, that_part};
 use hs_base::NoMemory;
 use hs_base::tree::Name;
-use std::alloc::Global;
 use typing_table::table::TypeTable;
 use typing_table::ty::TypeTerm;
 
@@ -27,17 +26,11 @@ impl Checker {
     }
 
     /// Binds a name to a type.
-    pub fn bind(
-        &mut self,
-        alloc: Global,
-        _types: &TypeTable,
-        x: &Name,
-        t: TypeTerm,
-    ) -> Result<(), NoMemory>
+    pub fn bind(&mut self, _types: &TypeTable, x: &Name, t: TypeTerm) -> Result<(), NoMemory>
         ensures { OnOk result ((names _types.now.nodes self.new ≡ bound x.now (type_in _types.now.nodes t) ∷ names _types.now.nodes self.old) × (kept _types.now.nodes self.new ≡ kept _types.now.nodes self.old)) }
     {
         self.scope.push(Entry {
-            text: x.text.copy(alloc)?,
+            text: x.text.copy(self.alloc)?,
             sort: Sorted::Value(t),
         })
     }
@@ -45,7 +38,6 @@ impl Checker {
     /// Binds a name to a part of a type.
     pub fn bind_part(
         &mut self,
-        alloc: Global,
         types: &TypeTable,
         x: &Name,
         which: TypePart,
@@ -53,16 +45,16 @@ impl Checker {
     ) -> Result<(), NoMemory>
         ensures { OnOk result ((names types.now.nodes self.new ≡ bound x.now (part_of which (type_in types.now.nodes t.now)) ∷ names types.now.nodes self.old) × (kept types.now.nodes self.new ≡ kept types.now.nodes self.old)) }
     {
-        let t = that_part(alloc, types, which, t)?;
-        self.bind(alloc, types, x, t)
+        let t = that_part(self.alloc, types, which, t)?;
+        self.bind(types, x, t)
     }
 
     /// Binds a masking name.
-    pub fn bind_mask(&mut self, alloc: Global, _types: &TypeTable, x: &Name) -> Result<(), NoMemory>
+    pub fn bind_mask(&mut self, _types: &TypeTable, x: &Name) -> Result<(), NoMemory>
         ensures { OnOk result ((names _types.now.nodes self.new ≡ masked x.now ∷ names _types.now.nodes self.old) × (kept _types.now.nodes self.new ≡ kept _types.now.nodes self.old)) }
     {
         self.scope.push(Entry {
-            text: x.text.copy(alloc)?,
+            text: x.text.copy(self.alloc)?,
             sort: Sorted::Masking,
         })
     }
@@ -79,7 +71,6 @@ impl Checker {
     /// Binds the name where it has a type and the scope takes one more.
     pub fn begin(
         &mut self,
-        alloc: Global,
         types: &TypeTable,
         x: &Name,
         t: Option<TypeTerm>,
@@ -92,7 +83,7 @@ impl Checker {
         match t {
             None => Ok(false),
             Some(t) => {
-                self.bind(alloc, types, x, t)?;
+                self.bind(types, x, t)?;
                 Ok(true)
             }
         }

@@ -21,5 +21,5 @@ pub returns-clause-begins : goal.returns-clause-begins
 returns-clause-begins g c =
     let ready = c.next_ready.new.self.course.clocked.«record» in
     let after = c.accept.new.self.course in
-    three_begin c.args.desk.now.course.clocked.«record» c.settle.new.self.course.clocked.«record» ready after.clocked.«record» (c.settle.ensures.goes.more, c.settle.ensures.goes.begins) c.next_ready.ensures.same
+    three_begin c.args.desk.now.course.clocked.«record» c.settle.new.self.course.clocked.«record» ready after.clocked.«record» (c.settle.ensures.goes.more, c.settle.ensures.goes.begins) c.next_ready.ensures.same.history
     (history_after c.in_ok-slice.slice after.end ready after.clocked.«record» c.accept.result c.accept.ensures.ok c.accept.ensures.err)

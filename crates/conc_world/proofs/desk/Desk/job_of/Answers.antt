@@ -1,5 +1,4 @@
-use Rattle.std.specs.Prelude.{min}
-use Rattle.std.proofs.Common.{◌-◌, ◌∙◌, ap, arith, refl, subst, sym}
+use Rattle.std.proofs.Common.{◌∙◌, arith, refl, subst, sym}
 use Rattle.std.proofs.lemmas.Option.{slice_get_within}
 use Rattle.frame_stack.specs.Slicing.{IsDoing}
 use Rattle.conc_world.proofs.Making.{may_do, read_at, read_doing, read_goes}
@@ -36,11 +35,12 @@ invariant_of-result g c =
     let fuel = c.from.ensures in
     let steps = c.steps.ensures in
     let budget = c.min.ensures in
+    let most = c.from-2.ensures in
     record {
       doing = ∣ subst IsDoing (sym start) (read_doing r c.args.t c.requires.goes th c.index-thread.ensures) ∣₁;
       may = may_do r c.args.t c.requires.goes th c.index-thread.ensures c.of.result.value c.mask.result c.in_ok-start.start (c.of.ensures ∙ c.deref-body.ensures ∙ s.of_code) c.mask.ensures.inside start;
-      some = omega (arith, less, fuel, steps, budget);
-      few = omega (arith, budget);
+      some = omega (arith, less, fuel, steps, budget, most);
+      few = omega (arith, budget, most);
     }
 
 pub returns : goal.returns
@@ -48,6 +48,10 @@ returns g c =
     let s = c.args.self.now in
     let r = s.course.clocked.«record» in
     let th = c.index-thread.result.now in
+    let fuel = c.from.ensures in
+    let steps = c.steps.ensures in
+    let budget = c.min.ensures in
+    let most = c.from-2.ensures in
     record {
       ok = (
         record {
@@ -56,7 +60,7 @@ returns g c =
           goes = read_goes r c.args.t c.requires.goes th c.index-thread.ensures;
           start = c.in_ok-start.ensures ∙ c.control.ensures;
           mask = c.mask.ensures.inside;
-          budget = c.min.ensures ∙ ap (λ n. min (n - c.steps.result) 1024) c.from.ensures ∙ ap (λ n. min (r.fuel - n) 1024) c.steps.ensures;
+          budget = omega (arith, budget, most, fuel, steps);
           code = c.of.ensures ∙ c.deref-body.ensures ∙ s.of_code;
         },
         refl,

@@ -1,7 +1,6 @@
-use Rattle.std.proofs.Common.{ap, subst}
-use Rattle.conc_world.specs.declared.answers.Committed.TheVariants as committed
+use Rattle.std.proofs.Common.{ap, refl, subst}
 use Rattle.conc_world.specs.Committing.{TicketBack}
-use Rattle.conc_world.proofs.Refusing.{itself, unchanged}
+use Rattle.conc_world.proofs.Refusing.{unchanged}
 use Rattle.conc_world.proofs.desk.Desk.redo.Goals as goal
 
 pub returns-in-Ok-clause-committed : goal.returns-in-Ok-clause-committed
@@ -20,5 +19,9 @@ pub returns-in-Err-clause-committed : goal.returns-in-Err-clause-committed
 returns-in-Err-clause-committed g c =
     let old = c.args.self.now.course in
     let new = c.no_memory.new.self.course in
-    itself committed.NoMemory c.args.late.now old.end old.clocked.«record» new.end new.clocked.«record»
-    (c.requires.none, unchanged old.clocked.«record» new.clocked.«record» (ap (λ z. z.«record») c.no_memory.ensures.clocked), c.no_memory.ensures.none c.requires.none)
+    record {
+      slice = c.args.late.now;
+      ticket = refl;
+      tid = refl;
+      committed = (c.requires.none, unchanged old.clocked.«record» new.clocked.«record» (ap (λ z. z.«record») c.no_memory.ensures.clocked), c.no_memory.ensures.none c.requires.none);
+    }

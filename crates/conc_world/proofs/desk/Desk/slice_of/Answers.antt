@@ -1,4 +1,4 @@
-use Rattle.std.proofs.Common.{◌∙◌}
+use Rattle.std.proofs.Common.{◌∙◌, arith}
 use Rattle.conc_world.proofs.Turning.{job_starts, job_within}
 use Rattle.conc_world.proofs.desk.Desk.slice_of.Goals as goal
 
@@ -14,4 +14,7 @@ returns-in-Ok-clause-starts g c =
     job_starts c.in-Ok.slice c.in_ok-job.job c.args.self.now.course.clocked.«record» c.in_ok-job.ensures.ok.0 same.1 same.2 same.3
 
 pub returns-in-Ok-clause-fuel : goal.returns-in-Ok-clause-fuel
-returns-in-Ok-clause-fuel g c = job_within c.in-Ok.slice c.in_ok-job.job c.args.self.now.course.clocked.«record» c.in_ok-job.ensures.ok.0 c.in-Ok.ensures.steps.1
+returns-in-Ok-clause-fuel g c =
+    let steps = c.in-Ok.ensures.steps.1 in
+    let least = c.min.ensures in
+    job_within c.in-Ok.slice c.in_ok-job.job c.args.self.now.course.clocked.«record» c.in_ok-job.ensures.ok.0 (omega (arith, steps, least))

@@ -21,7 +21,7 @@ returns-then-n-ne0 c =
     let e : meant (ctx_of c.args.funs.now) s x n ≡ wrong f =
     ap (meant_sort (ctx_of c.args.funs.now) x n) (look-scope ms c.args.self.now.scope.items x.text ∙ ap (opt_sort ms) (c.in-Some-Value.ensures ∙ ap Some c.in-Some-Value.field-0-is))
     ∙ ap (λ b. cond b (takes [] (type_in ms c.in-Some-Value.t)) (wrong f)) (ne_eqb 0 n (λ h. c.if-n-ne0.true (sym h))) in
-    judged_wrong ms c.args.self.now (record { scope = c.args.self.now.scope; first = c.note-then-n-ne0.new.self }) x.pos (meant (ctx_of c.args.funs.now) s x n) f (opt_tys ms c.args.ts) e refl
+    judged_wrong ms c.args.self.now (record { alloc = c.args.self.now.alloc; scope = c.args.self.now.scope; first = c.note-then-n-ne0.new.self }) x.pos (meant (ctx_of c.args.funs.now) s x n) f (opt_tys ms c.args.ts) e refl
     (c.note-then-n-ne0.ensures ∙ ap (λ z. least (kept c.args.funs.now.types.nodes c.args.self.now) (arity x.pos 0 z ∷ [])) c.shown_count.ensures)
 
 pub returns-then-f-funs : goal.returns-then-f-funs
@@ -38,4 +38,4 @@ returns-then-f-funs c =
     ap (meant_sort (ctx_of funs) x n) (look-scope ms c.args.self.now.scope.items x.text ∙ ap (opt_sort ms) c.in-None.ensures)
     ∙ (ap (meant_sig (ctx_of funs) x.pos n) (find_sigs ms funs.sigs x.text ∙ ap (opt_sig ms) c.in-Some-find.ensures)
     ∙ (ap (λ b. cond b (wrong (kind x.pos)) (cond (ltb g.place funs.here) called late)) c.if-f.false ∙ ap (λ b. cond b called late) (le-ltb g.place funs.here c.if-f-funs.true))) in
-    judged_wrong ms c.args.self.now (record { scope = c.args.self.now.scope; first = c.note-then-f-funs.new.self }) x.pos (meant (ctx_of funs) s x n) (forward x.pos) (opt_tys ms c.args.ts) e refl c.note-then-f-funs.ensures
+    judged_wrong ms c.args.self.now (record { alloc = c.args.self.now.alloc; scope = c.args.self.now.scope; first = c.note-then-f-funs.new.self }) x.pos (meant (ctx_of funs) s x n) (forward x.pos) (opt_tys ms c.args.ts) e refl c.note-then-f-funs.ensures

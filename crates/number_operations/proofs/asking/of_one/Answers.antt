@@ -1,8 +1,0 @@
-use Rattle.rules_meaning.specs.Values.{value_of}
-use Rattle.number_operations.proofs.Refused.{other_one}
-use Rattle.number_operations.proofs.asking.of_one.Goals as goal
-
-pub returns-in_default : goal.returns-in_default
-returns-in_default c =
-    let n = c.in_default in
-    other_one c.args.primitive (value_of c.args.value) n.not-PutStr n.not-PutStrLn n.not-HPutStrLn n.not-NewMVar n.not-TakeMVar n.not-ReadMVar n.not-TryTakeMVar n.not-ThreadDelay n.not-Release
