@@ -6,3 +6,4 @@ pub mod TermTrees
 pub mod Standing
 pub mod ClockLaw
 pub mod HistoryEndings
+pub mod QuietLaws

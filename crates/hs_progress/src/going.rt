@@ -1,19 +1,18 @@
 //! Never stuck.
 
-ghost use Rattle.std.specs.Prelude.{◌≡◌, ℕ, List, Some};
+ghost use Rattle.std.specs.Prelude.{◌≡◌, List, Some};
 ghost use Rattle.hs_base.specs.declared.tree.script.Script.{Script};
 ghost use Rattle.hs_rules.specs.declared.entry.Entry.{Entry};
 ghost use Rattle.rules_trees.specs.Programs.{script_of};
 ghost use Rattle.rules_meaning.specs.CoreMeaning.{code_of};
 ghost use Rattle.rules_typing.specs.TypingScripts.{Accepted};
-ghost use Rattle.hs_rules.specs.Terms.{Operation, Performs, mask_at};
-ghost use Rattle.hs_rules.specs.State.{State, Thread};
-ghost use Rattle.hs_rules.specs.Primitives.{operated};
-ghost use Rattle.hs_rules.specs.Entries.{next, IsLegal};
+ghost use Rattle.hs_rules.specs.State.{State};
+ghost use Rattle.hs_rules.specs.Entries.{next};
 ghost use Rattle.hs_rules.specs.Runs.{IsRun};
 ghost use Rattle.hs_rules.specs.Endings.{IsDone, IsUncaught};
-ghost use Rattle.hs_progress.specs.GoingOn.{MainRuns, IsRunning, own_entry};
+ghost use Rattle.hs_progress.specs.GoingOn.{MainRuns};
 ghost use Rattle.hs_progress.specs.TypedStates.{TypedState, Follows, Stays};
+ghost use Rattle.hs_progress.specs.GoingLaws.{RunningThreadsGoOn, OperationsLeaveStates};
 
 /// In each state of a run of an accepted script, where the main thread hasn't finished, a thread that hasn't finished and
 /// isn't blocked has a legal entry of its own: the Op of the operation that it stands at, its Finish, or one local rule.
@@ -21,8 +20,8 @@ ghost use Rattle.hs_progress.specs.TypedStates.{TypedState, Follows, Stays};
 /// ended neither by its value nor by an exception that nothing catches.
 pub fn runs_go_on()
     ensures main { (s : Script) → Accepted s → (es : List Entry) (u : State) → IsRun (script_of s) es u → ¬ IsDone u → ¬ IsUncaught u → MainRuns u }
-    ensures own { (s : Script) → Accepted s → (es : List Entry) (u : State) → IsRun (script_of s) es u → MainRuns u → (t : ℕ) (th : Thread) → IsRunning u t th → IsLegal (code_of (script_of s)) u (own_entry t th.term.part th.term.frames) }
-    ensures operation { (s : Script) → Accepted s → (es : List Entry) (u : State) → IsRun (script_of s) es u → (t : ℕ) (th : Thread) → IsRunning u t th → (op : Operation) → th.term.part ≡ Performs op → (v : State) × (operated t (mask_at th.term.frames) op u ≡ Some v) }
+    ensures own { RunningThreadsGoOn }
+    ensures operation { OperationsLeaveStates }
 {}
 
 /// The state of a run is typed by a store. By whichever it is, each entry leaves a state that is typed by a later one: no
