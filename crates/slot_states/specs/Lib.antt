@@ -2,3 +2,10 @@ pub mod SlotStates
 pub mod Resting
 pub mod Printing
 pub mod Growing
+pub mod Premises
+pub mod CellLaws
+pub mod EntryLaws
+pub mod OperationLaws
+pub mod OutputLaws
+pub mod RestingLaws
+pub mod WaitingLaws

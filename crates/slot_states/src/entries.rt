@@ -1,29 +1,27 @@
 //! Entries that are no Op.
 
-ghost use Rattle.std.specs.Prelude.{◌≡◌, ◌≢◌, ◌<◌, ◌≤◌, ◌↔◌, [], ◌∷◌, ℕ, List, Contains, Some, length, slice_get, true, false};
-ghost use Rattle.hs_base.specs.declared.mask.Mask.TheVariants.{Unmasked};
+ghost use Rattle.std.specs.Prelude.{◌≡◌, ◌≤◌, ◌↔◌, [], ◌∷◌, ℕ, List, Contains, Some, length};
 ghost use Rattle.hs_base.specs.declared.exn.Exn.{Exn};
 ghost use Rattle.hs_base.specs.declared.tree.script.Script.{Script};
-ghost use Rattle.hs_rules.specs.declared.entry.Entry.TheVariants.{Local, Receive, Wake, Finish, Tick, Stranded};
-ghost use Rattle.rules_trees.specs.Programs.{script_of};
-ghost use Rattle.rules_meaning.specs.Values.{V, UnitValue};
+ghost use Rattle.hs_rules.specs.declared.entry.Entry.TheVariants.{Wake, Finish, Tick, Stranded};
+ghost use Rattle.rules_meaning.specs.Values.{V};
 ghost use Rattle.rules_typing.specs.TypingScripts.{Accepted};
-ghost use Rattle.rules_code.specs.CodeTrees.{code_trees};
-ghost use Rattle.rules_waiting.specs.Waiting.{flying_to, first_thrown, first_awake};
+ghost use Rattle.rules_waiting.specs.Waiting.{first_awake};
 ghost use Rattle.exn_flight.specs.Asleep.{due_of};
 ghost use Rattle.hs_rules.specs.Entries.{uncaught_line};
-ghost use Rattle.slot_laws.specs.SlotRules.{ret, throw, SlotTerm, locals};
-ghost use Rattle.slot_states.specs.SlotStates.{SlotThread, SlotState, moves, receives, wakes, finishes, strands, ticks, Enters, StandsBare, MainGoes};
-ghost use Rattle.slot_states.specs.Resting.{is_receptive, WaitsOpen, AllRest};
+ghost use Rattle.slot_laws.specs.SlotRules.{ret, throw};
+ghost use Rattle.slot_states.specs.SlotStates.{SlotState, wakes, finishes, strands, ticks, Enters, StandsBare, MainGoes};
+ghost use Rattle.slot_states.specs.Resting.{WaitsOpen, AllRest};
+ghost use Rattle.slot_states.specs.EntryLaws.{LocalsAreEntered, ReceivesAreEntered};
 
 /// Some local rules of a thread that isn't blocked.
 pub fn locals_are_entered()
-    ensures { (script : Script) → Accepted script → (x : SlotState) (t k : ℕ) (th : SlotThread) (st : SlotTerm) → slice_get x.threads t ≡ Some th → th.finished ≡ false → th.blocked ≡ false → 0 < k → locals (code_trees (script_of script)) Unmasked k th.term ≡ Some st → MainGoes x → Enters script (Local t k) x (moves t st x) }
+    ensures { LocalsAreEntered }
 {}
 
 /// The first exception in flight to a receptive thread.
 pub fn receives_are_entered()
-    ensures { (script : Script) → Accepted script → (x : SlotState) (t w : ℕ) (e : Exn) (th : SlotThread) → slice_get x.threads t ≡ Some th → th.finished ≡ false → is_receptive th ≡ true → first_thrown (flying_to t x.flight) ≡ Some (w, e) → MainGoes x → Enters script (Receive t) x (receives t w e x) }
+    ensures { ReceivesAreEntered }
 {}
 
 /// A sleeper that is due: the first one, and any.
