@@ -1,2 +1,3 @@
 pub mod Timings
 pub mod Outcomes
+pub mod BoundLaws

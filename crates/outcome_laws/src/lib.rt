@@ -10,7 +10,7 @@
 //! somebody has in hand to `offer_laws`.
 #![tactic(auto)]
 
-ghost use Rattle.std.specs.Prelude.{◌≡◌, ◌≤◌, ◌<◌, ◌+◌, ℕ, Bool, true, List, [], ◌∷◌, length, Some};
+ghost use Rattle.std.specs.Prelude.{◌≡◌, ◌≤◌, ◌<◌, ℕ, List, ◌∷◌, length, Some};
 ghost use Rattle.std.specs.declared.cmp.Ordering.TheVariants.{Equal};
 ghost use Rattle.std.specs.Cmp.{IsTotalOrder};
 ghost use Rattle.hs_base.specs.declared.clock_choice.ClockChoice.{ClockChoice};
@@ -19,13 +19,13 @@ ghost use Rattle.hs_rules.specs.declared.entry.Entry.{Entry};
 ghost use Rattle.rules_trees.specs.Programs.{Fn};
 ghost use Rattle.rules_meaning.specs.CoreMeaning.{Code, code_of};
 ghost use Rattle.hs_rules.specs.State.{State};
-ghost use Rattle.hs_rules.specs.Entries.{Leads};
 ghost use Rattle.hs_rules.specs.Runs.{Run, first_of, IsRun};
 ghost use Rattle.hs_laws.specs.ClockLaw.{ClockKept};
 ghost use Rattle.hs_laws.specs.HistoryEndings.{HasEnding};
-ghost use Rattle.timing_laws.specs.WithoutTime.{timeless, LeadsTimeless, TimelessRun, NeverReadsClock, without_ticks};
-ghost use Rattle.outcome_laws.specs.Timings.{MayTick, TickFits, TimedRun, IsEndlessFrom, IsEndless};
+ghost use Rattle.timing_laws.specs.WithoutTime.{timeless, TimelessRun, NeverReadsClock, without_ticks};
+ghost use Rattle.outcome_laws.specs.Timings.{TimedRun, IsEndlessFrom, IsEndless};
 ghost use Rattle.outcome_laws.specs.Outcomes.{Outcome, ending_of, ReachesTimeless, Reaches, HasOutcome, IsOutcomeOf, outcome_cmp};
+ghost use Rattle.outcome_laws.specs.BoundLaws.{TimelessRunsHaveWitnesses, RanksBoundTimelessRuns, RanksBoundTimedRuns};
 
 /// In real timing each run is of the timing, and a run of any timing is a run.
 pub fn timed_runs_are_runs()
@@ -48,7 +48,7 @@ pub fn outcomes_are_ordered()
 /// Each timeless run from the first state of a script is a history of it with Ticks between its entries, which keeps the law
 /// of the clock with no early Tick; and so does each run in virtual timing.
 pub fn witnesses_keep_the_clock()
-    ensures real_timing { (ds : List Fn) (s w : State) (es : List Entry) → first_of ds ≡ Some s → TimelessRun (code_of ds) (timeless s) es w → (fs : List Entry) × (u : State) × IsRun ds fs u × (timeless u ≡ w) × (without_ticks fs ≡ es) × ClockKept ds fs 0 }
+    ensures real_timing { TimelessRunsHaveWitnesses }
     ensures virtual_timing { (ds : List Fn) (s u : State) (es : List Entry) → first_of ds ≡ Some s → TimedRun Virtual (code_of ds) s es u → ClockKept ds es 0 }
 {}
 
@@ -78,7 +78,7 @@ pub fn rounds_go_on()
 /// other than Ticks than the rank of its first state: so it is of timeless runs and real timing, and of the runs of any
 /// timing. A script whose runs have a bound isn't endless.
 pub fn ranks_bound_runs()
-    ensures timeless { (code : Code) (s : State) (visited : State → Bool) (rank : State → ℕ) → NeverReadsClock code (timeless s) → visited (timeless s) ≡ true → ((r q : State) (e : Entry) → visited r ≡ true → LeadsTimeless code r e q → (visited q ≡ true) × (rank q < rank r)) → (u : State) (es : List Entry) → Run code s es u → length (without_ticks es) ≤ rank (timeless s) }
-    ensures timed { (clock : ClockChoice) (code : Code) (s : State) (visited : State → Bool) (rank : State → ℕ) → visited s ≡ true → ((r q : State) (e : Entry) → visited r ≡ true → Leads code r e q → TickFits (MayTick clock code) r e → (visited q ≡ true) × (length (without_ticks (e ∷ [])) + rank q ≤ rank r)) → (u : State) (es : List Entry) → TimedRun clock code s es u → length (without_ticks es) ≤ rank s }
+    ensures timeless { RanksBoundTimelessRuns }
+    ensures timed { RanksBoundTimedRuns }
     ensures ends { (clock : ClockChoice) (ds : List Fn) (m : ℕ) → ((s u : State) (es : List Entry) → first_of ds ≡ Some s → TimedRun clock (code_of ds) s es u → length (without_ticks es) ≤ m) → ¬ IsEndless clock ds }
 {}

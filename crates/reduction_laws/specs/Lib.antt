@@ -1,3 +1,4 @@
 pub mod NoThrowTo
 pub mod EagerRules
 pub mod Paths
+pub mod SetLaws

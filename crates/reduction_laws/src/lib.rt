@@ -9,24 +9,23 @@
 //! to, and a rank of its states that falls bounds every run. How such a set is found is left to the crate that searches.
 #![tactic(auto)]
 
-ghost use Rattle.std.specs.Prelude.{◌≡◌, ◌≤◌, ◌+◌, ℕ, Bool, true, List, length, Some};
+ghost use Rattle.std.specs.Prelude.{◌≡◌, ℕ, List, Some};
 ghost use Rattle.hs_base.specs.declared.clock_choice.ClockChoice.{ClockChoice};
 ghost use Rattle.rules_expansion.specs.Core.{Core};
-ghost use Rattle.rules_trees.specs.Programs.{Fn};
-ghost use Rattle.rules_meaning.specs.CoreMeaning.{Code, code_of};
+ghost use Rattle.rules_meaning.specs.CoreMeaning.{Code};
 ghost use Rattle.hs_rules.specs.declared.entry.Entry.{Entry};
 ghost use Rattle.hs_rules.specs.declared.entry.Entry.TheVariants as entry;
 ghost use Rattle.hs_rules.specs.State.{State, first};
 ghost use Rattle.hs_rules.specs.Entries.{next, Leads};
 ghost use Rattle.hs_rules.specs.Histories.{steps_of};
-ghost use Rattle.hs_rules.specs.Runs.{Run, first_of};
+ghost use Rattle.hs_rules.specs.Runs.{Run};
 ghost use Rattle.hs_rules.specs.Endings.{IsDone, IsUncaught, IsDeadlock};
-ghost use Rattle.timing_laws.specs.WithoutTime.{without_ticks};
-ghost use Rattle.outcome_laws.specs.Timings.{MayTick, TimedRun, IsEndless};
-ghost use Rattle.outcome_laws.specs.Outcomes.{Outcome, ShowsOutcome, Reaches, IsOutcomeOf};
+ghost use Rattle.outcome_laws.specs.Timings.{MayTick, TimedRun};
+ghost use Rattle.outcome_laws.specs.Outcomes.{Outcome, ShowsOutcome};
 ghost use Rattle.reduction_laws.specs.NoThrowTo.{NoThrowTo, NoThrowToActions, NobodyThrows};
 ghost use Rattle.reduction_laws.specs.EagerRules.{EagerRule, EagerFinish, EagerSteps};
-ghost use Rattle.reduction_laws.specs.Paths.{IsStable, Move, entries_of, Path, counted, HasEnded, EndsLike, KeptEnding, InSet, IsClosed, HasEndingLike, RankFalls, IsOther, Commutes, CommutesWithReceive, CommutesWithFinish, NamesThread};
+ghost use Rattle.reduction_laws.specs.Paths.{IsStable, Move, entries_of, Path, counted, HasEnded, EndsLike, KeptEnding, IsOther, Commutes, CommutesWithReceive, CommutesWithFinish, NamesThread};
+ghost use Rattle.reduction_laws.specs.SetLaws.{ClosedSetsHaveEndings, ClosedSetsHaveOutcomes, ClosedSetsHaveOutcomesOfScripts, FallingRanksBoundRuns, FallingRanksEndScripts};
 
 /// What others do comes to the same before an eager local rule and after it. An exception that its thread receives before it
 /// can be received after it, and then local rules make up the difference. There is nothing else that its thread can do.
@@ -73,9 +72,9 @@ pub fn no_ending_is_lost()
 /// it again, the set has each ending that a run of the timing from that state reaches, and each outcome; from the first state
 /// of a script each outcome of the script.
 pub fn closed_sets_have_each_ending()
-    ensures ending { (clock : ClockChoice) (code : Code) (V : State → Bool) → IsClosed code (MayTick clock code) (InSet V) → (k : ℕ) (s r : State) → EagerSteps code k s r → V r ≡ true → (es : List Entry) (z : State) → TimedRun clock code s es z → HasEnded code z → HasEndingLike (InSet V) z }
-    ensures outcome { (clock : ClockChoice) (code : Code) (V : State → Bool) → IsClosed code (MayTick clock code) (InSet V) → (k : ℕ) (s r : State) → EagerSteps code k s r → V r ≡ true → (o : Outcome) → Reaches clock code s o → (w : State) × (V w ≡ true) × ShowsOutcome code w o }
-    ensures script { (clock : ClockChoice) (ds : List Fn) (V : State → Bool) → IsClosed (code_of ds) (MayTick clock (code_of ds)) (InSet V) → (k : ℕ) (s r : State) → first_of ds ≡ Some s → EagerSteps (code_of ds) k s r → V r ≡ true → (o : Outcome) → IsOutcomeOf clock ds o → (w : State) × (V w ≡ true) × ShowsOutcome (code_of ds) w o }
+    ensures ending { ClosedSetsHaveEndings }
+    ensures outcome { ClosedSetsHaveOutcomes }
+    ensures script { ClosedSetsHaveOutcomesOfScripts }
 {}
 
 /// Endings that are alike printed the same, are of one kind, and show the same outcome.
@@ -91,8 +90,8 @@ pub fn alike_endings_show_the_same()
 /// the eager steps after it, no run of the timing has more entries other than Ticks than the eager steps to the set and the
 /// rank that its state has there. So a script from whose first state eager steps lead to such a set isn't endless.
 pub fn ranks_bound_runs()
-    ensures runs { (clock : ClockChoice) (code : Code) (V : State → Bool) (rank : State → ℕ) → RankFalls code (MayTick clock code) (InSet V) rank → (k : ℕ) (s r : State) → EagerSteps code k s r → V r ≡ true → (es : List Entry) (z : State) → TimedRun clock code s es z → length (without_ticks es) ≤ k + rank r }
-    ensures script { (clock : ClockChoice) (ds : List Fn) (V : State → Bool) (rank : State → ℕ) → RankFalls (code_of ds) (MayTick clock (code_of ds)) (InSet V) rank → (k : ℕ) (s r : State) → first_of ds ≡ Some s → EagerSteps (code_of ds) k s r → V r ≡ true → ¬ IsEndless clock ds }
+    ensures runs { FallingRanksBoundRuns }
+    ensures script { FallingRanksEndScripts }
 {}
 
 /// Each entry that leads on names a thread that there is, or one that sleeps; so there are few to try in a state.

@@ -1,2 +1,3 @@
 pub mod Operating
 pub mod Entering
+pub mod NextLaws

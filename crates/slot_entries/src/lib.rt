@@ -9,18 +9,15 @@
 //! each entry computes the rules.
 #![tactic(auto)]
 
-ghost use Rattle.std.specs.Prelude.{◌≡◌, ℕ, List, Some};
+ghost use Rattle.std.specs.Prelude.{◌≡◌, Some};
 ghost use Rattle.hs_base.specs.declared.tree.script.Script.{Script};
 ghost use Rattle.hs_rules.specs.declared.entry.Entry.{Entry};
 ghost use Rattle.rules_trees.specs.Programs.{script_of};
-ghost use Rattle.rules_meaning.specs.CoreMeaning.{code_of};
 ghost use Rattle.rules_typing.specs.TypingScripts.{Accepted};
 ghost use Rattle.rules_code.specs.CodeTrees.{code_trees};
-ghost use Rattle.hs_rules.specs.State.{State};
-ghost use Rattle.hs_rules.specs.Entries.{Leads};
-ghost use Rattle.hs_rules.specs.Runs.{IsRun};
-ghost use Rattle.slot_states.specs.SlotStates.{SlotState, Represents, Enters};
+ghost use Rattle.slot_states.specs.SlotStates.{SlotState, Enters};
 ghost use Rattle.slot_entries.specs.Entering.{next};
+ghost use Rattle.slot_entries.specs.NextLaws.{WhatIsLegalIsNext};
 
 /// Where there is a next state the entry is legal, and that state stands for the one that it leaves.
 pub fn next_is_entered()
@@ -29,5 +26,5 @@ pub fn next_is_entered()
 
 /// Where an entry is legal there is a next state, and it stands for the one that the entry leaves.
 pub fn what_is_legal_is_next()
-    ensures { (script : Script) → Accepted script → (es : List Entry) (s u : State) → IsRun (script_of script) es s → (x : SlotState) → Represents (script_of script) x s → (e : Entry) → Leads (code_of (script_of script)) s e u → (y : SlotState) × (next (code_trees (script_of script)) x e ≡ Some y) × Represents (script_of script) y u }
+    ensures { WhatIsLegalIsNext }
 {}

@@ -1,1 +1,2 @@
 pub mod WithoutTime
+pub mod NextLaws

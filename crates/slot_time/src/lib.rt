@@ -10,20 +10,19 @@
 //! clock. That the rules themselves need no time is left to `timing_laws`.
 #![tactic(auto)]
 
-ghost use Rattle.std.specs.Prelude.{◌≡◌, ◌⊎◌, ◌↔◌, ℕ, List, Some};
+ghost use Rattle.std.specs.Prelude.{◌≡◌, ◌↔◌, ℕ, List, Some};
 ghost use Rattle.hs_rules.specs.declared.entry.Entry.{Entry};
-ghost use Rattle.hs_rules.specs.declared.entry.Entry.TheVariants.{Tick, Wake};
 ghost use Rattle.rules_trees.specs.Programs.{Fn};
 ghost use Rattle.rules_code.specs.CodeTrees.{SlottedFunction};
 ghost use Rattle.hs_rules.specs.State.{State};
 ghost use Rattle.hs_rules.specs.Endings.{IsTick};
-ghost use Rattle.exn_flight.specs.Asleep.{due_of};
 ghost use Rattle.timing_laws.specs.WithoutTime as named;
 ghost use Rattle.timing_laws.specs.WithoutTime.{timeless};
 ghost use Rattle.slot_states.specs.SlotStates.{SlotState, ticks, Represents};
 ghost use Rattle.slot_states.specs.Printing.{output_by, errors_by};
 ghost use Rattle.slot_entries.specs.Entering.{next};
-ghost use Rattle.slot_time.specs.WithoutTime.{untimed, ReadsClock, due_first};
+ghost use Rattle.slot_time.specs.WithoutTime.{untimed, ReadsClock};
+ghost use Rattle.slot_time.specs.NextLaws.{NextIsGivenTime, OneTickMakesDue};
 
 /// Without time a state stands for the state of the rules without time, and an entry reads the clock in the one exactly where
 /// it does in the other.
@@ -51,6 +50,6 @@ pub fn next_needs_no_time()
 /// Where such an entry has a next state without time it has one, the same but for time, in the state itself, after one Tick
 /// where it wakes a sleeper that isn't due yet. That Tick goes to the time of the sleeper and has a next state.
 pub fn next_can_be_given_time()
-    ensures entry { (funs : List SlottedFunction) (x z : SlotState) (e : Entry) → next funs (untimed x) e ≡ Some z → ¬ IsTick e → ¬ ReadsClock x e → (y : SlotState) × (next funs (due_first x e) e ≡ Some y) × (untimed y ≡ untimed z) }
-    ensures tick { (funs : List SlottedFunction) (x z : SlotState) (e : Entry) → next funs (untimed x) e ≡ Some z → (due_first x e ≡ x) ⊎ ((t : ℕ) × (due : ℕ) × (e ≡ Wake t) × (due_of t x.sleepers ≡ Some due) × (next funs x (Tick due) ≡ Some (due_first x e))) }
+    ensures entry { NextIsGivenTime }
+    ensures tick { OneTickMakesDue }
 {}
