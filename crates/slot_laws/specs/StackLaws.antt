@@ -77,6 +77,10 @@ StrandingKeepsStacks =
     ((t : ℕ) → ¬ WaitsOpen s t → then t ≡ stacks t) →
     StacksStand (script_of script) then v
 
+-- thread t has made thread n with this stack, and gets its number
+abbrev pub with_child : ℕ → ℕ → SlotTerm → (ℕ → SlotTerm) → ℕ → SlotTerm
+with_child t n st stacks = with_stack n st (with_stack t (at (ret (val.Thread n)) (stacks t).frames) stacks)
+
 -- Where a thread is at a fork, stacks that stand stand on with a stack more: the new thread is to do the forked action in a
 -- masking scope, and its parent gets its number.
 abbrev pub ForksAddAStack : Type 0
@@ -85,9 +89,7 @@ ForksAddAStack =
     (t : ℕ) (th : Thread) → slice_get s.threads t ≡ Some th →
     (m : Mask) (tree : Sa) (vs : List V) (a : Core) (env : Env) → (stacks t).part ≡ performs (forks tree vs) →
     th.term.part ≡ Performs (Forks a env) →
-    StacksStand ds
-    (with_stack (length s.threads) (at (doing tree vs) (mask_in m ∷ []))
-    (with_stack t (at (ret (val.Thread (length s.threads))) (stacks t).frames) stacks))
+    StacksStand ds (with_child t (length s.threads) (at (doing tree vs) (mask_in m ∷ [])) stacks)
     (spawn (term (Do a env) (MaskIn m ∷ [])) (answer t (val.Thread (length s.threads)) s))
 
 -- The same of `forkIOWithUnmask`: the unmasked state takes the next slot of the forked action, and the name that it binds.
@@ -97,9 +99,7 @@ UnmaskingForksAddAStack =
     (t : ℕ) (th : Thread) → slice_get s.threads t ≡ Some th →
     (m : Mask) (tree : Sa) (vs : List V) (x : Name) (a : Core) (env : Env) → (stacks t).part ≡ performs (forks_unmask tree vs) →
     th.term.part ≡ Performs (ForksUnmask x a env) →
-    StacksStand ds
-    (with_stack (length s.threads) (at (doing tree (vs ++ Restore Unmasked ∷ [])) (mask_in m ∷ []))
-    (with_stack t (at (ret (val.Thread (length s.threads))) (stacks t).frames) stacks))
+    StacksStand ds (with_child t (length s.threads) (at (doing tree (vs ++ Restore Unmasked ∷ [])) (mask_in m ∷ [])) stacks)
     (spawn (term (Do a (with_name x (Restore Unmasked) env)) (MaskIn m ∷ [])) (answer t (val.Thread (length s.threads)) s))
 
 -- In the first state of an accepted script, which has a `main`, the stack that is to do the tree of its body stands.
