@@ -9,28 +9,20 @@
 //! the crate that goes over the edges.
 #![tactic(auto)]
 
-ghost use Rattle.std.specs.Prelude.{◌≡◌, ℕ, List, Option, Some, slice_get};
-ghost use Rattle.hs_base.specs.declared.clock_choice.ClockChoice.{ClockChoice};
-ghost use Rattle.hs_base.specs.declared.limits.Limits.{Limits};
-ghost use Rattle.hs_base.specs.declared.tree.script.Script.{Script};
 ghost use Rattle.rules_trees.specs.Programs.{script_of};
-ghost use Rattle.rules_typing.specs.TypingScripts.{Accepted};
-ghost use Rattle.rules_code.specs.CodeTrees.{code_trees};
 ghost use Rattle.outcome_laws.specs.Timings.{IsEndless};
-ghost use Rattle.slot_states.specs.SlotStates.{SlotState};
-ghost use Rattle.search_laws.specs.Shown.{Shown, IsFirst, Arrives};
-ghost use Rattle.search_laws.specs.Found.{Edge, AreTrueEdges, AreGone};
-ghost use Rattle.ends_laws.specs.Rounds.{HaveBound, RanksFall, IsRound, HasWork};
+ghost use Rattle.ends_laws.specs.Rounds.{HaveBound};
+ghost use Rattle.ends_laws.specs.EndingLaws.{WhereRanksFall, RoundsHaveWork, RoundsAreEndless};
 
 /// Where ranks fall along each edge of a search that has gone on from each state, there is a number of entries other than Ticks
 /// that no run of the timing has more of. So the script isn't endless.
 pub fn ranks_bound_runs()
-    ensures bound { (script : Script) → Accepted script → (clock : ClockChoice) (limits : Limits) (first : SlotState) (states : List Shown) (edges : List Edge) → IsFirst (script_of script) first → AreGone clock (code_trees (script_of script)) limits first states edges → AreTrueEdges clock (code_trees (script_of script)) limits states edges → (rank : ℕ → Option ℕ) → RanksFall edges rank → (n : ℕ) → rank 0 ≡ Some n → HaveBound clock (script_of script) }
-    ensures ends { (script : Script) → Accepted script → (clock : ClockChoice) (limits : Limits) (first : SlotState) (states : List Shown) (edges : List Edge) → IsFirst (script_of script) first → AreGone clock (code_trees (script_of script)) limits first states edges → AreTrueEdges clock (code_trees (script_of script)) limits states edges → (rank : ℕ → Option ℕ) → RanksFall edges rank → (n : ℕ) → rank 0 ≡ Some n → ¬ IsEndless clock (script_of script) }
+    ensures bound { WhereRanksFall (λ clock script. HaveBound clock (script_of script)) }
+    ensures ends { WhereRanksFall (λ clock script. ¬ IsEndless clock (script_of script)) }
 {}
 
 /// Where some edges lead from a state that a run comes to back to it, one of them isn't a Tick, and the script is endless.
 pub fn rounds_go_on()
-    ensures works { (script : Script) → Accepted script → (clock : ClockChoice) (limits : Limits) (states : List Shown) (edges : List Edge) → AreTrueEdges clock (code_trees (script_of script)) limits states edges → (at : ℕ) (places : List ℕ) → IsRound edges at places → HasWork edges places }
-    ensures endless { (script : Script) → Accepted script → (clock : ClockChoice) (limits : Limits) (states : List Shown) (edges : List Edge) → AreTrueEdges clock (code_trees (script_of script)) limits states edges → (at : ℕ) (places : List ℕ) → IsRound edges at places → (c : Shown) → slice_get states at ≡ Some c → (steps : ℕ) → Arrives clock (script_of script) limits steps c → IsEndless clock (script_of script) }
+    ensures works { RoundsHaveWork }
+    ensures endless { RoundsAreEndless }
 {}

@@ -1,3 +1,4 @@
 pub mod Shown
 pub mod Going
 pub mod Found
+pub mod SearchLaws

@@ -11,26 +11,19 @@
 //! searches.
 #![tactic(auto)]
 
-ghost use Rattle.std.specs.Prelude.{◌≡◌, ◌++◌, ℕ, List, Some};
-ghost use Rattle.hs_base.specs.declared.tree.script.Script.{Script};
-ghost use Rattle.hs_rules.specs.declared.entry.Entry.{Entry};
+ghost use Rattle.std.specs.Prelude.{◌≡◌, ℕ, List, Some};
 ghost use Rattle.hs_rules.specs.declared.entry.Entry.TheVariants.{Local};
-ghost use Rattle.rules_trees.specs.Programs.{script_of};
-ghost use Rattle.rules_meaning.specs.CoreMeaning.{code_of};
-ghost use Rattle.rules_typing.specs.TypingScripts.{Accepted};
-ghost use Rattle.rules_code.specs.CodeTrees.{SlottedFunction, code_trees};
-ghost use Rattle.hs_rules.specs.State.{State};
-ghost use Rattle.hs_rules.specs.Runs.{IsRun};
-ghost use Rattle.reduction_laws.specs.EagerRules.{EagerSteps};
-ghost use Rattle.slot_states.specs.SlotStates.{SlotState, Represents};
+ghost use Rattle.rules_code.specs.CodeTrees.{SlottedFunction};
+ghost use Rattle.slot_states.specs.SlotStates.{SlotState};
 ghost use Rattle.slot_entries.specs.Entering.{next};
 ghost use Rattle.slot_time.specs.WithoutTime.{untimed};
-ghost use Rattle.slot_rests.specs.Rests.{EagerMove, EagerMoves, AreLocals};
+ghost use Rattle.slot_rests.specs.Rests.{EagerMove, EagerMoves};
+ghost use Rattle.slot_rests.specs.MoveLaws.{EagerMovesAreEagerSteps};
 
 /// A chain of eager moves is as long a chain of eager steps of each state that is stood for. They are Locals of one step, go on
 /// the run, and print nothing.
 pub fn eager_moves_are_eager_steps()
-    ensures { (script : Script) → Accepted script → (es : List Entry) (s : State) → IsRun (script_of script) es s → (x : SlotState) → Represents (script_of script) x s → (k : ℕ) (y : SlotState) → EagerMoves (code_trees (script_of script)) k x y → (u : State) × EagerSteps (code_of (script_of script)) k s u × Represents (script_of script) y u × (fs : List Entry) × AreLocals fs × IsRun (script_of script) (es ++ fs) u × (u.output ≡ s.output) × (u.errors ≡ s.errors) }
+    ensures { EagerMovesAreEagerSteps }
 {}
 
 /// An eager move is what `next` makes of a Local of one step.
