@@ -1,5 +1,6 @@
 -- The nodes of an expression: its parts' nodes, and then its own as the last.
-use Rattle.std.specs.Prelude.{◌≡◌, ℕ, ◌+◌, ◌-◌, ◌==◌, List, [], ◌∷◌, ◌++◌, length, cond, Option, Some, None, bytes_eq}
+use Rattle.std.specs.Prelude.{◌≡◌, ℕ, ◌+◌, ◌-◌, ◌==◌, List, [], ◌∷◌, ◌++◌, length, cond, Option, Some, None, bytes_eq, Result, IfOk}
+use Rattle.hs_base.specs.declared.no_memory.NoMemory.{NoMemory}
 use Rattle.rules_code.specs.declared.node.ExprId.{ExprId}
 use Rattle.rules_code.specs.declared.node.NodeLink.{NodeLink}
 use Rattle.rules_code.specs.declared.node.Node.{Node}
@@ -7,7 +8,9 @@ use Rattle.rules_code.specs.declared.node.Node.TheVariants as n
 use Rattle.rules_trees.specs.Trees.{Ex, Exs, Links, Arms, Lit, number, letters, truth, nothing_more, exception, lit, name, unary, binary, chain, conses, choose, items, empty, side, given, case, none, more, end, link, maybe_arms, either_arms, list_arms, pair_arms}
 use Rattle.rules_expansion.specs.Names.{Written}
 use Rattle.rules_code.specs.Slots.{Scope, slot_of, count}
+use Rattle.hs_nodes.specs.Names.{scope_of}
 use Rattle.hs_nodes.specs.declared.places.Place.{Place}
+use Rattle.hs_nodes.specs.declared.places.Places.{Places}
 use Rattle.hs_nodes.specs.declared.emitter.Emitter.{Emitter}
 
 -- the node of the body that a call with so many arguments means, or another number
@@ -81,7 +84,27 @@ abbrev mutual
 abbrev pub two_nodes : List Place → Scope → ℕ → Ex → Ex → (ExprId → ExprId → Node) → List Node
 two_nodes rs s i e g k = own2 i (nodes_of rs s i e) (nodes_of rs s (i + length (nodes_of rs s i e)) g) k
 
+-- the slot of a name that the scope has, or the nodes of the arguments of a call and then the call's own
+abbrev pub call_nodes : List Place → Scope → ℕ → List ℕ → Exs → List Node
+call_nodes rs s i f es = read_nodes (slot_of s (Written f)) (all_nodes rs s i es ++ n.Call (place_of rs f (count es) (record { 0 = i + length (all_nodes rs s i es) })) (ids_of rs s i es) ∷ [])
+
+-- the nodes of the items of a list, and then the list's own
+abbrev pub list_nodes : List Place → Scope → ℕ → Exs → List Node
+list_nodes rs s i es = all_nodes rs s i es ++ n.List (ids_of rs s i es) ∷ []
+
+-- the nodes of the operands of links, and then the node that has those links after what stands before them
+abbrev pub chain_nodes : List Place → Scope → ℕ → Links → (List NodeLink → Node) → List Node
+chain_nodes rs s i ks k = link_nodes rs s i ks ++ k (node_links rs s i ks) ∷ []
+
 pub record Emitted (old new : Emitter) (id : ExprId) (ns : List Node) : Type 0 where
   pub nodes : new.nodes ≡ old.nodes ++ ns
   pub scope : new.scope ≡ old.scope
   pub last : id ≡ last_at (length old.nodes) ns
+
+-- Where memory sufficed, these nodes were added in the scope that stood before, and the number of the last was answered.
+abbrev pub EmittedAs : Places → Emitter → Emitter → Result ExprId NoMemory → (List Place → Scope → ℕ → List Node) → Type 0
+EmittedAs places old new result nodes = IfOk result (λ id. Emitted old new id (nodes places.all (scope_of old.scope) (length old.nodes)))
+
+-- the nodes of expressions in a row were added, and these are the numbers of the last of each
+abbrev pub EmittedAll : List Place → Emitter → Emitter → List ExprId → Exs → Type 0
+EmittedAll rs old new ids es = (new.nodes ≡ old.nodes ++ all_nodes rs (scope_of old.scope) (length old.nodes) es) × (new.scope ≡ old.scope) × (ids ≡ ids_of rs (scope_of old.scope) (length old.nodes) es)

@@ -1,10 +1,8 @@
 //! The nodes of expressions.
 ghost use Rattle.std.specs.Prelude.{◌≡◌, ◌++◌, ◌∷◌, [], ◌+◌, length, IfOk};
-ghost use Rattle.rules_code.specs.Slots.{slot_of, count};
 ghost use Rattle.rules_expansion.specs.Names.{Written};
 ghost use Rattle.rules_trees.specs.Trees.{ex_of, exs_of, arms_of, links_of, list_links_of, sum_links_of, constant_of, compare_form, sum_form, cons_form};
-ghost use Rattle.hs_nodes.specs.Emitting.{nodes_of, all_nodes, ids_of, link_nodes, node_links, arm_nodes, read_nodes, own1, two_nodes, literal_node, place_of, Emitted};
-ghost use Rattle.hs_nodes.specs.Names.{scope_of};
+ghost use Rattle.hs_nodes.specs.Emitting.{nodes_of, arm_nodes, own1, two_nodes, literal_node, EmittedAs, EmittedAll, call_nodes, list_nodes, chain_nodes};
 
 use crate::emitter::Emitter;
 use crate::names::{bind, off};
@@ -74,7 +72,7 @@ impl Emitter {
     /// Adds the nodes of an expression, and answers the number of its last.
     #[cycle(emit)]
     pub fn expr(&mut self, alloc: Global, places: &Places, e: &Expr) -> Result<ExprId, NoMemory>
-        ensures { IfOk result (λ id. Emitted self.old self.new id (nodes_of places.now.all (scope_of self.old.scope) (length self.old.nodes) (ex_of e.now))) }
+        ensures { EmittedAs places.now self.old self.new result (λ rs s i. nodes_of rs s i (ex_of e.now)) }
     {
         match e {
             Expr::If(_, c, a, b) => {
@@ -129,7 +127,7 @@ impl Emitter {
     /// A part of an expression.
     #[cycle(emit)]
     fn part(&mut self, alloc: Global, places: &Places, a: &Boxed<Expr>) -> Result<ExprId, NoMemory>
-        ensures { IfOk result (λ id. Emitted self.old self.new id (nodes_of places.now.all (scope_of self.old.scope) (length self.old.nodes) (ex_of a.now))) }
+        ensures { EmittedAs places.now self.old self.new result (λ rs s i. nodes_of rs s i (ex_of a.now)) }
     {
         self.expr(alloc, places, a.get())
     }
@@ -143,7 +141,7 @@ impl Emitter {
         form: UnaryForm,
         a: &Boxed<Expr>,
     ) -> Result<ExprId, NoMemory>
-        ensures { IfOk result (λ id. Emitted self.old self.new id (own1 (length self.old.nodes) (nodes_of places.now.all (scope_of self.old.scope) (length self.old.nodes) (ex_of a.now)) (Node.Unary form))) }
+        ensures { EmittedAs places.now self.old self.new result (λ rs s i. own1 i (nodes_of rs s i (ex_of a.now)) (Node.Unary form)) }
     {
         let i = self.expr(alloc, places, a.get())?;
         self.unary(form, i)
@@ -158,7 +156,7 @@ impl Emitter {
         form: SideForm,
         a: &Boxed<Expr>,
     ) -> Result<ExprId, NoMemory>
-        ensures { IfOk result (λ id. Emitted self.old self.new id (own1 (length self.old.nodes) (nodes_of places.now.all (scope_of self.old.scope) (length self.old.nodes) (ex_of a.now)) (Node.Side form))) }
+        ensures { EmittedAs places.now self.old self.new result (λ rs s i. own1 i (nodes_of rs s i (ex_of a.now)) (Node.Side form)) }
     {
         let i = self.expr(alloc, places, a.get())?;
         self.add(Node::Side(form, i))
@@ -174,7 +172,7 @@ impl Emitter {
         a: &Boxed<Expr>,
         b: &Boxed<Expr>,
     ) -> Result<ExprId, NoMemory>
-        ensures { IfOk result (λ id. Emitted self.old self.new id (two_nodes places.now.all (scope_of self.old.scope) (length self.old.nodes) (ex_of a.now) (ex_of b.now) (Node.Binary form))) }
+        ensures { EmittedAs places.now self.old self.new result (λ rs s i. two_nodes rs s i (ex_of a.now) (ex_of b.now) (Node.Binary form)) }
     {
         let i = self.part(alloc, places, a)?;
         self.second(alloc, places, form, i, b)
@@ -190,7 +188,7 @@ impl Emitter {
         i: ExprId,
         b: &Boxed<Expr>,
     ) -> Result<ExprId, NoMemory>
-        ensures { IfOk result (λ id. Emitted self.old self.new id (own1 (length self.old.nodes) (nodes_of places.now.all (scope_of self.old.scope) (length self.old.nodes) (ex_of b.now)) (Node.Binary form i))) }
+        ensures { EmittedAs places.now self.old self.new result (λ rs s i. own1 i (nodes_of rs s i (ex_of b.now)) (Node.Binary form i)) }
     {
         let j = self.expr(alloc, places, b.get())?;
         self.add(Node::Binary(form, i, j))
@@ -206,7 +204,7 @@ impl Emitter {
         i: ExprId,
         b: &Boxed<Expr>,
     ) -> Result<ExprId, NoMemory>
-        ensures { IfOk result (λ id. Emitted self.old self.new id (own1 (length self.old.nodes) (nodes_of places.now.all (scope_of self.old.scope) (length self.old.nodes) (ex_of b.now)) (Node.If h i))) }
+        ensures { EmittedAs places.now self.old self.new result (λ rs s i. own1 i (nodes_of rs s i (ex_of b.now)) (Node.If h i)) }
     {
         let j = self.expr(alloc, places, b.get())?;
         self.add(Node::If(h, i, j))
@@ -222,7 +220,7 @@ impl Emitter {
         x: &Txt,
         b: &Boxed<Expr>,
     ) -> Result<ExprId, NoMemory>
-        ensures { IfOk result (λ id. Emitted self.old self.new id (own1 (length self.old.nodes) (nodes_of places.now.all (Written x.now ∷ scope_of self.old.scope) (length self.old.nodes) (ex_of b.now)) (Node.Let i))) }
+        ensures { EmittedAs places.now self.old self.new result (λ rs s i. own1 i (nodes_of rs (Written x.now ∷ s) i (ex_of b.now)) (Node.Let i)) }
     {
         let j = self.under(alloc, places, x, b.get())?;
         self.add(Node::Let(i, j))
@@ -237,7 +235,7 @@ impl Emitter {
         x: &Txt,
         a: &Expr,
     ) -> Result<ExprId, NoMemory>
-        ensures { IfOk result (λ id. Emitted self.old self.new id (nodes_of places.now.all (Written x.now ∷ scope_of self.old.scope) (length self.old.nodes) (ex_of a.now))) }
+        ensures { EmittedAs places.now self.old self.new result (λ rs s i. nodes_of rs (Written x.now ∷ s) i (ex_of a.now)) }
     {
         bind(&mut self.scope, alloc, x)?;
         let id = self.expr(alloc, places, a)?;
@@ -255,7 +253,7 @@ impl Emitter {
         y: &Txt,
         a: &Expr,
     ) -> Result<ExprId, NoMemory>
-        ensures { IfOk result (λ id. Emitted self.old self.new id (nodes_of places.now.all (Written y.now ∷ Written x.now ∷ scope_of self.old.scope) (length self.old.nodes) (ex_of a.now))) }
+        ensures { EmittedAs places.now self.old self.new result (λ rs s i. nodes_of rs (Written y.now ∷ Written x.now ∷ s) i (ex_of a.now)) }
     {
         bind(&mut self.scope, alloc, x)?;
         let id = self.under(alloc, places, y, a)?;
@@ -272,7 +270,7 @@ impl Emitter {
         x: &Txt,
         es: &Items<Expr>,
     ) -> Result<ExprId, NoMemory>
-        ensures { IfOk result (λ id. Emitted self.old self.new id (read_nodes (slot_of (scope_of self.old.scope) (Written x.now)) (all_nodes places.now.all (scope_of self.old.scope) (length self.old.nodes) (exs_of es.now) ++ Node.Call (place_of places.now.all x.now (count (exs_of es.now)) (record { 0 = length self.old.nodes + length (all_nodes places.now.all (scope_of self.old.scope) (length self.old.nodes) (exs_of es.now)) })) (ids_of places.now.all (scope_of self.old.scope) (length self.old.nodes) (exs_of es.now)) ∷ []))) }
+        ensures { EmittedAs places.now self.old self.new result (λ rs s i. call_nodes rs s i x.now (exs_of es.now)) }
     {
         match self.slot(x) {
             Some(k) => self.add(Node::Slot(k)),
@@ -292,7 +290,7 @@ impl Emitter {
         places: &Places,
         es: &Items<Expr>,
     ) -> Result<ExprId, NoMemory>
-        ensures { IfOk result (λ id. Emitted self.old self.new id (all_nodes places.now.all (scope_of self.old.scope) (length self.old.nodes) (exs_of es.now) ++ Node.List (ids_of places.now.all (scope_of self.old.scope) (length self.old.nodes) (exs_of es.now)) ∷ [])) }
+        ensures { EmittedAs places.now self.old self.new result (λ rs s i. list_nodes rs s i (exs_of es.now)) }
     {
         let ids = self.all(alloc, places, es)?;
         self.add(Node::List(ids))
@@ -306,7 +304,7 @@ impl Emitter {
         places: &Places,
         es: &Items<Expr>,
     ) -> Result<Items<ExprId>, NoMemory>
-        ensures { IfOk result (λ ids. (self.new.nodes ≡ self.old.nodes ++ all_nodes places.now.all (scope_of self.old.scope) (length self.old.nodes) (exs_of es.now)) × (self.new.scope ≡ self.old.scope) × (ids ≡ ids_of places.now.all (scope_of self.old.scope) (length self.old.nodes) (exs_of es.now))) }
+        ensures { IfOk result (λ ids. EmittedAll places.now.all self.old self.new ids (exs_of es.now)) }
     {
         let mut ids = Items::new(alloc);
         'each: for e in es.as_slice() {
@@ -326,7 +324,7 @@ impl Emitter {
         form: BinaryForm,
         links: &Items<Link>,
     ) -> Result<ExprId, NoMemory>
-        ensures { IfOk result (λ id. Emitted self.old self.new id (link_nodes places.now.all (scope_of self.old.scope) (length self.old.nodes) (links_of form links.now) ++ Node.Chain first (node_links places.now.all (scope_of self.old.scope) (length self.old.nodes) (links_of form links.now)) ∷ [])) }
+        ensures { EmittedAs places.now self.old self.new result (λ rs s i. chain_nodes rs s i (links_of form links.now) (Node.Chain first)) }
     {
         let mut ks = Items::new(alloc);
         'each: for link in links.as_slice() {
@@ -345,7 +343,7 @@ impl Emitter {
         first: ExprId,
         links: &Items<SumLink>,
     ) -> Result<ExprId, NoMemory>
-        ensures { IfOk result (λ id. Emitted self.old self.new id (link_nodes places.now.all (scope_of self.old.scope) (length self.old.nodes) (sum_links_of links.now) ++ Node.Chain first (node_links places.now.all (scope_of self.old.scope) (length self.old.nodes) (sum_links_of links.now)) ∷ [])) }
+        ensures { EmittedAs places.now self.old self.new result (λ rs s i. chain_nodes rs s i (sum_links_of links.now) (Node.Chain first)) }
     {
         let mut ks = Items::new(alloc);
         'each: for link in links.as_slice() {
@@ -365,7 +363,7 @@ impl Emitter {
         first: ExprId,
         links: &Items<ListLink>,
     ) -> Result<ExprId, NoMemory>
-        ensures { IfOk result (λ id. Emitted self.old self.new id (link_nodes places.now.all (scope_of self.old.scope) (length self.old.nodes) (list_links_of links.now) ++ Node.Conses first (node_links places.now.all (scope_of self.old.scope) (length self.old.nodes) (list_links_of links.now)) ∷ [])) }
+        ensures { EmittedAs places.now self.old self.new result (λ rs s i. chain_nodes rs s i (list_links_of links.now) (Node.Conses first)) }
     {
         let mut ks = Items::new(alloc);
         'each: for link in links.as_slice() {
@@ -385,7 +383,7 @@ impl Emitter {
         h: ExprId,
         arms: &ExprArms,
     ) -> Result<ExprId, NoMemory>
-        ensures { IfOk result (λ id. Emitted self.old self.new id (arm_nodes places.now.all (scope_of self.old.scope) (length self.old.nodes) h (arms_of arms.now))) }
+        ensures { EmittedAs places.now self.old self.new result (λ rs s i. arm_nodes rs s i h (arms_of arms.now)) }
     {
         match arms {
             ExprArms::OfMaybe(a, x, b) => {

@@ -1,10 +1,10 @@
-ghost use Rattle.std.specs.Prelude.{◌≡◌, [], ◌∷◌, IfOk};
+ghost use Rattle.std.specs.Prelude.{◌≡◌};
 ghost use Rattle.typing_table.specs.Meaning.{base_of, type_in};
-ghost use Rattle.rules_typing.specs.Typing.{a_cell, inner_of, is, of, gives};
 ghost use Rattle.rules_typing.specs.TypingActions.{type_of_bare, row_unary_act, row_binary_act, row_throw, row_new_empty, row_scoped, row_masking, row_modify, row_guard, row_bracket, row_timeout, row_async};
 ghost use Rattle.typing_judge.specs.Judging.{own, with1, with2};
 ghost use Rattle.typing_parts.specs.Views.{opt_ty};
 ghost use Rattle.typing_parts.specs.Judged.{Judged};
+ghost use Rattle.typing_parts.specs.JudgedAs.{JudgedAs, content_row};
 
 use crate::checker::Checker;
 use crate::fault::Form;
@@ -38,7 +38,7 @@ impl Checker {
         o: UnaryAction,
         a: &TypeTerm,
     ) -> Result<Option<TypeTerm>, NoMemory>
-        ensures { IfOk result (λ t. Judged types.now.nodes self.old self.new (opt_ty types.now.nodes t) (own p (row_unary_act o (type_in types.now.nodes a.now)))) }
+        ensures { JudgedAs types.now self.old self.new result (own p (row_unary_act o (type_in types.now.nodes a.now))) }
     {
         match o {
             UnaryAction::Return => Ok(Some(a.copy(self.alloc)?)),
@@ -65,7 +65,7 @@ impl Checker {
         p: Pos,
         a: &TypeTerm,
     ) -> Result<Option<TypeTerm>, NoMemory>
-        ensures { IfOk result (λ t. Judged types.now.nodes self.old self.new (opt_ty types.now.nodes t) (own p (row_unary_act UnaryAction.TryTakeMVar (type_in types.now.nodes a.now)))) }
+        ensures { JudgedAs types.now self.old self.new result (own p (row_unary_act UnaryAction.TryTakeMVar (type_in types.now.nodes a.now))) }
     {
         if !self.fits(types, p, Form::Cell, a)? {
             return Ok(None);
@@ -83,7 +83,7 @@ impl Checker {
         a: &TypeTerm,
         b: &TypeTerm,
     ) -> Result<Option<TypeTerm>, NoMemory>
-        ensures { IfOk result (λ t. Judged types.now.nodes self.old self.new (opt_ty types.now.nodes t) (own p (row_binary_act o (type_in types.now.nodes a.now) (type_in types.now.nodes b.now)))) }
+        ensures { JudgedAs types.now self.old self.new result (own p (row_binary_act o (type_in types.now.nodes a.now) (type_in types.now.nodes b.now))) }
     {
         match o {
             BinaryAction::PutMVar => self.row_content(types, p, a, b, Base::Unit),
@@ -99,7 +99,7 @@ impl Checker {
         a: &TypeTerm,
         b: &TypeTerm,
     ) -> Result<Option<TypeTerm>, NoMemory>
-        ensures { IfOk result (λ t. Judged types.now.nodes self.old self.new (opt_ty types.now.nodes t) (own p (row_binary_act BinaryAction.ThrowTo (type_in types.now.nodes a.now) (type_in types.now.nodes b.now)))) }
+        ensures { JudgedAs types.now self.old self.new result (own p (row_binary_act BinaryAction.ThrowTo (type_in types.now.nodes a.now) (type_in types.now.nodes b.now))) }
     {
         if !self.is_base(types, p, Base::Thread, a)? {
             return Ok(None);
@@ -114,7 +114,7 @@ impl Checker {
         o: UnaryAction,
         a: Option<TypeTerm>,
     ) -> Result<Option<TypeTerm>, NoMemory>
-        ensures { IfOk result (λ t. Judged types.now.nodes self.old self.new (opt_ty types.now.nodes t) (with1 (opt_ty types.now.nodes a) (λ u. own p (row_unary_act o u)))) }
+        ensures { JudgedAs types.now self.old self.new result (with1 (opt_ty types.now.nodes a) (λ u. own p (row_unary_act o u))) }
     {
         let Some(a) = a else { return Ok(None) };
         self.row_unary_act(types, p, o, &a)
@@ -128,7 +128,7 @@ impl Checker {
         a: Option<TypeTerm>,
         b: Option<TypeTerm>,
     ) -> Result<Option<TypeTerm>, NoMemory>
-        ensures { IfOk result (λ t. Judged types.now.nodes self.old self.new (opt_ty types.now.nodes t) (with2 (opt_ty types.now.nodes a) (opt_ty types.now.nodes b) (λ u v. own p (row_binary_act o u v)))) }
+        ensures { JudgedAs types.now self.old self.new result (with2 (opt_ty types.now.nodes a) (opt_ty types.now.nodes b) (λ u v. own p (row_binary_act o u v))) }
     {
         let Some(a) = a else { return Ok(None) };
         let Some(b) = b else { return Ok(None) };
@@ -142,7 +142,7 @@ impl Checker {
         t: Option<TypeTerm>,
         a: Option<TypeTerm>,
     ) -> Result<Option<TypeTerm>, NoMemory>
-        ensures { IfOk result (λ r. Judged types.now.nodes self.old self.new (opt_ty types.now.nodes r) (with2 (opt_ty types.now.nodes t) (opt_ty types.now.nodes a) (λ u v. own p (row_throw u v)))) }
+        ensures { JudgedAs types.now self.old self.new result (with2 (opt_ty types.now.nodes t) (opt_ty types.now.nodes a) (λ u v. own p (row_throw u v))) }
     {
         let Some(t) = t else { return Ok(None) };
         let Some(a) = a else { return Ok(None) };
@@ -160,7 +160,7 @@ impl Checker {
         a: Option<TypeTerm>,
         b: Option<TypeTerm>,
     ) -> Result<Option<TypeTerm>, NoMemory>
-        ensures { IfOk result (λ r. Judged types.now.nodes self.old self.new (opt_ty types.now.nodes r) (with2 (opt_ty types.now.nodes a) (opt_ty types.now.nodes b) (λ u v. own p (row_timeout u v)))) }
+        ensures { JudgedAs types.now self.old self.new result (with2 (opt_ty types.now.nodes a) (opt_ty types.now.nodes b) (λ u v. own p (row_timeout u v))) }
     {
         let Some(a) = a else { return Ok(None) };
         let Some(b) = b else { return Ok(None) };
@@ -177,7 +177,7 @@ impl Checker {
         p: Pos,
         t: Option<TypeTerm>,
     ) -> Result<Option<TypeTerm>, NoMemory>
-        ensures { IfOk result (λ r. Judged types.now.nodes self.old self.new (opt_ty types.now.nodes r) (with1 (opt_ty types.now.nodes t) (λ u. own p (row_new_empty u)))) }
+        ensures { JudgedAs types.now self.old self.new result (with1 (opt_ty types.now.nodes t) (λ u. own p (row_new_empty u))) }
     {
         let Some(t) = t else { return Ok(None) };
         let made = cell_of(self.alloc, &t)?;
@@ -191,7 +191,7 @@ impl Checker {
         o: BlockAction,
         a: Option<TypeTerm>,
     ) -> Result<Option<TypeTerm>, NoMemory>
-        ensures { IfOk result (λ t. Judged types.now.nodes self.old self.new (opt_ty types.now.nodes t) (with1 (opt_ty types.now.nodes a) (λ u. own p (row_scoped o u)))) }
+        ensures { JudgedAs types.now self.old self.new result (with1 (opt_ty types.now.nodes a) (λ u. own p (row_scoped o u))) }
     {
         let Some(a) = a else { return Ok(None) };
         match o {
@@ -208,7 +208,7 @@ impl Checker {
         o: MaskingAction,
         a: Option<TypeTerm>,
     ) -> Result<Option<TypeTerm>, NoMemory>
-        ensures { IfOk result (λ t. Judged types.now.nodes self.old self.new (opt_ty types.now.nodes t) (with1 (opt_ty types.now.nodes a) (λ u. own p (row_masking o u)))) }
+        ensures { JudgedAs types.now self.old self.new result (with1 (opt_ty types.now.nodes a) (λ u. own p (row_masking o u))) }
     {
         let Some(a) = a else { return Ok(None) };
         match o {
@@ -226,7 +226,7 @@ impl Checker {
         m: &TypeTerm,
         a: Option<TypeTerm>,
     ) -> Result<Option<TypeTerm>, NoMemory>
-        ensures { IfOk result (λ t. Judged types.now.nodes self.old self.new (opt_ty types.now.nodes t) (with1 (opt_ty types.now.nodes a) (λ v. own p (row_modify (type_in types.now.nodes m.now) v)))) }
+        ensures { JudgedAs types.now self.old self.new result (with1 (opt_ty types.now.nodes a) (λ v. own p (row_modify (type_in types.now.nodes m.now) v))) }
     {
         let Some(a) = a else { return Ok(None) };
         let part = inner_part(self.alloc, types, m)?;
@@ -242,7 +242,7 @@ impl Checker {
         a: TypeTerm,
         b: &TypeTerm,
     ) -> Result<Option<TypeTerm>, NoMemory>
-        ensures { IfOk result (λ t. Judged types.now.nodes self.old self.new (opt_ty types.now.nodes t) (own p (row_guard o (type_in types.now.nodes a) (type_in types.now.nodes b.now)))) }
+        ensures { JudgedAs types.now self.old self.new result (own p (row_guard o (type_in types.now.nodes a) (type_in types.now.nodes b.now))) }
     {
         match o {
             GuardAction::OnException => Ok(Some(a)),
@@ -266,7 +266,7 @@ impl Checker {
         a: Option<TypeTerm>,
         b: Option<TypeTerm>,
     ) -> Result<Option<TypeTerm>, NoMemory>
-        ensures { IfOk result (λ t. Judged types.now.nodes self.old self.new (opt_ty types.now.nodes t) (with2 (opt_ty types.now.nodes a) (opt_ty types.now.nodes b) (λ u v. own p (row_guard o u v)))) }
+        ensures { JudgedAs types.now self.old self.new result (with2 (opt_ty types.now.nodes a) (opt_ty types.now.nodes b) (λ u v. own p (row_guard o u v))) }
     {
         let Some(a) = a else { return Ok(None) };
         let Some(b) = b else { return Ok(None) };
@@ -280,7 +280,7 @@ impl Checker {
         p: Pos,
         a: &TypeTerm,
     ) -> Result<Option<TypeTerm>, NoMemory>
-        ensures { IfOk result (λ t. Judged types.now.nodes self.old self.new (opt_ty types.now.nodes t) (own p (row_async (type_in types.now.nodes a.now)))) }
+        ensures { JudgedAs types.now self.old self.new result (own p (row_async (type_in types.now.nodes a.now))) }
     {
         let t = async_of(self.alloc, a)?;
         Ok(self.unless_wide(types, p, t))
@@ -309,7 +309,7 @@ impl Checker {
         b: &TypeTerm,
         t: Base,
     ) -> Result<Option<TypeTerm>, NoMemory>
-        ensures { IfOk result (λ r. Judged types.now.nodes self.old self.new (opt_ty types.now.nodes r) (own p (gives (of a_cell (type_in types.now.nodes a.now) ∷ is (inner_of (type_in types.now.nodes a.now)) (type_in types.now.nodes b.now) ∷ []) (base_of t)))) }
+        ensures { JudgedAs types.now self.old self.new result (own p (content_row (type_in types.now.nodes a.now) (type_in types.now.nodes b.now) (base_of t))) }
     {
         if !self.fits(types, p, Form::Cell, a)? {
             return Ok(None);

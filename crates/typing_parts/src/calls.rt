@@ -1,10 +1,11 @@
-ghost use Rattle.std.specs.Prelude.{◌≡◌, [], ◌∷◌, IfOk};
+ghost use Rattle.std.specs.Prelude.{◌≡◌, IfOk};
 ghost use Rattle.typing_table.specs.Meaning.{known};
 ghost use Rattle.rules_typing.specs.Typing.{meant, meant_act, meant_args, no_mask, shown_count};
 ghost use Rattle.typing_judge.specs.Judging.{called};
 ghost use Rattle.typing_parts.specs.Views.{opt_ty, opt_tys, place_types};
 ghost use Rattle.typing_parts.specs.Contexts.{ctx_of};
 ghost use Rattle.typing_parts.specs.Judged.{Judged, Unmasked, names};
+ghost use Rattle.typing_parts.specs.JudgedAs.{JudgedAs};
 
 use crate::checker::Checker;
 use crate::entry::{Fun, Sorted};
@@ -79,7 +80,7 @@ impl Checker {
         f: &Fun,
         ts: Option<Items<TypeTerm>>,
     ) -> Result<Option<TypeTerm>, NoMemory>
-        ensures { IfOk result (λ t. Judged types.now.nodes self.old self.new (opt_ty types.now.nodes t) (called p (meant_args p n (place_types types.now.nodes f.now.params) (known types.now.nodes f.now.result)) (opt_tys types.now.nodes ts))) }
+        ensures { JudgedAs types.now self.old self.new result (called p (meant_args p n (place_types types.now.nodes f.now.params) (known types.now.nodes f.now.result)) (opt_tys types.now.nodes ts)) }
     {
         if f.params.len() != n {
             self.first.note(

@@ -3,7 +3,7 @@ ghost use Rattle.rules_trees.specs.Trees.{list_links_of, cons_form};
 ghost use Rattle.rules_typing.specs.Typing.{row_binary};
 ghost use Rattle.typing_judge.specs.Judging.{folded, own, with2};
 ghost use Rattle.typing_parts.specs.Views.{opt_ty, opts_of};
-ghost use Rattle.typing_parts.specs.Judged.{Judged};
+ghost use Rattle.typing_parts.specs.JudgedAs.{JudgedAs};
 
 use crate::checker::Checker;
 use hs_base::tree::forms::BinaryForm;
@@ -42,7 +42,7 @@ impl Checker {
         a: &Option<TypeTerm>,
         b: Option<TypeTerm>,
     ) -> Result<Option<TypeTerm>, NoMemory>
-        ensures { IfOk result (λ t. Judged types.now.nodes self.old self.new (opt_ty types.now.nodes t) (with2 (opt_ty types.now.nodes a.now) (opt_ty types.now.nodes b) (λ u v. own p (row_binary o u v)))) }
+        ensures { JudgedAs types.now self.old self.new result (with2 (opt_ty types.now.nodes a.now) (opt_ty types.now.nodes b) (λ u v. own p (row_binary o u v))) }
     {
         match a {
             None => Ok(None),
@@ -61,7 +61,7 @@ impl Checker {
         ks: &Items<ListLink>,
     ) -> Result<Option<TypeTerm>, NoMemory>
         requires { length ts.now ≡ 1 + length ks.now }
-        ensures { IfOk result (λ t. Judged types.now.nodes self.old self.new (opt_ty types.now.nodes t) (folded (opts_of types.now.nodes ts.now) (list_links_of ks.now))) }
+        ensures { JudgedAs types.now self.old self.new result (folded (opts_of types.now.nodes ts.now) (list_links_of ks.now)) }
     {
         let ts = ts.as_slice();
         let ks = ks.as_slice();

@@ -1,10 +1,11 @@
-ghost use Rattle.std.specs.Prelude.{◌≡◌, [], ◌∷◌, IfOk, map, true};
+ghost use Rattle.std.specs.Prelude.{[], ◌∷◌, IfOk, map, true};
 ghost use Rattle.rules_trees.specs.Trees.{bool};
 ghost use Rattle.typing_table.specs.Meaning.{base_of, type_in};
 ghost use Rattle.rules_typing.specs.Typing.{is, of, gives, is_each};
 ghost use Rattle.typing_judge.specs.Judging.{own, made};
 ghost use Rattle.typing_parts.specs.Views.{form_of, opt_ty, part_of, place_types, tys_of};
 ghost use Rattle.typing_parts.specs.Judged.{Judged, Needed, AllNeeded};
+ghost use Rattle.typing_parts.specs.JudgedAs.{JudgedAs};
 
 use crate::checker::Checker;
 use crate::fault::Form;
@@ -93,7 +94,7 @@ impl Checker {
         got: &TypeTerm,
         t: Base,
     ) -> Result<Option<TypeTerm>, NoMemory>
-        ensures { IfOk result (λ r. Judged types.now.nodes self.old self.new (opt_ty types.now.nodes r) (own p (gives (is (type_in types.now.nodes want.now) (type_in types.now.nodes got.now) ∷ []) (base_of t)))) }
+        ensures { JudgedAs types.now self.old self.new result (own p (gives (is (type_in types.now.nodes want.now) (type_in types.now.nodes got.now) ∷ []) (base_of t))) }
     {
         if self.is(types, p, want, got)? {
             Ok(Some(TypeTerm::Base(t)))
@@ -111,7 +112,7 @@ impl Checker {
         got: &TypeTerm,
         t: Base,
     ) -> Result<Option<TypeTerm>, NoMemory>
-        ensures { IfOk result (λ r. Judged types.now.nodes self.old self.new (opt_ty types.now.nodes r) (own p (gives (of (form_of form) (type_in types.now.nodes got.now) ∷ []) (base_of t)))) }
+        ensures { JudgedAs types.now self.old self.new result (own p (gives (of (form_of form) (type_in types.now.nodes got.now) ∷ []) (base_of t))) }
     {
         if self.fits(types, p, form, got)? {
             Ok(Some(TypeTerm::Base(t)))
@@ -129,7 +130,7 @@ impl Checker {
         which: TypePart,
         got: &TypeTerm,
     ) -> Result<Option<TypeTerm>, NoMemory>
-        ensures { IfOk result (λ r. Judged types.now.nodes self.old self.new (opt_ty types.now.nodes r) (own p (gives (of (form_of form) (type_in types.now.nodes got.now) ∷ []) (part_of which (type_in types.now.nodes got.now))))) }
+        ensures { JudgedAs types.now self.old self.new result (own p (gives (of (form_of form) (type_in types.now.nodes got.now) ∷ []) (part_of which (type_in types.now.nodes got.now)))) }
     {
         if self.fits(types, p, form, got)? {
             Ok(Some(that_part(self.alloc, types, which, got)?))
@@ -147,7 +148,7 @@ impl Checker {
         got: &TypeTerm,
         t: Base,
     ) -> Result<Option<TypeTerm>, NoMemory>
-        ensures { IfOk result (λ r. Judged types.now.nodes self.old self.new (opt_ty types.now.nodes r) (own p (gives (is (base_of want) (type_in types.now.nodes got.now) ∷ []) (base_of t)))) }
+        ensures { JudgedAs types.now self.old self.new result (own p (gives (is (base_of want) (type_in types.now.nodes got.now) ∷ []) (base_of t))) }
     {
         let want = TypeTerm::Base(want);
         self.of_type(types, p, &want, got, t)
@@ -162,7 +163,7 @@ impl Checker {
         a: &TypeTerm,
         b: &TypeTerm,
     ) -> Result<Option<TypeTerm>, NoMemory>
-        ensures { IfOk result (λ r. Judged types.now.nodes self.old self.new (opt_ty types.now.nodes r) (own p (gives (is (base_of base) (type_in types.now.nodes a.now) ∷ is (base_of base) (type_in types.now.nodes b.now) ∷ []) (base_of base)))) }
+        ensures { JudgedAs types.now self.old self.new result (own p (gives (is (base_of base) (type_in types.now.nodes a.now) ∷ is (base_of base) (type_in types.now.nodes b.now) ∷ []) (base_of base))) }
     {
         if !self.is_base(types, p, base, a)? {
             return Ok(None);
@@ -179,7 +180,7 @@ impl Checker {
         a: &TypeTerm,
         b: &TypeTerm,
     ) -> Result<Option<TypeTerm>, NoMemory>
-        ensures { IfOk result (λ r. Judged types.now.nodes self.old self.new (opt_ty types.now.nodes r) (own p (gives (of (form_of form) (type_in types.now.nodes a.now) ∷ is (type_in types.now.nodes a.now) (type_in types.now.nodes b.now) ∷ []) bool))) }
+        ensures { JudgedAs types.now self.old self.new result (own p (gives (of (form_of form) (type_in types.now.nodes a.now) ∷ is (type_in types.now.nodes a.now) (type_in types.now.nodes b.now) ∷ []) bool)) }
     {
         if !self.fits(types, p, form, a)? {
             return Ok(None);

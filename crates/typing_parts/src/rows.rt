@@ -1,10 +1,9 @@
-ghost use Rattle.std.specs.Prelude.{◌≡◌, IfOk};
 ghost use Rattle.rules_trees.specs.Trees.{wr_of};
 ghost use Rattle.typing_table.specs.Meaning.{type_in};
 ghost use Rattle.rules_typing.specs.Typing.{row_unary, row_binary, row_empty, row_side, row_choose, row_arms, row_items};
 ghost use Rattle.typing_judge.specs.Judging.{own, with1, with2, with3, with_all, written};
 ghost use Rattle.typing_parts.specs.Views.{opt_ty, opt_tys};
-ghost use Rattle.typing_parts.specs.Judged.{Judged};
+ghost use Rattle.typing_parts.specs.JudgedAs.{JudgedAs};
 
 use crate::checker::Checker;
 use crate::fault::Form;
@@ -36,7 +35,7 @@ impl Checker {
         o: UnaryForm,
         a: &TypeTerm,
     ) -> Result<Option<TypeTerm>, NoMemory>
-        ensures { IfOk result (λ t. Judged types.now.nodes self.old self.new (opt_ty types.now.nodes t) (own p (row_unary o (type_in types.now.nodes a.now)))) }
+        ensures { JudgedAs types.now self.old self.new result (own p (row_unary o (type_in types.now.nodes a.now))) }
     {
         match o {
             UnaryForm::Just => {
@@ -60,7 +59,7 @@ impl Checker {
         a: &TypeTerm,
         b: &TypeTerm,
     ) -> Result<Option<TypeTerm>, NoMemory>
-        ensures { IfOk result (λ t. Judged types.now.nodes self.old self.new (opt_ty types.now.nodes t) (own p (row_binary o (type_in types.now.nodes a.now) (type_in types.now.nodes b.now)))) }
+        ensures { JudgedAs types.now self.old self.new result (own p (row_binary o (type_in types.now.nodes a.now) (type_in types.now.nodes b.now))) }
     {
         match o {
             BinaryForm::Pair => {
@@ -92,7 +91,7 @@ impl Checker {
         a: &TypeTerm,
         b: &TypeTerm,
     ) -> Result<Option<TypeTerm>, NoMemory>
-        ensures { IfOk result (λ t. Judged types.now.nodes self.old self.new (opt_ty types.now.nodes t) (own p (row_binary BinaryForm.Cons (type_in types.now.nodes a.now) (type_in types.now.nodes b.now)))) }
+        ensures { JudgedAs types.now self.old self.new result (own p (row_binary BinaryForm.Cons (type_in types.now.nodes a.now) (type_in types.now.nodes b.now))) }
     {
         let t = list_of(self.alloc, a)?;
         if self.is(types, p, &t, b)? {
@@ -109,7 +108,7 @@ impl Checker {
         a: &TypeTerm,
         b: &TypeTerm,
     ) -> Result<Option<TypeTerm>, NoMemory>
-        ensures { IfOk result (λ t. Judged types.now.nodes self.old self.new (opt_ty types.now.nodes t) (own p (row_arms (type_in types.now.nodes a.now) (type_in types.now.nodes b.now)))) }
+        ensures { JudgedAs types.now self.old self.new result (own p (row_arms (type_in types.now.nodes a.now) (type_in types.now.nodes b.now))) }
     {
         if self.is(types, p, a, b)? {
             Ok(Some(a.copy(self.alloc)?))
@@ -120,7 +119,7 @@ impl Checker {
 
     /// A written type, where it isn't too wide.
     pub fn written(&mut self, types: &TypeTable, w: &Written) -> Result<Option<TypeTerm>, NoMemory>
-        ensures { IfOk result (λ t. Judged types.now.nodes self.old self.new (opt_ty types.now.nodes t) (written (wr_of w.now))) }
+        ensures { JudgedAs types.now self.old self.new result (written (wr_of w.now)) }
     {
         if is_wide_written(&w.ty) {
             self.first.note(types, Broken::Wide(w.pos));
@@ -136,7 +135,7 @@ impl Checker {
         o: UnaryForm,
         a: Option<TypeTerm>,
     ) -> Result<Option<TypeTerm>, NoMemory>
-        ensures { IfOk result (λ t. Judged types.now.nodes self.old self.new (opt_ty types.now.nodes t) (with1 (opt_ty types.now.nodes a) (λ u. own p (row_unary o u)))) }
+        ensures { JudgedAs types.now self.old self.new result (with1 (opt_ty types.now.nodes a) (λ u. own p (row_unary o u))) }
     {
         let Some(a) = a else { return Ok(None) };
         self.row_unary(types, p, o, &a)
@@ -150,7 +149,7 @@ impl Checker {
         a: Option<TypeTerm>,
         b: Option<TypeTerm>,
     ) -> Result<Option<TypeTerm>, NoMemory>
-        ensures { IfOk result (λ t. Judged types.now.nodes self.old self.new (opt_ty types.now.nodes t) (with2 (opt_ty types.now.nodes a) (opt_ty types.now.nodes b) (λ u v. own p (row_binary o u v)))) }
+        ensures { JudgedAs types.now self.old self.new result (with2 (opt_ty types.now.nodes a) (opt_ty types.now.nodes b) (λ u v. own p (row_binary o u v))) }
     {
         let Some(a) = a else { return Ok(None) };
         let Some(b) = b else { return Ok(None) };
@@ -165,7 +164,7 @@ impl Checker {
         a: Option<TypeTerm>,
         b: Option<TypeTerm>,
     ) -> Result<Option<TypeTerm>, NoMemory>
-        ensures { IfOk result (λ t. Judged types.now.nodes self.old self.new (opt_ty types.now.nodes t) (with3 (opt_ty types.now.nodes c) (opt_ty types.now.nodes a) (opt_ty types.now.nodes b) (λ u v w. own p (row_choose u v w)))) }
+        ensures { JudgedAs types.now self.old self.new result (with3 (opt_ty types.now.nodes c) (opt_ty types.now.nodes a) (opt_ty types.now.nodes b) (λ u v w. own p (row_choose u v w))) }
     {
         let Some(c) = c else { return Ok(None) };
         let Some(a) = a else { return Ok(None) };
@@ -183,7 +182,7 @@ impl Checker {
         a: Option<TypeTerm>,
         b: Option<TypeTerm>,
     ) -> Result<Option<TypeTerm>, NoMemory>
-        ensures { IfOk result (λ t. Judged types.now.nodes self.old self.new (opt_ty types.now.nodes t) (with2 (opt_ty types.now.nodes a) (opt_ty types.now.nodes b) (λ u v. own p (row_arms u v)))) }
+        ensures { JudgedAs types.now self.old self.new result (with2 (opt_ty types.now.nodes a) (opt_ty types.now.nodes b) (λ u v. own p (row_arms u v))) }
     {
         let Some(a) = a else { return Ok(None) };
         let Some(b) = b else { return Ok(None) };
@@ -197,7 +196,7 @@ impl Checker {
         o: EmptyForm,
         t: Option<TypeTerm>,
     ) -> Result<Option<TypeTerm>, NoMemory>
-        ensures { IfOk result (λ r. Judged types.now.nodes self.old self.new (opt_ty types.now.nodes r) (with1 (opt_ty types.now.nodes t) (λ u. own p (row_empty o u)))) }
+        ensures { JudgedAs types.now self.old self.new result (with1 (opt_ty types.now.nodes t) (λ u. own p (row_empty o u))) }
     {
         let Some(t) = t else { return Ok(None) };
         let made = match o {
@@ -215,7 +214,7 @@ impl Checker {
         sides: Sides,
         a: Option<TypeTerm>,
     ) -> Result<Option<TypeTerm>, NoMemory>
-        ensures { IfOk result (λ r. Judged types.now.nodes self.old self.new (opt_ty types.now.nodes r) (with3 (opt_ty types.now.nodes sides.left) (opt_ty types.now.nodes sides.right) (opt_ty types.now.nodes a) (λ u v w. own p (row_side o u v w)))) }
+        ensures { JudgedAs types.now self.old self.new result (with3 (opt_ty types.now.nodes sides.left) (opt_ty types.now.nodes sides.right) (opt_ty types.now.nodes a) (λ u v w. own p (row_side o u v w))) }
     {
         let Sides { left, right } = sides;
         let Some(left) = left else { return Ok(None) };
@@ -239,7 +238,7 @@ impl Checker {
         p: Pos,
         ts: Option<Items<TypeTerm>>,
     ) -> Result<Option<TypeTerm>, NoMemory>
-        ensures { IfOk result (λ t. Judged types.now.nodes self.old self.new (opt_ty types.now.nodes t) (with_all (opt_tys types.now.nodes ts) (λ us. own p (row_items us)))) }
+        ensures { JudgedAs types.now self.old self.new result (with_all (opt_tys types.now.nodes ts) (λ us. own p (row_items us))) }
     {
         match ts {
             None => Ok(None),
