@@ -106,5 +106,5 @@ abbrev pub EmittedAs : Places → Emitter → Emitter → Result ExprId NoMemory
 EmittedAs places old new result nodes = IfOk result (λ id. Emitted old new id (nodes places.all (scope_of old.scope) (length old.nodes)))
 
 -- the nodes of expressions in a row were added, and these are the numbers of the last of each
-abbrev pub EmittedAll : List Place → Emitter → Emitter → List ExprId → Exs → Type 0
-EmittedAll rs old new ids es = (new.nodes ≡ old.nodes ++ all_nodes rs (scope_of old.scope) (length old.nodes) es) × (new.scope ≡ old.scope) × (ids ≡ ids_of rs (scope_of old.scope) (length old.nodes) es)
+abbrev pub EmittedAll : Places → Emitter → Emitter → List ExprId → Exs → Type 0
+EmittedAll places old new ids es = (new.nodes ≡ old.nodes ++ all_nodes places.all (scope_of old.scope) (length old.nodes) es) × (new.scope ≡ old.scope) × (ids ≡ ids_of places.all (scope_of old.scope) (length old.nodes) es)

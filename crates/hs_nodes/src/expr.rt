@@ -72,7 +72,7 @@ impl Emitter {
     /// Adds the nodes of an expression, and answers the number of its last.
     #[cycle(emit)]
     pub fn expr(&mut self, alloc: Global, places: &Places, e: &Expr) -> Result<ExprId, NoMemory>
-        ensures { EmittedAs places.now self.old self.new result (λ rs s i. nodes_of rs s i (ex_of e.now)) }
+        ensures { EmittedAs places.now self.old self.new result (λ rs s n. nodes_of rs s n (ex_of e.now)) }
     {
         match e {
             Expr::If(_, c, a, b) => {
@@ -127,7 +127,7 @@ impl Emitter {
     /// A part of an expression.
     #[cycle(emit)]
     fn part(&mut self, alloc: Global, places: &Places, a: &Boxed<Expr>) -> Result<ExprId, NoMemory>
-        ensures { EmittedAs places.now self.old self.new result (λ rs s i. nodes_of rs s i (ex_of a.now)) }
+        ensures { EmittedAs places.now self.old self.new result (λ rs s n. nodes_of rs s n (ex_of a.now)) }
     {
         self.expr(alloc, places, a.get())
     }
@@ -141,7 +141,7 @@ impl Emitter {
         form: UnaryForm,
         a: &Boxed<Expr>,
     ) -> Result<ExprId, NoMemory>
-        ensures { EmittedAs places.now self.old self.new result (λ rs s i. own1 i (nodes_of rs s i (ex_of a.now)) (Node.Unary form)) }
+        ensures { EmittedAs places.now self.old self.new result (λ rs s n. own1 n (nodes_of rs s n (ex_of a.now)) (Node.Unary form)) }
     {
         let i = self.expr(alloc, places, a.get())?;
         self.unary(form, i)
@@ -156,7 +156,7 @@ impl Emitter {
         form: SideForm,
         a: &Boxed<Expr>,
     ) -> Result<ExprId, NoMemory>
-        ensures { EmittedAs places.now self.old self.new result (λ rs s i. own1 i (nodes_of rs s i (ex_of a.now)) (Node.Side form)) }
+        ensures { EmittedAs places.now self.old self.new result (λ rs s n. own1 n (nodes_of rs s n (ex_of a.now)) (Node.Side form)) }
     {
         let i = self.expr(alloc, places, a.get())?;
         self.add(Node::Side(form, i))
@@ -172,7 +172,7 @@ impl Emitter {
         a: &Boxed<Expr>,
         b: &Boxed<Expr>,
     ) -> Result<ExprId, NoMemory>
-        ensures { EmittedAs places.now self.old self.new result (λ rs s i. two_nodes rs s i (ex_of a.now) (ex_of b.now) (Node.Binary form)) }
+        ensures { EmittedAs places.now self.old self.new result (λ rs s n. two_nodes rs s n (ex_of a.now) (ex_of b.now) (Node.Binary form)) }
     {
         let i = self.part(alloc, places, a)?;
         self.second(alloc, places, form, i, b)
@@ -188,7 +188,7 @@ impl Emitter {
         i: ExprId,
         b: &Boxed<Expr>,
     ) -> Result<ExprId, NoMemory>
-        ensures { EmittedAs places.now self.old self.new result (λ rs s i. own1 i (nodes_of rs s i (ex_of b.now)) (Node.Binary form i)) }
+        ensures { EmittedAs places.now self.old self.new result (λ rs s n. own1 n (nodes_of rs s n (ex_of b.now)) (Node.Binary form i)) }
     {
         let j = self.expr(alloc, places, b.get())?;
         self.add(Node::Binary(form, i, j))
@@ -204,7 +204,7 @@ impl Emitter {
         i: ExprId,
         b: &Boxed<Expr>,
     ) -> Result<ExprId, NoMemory>
-        ensures { EmittedAs places.now self.old self.new result (λ rs s i. own1 i (nodes_of rs s i (ex_of b.now)) (Node.If h i)) }
+        ensures { EmittedAs places.now self.old self.new result (λ rs s n. own1 n (nodes_of rs s n (ex_of b.now)) (Node.If h i)) }
     {
         let j = self.expr(alloc, places, b.get())?;
         self.add(Node::If(h, i, j))
@@ -220,7 +220,7 @@ impl Emitter {
         x: &Txt,
         b: &Boxed<Expr>,
     ) -> Result<ExprId, NoMemory>
-        ensures { EmittedAs places.now self.old self.new result (λ rs s i. own1 i (nodes_of rs (Written x.now ∷ s) i (ex_of b.now)) (Node.Let i)) }
+        ensures { EmittedAs places.now self.old self.new result (λ rs s n. own1 n (nodes_of rs (Written x.now ∷ s) n (ex_of b.now)) (Node.Let i)) }
     {
         let j = self.under(alloc, places, x, b.get())?;
         self.add(Node::Let(i, j))
@@ -235,7 +235,7 @@ impl Emitter {
         x: &Txt,
         a: &Expr,
     ) -> Result<ExprId, NoMemory>
-        ensures { EmittedAs places.now self.old self.new result (λ rs s i. nodes_of rs (Written x.now ∷ s) i (ex_of a.now)) }
+        ensures { EmittedAs places.now self.old self.new result (λ rs s n. nodes_of rs (Written x.now ∷ s) n (ex_of a.now)) }
     {
         bind(&mut self.scope, alloc, x)?;
         let id = self.expr(alloc, places, a)?;
@@ -253,7 +253,7 @@ impl Emitter {
         y: &Txt,
         a: &Expr,
     ) -> Result<ExprId, NoMemory>
-        ensures { EmittedAs places.now self.old self.new result (λ rs s i. nodes_of rs (Written y.now ∷ Written x.now ∷ s) i (ex_of a.now)) }
+        ensures { EmittedAs places.now self.old self.new result (λ rs s n. nodes_of rs (Written y.now ∷ Written x.now ∷ s) n (ex_of a.now)) }
     {
         bind(&mut self.scope, alloc, x)?;
         let id = self.under(alloc, places, y, a)?;
@@ -270,7 +270,7 @@ impl Emitter {
         x: &Txt,
         es: &Items<Expr>,
     ) -> Result<ExprId, NoMemory>
-        ensures { EmittedAs places.now self.old self.new result (λ rs s i. call_nodes rs s i x.now (exs_of es.now)) }
+        ensures { EmittedAs places.now self.old self.new result (λ rs s n. call_nodes rs s n x.now (exs_of es.now)) }
     {
         match self.slot(x) {
             Some(k) => self.add(Node::Slot(k)),
@@ -290,7 +290,7 @@ impl Emitter {
         places: &Places,
         es: &Items<Expr>,
     ) -> Result<ExprId, NoMemory>
-        ensures { EmittedAs places.now self.old self.new result (λ rs s i. list_nodes rs s i (exs_of es.now)) }
+        ensures { EmittedAs places.now self.old self.new result (λ rs s n. list_nodes rs s n (exs_of es.now)) }
     {
         let ids = self.all(alloc, places, es)?;
         self.add(Node::List(ids))
@@ -304,7 +304,7 @@ impl Emitter {
         places: &Places,
         es: &Items<Expr>,
     ) -> Result<Items<ExprId>, NoMemory>
-        ensures { IfOk result (λ ids. EmittedAll places.now.all self.old self.new ids (exs_of es.now)) }
+        ensures { IfOk result (λ ids. EmittedAll places.now self.old self.new ids (exs_of es.now)) }
     {
         let mut ids = Items::new(alloc);
         'each: for e in es.as_slice() {
@@ -324,7 +324,7 @@ impl Emitter {
         form: BinaryForm,
         links: &Items<Link>,
     ) -> Result<ExprId, NoMemory>
-        ensures { EmittedAs places.now self.old self.new result (λ rs s i. chain_nodes rs s i (links_of form links.now) (Node.Chain first)) }
+        ensures { EmittedAs places.now self.old self.new result (λ rs s n. chain_nodes rs s n (links_of form links.now) (Node.Chain first)) }
     {
         let mut ks = Items::new(alloc);
         'each: for link in links.as_slice() {
@@ -343,7 +343,7 @@ impl Emitter {
         first: ExprId,
         links: &Items<SumLink>,
     ) -> Result<ExprId, NoMemory>
-        ensures { EmittedAs places.now self.old self.new result (λ rs s i. chain_nodes rs s i (sum_links_of links.now) (Node.Chain first)) }
+        ensures { EmittedAs places.now self.old self.new result (λ rs s n. chain_nodes rs s n (sum_links_of links.now) (Node.Chain first)) }
     {
         let mut ks = Items::new(alloc);
         'each: for link in links.as_slice() {
@@ -363,7 +363,7 @@ impl Emitter {
         first: ExprId,
         links: &Items<ListLink>,
     ) -> Result<ExprId, NoMemory>
-        ensures { EmittedAs places.now self.old self.new result (λ rs s i. chain_nodes rs s i (list_links_of links.now) (Node.Conses first)) }
+        ensures { EmittedAs places.now self.old self.new result (λ rs s n. chain_nodes rs s n (list_links_of links.now) (Node.Conses first)) }
     {
         let mut ks = Items::new(alloc);
         'each: for link in links.as_slice() {
@@ -383,7 +383,7 @@ impl Emitter {
         h: ExprId,
         arms: &ExprArms,
     ) -> Result<ExprId, NoMemory>
-        ensures { EmittedAs places.now self.old self.new result (λ rs s i. arm_nodes rs s i h (arms_of arms.now)) }
+        ensures { EmittedAs places.now self.old self.new result (λ rs s n. arm_nodes rs s n h (arms_of arms.now)) }
     {
         match arms {
             ExprArms::OfMaybe(a, x, b) => {
