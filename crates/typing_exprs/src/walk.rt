@@ -1,14 +1,15 @@
 //! The walk itself: one cycle of calls over the parts of an expression. A function has the tree that it goes down as its
 //! first tree, and what is known of the parts before it after that. `two` and `chain` go down two trees each, so the
 //! measures of the cycle are written out.
-ghost use Rattle.std.specs.Prelude.{◌≡◌, ◌∷◌, [], IfOk};
-ghost use Rattle.rules_trees.specs.Trees.{binary, chain, items, name, wr_of, ex_of, exs_of, arms_of, links_of, sum_links_of, list_links_of};
+ghost use Rattle.std.specs.Prelude.{◌∷◌, [], IfOk};
+ghost use Rattle.rules_trees.specs.Trees.{binary, chain, items, name, ex_of, exs_of, arms_of, links_of, sum_links_of, list_links_of};
 ghost use Rattle.rules_typing.specs.Typing.{of, bound, form_of_arms, row_unary, row_binary, row_choose, row_side};
-ghost use Rattle.typing_judge.specs.Judging.{after, needing, not_full, own, part, parts2, parts3, typed, written, unless_full, folded, judge, judges, judge_links, judge_arms, operand_faults, operand_types};
+ghost use Rattle.typing_judge.specs.Judging.{after, needing, not_full, own, part, parts2, parts3, folded, judge, judges, judge_links, judge_arms, operand_faults, operand_types};
 ghost use Rattle.typing_table.specs.Meaning.{type_in};
-ghost use Rattle.typing_parts.specs.Views.{opt_ty, opt_tys, opts_of, part_of};
+ghost use Rattle.typing_parts.specs.Views.{opt_ty, opt_tys, opts_of};
 ghost use Rattle.typing_parts.specs.Contexts.{ctx_of};
-ghost use Rattle.typing_parts.specs.Judged.{Judged, JudgedAll, Gathered, names};
+ghost use Rattle.typing_parts.specs.Judged.{JudgedAll, Gathered, names};
+ghost use Rattle.typing_parts.specs.JudgedAs.{JudgedIn, earlier, under_part};
 
 use crate::forms::{asked_form, compare_form, sum_form};
 use crate::leaves::{added, alone, constant_type, empty, enter, fitting};
@@ -27,7 +28,7 @@ use typing_table::ty::TypeTerm;
 #[cycle(walk)]
 #[tactic(auto, using(typing_parts::proofs::Noted::noted_rules))]
 pub fn type_of(checker: &mut Checker, funs: &Funs, e: &Expr) -> Result<Option<TypeTerm>, NoMemory>
-    ensures { IfOk result (λ t. Judged funs.now.types.nodes checker.old checker.new (opt_ty funs.now.types.nodes t) (judge (ctx_of funs.now) (names funs.now.types.nodes checker.old) (ex_of e.now))) }
+    ensures { JudgedIn funs.now checker.old checker.new result (λ c s. judge c s (ex_of e.now)) }
 {
     match e {
         Expr::Int(_, _) => Ok(Some(TypeTerm::Base(Base::Int))),
@@ -88,7 +89,7 @@ fn unary(
     p: Pos,
     o: UnaryForm,
 ) -> Result<Option<TypeTerm>, NoMemory>
-    ensures { IfOk result (λ t. Judged funs.now.types.nodes checker.old checker.new (opt_ty funs.now.types.nodes t) (part (judge (ctx_of funs.now) (names funs.now.types.nodes checker.old) (ex_of a.now)) (λ u. own p (row_unary o u)))) }
+    ensures { JudgedIn funs.now checker.old checker.new result (λ c s. part (judge c s (ex_of a.now)) (λ u. own p (row_unary o u))) }
 {
     let t = type_of(checker, funs, a)?;
     let r = checker.close_unary(&funs.types, p, o, t)?;
@@ -106,7 +107,7 @@ fn side(
     o: SideForm,
     sides: Sides,
 ) -> Result<Option<TypeTerm>, NoMemory>
-    ensures { IfOk result (λ r. Judged funs.now.types.nodes checker.old checker.new (opt_ty funs.now.types.nodes r) (parts3 (typed (opt_ty funs.now.types.nodes sides.left)) (typed (opt_ty funs.now.types.nodes sides.right)) (judge (ctx_of funs.now) (names funs.now.types.nodes checker.old) (ex_of a.now)) (λ u v w. own p (row_side o u v w)))) }
+    ensures { JudgedIn funs.now checker.old checker.new result (λ c s. parts3 (earlier funs.now sides.left) (earlier funs.now sides.right) (judge c s (ex_of a.now)) (λ u v w. own p (row_side o u v w))) }
 {
     let t = type_of(checker, funs, a)?;
     let r = checker.close_side(&funs.types, p, o, sides, t)?;
@@ -124,7 +125,7 @@ fn two(
     p: Pos,
     o: BinaryForm,
 ) -> Result<Option<TypeTerm>, NoMemory>
-    ensures { IfOk result (λ r. Judged funs.now.types.nodes checker.old checker.new (opt_ty funs.now.types.nodes r) (judge (ctx_of funs.now) (names funs.now.types.nodes checker.old) (binary o p (ex_of a.now) (ex_of b.now)))) }
+    ensures { JudgedIn funs.now checker.old checker.new result (λ c s. judge c s (binary o p (ex_of a.now) (ex_of b.now))) }
 {
     let t = type_of(checker, funs, a)?;
     second(checker, funs, b, p, o, t)
@@ -141,7 +142,7 @@ fn second(
     o: BinaryForm,
     t: Option<TypeTerm>,
 ) -> Result<Option<TypeTerm>, NoMemory>
-    ensures { IfOk result (λ r. Judged funs.now.types.nodes checker.old checker.new (opt_ty funs.now.types.nodes r) (parts2 (typed (opt_ty funs.now.types.nodes t)) (judge (ctx_of funs.now) (names funs.now.types.nodes checker.old) (ex_of b.now)) (λ u v. own p (row_binary o u v)))) }
+    ensures { JudgedIn funs.now checker.old checker.new result (λ c s. parts2 (earlier funs.now t) (judge c s (ex_of b.now)) (λ u v. own p (row_binary o u v))) }
 {
     let u = type_of(checker, funs, b)?;
     let r = checker.close_binary(&funs.types, p, o, t, u)?;
@@ -159,7 +160,7 @@ fn third(
     t: Option<TypeTerm>,
     u: Option<TypeTerm>,
 ) -> Result<Option<TypeTerm>, NoMemory>
-    ensures { IfOk result (λ r. Judged funs.now.types.nodes checker.old checker.new (opt_ty funs.now.types.nodes r) (parts3 (typed (opt_ty funs.now.types.nodes t)) (typed (opt_ty funs.now.types.nodes u)) (judge (ctx_of funs.now) (names funs.now.types.nodes checker.old) (ex_of b.now)) (λ u v w. own p (row_choose u v w)))) }
+    ensures { JudgedIn funs.now checker.old checker.new result (λ c s. parts3 (earlier funs.now t) (earlier funs.now u) (judge c s (ex_of b.now)) (λ u v w. own p (row_choose u v w))) }
 {
     let v = type_of(checker, funs, b)?;
     let r = checker.close_choose(&funs.types, p, t, u, v)?;
@@ -176,7 +177,7 @@ fn chain(
     o: BinaryForm,
     a: &Expr,
 ) -> Result<Option<TypeTerm>, NoMemory>
-    ensures { IfOk result (λ r. Judged funs.now.types.nodes checker.old checker.new (opt_ty funs.now.types.nodes r) (judge (ctx_of funs.now) (names funs.now.types.nodes checker.old) (chain (ex_of a.now) (links_of o ks.now)))) }
+    ensures { JudgedIn funs.now checker.old checker.new result (λ c s. judge c s (chain (ex_of a.now) (links_of o ks.now))) }
 {
     let t = type_of(checker, funs, a)?;
     links(checker, funs, ks, o, t)
@@ -192,7 +193,7 @@ fn links(
     o: BinaryForm,
     t: Option<TypeTerm>,
 ) -> Result<Option<TypeTerm>, NoMemory>
-    ensures { IfOk result (λ r. Judged funs.now.types.nodes checker.old checker.new (opt_ty funs.now.types.nodes r) (judge_links (ctx_of funs.now) (names funs.now.types.nodes checker.old) (typed (opt_ty funs.now.types.nodes t)) (links_of o ks.now))) }
+    ensures { JudgedIn funs.now checker.old checker.new result (λ c s. judge_links c s (earlier funs.now t) (links_of o ks.now)) }
 {
     let mut t = t;
     'links: for k in ks.as_slice() {
@@ -210,7 +211,7 @@ fn sum_links(
     ks: &Items<SumLink>,
     t: Option<TypeTerm>,
 ) -> Result<Option<TypeTerm>, NoMemory>
-    ensures { IfOk result (λ r. Judged funs.now.types.nodes checker.old checker.new (opt_ty funs.now.types.nodes r) (judge_links (ctx_of funs.now) (names funs.now.types.nodes checker.old) (typed (opt_ty funs.now.types.nodes t)) (sum_links_of ks.now))) }
+    ensures { JudgedIn funs.now checker.old checker.new result (λ c s. judge_links c s (earlier funs.now t) (sum_links_of ks.now)) }
 {
     let mut t = t;
     'links: for k in ks.as_slice() {
@@ -228,7 +229,7 @@ fn conses(
     ks: &Items<ListLink>,
     t: Option<TypeTerm>,
 ) -> Result<Option<TypeTerm>, NoMemory>
-    ensures { IfOk result (λ r. Judged funs.now.types.nodes checker.old checker.new (opt_ty funs.now.types.nodes r) (after (operand_faults (ctx_of funs.now) (names funs.now.types.nodes checker.old) (list_links_of ks.now)) (folded (opt_ty funs.now.types.nodes t ∷ operand_types (ctx_of funs.now) (names funs.now.types.nodes checker.old) (list_links_of ks.now)) (list_links_of ks.now)))) }
+    ensures { JudgedIn funs.now checker.old checker.new result (λ c s. after (operand_faults c s (list_links_of ks.now)) (folded (opt_ty funs.now.types.nodes t ∷ operand_types c s (list_links_of ks.now)) (list_links_of ks.now))) }
 {
     let ts = operands(checker, funs, ks, t)?;
     let r = checker.close_conses(&funs.types, &ts, ks)?;
@@ -263,7 +264,7 @@ fn call(
     es: &Items<Expr>,
     x: &Name,
 ) -> Result<Option<TypeTerm>, NoMemory>
-    ensures { IfOk result (λ t. Judged funs.now.types.nodes checker.old checker.new (opt_ty funs.now.types.nodes t) (judge (ctx_of funs.now) (names funs.now.types.nodes checker.old) (name x.now (exs_of es.now)))) }
+    ensures { JudgedIn funs.now checker.old checker.new result (λ c s. judge c s (name x.now (exs_of es.now))) }
 {
     let us = types_of(checker, funs, es)?;
     let t = checker.close_call(funs, x, es.len(), us)?;
@@ -279,7 +280,7 @@ fn list(
     es: &Items<Expr>,
     p: Pos,
 ) -> Result<Option<TypeTerm>, NoMemory>
-    ensures { IfOk result (λ t. Judged funs.now.types.nodes checker.old checker.new (opt_ty funs.now.types.nodes t) (judge (ctx_of funs.now) (names funs.now.types.nodes checker.old) (items p (exs_of es.now)))) }
+    ensures { JudgedIn funs.now checker.old checker.new result (λ c s. judge c s (items p (exs_of es.now))) }
 {
     let ts = types_of(checker, funs, es)?;
     let t = checker.close_items(&funs.types, p, ts)?;
@@ -314,7 +315,7 @@ fn given(
     x: &Name,
     t: Option<TypeTerm>,
 ) -> Result<Option<TypeTerm>, NoMemory>
-    ensures { IfOk result (λ r. Judged funs.now.types.nodes checker.old checker.new (opt_ty funs.now.types.nodes r) (part (not_full (names funs.now.types.nodes checker.old) (typed (opt_ty funs.now.types.nodes t))) (λ u. judge (ctx_of funs.now) (bound x.now u ∷ names funs.now.types.nodes checker.old) (ex_of b.now)))) }
+    ensures { JudgedIn funs.now checker.old checker.new result (λ c s. part (not_full s (earlier funs.now t)) (λ u. judge c (bound x.now u ∷ s) (ex_of b.now))) }
 {
     match checker.begin(&funs.types, x, t)? {
         false => Ok(None),
@@ -336,7 +337,7 @@ fn case(
     p: Pos,
     t: Option<TypeTerm>,
 ) -> Result<Option<TypeTerm>, NoMemory>
-    ensures { IfOk result (λ r. Judged funs.now.types.nodes checker.old checker.new (opt_ty funs.now.types.nodes r) (part (typed (opt_ty funs.now.types.nodes t)) (λ u. needing p (of (form_of_arms (arms_of arms.now)) u ∷ []) (judge_arms (ctx_of funs.now) (names funs.now.types.nodes checker.old) p u (arms_of arms.now))))) }
+    ensures { JudgedIn funs.now checker.old checker.new result (λ c s. part (earlier funs.now t) (λ u. needing p (of (form_of_arms (arms_of arms.now)) u ∷ []) (judge_arms c s p u (arms_of arms.now)))) }
 {
     match fitting(checker, &funs.types, p, asked_form(arms), t)? {
         None => Ok(None),
@@ -357,7 +358,7 @@ fn alternatives(
     p: Pos,
     t: &TypeTerm,
 ) -> Result<Option<TypeTerm>, NoMemory>
-    ensures { IfOk result (λ r. Judged funs.now.types.nodes checker.old checker.new (opt_ty funs.now.types.nodes r) (judge_arms (ctx_of funs.now) (names funs.now.types.nodes checker.old) p (type_in funs.now.types.nodes t.now) (arms_of arms.now))) }
+    ensures { JudgedIn funs.now checker.old checker.new result (λ c s. judge_arms c s p (type_in funs.now.types.nodes t.now) (arms_of arms.now)) }
 {
     match arms {
         ExprArms::OfMaybe(a, x, b) => {
@@ -409,7 +410,7 @@ fn under(
     x: NamedPart,
     t: &TypeTerm,
 ) -> Result<Option<TypeTerm>, NoMemory>
-    ensures { IfOk result (λ r. Judged funs.now.types.nodes checker.old checker.new (opt_ty funs.now.types.nodes r) (unless_full (names funs.now.types.nodes checker.old) x.entry.name.now (judge (ctx_of funs.now) (bound x.entry.name.now (part_of x.entry.part (type_in funs.now.types.nodes t.now)) ∷ names funs.now.types.nodes checker.old) (ex_of e.now)))) }
+    ensures { JudgedIn funs.now checker.old checker.new result (λ c s. under_part (type_in funs.now.types.nodes t.now) x.entry s (λ u. judge c u (ex_of e.now))) }
 {
     match enter(checker, &funs.types, x, t)? {
         false => Ok(None),
@@ -432,7 +433,7 @@ fn under_two(
     y: NamedPart,
     t: &TypeTerm,
 ) -> Result<Option<TypeTerm>, NoMemory>
-    ensures { IfOk result (λ r. Judged funs.now.types.nodes checker.old checker.new (opt_ty funs.now.types.nodes r) (unless_full (names funs.now.types.nodes checker.old) x.entry.name.now (unless_full (bound x.entry.name.now (part_of x.entry.part (type_in funs.now.types.nodes t.now)) ∷ names funs.now.types.nodes checker.old) y.entry.name.now (judge (ctx_of funs.now) (bound y.entry.name.now (part_of y.entry.part (type_in funs.now.types.nodes t.now)) ∷ bound x.entry.name.now (part_of x.entry.part (type_in funs.now.types.nodes t.now)) ∷ names funs.now.types.nodes checker.old) (ex_of e.now))))) }
+    ensures { JudgedIn funs.now checker.old checker.new result (λ c s. under_part (type_in funs.now.types.nodes t.now) x.entry s (λ u. under_part (type_in funs.now.types.nodes t.now) y.entry u (λ v. judge c v (ex_of e.now)))) }
 {
     match enter(checker, &funs.types, x, t)? {
         false => Ok(None),
