@@ -1,17 +1,16 @@
 // The walk down a block.
 
-ghost use Rattle.std.specs.Prelude.{◌≡◌, [], ◌∷◌, IfOk};
-ghost use Rattle.rules_trees.specs.Trees.{exn};
+ghost use Rattle.std.specs.Prelude.{IfOk};
 ghost use Rattle.typing_table.specs.Meaning.{type_in};
 ghost use Rattle.rules_trees.specs.Programs.{act_of, bl_of, stmt_of, act_arms_of, scoped, masking};
-ghost use Rattle.rules_typing.specs.Typing.{a_cell, bound, inner_of, no_mask, of, row_arms, row_choose};
-ghost use Rattle.rules_typing.specs.TypingActions.{form_of_acts, row_async, row_bracket, row_modify};
-ghost use Rattle.typing_judge.specs.Judging.{needing, own, part, parts2, unless_full, unless_wrong, with1};
+ghost use Rattle.rules_typing.specs.Typing.{no_mask, row_arms, row_choose};
+ghost use Rattle.typing_judge.specs.Judging.{own, unless_wrong, with1};
 ghost use Rattle.typing_judge.specs.JudgingActions.{judge_act, judge_act_arms, judge_bl};
-ghost use Rattle.typing_parts.specs.Views.{opt_ty, part_of};
+ghost use Rattle.typing_parts.specs.Views.{opt_ty};
 ghost use Rattle.typing_parts.specs.Contexts.{ctx_of};
-ghost use Rattle.typing_parts.specs.Judged.{Judged, Stated, names};
-ghost use Rattle.typing_actions.specs.Parts.{row_two, second_part, third_part};
+ghost use Rattle.typing_parts.specs.Judged.{Stated};
+ghost use Rattle.typing_actions.specs.Parts.{row_two, second_part, third_part, handler_part, modify_part, async_part, bracket_part, case_part};
+ghost use Rattle.typing_parts.specs.JudgedAs.{JudgedIn, under_part};
 
 use crate::closing::{TwoParts, close_two, dropped, kept_if};
 use crate::opening::{asked_form, back_to, mark, open, open_exception, open_mask, open_part};
@@ -31,7 +30,7 @@ use typing_table::ty::TypeTerm;
 #[cycle(acts)]
 #[tactic(auto, using(crate::proofs::Acted::acted_rules))]
 fn action(checker: &mut Checker, funs: &Funs, a: &Action) -> Result<Option<TypeTerm>, NoMemory>
-    ensures { IfOk result (λ t. Judged funs.now.types.nodes checker.old checker.new (opt_ty funs.now.types.nodes t) (judge_act (ctx_of funs.now) (names funs.now.types.nodes checker.old) (act_of a.now))) }
+    ensures { JudgedIn funs.now checker.old checker.new result (λ c s. judge_act c s (act_of a.now)) }
 {
     match a {
         Action::Bare(w, _) => Ok(Some(TypeTerm::Base(bare_type(*w)))),
@@ -89,7 +88,7 @@ fn in_block(
     p: Pos,
     o: BlockAction,
 ) -> Result<Option<TypeTerm>, NoMemory>
-    ensures { IfOk result (λ t. Judged funs.now.types.nodes checker.old checker.new (opt_ty funs.now.types.nodes t) (judge_act (ctx_of funs.now) (names funs.now.types.nodes checker.old) (scoped o p (bl_of b.now)))) }
+    ensures { JudgedIn funs.now checker.old checker.new result (λ c s. judge_act c s (scoped o p (bl_of b.now))) }
 {
     let t = block(checker, funs, b)?;
     let r = checker.close_scoped(&funs.types, p, o, t)?;
@@ -107,7 +106,7 @@ fn in_masking(
     o: MaskingAction,
     x: &Name,
 ) -> Result<Option<TypeTerm>, NoMemory>
-    ensures { IfOk result (λ t. Judged funs.now.types.nodes checker.old checker.new (opt_ty funs.now.types.nodes t) (judge_act (ctx_of funs.now) (names funs.now.types.nodes checker.old) (masking o p x.now (bl_of b.now)))) }
+    ensures { JudgedIn funs.now checker.old checker.new result (λ c s. judge_act c s (masking o p x.now (bl_of b.now))) }
 {
     match open_mask(checker, &funs.types, x)? {
         false => Ok(None),
@@ -128,7 +127,7 @@ fn restored(
     b: &Block,
     x: &Name,
 ) -> Result<Option<TypeTerm>, NoMemory>
-    ensures { IfOk result (λ t. Judged funs.now.types.nodes checker.old checker.new (opt_ty funs.now.types.nodes t) (unless_wrong (no_mask (ctx_of funs.now) (names funs.now.types.nodes checker.old) x.now) (judge_bl (ctx_of funs.now) (names funs.now.types.nodes checker.old) (bl_of b.now)))) }
+    ensures { JudgedIn funs.now checker.old checker.new result (λ c s. unless_wrong (no_mask c s x.now) (judge_bl c s (bl_of b.now))) }
 {
     let is_mask = checker.check_mask(funs, x);
     let t = block(checker, funs, b)?;
@@ -146,7 +145,7 @@ fn second(
     o: TwoParts,
     t: Option<TypeTerm>,
 ) -> Result<Option<TypeTerm>, NoMemory>
-    ensures { IfOk result (λ r. Judged funs.now.types.nodes checker.old checker.new (opt_ty funs.now.types.nodes r) (second_part (opt_ty funs.now.types.nodes t) (judge_bl (ctx_of funs.now) (names funs.now.types.nodes checker.old) (bl_of b.now)) (λ u v. own p (row_two o u v)))) }
+    ensures { JudgedIn funs.now checker.old checker.new result (λ c s. second_part (opt_ty funs.now.types.nodes t) (judge_bl c s (bl_of b.now)) (λ u v. own p (row_two o u v))) }
 {
     let u = block(checker, funs, b)?;
     let r = close_two(checker, &funs.types, p, o, t, u)?;
@@ -164,7 +163,7 @@ fn third(
     t: Option<TypeTerm>,
     u: Option<TypeTerm>,
 ) -> Result<Option<TypeTerm>, NoMemory>
-    ensures { IfOk result (λ r. Judged funs.now.types.nodes checker.old checker.new (opt_ty funs.now.types.nodes r) (third_part (opt_ty funs.now.types.nodes t) (opt_ty funs.now.types.nodes u) (judge_bl (ctx_of funs.now) (names funs.now.types.nodes checker.old) (bl_of b.now)) (λ u v w. own p (row_choose u v w)))) }
+    ensures { JudgedIn funs.now checker.old checker.new result (λ c s. third_part (opt_ty funs.now.types.nodes t) (opt_ty funs.now.types.nodes u) (judge_bl c s (bl_of b.now)) (λ u v w. own p (row_choose u v w))) }
 {
     let v = block(checker, funs, b)?;
     let r = checker.close_choose(&funs.types, p, t, u, v)?;
@@ -182,7 +181,7 @@ fn caught(
     t: Option<TypeTerm>,
     x: &Name,
 ) -> Result<Option<TypeTerm>, NoMemory>
-    ensures { IfOk result (λ r. Judged funs.now.types.nodes checker.old checker.new (opt_ty funs.now.types.nodes r) (second_part (opt_ty funs.now.types.nodes t) (unless_full (names funs.now.types.nodes checker.old) x.now (judge_bl (ctx_of funs.now) (bound x.now exn ∷ names funs.now.types.nodes checker.old) (bl_of b.now))) (λ u v. own p (row_arms u v)))) }
+    ensures { JudgedIn funs.now checker.old checker.new result (λ c s. second_part (opt_ty funs.now.types.nodes t) (handler_part c s x.now (bl_of b.now)) (λ u v. own p (row_arms u v))) }
 {
     match open_exception(checker, &funs.types, x)? {
         false => Ok(dropped(t)),
@@ -206,7 +205,7 @@ fn in_cell(
     t: Option<TypeTerm>,
     x: &Name,
 ) -> Result<Option<TypeTerm>, NoMemory>
-    ensures { IfOk result (λ r. Judged funs.now.types.nodes checker.old checker.new (opt_ty funs.now.types.nodes r) (with1 (opt_ty funs.now.types.nodes t) (λ u. needing p (of a_cell u ∷ []) (part (unless_full (names funs.now.types.nodes checker.old) x.now (judge_bl (ctx_of funs.now) (bound x.now (inner_of u) ∷ names funs.now.types.nodes checker.old) (bl_of b.now))) (λ v. own p (row_modify u v)))))) }
+    ensures { JudgedIn funs.now checker.old checker.new result (λ c s. with1 (opt_ty funs.now.types.nodes t) (modify_part c s p x.now (bl_of b.now))) }
 {
     match t {
         None => Ok(None),
@@ -232,7 +231,7 @@ fn in_scope(
     t: Option<TypeTerm>,
     x: &Name,
 ) -> Result<Option<TypeTerm>, NoMemory>
-    ensures { IfOk result (λ r. Judged funs.now.types.nodes checker.old checker.new (opt_ty funs.now.types.nodes r) (with1 (opt_ty funs.now.types.nodes t) (λ u. part (own p (row_async u)) (λ v. unless_full (names funs.now.types.nodes checker.old) x.now (judge_bl (ctx_of funs.now) (bound x.now v ∷ names funs.now.types.nodes checker.old) (bl_of b.now)))))) }
+    ensures { JudgedIn funs.now checker.old checker.new result (λ c s. with1 (opt_ty funs.now.types.nodes t) (async_part c s p x.now (bl_of b.now))) }
 {
     match t {
         None => Ok(None),
@@ -264,7 +263,7 @@ fn in_bracket(
     p: Pos,
     acquired: Acquired,
 ) -> Result<Option<TypeTerm>, NoMemory>
-    ensures { IfOk result (λ r. Judged funs.now.types.nodes checker.old checker.new (opt_ty funs.now.types.nodes r) (with1 (opt_ty funs.now.types.nodes acquired.entry.ty) (λ u. unless_full (names funs.now.types.nodes checker.old) acquired.entry.name.now (parts2 (judge_bl (ctx_of funs.now) (bound acquired.entry.name.now u ∷ names funs.now.types.nodes checker.old) (bl_of b.now)) (judge_bl (ctx_of funs.now) (bound acquired.entry.name.now u ∷ names funs.now.types.nodes checker.old) (bl_of d.now)) (λ v w. own p (row_bracket v w)))))) }
+    ensures { JudgedIn funs.now checker.old checker.new result (λ c s. with1 (opt_ty funs.now.types.nodes acquired.entry.ty) (bracket_part c s p acquired.entry.name.now (bl_of b.now) (bl_of d.now))) }
 {
     let Acquired { name, ty } = acquired;
     match ty {
@@ -291,7 +290,7 @@ fn arms_at(
     p: Pos,
     t: Option<TypeTerm>,
 ) -> Result<Option<TypeTerm>, NoMemory>
-    ensures { IfOk result (λ r. Judged funs.now.types.nodes checker.old checker.new (opt_ty funs.now.types.nodes r) (with1 (opt_ty funs.now.types.nodes t) (λ u. needing p (of (form_of_acts (act_arms_of arms.now)) u ∷ []) (judge_act_arms (ctx_of funs.now) (names funs.now.types.nodes checker.old) p u (act_arms_of arms.now))))) }
+    ensures { JudgedIn funs.now checker.old checker.new result (λ c s. with1 (opt_ty funs.now.types.nodes t) (case_part c s p (act_arms_of arms.now))) }
 {
     match t {
         None => Ok(None),
@@ -316,7 +315,7 @@ fn in_arms(
     p: Pos,
     t: &TypeTerm,
 ) -> Result<Option<TypeTerm>, NoMemory>
-    ensures { IfOk result (λ r. Judged funs.now.types.nodes checker.old checker.new (opt_ty funs.now.types.nodes r) (judge_act_arms (ctx_of funs.now) (names funs.now.types.nodes checker.old) p (type_in funs.now.types.nodes t.now) (act_arms_of arms.now))) }
+    ensures { JudgedIn funs.now checker.old checker.new result (λ c s. judge_act_arms c s p (type_in funs.now.types.nodes t.now) (act_arms_of arms.now)) }
 {
     match arms {
         BlockArms::OfMaybe(a, x, b) => {
@@ -367,7 +366,7 @@ fn under(
     x: NamedPart,
     t: &TypeTerm,
 ) -> Result<Option<TypeTerm>, NoMemory>
-    ensures { IfOk result (λ r. Judged funs.now.types.nodes checker.old checker.new (opt_ty funs.now.types.nodes r) (unless_full (names funs.now.types.nodes checker.old) x.entry.name.now (judge_bl (ctx_of funs.now) (bound x.entry.name.now (part_of x.entry.part (type_in funs.now.types.nodes t.now)) ∷ names funs.now.types.nodes checker.old) (bl_of b.now)))) }
+    ensures { JudgedIn funs.now checker.old checker.new result (λ c s. under_part (type_in funs.now.types.nodes t.now) x.entry s (λ u. judge_bl c u (bl_of b.now))) }
 {
     match open_part(checker, &funs.types, x, t)? {
         false => Ok(None),
@@ -389,7 +388,7 @@ fn under_two(
     y: NamedPart,
     t: &TypeTerm,
 ) -> Result<Option<TypeTerm>, NoMemory>
-    ensures { IfOk result (λ r. Judged funs.now.types.nodes checker.old checker.new (opt_ty funs.now.types.nodes r) (unless_full (names funs.now.types.nodes checker.old) x.entry.name.now (unless_full (bound x.entry.name.now (part_of x.entry.part (type_in funs.now.types.nodes t.now)) ∷ names funs.now.types.nodes checker.old) y.entry.name.now (judge_bl (ctx_of funs.now) (bound y.entry.name.now (part_of y.entry.part (type_in funs.now.types.nodes t.now)) ∷ bound x.entry.name.now (part_of x.entry.part (type_in funs.now.types.nodes t.now)) ∷ names funs.now.types.nodes checker.old) (bl_of b.now))))) }
+    ensures { JudgedIn funs.now checker.old checker.new result (λ c s. under_part (type_in funs.now.types.nodes t.now) x.entry s (λ u. under_part (type_in funs.now.types.nodes t.now) y.entry u (λ v. judge_bl c v (bl_of b.now)))) }
 {
     match open_part(checker, &funs.types, x, t)? {
         false => Ok(None),
@@ -431,7 +430,7 @@ fn stmt(checker: &mut Checker, funs: &Funs, st: &Stmt) -> Result<bool, NoMemory>
 #[cycle(acts)]
 #[tactic(auto, using(rules_trees::proofs::EquationsOfActions::bl_is))]
 pub fn block(checker: &mut Checker, funs: &Funs, b: &Block) -> Result<Option<TypeTerm>, NoMemory>
-    ensures { IfOk result (λ t. Judged funs.now.types.nodes checker.old checker.new (opt_ty funs.now.types.nodes t) (judge_bl (ctx_of funs.now) (names funs.now.types.nodes checker.old) (bl_of b.now))) }
+    ensures { JudgedIn funs.now checker.old checker.new result (λ c s. judge_bl c s (bl_of b.now)) }
 {
     let mark = mark(checker, &funs.types);
     'stmts: for st in b.stmts.as_slice() {

@@ -6,12 +6,9 @@
 //! It is a crate apart from `hs_types` for the prover's cost alone.
 #![tactic(auto)]
 
-ghost use Rattle.std.specs.Prelude.{◌≡◌, IfOk};
 ghost use Rattle.rules_trees.specs.Programs.{bl_of};
 ghost use Rattle.typing_judge.specs.JudgingActions.{judge_bl};
-ghost use Rattle.typing_parts.specs.Views.{opt_ty};
-ghost use Rattle.typing_parts.specs.Contexts.{ctx_of};
-ghost use Rattle.typing_parts.specs.Judged.{Judged, names};
+ghost use Rattle.typing_parts.specs.JudgedAs.{JudgedIn};
 
 mod blocks;
 mod closing;
@@ -30,7 +27,7 @@ pub fn type_of_block(
     funs: &Funs,
     b: &Block,
 ) -> Result<Option<TypeTerm>, NoMemory>
-    ensures { IfOk result (λ t. Judged funs.now.types.nodes checker.old checker.new (opt_ty funs.now.types.nodes t) (judge_bl (ctx_of funs.now) (names funs.now.types.nodes checker.old) (bl_of b.now))) }
+    ensures { JudgedIn funs.now checker.old checker.new result (λ c s. judge_bl c s (bl_of b.now)) }
 {
     let t = blocks::block(checker, funs, b)?;
     Ok(t)

@@ -1,12 +1,9 @@
 // Actions without blocks.
 
-ghost use Rattle.std.specs.Prelude.{◌≡◌, IfOk};
 ghost use Rattle.rules_trees.specs.Trees.{ex_of, exs_of, wr_of};
-ghost use Rattle.rules_trees.specs.Programs.{bare, unary_act, binary_act, throw_io, new_empty, call};
+ghost use Rattle.rules_trees.specs.Programs.{unary_act, binary_act, throw_io, new_empty, call};
 ghost use Rattle.typing_judge.specs.JudgingActions.{judge_act};
-ghost use Rattle.typing_parts.specs.Views.{opt_ty};
-ghost use Rattle.typing_parts.specs.Contexts.{ctx_of};
-ghost use Rattle.typing_parts.specs.Judged.{Judged, names};
+ghost use Rattle.typing_parts.specs.JudgedAs.{JudgedIn};
 
 use hs_base::tree::forms::{BinaryAction, UnaryAction};
 use hs_base::tree::{Expr, Name, Written};
@@ -26,7 +23,7 @@ pub fn unary(
     o: UnaryAction,
     e: &Expr,
 ) -> Result<Option<TypeTerm>, NoMemory>
-    ensures { IfOk result (λ t. Judged funs.now.types.nodes checker.old checker.new (opt_ty funs.now.types.nodes t) (judge_act (ctx_of funs.now) (names funs.now.types.nodes checker.old) (unary_act o p (ex_of e.now)))) }
+    ensures { JudgedIn funs.now checker.old checker.new result (λ c s. judge_act c s (unary_act o p (ex_of e.now))) }
 {
     let t = type_of(checker, funs, e)?;
     let r = checker.close_unary_act(&funs.types, p, o, t)?;
@@ -43,7 +40,7 @@ pub fn binary(
     a: &Expr,
     b: &Expr,
 ) -> Result<Option<TypeTerm>, NoMemory>
-    ensures { IfOk result (λ t. Judged funs.now.types.nodes checker.old checker.new (opt_ty funs.now.types.nodes t) (judge_act (ctx_of funs.now) (names funs.now.types.nodes checker.old) (binary_act o p (ex_of a.now) (ex_of b.now)))) }
+    ensures { JudgedIn funs.now checker.old checker.new result (λ c s. judge_act c s (binary_act o p (ex_of a.now) (ex_of b.now))) }
 {
     let t = type_of(checker, funs, a)?;
     let u = type_of(checker, funs, b)?;
@@ -60,7 +57,7 @@ pub fn throw(
     w: &Written,
     e: &Expr,
 ) -> Result<Option<TypeTerm>, NoMemory>
-    ensures { IfOk result (λ t. Judged funs.now.types.nodes checker.old checker.new (opt_ty funs.now.types.nodes t) (judge_act (ctx_of funs.now) (names funs.now.types.nodes checker.old) (throw_io p (wr_of w.now) (ex_of e.now)))) }
+    ensures { JudgedIn funs.now checker.old checker.new result (λ c s. judge_act c s (throw_io p (wr_of w.now) (ex_of e.now))) }
 {
     let t = checker.written(&funs.types, w)?;
     let u = type_of(checker, funs, e)?;
@@ -76,7 +73,7 @@ pub fn empty_cell(
     p: Pos,
     w: &Written,
 ) -> Result<Option<TypeTerm>, NoMemory>
-    ensures { IfOk result (λ t. Judged funs.now.types.nodes checker.old checker.new (opt_ty funs.now.types.nodes t) (judge_act (ctx_of funs.now) (names funs.now.types.nodes checker.old) (new_empty p (wr_of w.now)))) }
+    ensures { JudgedIn funs.now checker.old checker.new result (λ c s. judge_act c s (new_empty p (wr_of w.now))) }
 {
     let t = checker.written(&funs.types, w)?;
     let r = checker.close_new_empty(&funs.types, p, t)?;
@@ -91,7 +88,7 @@ pub fn applied(
     x: &Name,
     es: &Items<Expr>,
 ) -> Result<Option<TypeTerm>, NoMemory>
-    ensures { IfOk result (λ t. Judged funs.now.types.nodes checker.old checker.new (opt_ty funs.now.types.nodes t) (judge_act (ctx_of funs.now) (names funs.now.types.nodes checker.old) (call x.now (exs_of es.now)))) }
+    ensures { JudgedIn funs.now checker.old checker.new result (λ c s. judge_act c s (call x.now (exs_of es.now))) }
 {
     let ts = types_of(checker, funs, es)?;
     let t = checker.close_act_call(funs, x, es.len(), ts)?;
