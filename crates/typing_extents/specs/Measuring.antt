@@ -1,9 +1,11 @@
 -- What a step of the meter does.
-use Rattle.std.specs.Prelude.{◌≡◌, ◌+◌, ◌-◌, ◌≤◌, List, [], ◌∷◌, length, drop, min, max}
+use Rattle.std.specs.Prelude.{◌≡◌, ◌+◌, ◌-◌, ◌≤◌, List, [], ◌∷◌, length, drop, min, max, Result, IfOk}
+use Rattle.hs_base.specs.declared.no_memory.NoMemory.{NoMemory}
 use Rattle.rules_typing.specs.TypingSizes as rule
 use Rattle.rules_trees.specs.Programs.{Bl}
-use Rattle.rules_typing.specs.Typing.{Sig}
-use Rattle.typing_parts.specs.Views.{scope_of}
+use Rattle.rules_typing.specs.Typing.{Sig, TypedName}
+use Rattle.typing_parts.specs.Views.{scope_of, sigs_of}
+use Rattle.typing_parts.specs.declared.funs.Funs.{Funs}
 use Rattle.typing_extents.specs.declared.meter.Extent.{Extent}
 use Rattle.typing_extents.specs.declared.meter.Meter.{Meter}
 
@@ -20,6 +22,10 @@ pub record Extends (old new : Meter) (x : Extent) (y : rule.Extent) : Type 0 whe
   pub before : new.extents ≡ old.extents
   pub size : x.size ≡ min y.size 1000001
   pub height : x.height ≡ min y.height 1000001
+
+-- Where memory sufficed, the extent was answered that the rules give: by the functions, the definitions before, and the scope that stood before.
+abbrev pub MeasuredAs : Funs → Meter → Meter → Result Extent NoMemory → (List Sig → List rule.Extent → List TypedName → rule.Extent) → Type 0
+MeasuredAs f old new result given = IfOk result (λ x. Extends old new x (given (sigs_of f.types.nodes f.sigs) (exts_of old.extents) (scope_of [] old.scope.items)))
 
 -- part of a row of parts was measured: x, and what is left, make the whole
 pub record Sofar (old new : Meter) (x : Extent) (left whole : rule.Extent) : Type 0 where

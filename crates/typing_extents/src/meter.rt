@@ -1,10 +1,10 @@
-ghost use Rattle.std.specs.Prelude.{◌≡◌, ◌≤◌, ◌+◌, ◌-◌, ◌∷◌, [], IfOk, OnOk, min, max, length, drop};
+ghost use Rattle.std.specs.Prelude.{◌≡◌, ◌≤◌, ◌+◌, ◌-◌, ◌∷◌, [], OnOk, min, max, length, drop};
 ghost use Rattle.rules_trees.specs.Trees.{ex_of, exs_of, arms_of, links_of, sum_links_of, list_links_of};
 ghost use Rattle.rules_typing.specs.Typing.{masked};
 ghost use Rattle.rules_typing.specs.TypingSizes.{extent, extents, link_extents, arm_extents, body_extent, over, beside, higher};
 ghost use Rattle.rules_typing.specs.Typing.{look};
 ghost use Rattle.typing_parts.specs.Views.{scope_of, sigs_of};
-ghost use Rattle.typing_extents.specs.Measuring.{Extends, ext_of, exts_of};
+ghost use Rattle.typing_extents.specs.Measuring.{Extends, ext_of, exts_of, MeasuredAs};
 
 use hs_base::NoMemory;
 use hs_base::tree::forms::BinaryForm;
@@ -144,7 +144,7 @@ impl Meter {
     /// How far an expression unfolds.
     #[cycle(extents)]
     pub fn extent(&mut self, alloc: Global, funs: &Funs, e: &Expr) -> Result<Extent, NoMemory>
-        ensures { IfOk result (λ x. Extends self.old self.new x (extent (sigs_of funs.now.types.nodes funs.now.sigs) (exts_of self.old.extents) (scope_of [] self.old.scope.items) (ex_of e.now))) }
+        ensures { MeasuredAs funs.now self.old self.new result (λ gs xs s. extent gs xs s (ex_of e.now)) }
     {
         match e {
             Expr::Int(_, _) => Ok(over(nothing())),
@@ -198,7 +198,7 @@ impl Meter {
     /// A node over one part.
     #[cycle(extents)]
     fn around(&mut self, alloc: Global, funs: &Funs, a: &Expr) -> Result<Extent, NoMemory>
-        ensures { IfOk result (λ x. Extends self.old self.new x (over (extent (sigs_of funs.now.types.nodes funs.now.sigs) (exts_of self.old.extents) (scope_of [] self.old.scope.items) (ex_of a.now)))) }
+        ensures { MeasuredAs funs.now self.old self.new result (λ gs xs s. over (extent gs xs s (ex_of a.now))) }
     {
         let x = self.extent(alloc, funs, a)?;
         Ok(over(x))
@@ -213,7 +213,7 @@ impl Meter {
         a: &Expr,
         b: &Expr,
     ) -> Result<Extent, NoMemory>
-        ensures { IfOk result (λ x. Extends self.old self.new x (over (beside (extent (sigs_of funs.now.types.nodes funs.now.sigs) (exts_of self.old.extents) (scope_of [] self.old.scope.items) (ex_of a.now)) (extent (sigs_of funs.now.types.nodes funs.now.sigs) (exts_of self.old.extents) (scope_of [] self.old.scope.items) (ex_of b.now))))) }
+        ensures { MeasuredAs funs.now self.old self.new result (λ gs xs s. over (beside (extent gs xs s (ex_of a.now)) (extent gs xs s (ex_of b.now)))) }
     {
         let x = self.extent(alloc, funs, a)?;
         self.around_two(alloc, funs, b, x)
@@ -228,7 +228,7 @@ impl Meter {
         b: &Expr,
         x: Extent,
     ) -> Result<Extent, NoMemory>
-        ensures { IfOk result (λ y. Extends self.old self.new y (over (beside (ext_of x) (extent (sigs_of funs.now.types.nodes funs.now.sigs) (exts_of self.old.extents) (scope_of [] self.old.scope.items) (ex_of b.now))))) }
+        ensures { MeasuredAs funs.now self.old self.new result (λ gs xs s. over (beside (ext_of x) (extent gs xs s (ex_of b.now)))) }
     {
         let y = self.extent(alloc, funs, b)?;
         Ok(over(beside(x, y)))
@@ -236,7 +236,7 @@ impl Meter {
 
     #[cycle(extents)]
     fn parts(&mut self, alloc: Global, funs: &Funs, es: &Items<Expr>) -> Result<Extent, NoMemory>
-        ensures { IfOk result (λ x. Extends self.old self.new x (extents (sigs_of funs.now.types.nodes funs.now.sigs) (exts_of self.old.extents) (scope_of [] self.old.scope.items) (exs_of es.now))) }
+        ensures { MeasuredAs funs.now self.old self.new result (λ gs xs s. extents gs xs s (exs_of es.now)) }
     {
         let mut x = nothing();
         'parts: for e in es.as_slice() {
@@ -256,7 +256,7 @@ impl Meter {
         o: BinaryForm,
         a: &Expr,
     ) -> Result<Extent, NoMemory>
-        ensures { IfOk result (λ x. Extends self.old self.new x (higher (beside (extent (sigs_of funs.now.types.nodes funs.now.sigs) (exts_of self.old.extents) (scope_of [] self.old.scope.items) (ex_of a.now)) (link_extents (sigs_of funs.now.types.nodes funs.now.sigs) (exts_of self.old.extents) (scope_of [] self.old.scope.items) (links_of o ks.now))))) }
+        ensures { MeasuredAs funs.now self.old self.new result (λ gs xs s. higher (beside (extent gs xs s (ex_of a.now)) (link_extents gs xs s (links_of o ks.now)))) }
     {
         let x = self.extent(alloc, funs, a)?;
         let y = self.links(alloc, funs, o, ks)?;
@@ -271,7 +271,7 @@ impl Meter {
         o: BinaryForm,
         ks: &Items<Link>,
     ) -> Result<Extent, NoMemory>
-        ensures { IfOk result (λ x. Extends self.old self.new x (link_extents (sigs_of funs.now.types.nodes funs.now.sigs) (exts_of self.old.extents) (scope_of [] self.old.scope.items) (links_of o ks.now))) }
+        ensures { MeasuredAs funs.now self.old self.new result (λ gs xs s. link_extents gs xs s (links_of o ks.now)) }
     {
         let mut x = nothing();
         'links: for k in ks.as_slice() {
@@ -288,7 +288,7 @@ impl Meter {
         funs: &Funs,
         ks: &Items<SumLink>,
     ) -> Result<Extent, NoMemory>
-        ensures { IfOk result (λ x. Extends self.old self.new x (link_extents (sigs_of funs.now.types.nodes funs.now.sigs) (exts_of self.old.extents) (scope_of [] self.old.scope.items) (sum_links_of ks.now))) }
+        ensures { MeasuredAs funs.now self.old self.new result (λ gs xs s. link_extents gs xs s (sum_links_of ks.now)) }
     {
         let mut x = nothing();
         'links: for k in ks.as_slice() {
@@ -305,7 +305,7 @@ impl Meter {
         funs: &Funs,
         ks: &Items<ListLink>,
     ) -> Result<Extent, NoMemory>
-        ensures { IfOk result (λ x. Extends self.old self.new x (link_extents (sigs_of funs.now.types.nodes funs.now.sigs) (exts_of self.old.extents) (scope_of [] self.old.scope.items) (list_links_of ks.now))) }
+        ensures { MeasuredAs funs.now self.old self.new result (λ gs xs s. link_extents gs xs s (list_links_of ks.now)) }
     {
         let mut x = nothing();
         'links: for k in ks.as_slice() {
@@ -318,7 +318,7 @@ impl Meter {
     #[cycle(extents)]
     #[tactic(auto, using(rules_trees::proofs::Equations::arms_rules))]
     fn arms(&mut self, alloc: Global, funs: &Funs, arms: &ExprArms) -> Result<Extent, NoMemory>
-        ensures { IfOk result (λ x. Extends self.old self.new x (arm_extents (sigs_of funs.now.types.nodes funs.now.sigs) (exts_of self.old.extents) (scope_of [] self.old.scope.items) (arms_of arms.now))) }
+        ensures { MeasuredAs funs.now self.old self.new result (λ gs xs s. arm_extents gs xs s (arms_of arms.now)) }
     {
         match arms {
             ExprArms::OfMaybe(a, x, b) => {
@@ -345,7 +345,7 @@ impl Meter {
 
     #[cycle(extents)]
     fn under(&mut self, alloc: Global, funs: &Funs, v: &Name, e: &Expr) -> Result<Extent, NoMemory>
-        ensures { IfOk result (λ x. Extends self.old self.new x (extent (sigs_of funs.now.types.nodes funs.now.sigs) (exts_of self.old.extents) (masked v.now ∷ scope_of [] self.old.scope.items) (ex_of e.now))) }
+        ensures { MeasuredAs funs.now self.old self.new result (λ gs xs s. extent gs xs (masked v.now ∷ s) (ex_of e.now)) }
     {
         self.bind(alloc, v)?;
         let x = self.extent(alloc, funs, e)?;
@@ -362,7 +362,7 @@ impl Meter {
         w: &Name,
         e: &Expr,
     ) -> Result<Extent, NoMemory>
-        ensures { IfOk result (λ x. Extends self.old self.new x (extent (sigs_of funs.now.types.nodes funs.now.sigs) (exts_of self.old.extents) (masked w.now ∷ masked v.now ∷ scope_of [] self.old.scope.items) (ex_of e.now))) }
+        ensures { MeasuredAs funs.now self.old self.new result (λ gs xs s. extent gs xs (masked w.now ∷ masked v.now ∷ s) (ex_of e.now)) }
     {
         self.bind(alloc, v)?;
         let x = self.under(alloc, funs, w, e)?;

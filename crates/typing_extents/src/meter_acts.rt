@@ -1,10 +1,10 @@
-ghost use Rattle.std.specs.Prelude.{◌≡◌, [], ◌∷◌, IfOk};
+ghost use Rattle.std.specs.Prelude.{◌∷◌, IfOk};
 ghost use Rattle.rules_trees.specs.Trees.{ex_of, exs_of};
 ghost use Rattle.rules_trees.specs.Programs.{act_of, bl_of, act_arms_of, stmt_of};
 ghost use Rattle.rules_typing.specs.Typing.{masked};
 ghost use Rattle.rules_typing.specs.TypingSizes.{extent, worse, worst_act, worst_bl, worst_arms, worst_exs};
-ghost use Rattle.typing_parts.specs.Views.{scope_of, sigs_of};
-ghost use Rattle.typing_extents.specs.Measuring.{Extends, Worsens, exts_of};
+ghost use Rattle.typing_parts.specs.Views.{sigs_of};
+ghost use Rattle.typing_extents.specs.Measuring.{Worsens, MeasuredAs};
 
 use crate::meter::{Extent, Meter, nothing, worse};
 use hs_base::NoMemory;
@@ -16,7 +16,7 @@ use typing_parts::funs::Funs;
 impl Meter {
     /// The greatest of some expressions, each for itself.
     fn each(&mut self, alloc: Global, funs: &Funs, es: &Items<Expr>) -> Result<Extent, NoMemory>
-        ensures { IfOk result (λ x. Extends self.old self.new x (worst_exs (sigs_of funs.now.types.nodes funs.now.sigs) (exts_of self.old.extents) (scope_of [] self.old.scope.items) (exs_of es.now))) }
+        ensures { MeasuredAs funs.now self.old self.new result (λ gs xs s. worst_exs gs xs s (exs_of es.now)) }
     {
         let mut x = nothing();
         'each: for e in es.as_slice() {
@@ -28,7 +28,7 @@ impl Meter {
 
     /// The greater of two expressions, each for itself.
     fn both(&mut self, alloc: Global, funs: &Funs, e: &Expr, f: &Expr) -> Result<Extent, NoMemory>
-        ensures { IfOk result (λ x. Extends self.old self.new x (worse (extent (sigs_of funs.now.types.nodes funs.now.sigs) (exts_of self.old.extents) (scope_of [] self.old.scope.items) (ex_of e.now)) (extent (sigs_of funs.now.types.nodes funs.now.sigs) (exts_of self.old.extents) (scope_of [] self.old.scope.items) (ex_of f.now)))) }
+        ensures { MeasuredAs funs.now self.old self.new result (λ gs xs s. worse (extent gs xs s (ex_of e.now)) (extent gs xs s (ex_of f.now))) }
     {
         let x = self.extent(alloc, funs, e)?;
         let y = self.extent(alloc, funs, f)?;
@@ -38,7 +38,7 @@ impl Meter {
     /// The greatest expression of an action.
     #[cycle(worst)]
     fn action(&mut self, alloc: Global, funs: &Funs, a: &Action) -> Result<Extent, NoMemory>
-        ensures { IfOk result (λ x. Extends self.old self.new x (worst_act (sigs_of funs.now.types.nodes funs.now.sigs) (exts_of self.old.extents) (scope_of [] self.old.scope.items) (act_of a.now))) }
+        ensures { MeasuredAs funs.now self.old self.new result (λ gs xs s. worst_act gs xs s (act_of a.now)) }
     {
         match a {
             Action::Bare(_, _) => Ok(nothing()),
@@ -98,7 +98,7 @@ impl Meter {
     #[cycle(worst)]
     #[tactic(auto, using(rules_trees::proofs::EquationsOfActions::act_arms_rules))]
     fn act_arms(&mut self, alloc: Global, funs: &Funs, arms: &BlockArms) -> Result<Extent, NoMemory>
-        ensures { IfOk result (λ x. Extends self.old self.new x (worst_arms (sigs_of funs.now.types.nodes funs.now.sigs) (exts_of self.old.extents) (scope_of [] self.old.scope.items) (act_arms_of arms.now))) }
+        ensures { MeasuredAs funs.now self.old self.new result (λ gs xs s. worst_arms gs xs s (act_arms_of arms.now)) }
     {
         match arms {
             BlockArms::OfMaybe(a, x, b) => {
@@ -131,7 +131,7 @@ impl Meter {
         v: &Name,
         b: &Block,
     ) -> Result<Extent, NoMemory>
-        ensures { IfOk result (λ x. Extends self.old self.new x (worst_bl (sigs_of funs.now.types.nodes funs.now.sigs) (exts_of self.old.extents) (masked v.now ∷ scope_of [] self.old.scope.items) (bl_of b.now))) }
+        ensures { MeasuredAs funs.now self.old self.new result (λ gs xs s. worst_bl gs xs (masked v.now ∷ s) (bl_of b.now)) }
     {
         self.bind(alloc, v)?;
         let x = self.block(alloc, funs, b)?;
@@ -148,7 +148,7 @@ impl Meter {
         w: &Name,
         b: &Block,
     ) -> Result<Extent, NoMemory>
-        ensures { IfOk result (λ x. Extends self.old self.new x (worst_bl (sigs_of funs.now.types.nodes funs.now.sigs) (exts_of self.old.extents) (masked w.now ∷ masked v.now ∷ scope_of [] self.old.scope.items) (bl_of b.now))) }
+        ensures { MeasuredAs funs.now self.old self.new result (λ gs xs s. worst_bl gs xs (masked w.now ∷ masked v.now ∷ s) (bl_of b.now)) }
     {
         self.bind(alloc, v)?;
         let x = self.under_block(alloc, funs, w, b)?;
@@ -184,7 +184,7 @@ impl Meter {
     #[cycle(worst)]
     #[tactic(auto, using(rules_trees::proofs::EquationsOfActions::bl_is))]
     pub fn block(&mut self, alloc: Global, funs: &Funs, b: &Block) -> Result<Extent, NoMemory>
-        ensures { IfOk result (λ x. Extends self.old self.new x (worst_bl (sigs_of funs.now.types.nodes funs.now.sigs) (exts_of self.old.extents) (scope_of [] self.old.scope.items) (bl_of b.now))) }
+        ensures { MeasuredAs funs.now self.old self.new result (λ gs xs s. worst_bl gs xs s (bl_of b.now)) }
     {
         let mark = self.mark();
         let mut x = nothing();
