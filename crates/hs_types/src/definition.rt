@@ -1,14 +1,16 @@
-ghost use Rattle.std.specs.Prelude.{◌≡◌, ◌++◌, ◌∷◌, [], None, IfOk, OnOk, map};
+ghost use Rattle.std.specs.Prelude.{◌≡◌, ◌∷◌, [], None, IfOk, OnOk};
 ghost use Rattle.rules_trees.specs.Trees.{wr_of};
-ghost use Rattle.rules_trees.specs.Programs.{par_of, bd_of, fn_of};
+ghost use Rattle.rules_trees.specs.Programs.{bd_of, fn_of};
 ghost use Rattle.rules_typing.specs.Typing.{bound};
-ghost use Rattle.rules_typing.specs.TypingScripts.{result_of, params_in, wide_faults, room_faults, param_faults, head_faults, twice_faults, none_of};
-ghost use Rattle.typing_judge.specs.Judging.{part, with1};
+ghost use Rattle.rules_typing.specs.TypingScripts.{params_in, wide_faults, head_faults, twice_faults, none_of};
+ghost use Rattle.typing_judge.specs.Judging.{with1};
 ghost use Rattle.typing_judge.specs.JudgingScripts.{judge_body, ends, def_faults};
 ghost use Rattle.typing_judge.specs.Least.{least};
 ghost use Rattle.typing_parts.specs.Views.{kept_of, opt_ty};
 ghost use Rattle.typing_parts.specs.Contexts.{ctx_of};
-ghost use Rattle.typing_parts.specs.Judged.{Judged, names, kept};
+ghost use Rattle.typing_parts.specs.Judged.{names, kept};
+ghost use Rattle.hs_types.specs.Heads.{Entered, ParamEntered, ParamsEntered, HeadEntered, body_found};
+ghost use Rattle.typing_parts.specs.JudgedAs.{JudgedIn};
 
 use hs_base::NoMemory;
 use hs_base::tree::{Body, Def, Name, Param, Written};
@@ -36,7 +38,7 @@ pub struct Judgement {
 /// Notes where a written type is too wide.
 #[tactic(auto, using(typing_parts::proofs::ScriptSteps::script_rules))]
 fn check_width(checker: &mut Checker, types: &TypeTable, w: &Written) -> bool
-    ensures { (names types.now.nodes checker.new ≡ names types.now.nodes checker.old) × (kept types.now.nodes checker.new ≡ least (kept types.now.nodes checker.old) (wide_faults (wr_of w.now))) × (result ≡ none_of (wide_faults (wr_of w.now))) }
+    ensures { Entered types.now.nodes checker.old checker.new result (names types.now.nodes checker.old) (wide_faults (wr_of w.now)) }
 {
     if is_wide_written(&w.ty) {
         checker.first.note(types, Broken::Wide(w.pos));
@@ -77,7 +79,7 @@ fn bind_written(
 /// Binds a parameter, and says whether it is sound.
 #[tactic(auto, using(typing_parts::proofs::ScriptSteps::script_rules))]
 fn param(checker: &mut Checker, types: &TypeTable, p: &Param) -> Result<bool, NoMemory>
-    ensures { IfOk result (λ b. (names types.now.nodes checker.new ≡ bound p.now.name (wr_of p.now.ty).ty ∷ names types.now.nodes checker.old) × (kept types.now.nodes checker.new ≡ least (kept types.now.nodes checker.old) (wide_faults (wr_of p.now.ty) ++ room_faults (names types.now.nodes checker.old) p.now.name)) × (b ≡ none_of (wide_faults (wr_of p.now.ty) ++ room_faults (names types.now.nodes checker.old) p.now.name))) }
+    ensures { IfOk result (λ b. ParamEntered types.now.nodes checker.old checker.new b p.now) }
 {
     let narrow = check_width(checker, types, &p.ty);
     let full = checker.is_full(types);
@@ -89,7 +91,7 @@ fn param(checker: &mut Checker, types: &TypeTable, p: &Param) -> Result<bool, No
 /// Binds the parameters, and says whether each is sound.
 #[tactic(auto, using(typing_parts::proofs::ScriptSteps::script_rules))]
 fn params(checker: &mut Checker, types: &TypeTable, ps: &Items<Param>) -> Result<bool, NoMemory>
-    ensures { IfOk result (λ b. (names types.now.nodes checker.new ≡ params_in (names types.now.nodes checker.old) (map par_of ps.now)) × (kept types.now.nodes checker.new ≡ least (kept types.now.nodes checker.old) (param_faults (names types.now.nodes checker.old) (map par_of ps.now))) × (b ≡ none_of (param_faults (names types.now.nodes checker.old) (map par_of ps.now)))) }
+    ensures { IfOk result (λ b. ParamsEntered types.now.nodes checker.old checker.new b ps.now) }
 {
     let mut sound = true;
     'each: for p in ps.as_slice() {
@@ -103,7 +105,7 @@ fn params(checker: &mut Checker, types: &TypeTable, ps: &Items<Param>) -> Result
 #[tactic(auto, using(typing_parts::proofs::ScriptSteps::script_rules))]
 fn head(checker: &mut Checker, funs: &Funs, d: &Def) -> Result<bool, NoMemory>
     requires { names funs.now.types.nodes checker.old ≡ [] }
-    ensures { IfOk result (λ b. (names funs.now.types.nodes checker.new ≡ params_in [] (fn_of d.now).params) × (kept funs.now.types.nodes checker.new ≡ least (kept funs.now.types.nodes checker.old) (twice_faults (ctx_of funs.now) d.now.name ++ head_faults (fn_of d.now))) × (b ≡ none_of (head_faults (fn_of d.now)))) }
+    ensures { IfOk result (λ b. HeadEntered funs.now checker.old checker.new b d.now) }
 {
     check_once(checker, funs, &d.name);
     let a = params(checker, &funs.types, &d.params)?;
@@ -113,7 +115,7 @@ fn head(checker: &mut Checker, funs: &Funs, d: &Def) -> Result<bool, NoMemory>
 
 /// The type of a body, where it has one.
 fn type_of_body(checker: &mut Checker, funs: &Funs, b: &Body) -> Result<Option<TypeTerm>, NoMemory>
-    ensures { IfOk result (λ t. Judged funs.now.types.nodes checker.old checker.new (opt_ty funs.now.types.nodes t) (judge_body (ctx_of funs.now) (names funs.now.types.nodes checker.old) (bd_of b.now))) }
+    ensures { JudgedIn funs.now checker.old checker.new result (λ c s. judge_body c s (bd_of b.now)) }
 {
     match b {
         Body::Pure(_, e) => {
@@ -151,7 +153,7 @@ fn check_result(
 #[tactic(auto, using(typing_parts::proofs::ScriptSteps::script_rules))]
 fn tail(checker: &mut Checker, funs: &Funs, d: &Def) -> Result<(), NoMemory>
     requires { names funs.now.types.nodes checker.old ≡ params_in [] (fn_of d.now).params }
-    ensures { OnOk result (kept funs.now.types.nodes checker.new ≡ least (kept funs.now.types.nodes checker.old) (part (judge_body (ctx_of funs.now) (params_in [] (fn_of d.now).params) (fn_of d.now).body) (ends d.now.name (result_of (fn_of d.now).body))).faults) }
+    ensures { OnOk result (kept funs.now.types.nodes checker.new ≡ least (kept funs.now.types.nodes checker.old) (body_found (ctx_of funs.now) d.now).faults) }
 {
     let t = type_of_body(checker, funs, &d.body)?;
     check_result(checker, &funs.types, &d.name, written_of(&d.body), t)?;

@@ -1,15 +1,13 @@
-ghost use Rattle.std.specs.Prelude.{◌≡◌, ◌+◌, ◌||◌, ◌++◌, ◌∷◌, [], None, Some, IfOk, OnOk, map, min, cond, ltb};
+ghost use Rattle.std.specs.Prelude.{◌≡◌, [], None, Some, OnOk, map};
 ghost use Rattle.rules_trees.specs.Programs.{par_of, bd_of, fn_of};
-ghost use Rattle.rules_expansion.specs.Sizes.{body_size};
-ghost use Rattle.rules_typing.specs.Typing.{large};
 ghost use Rattle.rules_typing.specs.TypingSizes.{param_names, worst_body};
 ghost use Rattle.rules_typing.specs.TypingScripts.{unmeasured, fn_extent, head_faults, none_of};
-ghost use Rattle.typing_judge.specs.JudgingScripts.{def_faults, faults_from, is_far};
+ghost use Rattle.typing_judge.specs.JudgingScripts.{def_faults, is_far};
 ghost use Rattle.typing_judge.specs.Least.{least};
-ghost use Rattle.typing_parts.specs.Views.{broken_of, kept_of, scope_of, sigs_of};
+ghost use Rattle.typing_parts.specs.Views.{broken_of, scope_of};
 ghost use Rattle.typing_parts.specs.Contexts.{ctx_of};
-ghost use Rattle.typing_extents.specs.Measuring.{Extends, ext_of, exts_of};
-ghost use Rattle.hs_types.specs.Steps.{Advanced, measured_of, of_call};
+ghost use Rattle.typing_extents.specs.Measuring.{ext_of, MeasuredAs};
+ghost use Rattle.hs_types.specs.Steps.{Advanced, measured_of, of_call, Counted, AdvancedAll, Sized};
 
 use crate::definition::{Judgement, judge};
 use hs_base::tree::{Body, Def, Param};
@@ -48,7 +46,7 @@ fn extent_of_body(
     funs: &Funs,
     b: &Body,
 ) -> Result<Extent, NoMemory>
-    ensures { IfOk result (λ x. Extends meter.old meter.new x (worst_body (sigs_of funs.now.types.nodes funs.now.sigs) (exts_of meter.old.extents) (scope_of [] meter.old.scope.items) (bd_of b.now))) }
+    ensures { MeasuredAs funs.now meter.old meter.new result (λ gs xs s. worst_body gs xs s (bd_of b.now)) }
 {
     match b {
         Body::Pure(_, e) => {
@@ -65,7 +63,7 @@ fn extent_of_body(
 /// How far the greatest expression of a definition unfolds.
 fn unfolded(meter: &mut Meter, alloc: Global, funs: &Funs, d: &Def) -> Result<Extent, NoMemory>
     requires { scope_of [] meter.old.scope.items ≡ [] }
-    ensures { IfOk result (λ x. Extends meter.old meter.new x (worst_body (sigs_of funs.now.types.nodes funs.now.sigs) (exts_of meter.old.extents) (param_names [] (fn_of d.now).params) (fn_of d.now).body)) }
+    ensures { MeasuredAs funs.now meter.old meter.new result (λ gs xs s. worst_body gs xs (param_names [] (fn_of d.now).params) (fn_of d.now).body) }
 {
     bind_params(meter, alloc, &d.params)?;
     let x = extent_of_body(meter, alloc, funs, &d.body)?;
@@ -94,7 +92,7 @@ fn extent_of_call(
 ) -> Result<Extent, NoMemory>
     requires scope { scope_of [] meter.old.scope.items ≡ [] }
     requires head { head ≡ none_of (head_faults (fn_of d.now)) }
-    ensures { IfOk result (λ x. Extends meter.old meter.new x (fn_extent (sigs_of funs.now.types.nodes funs.now.sigs) (exts_of meter.old.extents) (fn_of d.now))) }
+    ensures { MeasuredAs funs.now meter.old meter.new result (λ gs xs s. fn_extent gs xs (fn_of d.now)) }
 {
     match &d.body {
         Body::Action(_, _) => Ok(nothing()),
@@ -131,7 +129,7 @@ impl Progress {
 
     /// Adds how far a call of a definition unfolds, and its expanded size.
     fn count(&mut self, x: Extent, b: &Body) -> Result<(), NoMemory>
-        ensures { OnOk result ((self.new.first ≡ self.old.first) × (self.new.meter.scope ≡ self.old.meter.scope) × (self.new.meter.extents ≡ self.old.meter.extents ++ x ∷ []) × (self.new.total ≡ min (self.old.total + body_size (bd_of b.now)) 1000001)) }
+        ensures { OnOk result (Counted self.old self.new x (bd_of b.now)) }
     {
         self.total = add(self.total, body_nodes(b));
         self.meter.extents.add(x)?;
@@ -140,7 +138,7 @@ impl Progress {
 
     /// Notes where the definition at `p` is too large: its greatest expression, or all sizes up to and with it.
     fn check_size(&mut self, types: &TypeTable, p: Pos, x: Extent)
-        ensures { (self.new.meter ≡ self.old.meter) × (self.new.total ≡ self.old.total) × (kept_of types.now.nodes self.new.first.fault ≡ least (kept_of types.now.nodes self.old.first.fault) (cond (is_far (ext_of x) || ltb 1000000 self.old.total) (large p ∷ []) [])) }
+        ensures { Sized types.now.nodes self.old self.new p x }
     {
         if is_far(x) || self.total > 1_000_000 {
             self.first.note(types, Broken::Large(p));
@@ -205,7 +203,7 @@ impl Progress {
         ds: &Items<Def>,
     ) -> Result<(), NoMemory>
         requires { scope_of [] self.old.meter.scope.items ≡ [] }
-        ensures { OnOk result ((kept_of funs.old.types.nodes self.new.first.fault ≡ least (kept_of funs.old.types.nodes self.old.first.fault) (faults_from (sigs_of funs.old.types.nodes funs.old.sigs) (measured_of self.old) 0 (map fn_of ds.now))) × (funs.new.types ≡ funs.old.types) × (funs.new.sigs ≡ funs.old.sigs)) }
+        ensures { OnOk result (AdvancedAll funs.old funs.new self.old self.new (map fn_of ds.now)) }
     {
         'each: for (i, d) in ds.as_slice().iter().enumerate() {
             funs.here = i;
