@@ -5,3 +5,4 @@ pub mod Numbering
 pub mod Opening
 pub mod Placing
 pub mod Waiting
+pub mod Filled

@@ -1,6 +1,7 @@
 //! Actions, blocks and arms.
 use crate::defs::Defs;
 use crate::emitter::ActEmitter;
+use crate::filling::parts;
 use crate::pending::{Pending, back_to};
 use hs_base::tree::forms::MaskingAction;
 use hs_base::{Action, Block, BlockArms, Expr, NoMemory, Stmt, Txt};
@@ -35,7 +36,7 @@ impl ActEmitter {
                 UnaryRow::Return => self.give(alloc, defs, e),
                 UnaryRow::Perform(primitive) => self.primitive_one(alloc, defs, primitive, e),
                 UnaryRow::Kill => self.kill_thread(alloc, defs, e),
-                UnaryRow::Derived(form) => self.derived(alloc, defs, form, Some(e), None, a),
+                UnaryRow::Derived(form) => self.derived(alloc, defs, form, parts(Some(e), None), a),
             },
             Action::Binary(word, _, e, f) => {
                 self.primitive_two(alloc, defs, binary_row(*word), e, f)
@@ -55,11 +56,17 @@ impl ActEmitter {
                 Ok(id)
             }
             Action::ModifyMVar(_, e, x, _) => {
-                self.derived(alloc, defs, Derived::ModifyMVar, Some(e), Some(&x.text), a)
+                self.derived(
+                    alloc,
+                    defs,
+                    Derived::ModifyMVar,
+                    parts(Some(e), Some(&x.text)),
+                    a,
+                )
             }
             Action::Scoped(word, _, b) => match block_row(*word) {
                 BlockRow::Fork => self.fork_form(alloc, defs, b),
-                BlockRow::Derived(form) => self.derived(alloc, defs, form, None, None, a),
+                BlockRow::Derived(form) => self.derived(alloc, defs, form, parts(None, None), a),
             },
             Action::Masking(word, _, x, b) => self.masking(alloc, defs, *word, &x.text, b),
             Action::Restore(_, x, b) => self.restore_form(alloc, defs, &x.text, b),
@@ -68,16 +75,22 @@ impl ActEmitter {
                 self.catch_form(alloc, defs, i, &x.text, d)
             }
             Action::Guard(word, _, _, _) => {
-                self.derived(alloc, defs, guard_row(*word), None, None, a)
+                self.derived(alloc, defs, guard_row(*word), parts(None, None), a)
             }
             Action::Bracket(_, _, x, _, _) => {
-                self.derived(alloc, defs, Derived::Bracket, None, Some(&x.text), a)
+                self.derived(alloc, defs, Derived::Bracket, parts(None, Some(&x.text)), a)
             }
             Action::Timeout(_, e, _) => {
-                self.derived(alloc, defs, Derived::Timeout, Some(e), None, a)
+                self.derived(alloc, defs, Derived::Timeout, parts(Some(e), None), a)
             }
             Action::WithAsync(_, _, x, _) => {
-                self.derived(alloc, defs, Derived::WithAsync, None, Some(&x.text), a)
+                self.derived(
+                    alloc,
+                    defs,
+                    Derived::WithAsync,
+                    parts(None, Some(&x.text)),
+                    a,
+                )
             }
         }
     }

@@ -6,12 +6,28 @@ ghost use Rattle.hs_core.specs.Making.{given_of};
 use crate::defs::Defs;
 use crate::emitter::ActEmitter;
 use crate::making::Making;
+use crate::operands::Filled;
 use hs_base::{Action, Expr, NoMemory, Txt};
 use hs_items::Items;
 use hs_nodes::names::{bind, bind_added, off};
 use rules_code::{Act, ActId};
 use rules_expansion::{Binder, Derived, FormBlock, Operand, Step, steps};
 use std::alloc::Global;
+
+/// The expression of an action that stands for others, and the name that it binds, where it has them.
+#[derive(Clone, Copy)]
+pub struct FormParts<'a> {
+    pub subject: Option<&'a Expr>,
+    pub name: Option<&'a Txt>,
+}
+
+/// Those parts of an action.
+pub fn parts<'a>(subject: Option<&'a Expr>, name: Option<&'a Txt>) -> FormParts<'a>
+    ensures subject { option_copied result.subject ≡ option_copied subject.entry }
+    ensures name { option_copied result.name ≡ option_copied name.entry }
+{
+    FormParts { subject, name }
+}
 
 /// The name that a form binds; an empty one where it binds none.
 fn given(alloc: Global, name: Option<&Txt>) -> Result<Txt, NoMemory>
@@ -30,15 +46,16 @@ impl ActEmitter {
     ghost use Rattle.hs_core.specs.declared.defs.Defs.{Defs};
     ghost use Rattle.rules_trees.specs.Programs.{act_of};
     ghost use Rattle.hs_core.specs.declared.making.Making.{Making};
-    ghost use Rattle.rules_expansion.specs.Templates.{Filling, operand};
+    ghost use Rattle.rules_expansion.specs.Templates.{operand};
     ghost use Rattle.rules_expansion.specs.declared.template.FormBlock.{FormBlock};
     ghost use Rattle.rules_expansion.specs.Expansion as expansion;
     ghost use Rattle.rules_code.specs.CodeTrees.{slotted_core, slotted_core_ex};
     ghost use Rattle.hs_core.specs.Defining.{Knows, roots, functions};
     ghost use Rattle.hs_core.specs.Emits.{Emits, Nothing_given};
     ghost use Rattle.hs_core.specs.Opening.{core_tree};
-    ghost use Rattle.hs_core.specs.Making.{subject_of, no_block, blocks_of, filling_of, above, pushing, under, leaving, bound, restoring, after};
+    ghost use Rattle.hs_core.specs.Making.{no_block, blocks_of, filling_of, above, pushing, under, leaving, bound, restoring, after};
     ghost use Rattle.hs_core.specs.Waiting.{Moves};
+    ghost use Rattle.hs_core.specs.Filled.{FilledWith};
 
     /// An expression of a template, which waits then.
     fn push(
@@ -47,12 +64,11 @@ impl ActEmitter {
         defs: &Defs,
         making: &mut Making,
         what: Operand,
-        subject: Option<&Expr>,
-        given: &Txt,
+        filled: Filled,
     ) -> Result<(), NoMemory>
-        ensures { (f : Filling) → f.subject ≡ subject_of (option_copied subject.entry) → f.given ≡ given.now → OnOk result (Moves defs.now self.old self.new making.old making.new (λ s t. pushing (slotted_core_ex (roots defs.now) (above t.names s) (operand f what)) t)) }
+        ensures { FilledWith filled.entry (λ f. OnOk result (Moves defs.now self.old self.new making.old making.new (λ s t. pushing (slotted_core_ex (roots defs.now) (above t.names s) (operand f what)) t))) }
     {
-        let id = self.operand(alloc, defs, what, subject, given)?;
+        let id = self.operand(alloc, defs, what, filled)?;
         making.operands.add(id)?;
         Ok(())
     }
@@ -97,19 +113,18 @@ impl ActEmitter {
         defs: &Defs,
         making: &mut Making,
         step: Step,
-        subject: Option<&Expr>,
-        given: &Txt,
+        filled: Filled,
     ) -> Result<(), NoMemory>
-        ensures { (f : Filling) → f.subject ≡ subject_of (option_copied subject.entry) → f.given ≡ given.now → ((i : FormBlock) → step ≡ Step.Hole i → ⊥) → OnOk result (Moves defs.now self.old self.new making.old making.new (λ s. after (roots defs.now) (functions defs.now) s f step)) }
+        ensures { FilledWith filled.entry (λ f. ((i : FormBlock) → step ≡ Step.Hole i → ⊥) → OnOk result (Moves defs.now self.old self.new making.old making.new (λ s. after (roots defs.now) (functions defs.now) s f step))) }
     {
         match step {
             Step::Hole(_) => Ok(()),
-            Step::Under(x) => self.enter(alloc, x, given),
+            Step::Under(x) => self.enter(alloc, x, filled.given),
             Step::Off => {
                 self.leave(making.base);
                 Ok(())
             }
-            Step::Push(what) => self.push(alloc, defs, making, what, subject, given),
+            Step::Push(what) => self.push(alloc, defs, making, what, filled),
             Step::Return => self.make_return(making),
             Step::Throw => self.make_throw(making),
             Step::Let => self.make_let(making),
@@ -125,7 +140,7 @@ impl ActEmitter {
             Step::Catch => self.make_catch(making),
             Step::Mask => self.make_mask(making),
             Step::MaskHard => self.make_mask_hard(making),
-            Step::Restore(x) => self.make_restore_bound(making, x, given),
+            Step::Restore(x) => self.make_restore_bound(making, x, filled.given),
         }
     }
 
@@ -184,13 +199,12 @@ impl ActEmitter {
         alloc: Global,
         defs: &Defs,
         form: Derived,
-        subject: Option<&Expr>,
-        name: Option<&Txt>,
+        parts: FormParts,
         a: &Action,
     ) -> Result<ActId, NoMemory>
-        ensures { IfOk result (λ id. Emits (Knows self.old.emitter.nodes defs.now) self.old self.new id (λ s. core_tree defs.now s (expansion.derived form (filling_of (option_copied subject.entry) (option_copied name.entry) (act_of a.now))))) }
+        ensures { IfOk result (λ id. Emits (Knows self.old.emitter.nodes defs.now) self.old self.new id (λ s. core_tree defs.now s (expansion.derived form (filling_of (option_copied parts.entry.subject) (option_copied parts.entry.name) (act_of a.now))))) }
     {
-        let given = given(alloc, name)?;
+        let given = given(alloc, parts.name)?;
         let mut making = Making {
             base: self.emitter.scope.len(),
             operands: Items::new(alloc),
@@ -202,7 +216,13 @@ impl ActEmitter {
                     let i = self.hole(alloc, defs, part, a)?;
                     making.acts.add(i)?;
                 }
-                other => self.step(alloc, defs, &mut making, other, subject, &given)?,
+                other => {
+                    let filled = Filled {
+                        subject: parts.subject,
+                        given: &given,
+                    };
+                    self.step(alloc, defs, &mut making, other, filled)?
+                }
             }
         }
         let id = self.act_off(&mut making.acts);

@@ -7,18 +7,26 @@ use rules_code::{ExprId, Node};
 use rules_expansion::{Binder, Operand};
 use std::alloc::Global;
 
+/// What stands in a template for the expression of its form, and for the name that the form binds.
+#[derive(Clone, Copy)]
+pub struct Filled<'a> {
+    pub subject: Option<&'a Expr>,
+    pub given: &'a Txt,
+}
+
 impl ActEmitter {
-    ghost use Rattle.std.specs.Prelude.{◌≡◌, IfOk, [], pos};
+    ghost use Rattle.std.specs.Prelude.{◌≡◌, IfOk, pos};
     ghost use Rattle.std.specs.Option.{option_copied};
     ghost use Rattle.hs_base.specs.declared.tree.forms.SideForm.TheVariants as d;
     ghost use Rattle.rules_trees.specs.Trees.{number, nothing_more};
-    ghost use Rattle.rules_expansion.specs.Templates.{Filling, named, operand};
+    ghost use Rattle.rules_expansion.specs.Templates.{named, operand};
     ghost use Rattle.rules_code.specs.Slots.{slot_of, s_literal, s_unary, s_side, s_binary};
     ghost use Rattle.rules_code.specs.CodeTrees.{slot_or_end, slot_read, slotted_core_ex};
     ghost use Rattle.hs_nodes.specs.Names.{scope_of};
     ghost use Rattle.hs_core.specs.Defining.{Knows, roots};
     ghost use Rattle.hs_core.specs.Emits.{EmitsEx, Nothing_given};
     ghost use Rattle.hs_core.specs.Making.{subject_of};
+    ghost use Rattle.hs_core.specs.Filled.{FilledWith};
 
     /// The slot of a name of a template.
     pub fn slot_bound(&self, x: Binder, given: &Txt) -> usize
@@ -122,11 +130,11 @@ impl ActEmitter {
         alloc: Global,
         defs: &Defs,
         what: Operand,
-        subject: Option<&Expr>,
-        given: &Txt,
+        filled: Filled,
     ) -> Result<ExprId, NoMemory>
-        ensures { (f : Filling) → f.subject ≡ subject_of (option_copied subject.entry) → f.given ≡ given.now → IfOk result (λ id. EmitsEx (Knows self.old.emitter.nodes defs.now) self.old self.new id (λ s. slotted_core_ex (roots defs.now) s (operand f what))) }
+        ensures { FilledWith filled.entry (λ f. IfOk result (λ id. EmitsEx (Knows self.old.emitter.nodes defs.now) self.old self.new id (λ s. slotted_core_ex (roots defs.now) s (operand f what)))) }
     {
+        let Filled { subject, given } = filled;
         match what {
             Operand::Subject => self.subject(alloc, defs, subject),
             Operand::Read(x) => self.read_bound(x, given),

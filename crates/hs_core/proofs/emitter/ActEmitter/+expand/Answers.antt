@@ -104,15 +104,22 @@ action-returns-in_ok-id-in-Case t c =
 pub action-returns-in-Derived : goal.action-returns-in-Derived
 action-returns-in-Derived t c =
     let q = ap act_of c.in-Unary.is ∙ act-Unary c.in-Unary.word c.in-Unary.field-1 c.in-Unary.e in
-    all_as_core c.derived.result c.args.self.now c.derived.new.self c.args.defs.now (derived c.in-Derived.form (filling_of (Some c.in-Unary.e) None (act_of c.args.a.now))) (core (act_of c.args.a.now))
-    (ap core q ∙ (ap (λ z. unary_row_core z (OfScript (ex_of c.in-Unary.e))) (sym c.unary_row.ensures ∙ c.in-Derived.is) ∙ ap (λ z. derived c.in-Derived.form (filling_of (Some c.in-Unary.e) None z)) (sym q)))
+    let f = c.in-Derived.form in
+    let u = act_of c.args.a.now in
+    all_as_core c.derived.result c.args.self.now c.derived.new.self c.args.defs.now (derived f (filling_of (option_copied c.parts.result.subject) (option_copied c.parts.result.name) u)) (core u)
+    (ap core q ∙ (ap (λ z. unary_row_core z (OfScript (ex_of c.in-Unary.e))) (sym c.unary_row.ensures ∙ c.in-Derived.is) ∙ (ap (λ z. derived f (filling_of (Some c.in-Unary.e) None z)) (sym q)
+    ∙ (ap (λ z. derived f (filling_of z None u)) (sym c.parts.ensures.subject) ∙ ap (λ z. derived f (filling_of (option_copied c.parts.result.subject) z u)) (sym c.parts.ensures.name)))))
     c.derived.ensures
 
 pub action-returns-in-Guard : goal.action-returns-in-Guard
 action-returns-in-Guard t c =
     let q = ap act_of c.in-Guard.is ∙ act-Guard c.in-Guard.word c.in-Guard.field-1 c.in-Guard.field-2 c.in-Guard.field-3 in
-    all_as_core c.derived-in-Guard.result c.args.self.now _ c.args.defs.now (derived c.guard_row.result (filling_of None None (act_of c.args.a.now))) (core (act_of c.args.a.now))
-    (ap core q ∙ (ap (λ z. derived z (on_two (block_core (bl_of c.in-Guard.field-2)) (block_core (bl_of c.in-Guard.field-3)))) (sym c.guard_row.ensures) ∙ ap (λ z. derived c.guard_row.result (filling_of None None z)) (sym q)))
+    let f = c.guard_row.result in
+    let u = act_of c.args.a.now in
+    let p = c.parts-in-Guard.result in
+    all_as_core c.derived-in-Guard.result c.args.self.now _ c.args.defs.now (derived f (filling_of (option_copied p.subject) (option_copied p.name) u)) (core u)
+    (ap core q ∙ (ap (λ z. derived z (on_two (block_core (bl_of c.in-Guard.field-2)) (block_core (bl_of c.in-Guard.field-3)))) (sym c.guard_row.ensures) ∙ (ap (λ z. derived f (filling_of None None z)) (sym q)
+    ∙ (ap (λ z. derived f (filling_of z None u)) (sym c.parts-in-Guard.ensures.subject) ∙ ap (λ z. derived f (filling_of (option_copied p.subject) z u)) (sym c.parts-in-Guard.ensures.name)))))
     c.derived-in-Guard.ensures
 
 pub action-returns-in_ok-i-in-Catch : goal.action-returns-in_ok-i-in-Catch
@@ -130,12 +137,12 @@ catch_form-returns t c =
 
 pub derived-steps-init : goal.derived-steps-init
 derived-steps-init t c =
-    gone_none c.args.defs.now (filling_of (option_copied c.args.subject) (option_copied c.args.name) (act_of c.args.a.now)) c.args.form c.len.ensures c.new.ensures c.new-2.ensures refl
+    gone_none c.args.defs.now (filling_of (option_copied c.args.parts.subject) (option_copied c.args.parts.name) (act_of c.args.a.now)) c.args.form c.len.ensures c.new.ensures c.new-2.ensures refl
 
 pub derived-steps-preserved : goal.derived-steps-preserved
 derived-steps-preserved t c =
     let d = c.args.defs.now in
-    let f = filling_of (option_copied c.args.subject) (option_copied c.args.name) (act_of c.args.a.now) in
+    let f = filling_of (option_copied c.args.parts.subject) (option_copied c.args.parts.name) (act_of c.args.a.now) in
     let all = c.steps-step-items.result.now in
     let x = get_or all c.steps.step-index (p.Hole part.First) in
     elim c.match-step.branch [
@@ -149,4 +156,4 @@ derived-steps-preserved t c =
 
 pub derived-returns : goal.derived-returns
 derived-returns t c =
-    gone_all c.args.defs.now (filling_of (option_copied c.args.subject) (option_copied c.args.name) (act_of c.args.a.now)) c.args.form (drop_past (steps c.args.form) c.steps.step-index (let l = ap length c.steps-step-items.ensures in let e = c.steps-test.false in omega (arith, l, e))) c.steps.invariant c.act_off-id.ensures
+    gone_all c.args.defs.now (filling_of (option_copied c.args.parts.subject) (option_copied c.args.parts.name) (act_of c.args.a.now)) c.args.form (drop_past (steps c.args.form) c.steps.step-index (let l = ap length c.steps-step-items.ensures in let e = c.steps-test.false in omega (arith, l, e))) c.steps.invariant c.act_off-id.ensures

@@ -11,4 +11,4 @@ abbrev pub invariant-stmts-each : goal.invariant-stmts-each
 invariant-stmts-each l = OpensAll l.defs l.fn.self l.self l.pending (take l.stmt-index l.stmts)
 
 abbrev pub invariant-derived-steps : goal.invariant-derived-steps
-invariant-derived-steps l = Gone l.defs (filling_of (option_copied l.subject) (option_copied l.name) (act_of l.a)) l.fn.form l.fn.self l.self l.making (drop l.step-index (steps l.fn.form))
+invariant-derived-steps l = Gone l.defs (filling_of (option_copied l.parts.subject) (option_copied l.parts.name) (act_of l.a)) l.fn.form l.fn.self l.self l.making (drop l.step-index (steps l.fn.form))
