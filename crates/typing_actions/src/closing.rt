@@ -1,10 +1,10 @@
 // What actions with two blocks add to their parts.
 
-ghost use Rattle.std.specs.Prelude.{◌≡◌, IfOk, cond, None};
+ghost use Rattle.std.specs.Prelude.{◌≡◌, cond, None};
 ghost use Rattle.typing_judge.specs.Judging.{own, with2};
 ghost use Rattle.typing_parts.specs.Views.{opt_ty};
-ghost use Rattle.typing_parts.specs.Judged.{Judged};
 ghost use Rattle.typing_actions.specs.Parts.{row_two};
+ghost use Rattle.typing_parts.specs.JudgedAs.{JudgedAs};
 
 use hs_base::tree::forms::GuardAction;
 use hs_base::{NoMemory, Pos};
@@ -31,7 +31,7 @@ pub fn close_two(
     t: Option<TypeTerm>,
     u: Option<TypeTerm>,
 ) -> Result<Option<TypeTerm>, NoMemory>
-    ensures { IfOk result (λ r. Judged types.now.nodes checker.old checker.new (opt_ty types.now.nodes r) (with2 (opt_ty types.now.nodes t) (opt_ty types.now.nodes u) (λ u v. own p (row_two o u v)))) }
+    ensures { JudgedAs types.now checker.old checker.new result (with2 (opt_ty types.now.nodes t) (opt_ty types.now.nodes u) (λ u v. own p (row_two o u v))) }
 {
     match o {
         TwoParts::Guard(w) => checker.close_guard(types, p, w, t, u),

@@ -1,12 +1,13 @@
 //! What the walk does where it goes no deeper: words, written types, names that are bound, and types that are gathered.
-ghost use Rattle.std.specs.Prelude.{◌≡◌, [], ◌∷◌, ◌++◌, IfOk, Some};
+ghost use Rattle.std.specs.Prelude.{◌≡◌, [], ◌∷◌, IfOk};
 ghost use Rattle.rules_trees.specs.Trees.{wr_of, constant_of};
 ghost use Rattle.typing_table.specs.Meaning.{base_of, type_in};
 ghost use Rattle.rules_typing.specs.Typing.{of, row_empty, type_of_lit};
 ghost use Rattle.typing_judge.specs.Judging.{good, needing, own, part, typed, written};
 ghost use Rattle.typing_parts.specs.Views.{form_of, opt_ty, part_of};
-ghost use Rattle.typing_parts.specs.Judged.{Judged, pushed};
+ghost use Rattle.typing_parts.specs.Judged.{pushed};
 ghost use Rattle.typing_exprs.specs.Entering.{Entered};
+ghost use Rattle.typing_parts.specs.JudgedAs.{JudgedAs};
 
 use hs_base::tree::forms::EmptyForm;
 use hs_base::tree::{Constant, Written};
@@ -44,7 +45,7 @@ pub fn empty(
     o: EmptyForm,
     w: &Written,
 ) -> Result<Option<TypeTerm>, NoMemory>
-    ensures { IfOk result (λ t. Judged types.now.nodes checker.old checker.new (opt_ty types.now.nodes t) (part (written (wr_of w.now)) (λ u. own p (row_empty o u)))) }
+    ensures { JudgedAs types.now checker.old checker.new result (part (written (wr_of w.now)) (λ u. own p (row_empty o u))) }
 {
     let t = checker.written(types, w)?;
     let r = checker.close_empty(types, p, o, t)?;
@@ -59,7 +60,7 @@ pub fn fitting(
     form: Form,
     t: Option<TypeTerm>,
 ) -> Result<Option<TypeTerm>, NoMemory>
-    ensures { IfOk result (λ r. Judged types.now.nodes checker.old checker.new (opt_ty types.now.nodes r) (part (typed (opt_ty types.now.nodes t)) (λ u. needing p (of (form_of form) u ∷ []) (good u)))) }
+    ensures { JudgedAs types.now checker.old checker.new result (part (typed (opt_ty types.now.nodes t)) (λ u. needing p (of (form_of form) u ∷ []) (good u))) }
 {
     match t {
         None => Ok(None),

@@ -1,7 +1,7 @@
 //! The types of expressions: the walk down an expression.
 //!
-//! To a contract the walk is a step of the checker (`typing_parts/specs/Judged`). The one promise: it leaves the scope as it
-//! was, the type that it gives is the one that `typing_judge` gives to the expression in that scope, and the kept fault is
+//! To a contract the walk is a step of the checker (`typing_parts/specs/JudgedAs`). The one promise: it leaves the scope as
+//! it was, the type that it gives is the one that `typing_judge` gives to the expression in that scope, and the kept fault is
 //! the least of the one that was kept and of those that `typing_judge` lists.
 //! It is a crate apart from `hs_types` for the prover's cost alone.
 #![tactic(auto)]

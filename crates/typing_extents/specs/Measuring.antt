@@ -23,7 +23,8 @@ pub record Extends (old new : Meter) (x : Extent) (y : rule.Extent) : Type 0 whe
   pub size : x.size ≡ min y.size 1000001
   pub height : x.height ≡ min y.height 1000001
 
--- Where memory sufficed, the extent was answered that the rules give: by the functions, the definitions before, and the scope that stood before.
+-- Where memory sufficed, the extent was answered that the rules give by the functions, by the definitions before and by the
+-- scope that stood before.
 abbrev pub MeasuredAs : Funs → Meter → Meter → Result Extent NoMemory → (List Sig → List rule.Extent → List TypedName → rule.Extent) → Type 0
 MeasuredAs f old new result given = IfOk result (λ x. Extends old new x (given (sigs_of f.types.nodes f.sigs) (exts_of old.extents) (scope_of [] old.scope.items)))
 

@@ -14,7 +14,8 @@ use Rattle.typing_parts.specs.declared.checker.Checker.{Checker}
 use Rattle.typing_parts.specs.declared.funs.Funs.{Funs}
 use Rattle.typing_parts.specs.declared.parts.NamedPart.{NamedPart}
 
--- Where memory sufficed, this is what was found: the scope stays, the type is the one that was answered, and the faults were noted.
+-- Where memory sufficed, this is what was found: the scope stays, the type is the one that was answered, and the faults
+-- were noted.
 abbrev pub JudgedAs : TypeTable → Checker → Checker → Result (Option TypeTerm) NoMemory → Found → Type 0
 JudgedAs types old new result x = IfOk result (λ t. Judged types.nodes old new (opt_ty types.nodes t) x)
 
