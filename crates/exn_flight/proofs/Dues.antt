@@ -1,11 +1,11 @@
 -- When a thread may wake: what the places say, and the sorted list.
 use Rattle.std.proofs.Common.{◌≡◌, ◌≢◌, ℕ, zero, suc, ◌==◌, Bool, true, false, cond, List, [], ◌∷◌, Option, Some, None, refl, ap, ◌∙◌, arith, eq-eqb}
 use Rattle.std.proofs.lemmas.Bool.{ne_eqb}
+use Rattle.plain_laws.proofs.Booleans.{both_false}
 use Rattle.rules_waiting.specs.Waiting.{Sleeper, sleeper_before, sleeper_added, sorted_sleepers, is_sleeping}
 use Rattle.exn_flight.specs.Asleep.{with_sleeper, sleepers_at, due_of}
 use Rattle.exn_flight.specs.Numbered.{AreDistinct}
 use Rattle.exn_flight.specs.Tournaments.{node}
-use Rattle.exn_flight.proofs.Numbers.{step_false}
 use Rattle.exn_flight.proofs.Order.{has_sorted}
 use Rattle.exn_flight.proofs.Placing.{OnlyIs}
 
@@ -21,7 +21,7 @@ swapped_by false b u v w h = refl
 due_added : (t : ℕ) (s : Sleeper) (ss : List Sleeper) → is_sleeping s.thread ss ≡ false → due_of t (sleeper_added s ss) ≡ due_of t (s ∷ ss)
 due_added t s [] h = refl
 due_added t s (x ∷ xs) h =
-    let w = step_false (x.thread == s.thread) (is_sleeping s.thread xs) h in
+    let w = both_false (x.thread == s.thread) (is_sleeping s.thread xs) h in
     let rest = due_added t s xs w.1 in
     elim (sleeper_before x s) as (λ b. due_of t (cond b (x ∷ sleeper_added s xs) (s ∷ x ∷ xs)) ≡ due_of t (s ∷ x ∷ xs)) [
       | true ↦ ap (cond (x.thread == t) (Some x.due)) rest ∙ swapped_by (x.thread == t) (s.thread == t) (Some x.due) (Some s.due) (due_of t xs) (other_number x.thread s.thread t w.0)
@@ -36,7 +36,7 @@ due_sorted t (s ∷ ss) d = due_added t s (sorted_sleepers ss) (has_sorted s.thr
 pub none_due : (t : ℕ) (ss : List Sleeper) → is_sleeping t ss ≡ false → due_of t ss ≡ None
 none_due t [] h = refl
 none_due t (s ∷ ss) h =
-    let w = step_false (s.thread == t) (is_sleeping t ss) h in
+    let w = both_false (s.thread == t) (is_sleeping t ss) h in
     ap (λ b. cond b (Some s.due) (due_of t ss)) w.0 ∙ none_due t ss w.1
 
 -- ---- by place

@@ -1,5 +1,6 @@
 pub mod OneList
 pub mod Numbers
+pub mod Before
 pub mod Order
 pub mod Sorting
 pub mod SortedLeaving

@@ -1,10 +1,10 @@
 -- Sleepers in order.
 use Rattle.std.proofs.Common.{◌≡◌, ℕ, ◌<◌, ◌≤◌, ◌==◌, nat_le, Bool, true, false, cond, List, [], ◌∷◌, Option, Some, None, refl, ap, ◌∙◌, arith}
 use Rattle.std.proofs.lemmas.Bool.{lt-leb, le-leb, both_ways}
+use Rattle.plain_laws.proofs.Booleans.{both_false}
 use Rattle.rules_waiting.specs.Waiting.{Sleeper, sleeper_before, sleeper_added, sorted_sleepers, is_sleeping, first_awake, earliest}
 use Rattle.exn_flight.specs.Numbered.{AreDistinct}
 use Rattle.exn_flight.specs.Asleep.{IsBeforeAll, AreInOrder}
-use Rattle.exn_flight.proofs.Numbers.{step_false}
 
 pub before_trans : (a b c : Sleeper) → sleeper_before a b ≡ true → sleeper_before b c ≡ true → sleeper_before a c ≡ true
 before_trans a b c p q = grind arith
@@ -28,7 +28,7 @@ all_added r s (x ∷ xs) p h =
 order_added : (s : Sleeper) (ss : List Sleeper) → is_sleeping s.thread ss ≡ false → AreInOrder ss → AreInOrder (sleeper_added s ss)
 order_added s [] alone h = (tt, tt)
 order_added s (x ∷ xs) alone h =
-    let w = step_false (x.thread == s.thread) (is_sleeping s.thread xs) alone in
+    let w = both_false (x.thread == s.thread) (is_sleeping s.thread xs) alone in
     let rest = order_added s xs w.1 h.1 in
     elim (sleeper_before x s) as (λ b. sleeper_before x s ≡ b → AreInOrder (cond b (x ∷ sleeper_added s xs) (s ∷ x ∷ xs))) [
       | true ↦ λ e. (all_added x s xs e h.0, rest)
@@ -38,7 +38,7 @@ order_added s (x ∷ xs) alone h =
 has_added : (n : ℕ) (s : Sleeper) (ss : List Sleeper) → is_sleeping n ss ≡ false → s.thread == n ≡ false → is_sleeping n (sleeper_added s ss) ≡ false
 has_added n s [] h e = ap (λ b. cond b true false) e
 has_added n s (x ∷ xs) h e =
-    let w = step_false (x.thread == n) (is_sleeping n xs) h in
+    let w = both_false (x.thread == n) (is_sleeping n xs) h in
     let rest = has_added n s xs w.1 e in
     elim (sleeper_before x s) as (λ b. is_sleeping n (cond b (x ∷ sleeper_added s xs) (s ∷ x ∷ xs)) ≡ false) [
       | true ↦ ap (λ b. cond b true (is_sleeping n (sleeper_added s xs))) w.0 ∙ rest
@@ -49,15 +49,15 @@ has_added n s (x ∷ xs) h e =
 pub has_sorted : (n : ℕ) (ss : List Sleeper) → is_sleeping n ss ≡ false → is_sleeping n (sorted_sleepers ss) ≡ false
 has_sorted n [] h = refl
 has_sorted n (s ∷ ss) h =
-    let w = step_false (s.thread == n) (is_sleeping n ss) h in
+    let w = both_false (s.thread == n) (is_sleeping n ss) h in
     has_added n s (sorted_sleepers ss) (has_sorted n ss w.1) w.0
 
 has_taken : (n : ℕ) (s : Sleeper) (ss : List Sleeper) → is_sleeping n (sleeper_added s ss) ≡ false → (s.thread == n ≡ false) × (is_sleeping n ss ≡ false)
-has_taken n s [] h = ((step_false (s.thread == n) false h).0, refl)
+has_taken n s [] h = ((both_false (s.thread == n) false h).0, refl)
 has_taken n s (x ∷ xs) h =
     elim (sleeper_before x s) as (λ b. is_sleeping n (cond b (x ∷ sleeper_added s xs) (s ∷ x ∷ xs)) ≡ false → (s.thread == n ≡ false) × (is_sleeping n (x ∷ xs) ≡ false)) [
-      | true ↦ λ g. (let w = step_false (x.thread == n) (is_sleeping n (sleeper_added s xs)) g in let r = has_taken n s xs w.1 in (r.0, ap (λ b. cond b true (is_sleeping n xs)) w.0 ∙ r.1))
-      | false ↦ λ g. step_false (s.thread == n) (is_sleeping n (x ∷ xs)) g
+      | true ↦ λ g. (let w = both_false (x.thread == n) (is_sleeping n (sleeper_added s xs)) g in let r = has_taken n s xs w.1 in (r.0, ap (λ b. cond b true (is_sleeping n xs)) w.0 ∙ r.1))
+      | false ↦ λ g. both_false (s.thread == n) (is_sleeping n (x ∷ xs)) g
     ] h
 
 pub has_unsorted : (n : ℕ) (ss : List Sleeper) → is_sleeping n (sorted_sleepers ss) ≡ false → is_sleeping n ss ≡ false

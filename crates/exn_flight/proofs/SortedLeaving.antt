@@ -1,7 +1,8 @@
 -- A sleeper that leaves a sorted list leaves the rest sorted.
-use Rattle.std.proofs.Common.{◌≡◌, ℕ, ◌==◌, true, false, cond, List, [], ◌∷◌, refl, ap, sym, ◌∙◌, arith}
+use Rattle.std.proofs.Common.{◌≡◌, ℕ, ◌==◌, true, false, cond, List, [], ◌∷◌, refl, ap, sym, ◌∙◌}
 use Rattle.rules_waiting.specs.Waiting.{Sleeper, Waiting, leaves, sleepers_of, sleeper_before, sleeper_added, sorted_sleepers, still_asleep}
 use Rattle.exn_flight.proofs.OneList.{sleepers_leave}
+use Rattle.exn_flight.proofs.Before.{other_way, none_later}
 
 abbrev NoneBefore : Sleeper → List Sleeper → Type 0
 NoneBefore r [] = Unit {0}
@@ -11,15 +12,9 @@ abbrev Rises : List Sleeper → Type 0
 Rises [] = Unit {0}
 Rises (r ∷ rs) = NoneBefore r rs × Rises rs
 
-other_way : (a b : Sleeper) → sleeper_before a b ≡ true → sleeper_before b a ≡ false
-other_way a b p = grind arith
-
-none_later : (q r s : Sleeper) → sleeper_before q r ≡ false → sleeper_before r s ≡ false → sleeper_before q s ≡ false
-none_later q r s p h = grind arith
-
 none_before : (r s : Sleeper) (qs : List Sleeper) → sleeper_before r s ≡ false → NoneBefore r qs → NoneBefore s qs
 none_before r s [] p h = tt
-none_before r s (q ∷ qs) p h = (none_later q r s h.0 p, none_before r s qs p h.1)
+none_before r s (q ∷ qs) p h = (none_later s r q p h.0, none_before r s qs p h.1)
 
 none_added : (r s : Sleeper) (qs : List Sleeper) → sleeper_before s r ≡ false → NoneBefore r qs → NoneBefore r (sleeper_added s qs)
 none_added r s [] p h = (p, tt)

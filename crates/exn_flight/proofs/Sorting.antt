@@ -2,15 +2,10 @@
 use Rattle.std.proofs.Common.{◌≡◌, ℕ, Bool, true, false, cond, List, [], ◌∷◌, ◌++◌, refl, ap, sym, ◌∙◌, arith}
 use Rattle.rules_waiting.specs.Waiting.{Sleeper, Sleeping, Waiting, blocks, sleepers_of, sleeper_before, sleeper_added, sorted_sleepers}
 use Rattle.exn_flight.proofs.OneList.{sleepers_block}
+use Rattle.exn_flight.proofs.Before.{same_due, same_thread}
 
 both : (a b : Sleeper) → sleeper_before a b ≡ true → sleeper_before b a ≡ true → ⊥
 both a b p q = grind arith
-
-same_due : (a b : Sleeper) → sleeper_before a b ≡ false → sleeper_before b a ≡ false → a.due ≡ b.due
-same_due a b p q = grind arith
-
-same_thread : (a b : Sleeper) → sleeper_before a b ≡ false → sleeper_before b a ≡ false → a.thread ≡ b.thread
-same_thread a b p q = grind arith
 
 same_sleeper : (a b : Sleeper) → sleeper_before a b ≡ false → sleeper_before b a ≡ false → a ≡ b
 same_sleeper a b p q =

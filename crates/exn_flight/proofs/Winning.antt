@@ -4,6 +4,7 @@ use Rattle.std.proofs.lemmas.Bool.{cases_eq, cases_lt}
 use Rattle.std.proofs.lemmas.List.{get_or-set_same, get_or-set_other, get_or-drop, drop-set-lt, drop-set-add, length-set, length-drop}
 use Rattle.rules_waiting.specs.Waiting.{Sleeper, sleeper_before}
 use Rattle.exn_flight.specs.Tournaments.{node, goes_first, first_of, best, IsWon, AreWon, IsTournament, Climbs}
+use Rattle.exn_flight.proofs.Before.{other_way, none_later, same_due, same_thread}
 
 -- ---- an order of sleepers and of nobody, who is last
 abbrev pub Leads : Option Sleeper → Option Sleeper → Type 0
@@ -13,18 +14,6 @@ Leads (Some r) (Some s) = sleeper_before s r ≡ false
 
 not_before : (s : Sleeper) → sleeper_before s s ≡ false
 not_before s = grind arith
-
-other_way : (a b : Sleeper) → sleeper_before a b ≡ true → sleeper_before b a ≡ false
-other_way a b p = grind arith
-
-none_later : (a b c : Sleeper) → sleeper_before b a ≡ false → sleeper_before c b ≡ false → sleeper_before c a ≡ false
-none_later a b c p q = grind arith
-
-same_due : (a b : Sleeper) → sleeper_before a b ≡ false → sleeper_before b a ≡ false → a.due ≡ b.due
-same_due a b p q = grind arith
-
-same_thread : (a b : Sleeper) → sleeper_before a b ≡ false → sleeper_before b a ≡ false → a.thread ≡ b.thread
-same_thread a b p q = grind arith
 
 leads_self : (a : Option Sleeper) → Leads a a
 leads_self None = tt

@@ -2,6 +2,7 @@
 -- somebody sleeps, and else threads are stranded. What it makes is a run, and where it stops the run has ended as a test
 -- says.
 use Rattle.std.proofs.Common.{◌≡◌, ℕ, zero, suc, ◌+◌, ◌==◌, ◌<◌, ◌≤◌, Bool, true, false, cond, ◌&&◌, List, [], ◌∷◌, length, Option, Some, None, slice_get, refl, sym, ap, ◌∙◌, subst, arith, ◌⊎◌, ⊎_elim}
+use Rattle.std.proofs.lemmas.Bool.{and_parts}
 use Rattle.hs_rules.specs.declared.entry.Entry.{Entry}
 use Rattle.hs_rules.specs.declared.entry.Entry.TheVariants as entry
 use Rattle.rules_trees.specs.Programs.{Fn}
@@ -41,11 +42,6 @@ is_empty (r ∷ rs) = false
 abbrev pub is_idle : Code → State → Bool
 is_idle code s = is_empty (sleepers_of s.blocked) && all_rest code (length s.threads) s
 
-both_true : (a b : Bool) → a && b ≡ true → (a ≡ true) × (b ≡ true)
-both_true true true e = (refl, refl)
-both_true true false e = absurd (cc e)
-both_true false b e = absurd (cc e)
-
 none_is : (o : Option State) → is_none o ≡ true → o ≡ None
 none_is None e = refl
 none_is (Some s) e = absurd (cc e)
@@ -61,15 +57,15 @@ Rests code t s =
 
 rests_so : (code : Code) (t : ℕ) (s : State) → rests code t s ≡ true → Rests code t s
 rests_so code t s h =
-    let a = both_true (is_none (next code s (entry.Local t 1))) _ h in
-    let b = both_true (is_none (next code s (entry.Op t))) _ a.1 in
-    let c = both_true (is_none (next code s (entry.Receive t))) _ b.1 in
+    let a = and_parts (is_none (next code s (entry.Local t 1))) _ h in
+    let b = and_parts (is_none (next code s (entry.Op t))) _ a.1 in
+    let c = and_parts (is_none (next code s (entry.Receive t))) _ b.1 in
     (none_is _ a.0, none_is _ b.0, none_is _ c.0, none_is _ c.1)
 
 below : (code : Code) (n t : ℕ) (s : State) → all_rest code n s ≡ true → t < n → Rests code t s
 below code zero t s h l = absurd (omega (arith, l))
 below code (suc n) t s h l =
-    let k = both_true (rests code n s) (all_rest code n s) h in
+    let k = and_parts (rests code n s) (all_rest code n s) h in
     ⊎_elim (λ e. subst (λ m. Rests code m s) e (rests_so code n s k.0)) (λ m. below code n t s k.1 m) (last_or t n l)
   where
     last_or : (t n : ℕ) → t < suc n → (n ≡ t) ⊎ (t < n)
@@ -147,12 +143,12 @@ none_wakes t s (w ∷ ws) h =
     by false x y = y
 
 pub idle_so : (code : Code) (s : State) → is_idle code s ≡ true → IsIdle code s
-idle_so code s h (entry.Local t k) w = local_rests code t k s (each_rests code t s (both_true (is_empty (sleepers_of s.blocked)) _ h).1).0
-idle_so code s h (entry.Op t) w = (each_rests code t s (both_true (is_empty (sleepers_of s.blocked)) _ h).1).1
-idle_so code s h (entry.Receive t) w = (each_rests code t s (both_true (is_empty (sleepers_of s.blocked)) _ h).1).2
+idle_so code s h (entry.Local t k) w = local_rests code t k s (each_rests code t s (and_parts (is_empty (sleepers_of s.blocked)) _ h).1).0
+idle_so code s h (entry.Op t) w = (each_rests code t s (and_parts (is_empty (sleepers_of s.blocked)) _ h).1).1
+idle_so code s h (entry.Receive t) w = (each_rests code t s (and_parts (is_empty (sleepers_of s.blocked)) _ h).1).2
 idle_so code s h (entry.Wake t) w =
-    on_main (slice_get s.threads 0) _ (none_wakes t s s.blocked (empty_is (sleepers_of s.blocked) (both_true (is_empty (sleepers_of s.blocked)) _ h).0))
-idle_so code s h (entry.Finish t) w = (each_rests code t s (both_true (is_empty (sleepers_of s.blocked)) _ h).1).3
+    on_main (slice_get s.threads 0) _ (none_wakes t s s.blocked (empty_is (sleepers_of s.blocked) (and_parts (is_empty (sleepers_of s.blocked)) _ h).0))
+idle_so code s h (entry.Finish t) w = (each_rests code t s (and_parts (is_empty (sleepers_of s.blocked)) _ h).1).3
 idle_so code s h (entry.Tick at) w = absurd w
 idle_so code s h entry.Stranded w = absurd w
 
@@ -298,7 +294,7 @@ ends_shown code s steps fuel = by (result_of (slice_get s.threads 0)) refl
 
     waiting : result_of (slice_get s.threads 0) ≡ None → (b c : Bool) → is_idle code s ≡ b → is_none (next code s entry.Stranded) ≡ c → EndsSo code s steps fuel (cond (b && c) (Some Deadlock) None)
     waiting q true true i n =
-        (from None true q, from None false q, (quiet_so code s i (none_is (next code s entry.Stranded) n), empty_is (sleepers_of s.blocked) (both_true (is_empty (sleepers_of s.blocked)) _ i).0))
+        (from None true q, from None false q, (quiet_so code s i (none_is (next code s entry.Stranded) n), empty_is (sleepers_of s.blocked) (and_parts (is_empty (sleepers_of s.blocked)) _ i).0))
     waiting q true false i n = tt
     waiting q false c i n = tt
 

@@ -1,5 +1,6 @@
 -- An entry goes on exactly by its cases.
 use Rattle.std.proofs.Common.{◌≡◌, ◌≢◌, ℕ, zero, suc, ◌≤◌, nat_le, Bool, true, false, cond, not, ◌&&◌, List, [], ◌∷◌, ◌++◌, length, Option, Some, None, slice_get, slice_set, refl, sym, ap, ◌∙◌, subst, append-nil, arith}
+use Rattle.std.proofs.lemmas.Bool.{and_parts, leb-true, cond-true, cond-false}
 use Rattle.hs_base.specs.declared.mask.Mask.{Mask}
 use Rattle.hs_base.specs.declared.mask.Mask.TheVariants.{Unmasked, Masked, Uninterruptible}
 use Rattle.hs_base.specs.declared.exn.Exn.{Exn}
@@ -17,16 +18,12 @@ use Rattle.hs_rules.specs.Primitives.{operated}
 use Rattle.hs_rules.specs.Entries.{moved, local_entry, at_operation, op_entry, is_throw, is_unmasked, is_interruptible, is_open, is_receptive, received, receive_entry, woken, is_silent, uncaught_line, throwers, closed, finish_entry, mask_of, is_stranded, stranded_below, stranded, strand, strand_entry, on_thread, next}
 use Rattle.hs_rules.specs.Entries as entries
 use Rattle.hs_cases.specs.Cases.{told, finished, Performs, Unfinished, MainRuns, WaitsAtCell, AllThatWait, of_none, waits_too, waits_not, Enters, local, operation, receives_while_it_runs, receives_while_it_waits, wakes, finishes_by_a_value, main_finishes_by_an_exception, finishes_silently, finishes_with_a_line, ticks, strands}
-use Rattle.hs_cases.proofs.Options.{cond_true, cond_false, landed, tested}
+use Rattle.hs_cases.proofs.Options.{landed, tested, on_running}
 use Rattle.hs_cases.proofs.Performing.{performed_is}
 use Rattle.hs_cases.proofs.Performing as performing
+pub use Rattle.std.proofs.lemmas.Bool.{and_parts as both_true}
 
 -- ---- tests and their words
-
-pub both_true : (a b : Bool) → a && b ≡ true → (a ≡ true) × (b ≡ true)
-both_true true true e = (refl, refl)
-both_true true false e = absurd (cc e)
-both_true false b e = absurd (cc e)
 
 pub not_true : (b : Bool) → not b ≡ true → b ≡ false
 not_true true e = absurd (cc e)
@@ -42,7 +39,7 @@ interruptible Unmasked n = refl
 interruptible Masked n = refl
 interruptible Uninterruptible n = absurd (n refl)
 
-not_hard : (m : Mask) → is_interruptible m ≡ true → m ≢ Uninterruptible
+pub not_hard : (m : Mask) → is_interruptible m ≡ true → m ≢ Uninterruptible
 not_hard Unmasked e h = cc h
 not_hard Masked e h = cc h
 not_hard Uninterruptible e h = cc e
@@ -50,17 +47,14 @@ not_hard Uninterruptible e h = cc e
 due_now : (a b : ℕ) → a ≤ b → nat_le a b ≡ true
 due_now a b h = grind arith
 
-now_due : (a b : ℕ) → nat_le a b ≡ true → a ≤ b
-now_due a b h = grind arith
-
 -- ---- who is to be stranded
 
 pub waits_so : (s : State) (t : ℕ) (o : Option Thread) (r : Option (Reason V)) → slice_get s.threads t ≡ o → reason_of t s.blocked ≡ r → is_stranded o r ≡ true → WaitsAtCell s t
 waits_so s t None None a b e = absurd (cc e)
-waits_so s t None (Some r) a b e = let k = both_true (at_cell r) false e in absurd (cc k.1)
+waits_so s t None (Some r) a b e = let k = and_parts (at_cell r) false e in absurd (cc k.1)
 waits_so s t (Some th) None a b e = absurd (cc e)
 waits_so s t (Some th) (Some r) a b e =
-    let k = both_true (at_cell r) (is_interruptible (mask_at th.term.frames)) e in
+    let k = and_parts (at_cell r) (is_interruptible (mask_at th.term.frames)) e in
     record { thread = th; is = a; reason = r; waits = b; there = k.0; open_now = not_hard (mask_at th.term.frames) k.1 }
 
 pub stranded_so : (s : State) (t : ℕ) → WaitsAtCell s t → is_stranded (slice_get s.threads t) (reason_of t s.blocked) ≡ true
@@ -97,9 +91,6 @@ all_of s (suc n) = by (all_of s n) (is_stranded (slice_get s.threads n) (reason_
 
 -- ---- a thread that is there
 
-found : (o : Option Thread) (k : Thread → Option State) (th : Thread) → o ≡ Some th → th.finished ≡ false → on_thread o k ≡ k th
-found o k th e f = ap (λ p. on_thread p k) e ∙ cond_false th.finished None (k th) f
-
 finds : (P : Type 0) (o : Option Thread) (k : Thread → Option State) (u : State) → ((th : Thread) → o ≡ Some th → th.finished ≡ false → k th ≡ Some u → P) → on_thread o k ≡ Some u → P
 finds P None k u f h = absurd (cc h)
 finds P (Some th) k u f h = tested P th.finished None (k th) u (λ b g. absurd (cc g)) (λ b g. f th refl b g) h
@@ -116,20 +107,20 @@ quietly t th s =
 module _ (code : Code) where
   -- where main runs, what an entry leaves is what its kind leaves
   goes : (s : State) (e : Entry) (u : State) → MainRuns s → entries.entered code s e ≡ Some u → next code s e ≡ Some u
-  goes s e u m h = found (slice_get s.threads 0) (λ th. entries.entered code s e) m.0 m.1.0 m.1.1 ∙ h
+  goes s e u m h = on_running (slice_get s.threads 0) m.0 (λ th. entries.entered code s e) m.1.0 m.1.1 ∙ h
 
   on : (s : State) (t : ℕ) (th : Thread) (k : Thread → Option State) (u : State) → Unfinished t th s → k th ≡ Some u → on_thread (slice_get s.threads t) k ≡ Some u
-  on s t th k u h g = found (slice_get s.threads t) k th h.0 h.1 ∙ g
+  on s t th k u h g = on_running (slice_get s.threads t) th k h.0 h.1 ∙ g
 
   moves : (t k : ℕ) (th : Thread) (x : Term) (s : State) → is_blocked t s.blocked ≡ false → locals code (suc k) th.term ≡ Some x → local_entry code t (suc k) th s ≡ Some (move t x s)
-  moves t k th x s b e = cond_false (is_blocked t s.blocked) None _ b ∙ ap (moved t s) e
+  moves t k th x s b e = cond-false (is_blocked t s.blocked) None _ b ∙ ap (moved t s) e
 
   operates : (t : ℕ) (th : Thread) (p : Operation) (s u : State) → is_blocked t s.blocked ≡ false → th.term.part ≡ part.Performs p → Performs t (mask_at th.term.frames) p s u → op_entry t th s ≡ Some u
-  operates t th p s u b e h = cond_false (is_blocked t s.blocked) None _ b ∙ (ap (λ q. at_operation q (λ r. operated t (mask_at th.term.frames) r s)) e ∙ performed_is h)
+  operates t th p s u b e h = cond-false (is_blocked t s.blocked) None _ b ∙ (ap (λ q. at_operation q (λ r. operated t (mask_at th.term.frames) r s)) e ∙ performed_is h)
 
   receptive : (t : ℕ) (th : Thread) (f : Flying) (fs : List Flying) (s : State) → is_receptive t th.term s ≡ true → flying_to t (flight_of s.blocked) ≡ f ∷ fs →
       receive_entry t th s ≡ Some (resume t (Throw f.exn) (answer f.thrower UnitValue s))
-  receptive t th f fs s r e = cond_true (is_receptive t th.term s) _ None r ∙ ap (λ gs. received t gs s) e
+  receptive t th f fs s r e = cond-true (is_receptive t th.term s) _ None r ∙ ap (λ gs. received t gs s) e
 
   pub open_so : (t : ℕ) (th : Thread) (s : State) (b c : Bool) → is_throw th.term.part ≡ false → is_blocked t s.blocked ≡ b → is_open b (mask_at th.term.frames) ≡ true → is_receptive t th.term s ≡ true
   open_so t th s b c n w o = ap (λ x. not x && is_open (is_blocked t s.blocked) (mask_at th.term.frames)) n ∙ (ap (λ x. is_open x (mask_at th.term.frames)) w ∙ o)
@@ -152,7 +143,7 @@ entered_is {code} (receives_while_it_waits {t} {th} {f} {fs} {s = r} m h n b k e
     goes code r (entry.Receive t) _ m (on code r t th (λ x. receive_entry t x r) _ h
     (receptive code t th f fs r (open_so code t th r true true n b (interruptible (mask_at th.term.frames) k)) e))
 entered_is {code} (wakes {t} {due} {s = r} m h d) =
-    goes code r (entry.Wake t) _ m (ap (λ o. woken t o r) h ∙ cond_true (nat_le due r.clock) _ None (due_now due r.clock d))
+    goes code r (entry.Wake t) _ m (ap (λ o. woken t o r) h ∙ cond-true (nat_le due r.clock) _ None (due_now due r.clock d))
 entered_is {code} (finishes_by_a_value {t} {th} {a} {s = r} m h f p) =
     goes code r (entry.Finish t) _ m (on code r t th (λ x. finish_entry t x x.term.frames x.term.part r) _ h
     (ends code t th (Ret a) r _ f p (ap Some (quietly t th r))))
@@ -161,12 +152,12 @@ entered_is {code} (main_finishes_by_an_exception {th} {e} {s = r} h f p) =
     (ends code 0 th (Throw e) r _ f p refl))
 entered_is {code} (finishes_silently {t} {th} {e} {s = r} m h f p i) =
     goes code r (entry.Finish (suc t)) _ m (on code r (suc t) th (λ x. finish_entry (suc t) x x.term.frames x.term.part r) _ h
-    (ends code (suc t) th (Throw e) r _ f p (ap (λ x. Some (closed (suc t) th x r)) (cond_true (is_silent e) [] _ i) ∙ ap Some (quietly (suc t) th r))))
+    (ends code (suc t) th (Throw e) r _ f p (ap (λ x. Some (closed (suc t) th x r)) (cond-true (is_silent e) [] _ i) ∙ ap Some (quietly (suc t) th r))))
 entered_is {code} (finishes_with_a_line {t} {th} {e} {s = r} m h f p i) =
     goes code r (entry.Finish (suc t)) _ m (on code r (suc t) th (λ x. finish_entry (suc t) x x.term.frames x.term.part r) _ h
-    (ends code (suc t) th (Throw e) r _ f p (ap (λ x. Some (closed (suc t) th x r)) (cond_false (is_silent e) [] _ i))))
+    (ends code (suc t) th (Throw e) r _ f p (ap (λ x. Some (closed (suc t) th x r)) (cond-false (is_silent e) [] _ i))))
 entered_is {code} (ticks {at} {s = r} m h) =
-    goes code r (entry.Tick at) _ m (cond_true (nat_le r.clock at) _ None (due_now r.clock at h))
+    goes code r (entry.Tick at) _ m (cond-true (nat_le r.clock at) _ None (due_now r.clock at h))
 entered_is {code} (strands {t} {ts} {s = r} m e a) =
     goes code r entry.Stranded _ m (strand_all code r t ts e (all_are a))
 
@@ -198,7 +189,7 @@ module _ (code : Code) (s u : State) (m : MainRuns s) where
   is_received : (t : ℕ) (th : Thread) → Unfinished t th s → is_receptive t th.term s ≡ true → (fs : List Flying) → flying_to t (flight_of s.blocked) ≡ fs → received t fs s ≡ Some u → Case (entry.Receive t)
   is_received t th h r [] e g = absurd (cc g)
   is_received t th h r (f ∷ fs) e g =
-      let k = both_true (not (is_throw th.term.part)) (is_open (is_blocked t s.blocked) (mask_at th.term.frames)) r in
+      let k = and_parts (not (is_throw th.term.part)) (is_open (is_blocked t s.blocked) (mask_at th.term.frames)) r in
       by (is_blocked t s.blocked) refl (not_true (is_throw th.term.part) k.0) k.1
     where
       by : (b : Bool) → is_blocked t s.blocked ≡ b → is_throw th.term.part ≡ false → is_open (is_blocked t s.blocked) (mask_at th.term.frames) ≡ true → Case (entry.Receive t)
@@ -210,7 +201,7 @@ module _ (code : Code) (s u : State) (m : MainRuns s) where
       tested (Case (entry.Receive t)) (is_receptive t th.term s) _ None u (λ r x. is_received t th h r (flying_to t (flight_of s.blocked)) refl x) (λ r x. absurd (cc x)) g
 
   is_wake : (t : ℕ) (o : Option (Reason V)) → reason_of t s.blocked ≡ o → woken t o s ≡ Some u → Case (entry.Wake t)
-  is_wake t (Some (Sleeping due)) e g = tested (Case (entry.Wake t)) (nat_le due s.clock) _ None u (λ d x. is (wakes m e (now_due due s.clock d)) x) (λ d x. absurd (cc x)) g
+  is_wake t (Some (Sleeping due)) e g = tested (Case (entry.Wake t)) (nat_le due s.clock) _ None u (λ d x. is (wakes m e (leb-true due s.clock d)) x) (λ d x. absurd (cc x)) g
   is_wake t _ e g = absurd (cc g)
 
   is_uncaught : (t : ℕ) (th : Thread) (e : Exn) → Unfinished t th s → th.term.frames ≡ [] → th.term.part ≡ Throw e → Some (closed t th (uncaught_line t e) s) ≡ Some u → Case (entry.Finish t)
@@ -218,8 +209,8 @@ module _ (code : Code) (s u : State) (m : MainRuns s) where
   is_uncaught (suc t) th e h f p g = by (is_silent e) refl
     where
       by : (b : Bool) → is_silent e ≡ b → Case (entry.Finish (suc t))
-      by true i = is (finishes_silently m h f p i) (sym (ap (λ x. Some (closed (suc t) th x s)) (cond_true (is_silent e) [] _ i) ∙ ap Some (quietly (suc t) th s)) ∙ g)
-      by false i = is (finishes_with_a_line m h f p i) (sym (ap (λ x. Some (closed (suc t) th x s)) (cond_false (is_silent e) [] _ i)) ∙ g)
+      by true i = is (finishes_silently m h f p i) (sym (ap (λ x. Some (closed (suc t) th x s)) (cond-true (is_silent e) [] _ i) ∙ ap Some (quietly (suc t) th s)) ∙ g)
+      by false i = is (finishes_with_a_line m h f p i) (sym (ap (λ x. Some (closed (suc t) th x s)) (cond-false (is_silent e) [] _ i)) ∙ g)
 
   is_finish : (t : ℕ) (th : Thread) → Unfinished t th s → (fs : List Frame) → th.term.frames ≡ fs → (p : Part) → th.term.part ≡ p → finish_entry t th fs p s ≡ Some u → Case (entry.Finish t)
   is_finish t th h [] f (Ret a) p g = is (finishes_by_a_value m h f p) (sym (ap Some (quietly t th s)) ∙ g)
@@ -242,7 +233,7 @@ module _ (code : Code) (s u : State) (m : MainRuns s) where
   is_entered (entry.Receive t) g = finds (Case (entry.Receive t)) (slice_get s.threads t) _ u (λ th e f x. is_receive t th (e, f) x) g
   is_entered (entry.Wake t) g = is_wake t (reason_of t s.blocked) refl g
   is_entered (entry.Finish t) g = finds (Case (entry.Finish t)) (slice_get s.threads t) _ u (λ th e f x. is_finish t th (e, f) th.term.frames refl th.term.part refl x) g
-  is_entered (entry.Tick at) g = tested (Case (entry.Tick at)) (nat_le s.clock at) _ None u (λ d x. is (ticks m (now_due s.clock at d)) x) (λ d x. absurd (cc x)) g
+  is_entered (entry.Tick at) g = tested (Case (entry.Tick at)) (nat_le s.clock at) _ None u (λ d x. is (ticks m (leb-true s.clock at d)) x) (λ d x. absurd (cc x)) g
   is_entered entry.Stranded g = is_stranding (sleepers_of s.blocked) refl g
 
 pub case_of : (code : Code) (s : State) (e : Entry) (u : State) → next code s e ≡ Some u → Enters code s e u

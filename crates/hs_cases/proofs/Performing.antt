@@ -1,5 +1,6 @@
 -- An operation is performed exactly by its cases.
-use Rattle.std.proofs.Common.{◌≡◌, ◌≢◌, ℕ, zero, suc, ◌<◌, ◌==◌, ℤ, pos, negsuc, true, false, List, [], ◌∷◌, Option, Some, None, slice_get, refl, sym, ap, ◌∙◌, subst, arith}
+use Rattle.std.proofs.Common.{◌≡◌, ◌≢◌, ℕ, zero, suc, ◌<◌, ◌==◌, ℤ, pos, negsuc, true, false, List, [], ◌∷◌, Option, Some, None, slice_get, refl, sym, ap, ◌∙◌, subst, arith, ne_eqb}
+use Rattle.std.proofs.lemmas.Bool.{cond-true, cond-false}
 use Rattle.hs_base.specs.declared.mask.Mask.{Mask}
 use Rattle.hs_base.specs.declared.exn.Exn.{Exn}
 use Rattle.rules_expansion.specs.declared.primitive.Primitive.{Primitive}
@@ -11,27 +12,24 @@ use Rattle.hs_rules.specs.Terms.{Operation, Calls, Forks, ForksUnmask, Throw}
 use Rattle.hs_rules.specs.State.{Thread, State, resume, answer, block}
 use Rattle.hs_rules.specs.Primitives.{on_none, on_one, on_two, as_text, as_number, as_cell, as_thread, as_exn, as_instance, moves_in, goes_in, take, read, put, try_take, try_put, throw_at, due_in, delay, operated}
 use Rattle.hs_cases.specs.Cases.{putter, taker, read_there, Performs, prints, prints_a_line, tells_a_line, makes_a_full_cell, makes_an_empty_cell, take_waits, takes_and_empties, takes_and_serves, read_waits, reads, put_waits, puts_and_fills, puts_and_serves, try_take_finds_nothing, try_takes_and_empties, try_takes_and_serves, try_put_finds_a_value, try_puts_and_fills, try_puts_and_serves, names_itself, names_its_masking, reads_the_clock, sleeps, sleep_of_nothing, sleep_of_less, throws_at_itself, throws_at_finished, throw_waits, makes_a_timeout, acquires, releases, forks, forks_unmasked}
-use Rattle.hs_cases.proofs.Options.{cond_true, cond_false, landed, tested}
+use Rattle.hs_cases.proofs.Options.{landed, tested}
 
 -- ---- a case is performed
 
 same_number : (n k : ℕ) → n ≡ k → n == k ≡ true
 same_number n k e = grind arith
 
-other_number : (n k : ℕ) → n ≢ k → n == k ≡ false
-other_number n k e = grind arith
-
 itself : (t : ℕ) (e : Exn) (s : State) (o : Option Thread) (th : Thread) → o ≡ Some th → throw_at t t e o s ≡ Some (resume t (Throw e) s)
-itself t e s o th h = ap (λ p. throw_at t t e p s) h ∙ cond_true (t == t) _ _ (same_number t t refl)
+itself t e s o th h = ap (λ p. throw_at t t e p s) h ∙ cond-true (t == t) _ _ (same_number t t refl)
 
 at_finished : (t u : ℕ) (e : Exn) (s : State) (o : Option Thread) (th : Thread) → u ≢ t → o ≡ Some th → th.finished ≡ true → throw_at t u e o s ≡ Some (answer t UnitValue s)
-at_finished t u e s o th n h f = ap (λ p. throw_at t u e p s) h ∙ (cond_false (u == t) _ _ (other_number u t n) ∙ cond_true th.finished _ _ f)
+at_finished t u e s o th n h f = ap (λ p. throw_at t u e p s) h ∙ (cond-false (u == t) _ _ (ne_eqb u t n) ∙ cond-true th.finished _ _ f)
 
 waits : (t u : ℕ) (e : Exn) (s : State) (o : Option Thread) (th : Thread) → u ≢ t → o ≡ Some th → th.finished ≡ false → throw_at t u e o s ≡ Some (block t (Throwing u e) s)
-waits t u e s o th n h f = ap (λ p. throw_at t u e p s) h ∙ (cond_false (u == t) _ _ (other_number u t n) ∙ cond_false th.finished _ _ f)
+waits t u e s o th n h f = ap (λ p. throw_at t u e p s) h ∙ (cond-false (u == t) _ _ (ne_eqb u t n) ∙ cond-false th.finished _ _ f)
 
 slept : (t n : ℕ) (s : State) → 0 < n → delay t (pos n) s ≡ Some (block t (Sleeping (due_in n s)) s)
-slept t n s h = cond_false (n == 0) _ _ (grind arith)
+slept t n s h = cond-false (n == 0) _ _ (grind arith)
 
 pub performed_is : {t : ℕ} {m : Mask} {p : Operation} {s u : State} → Performs t m p s u → operated t m p s ≡ Some u
 performed_is {t} (take_waits {c} {s = r} e) = ap (λ o. take t c o r) e

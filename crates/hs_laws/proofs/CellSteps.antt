@@ -9,7 +9,7 @@ use Rattle.hs_rules.specs.Primitives.{moves_in, taken, goes_in, goes_on, read_by
 use Rattle.rules_waiting.specs.OneCell as one
 use Rattle.rules_waiting.specs.OneCell.{Want, To_take, To_read, To_put, Place, Take, Read, Put, Try_take, Try_put, Answer, Took, Saw, Gave, Tried_take, Tried_put, Reply, After, cell_of, reply_of, after_of, leaves_line, joins_line, first_put, first_take, readers, leave_line, shown, comes_on, comes_in, call}
 use Rattle.hs_cases.proofs.Lines.{free_stays, kept_place, line_left}
-use Rattle.hs_cases.proofs.Lines as lines
+pub use Rattle.hs_cases.proofs.Lines.{all_left as all_line}
 use Rattle.hs_laws.specs.CellLaw.{told, answered, replied}
 use Rattle.hs_laws.specs.Standing.{Once}
 use Rattle.hs_laws.proofs.Lists.{cond_cases, cond_true, cond_false, equal_or, item_same, item_other, Found, first_found, once_left, once_more, Absent_in, Distinct, Ones, ones_apart, absent_those, distinct_those, ones_those_if, first_of_kind, those, takes, puts, reads_at, readers_are, only_thread, put_is_first, take_is_first, once_reason}
@@ -106,7 +106,7 @@ reader_takes_not m (Taking k) e = absurd (cc e)
 reader_takes_not m _ e = refl
 
 -- after all that read a cell were answered, the same thread is the first that takes
-same_taker : (m : ℕ) (v : V) (u : State) → Once u.blocked → first_take (line_of m (read_by_all m v u).blocked) ≡ first_take (line_of m u.blocked)
+pub same_taker : (m : ℕ) (v : V) (u : State) → Once u.blocked → first_take (line_of m (read_by_all m v u).blocked) ≡ first_take (line_of m u.blocked)
 same_taker m v u o =
     let ts = those (λ t. reads_at m) u.blocked in
     let one : first_of_kind (takes m) (resume_all ts (Ret v) u).blocked ≡ first_of_kind (takes m) u.blocked =
@@ -187,9 +187,6 @@ goes_follow m t s u ps rs a x (Some v) n f = record {
 pub all_cells : (ts : List ℕ) (p : Part) (u : State) → (resume_all ts p u).cells ≡ u.cells
 all_cells [] p u = refl
 all_cells (t ∷ ts) p u = all_cells ts p (resume t p u)
-
-pub all_line : (m : ℕ) (ts : List ℕ) (p : Part) (u : State) → line_of m (resume_all ts p u).blocked ≡ leave_line ts (line_of m u.blocked)
-all_line = lines.all_left
 
 all_threads : (m : ℕ) (v : V) (ts : List ℕ) (u : State) → (resume_all ts (Ret v) u).threads ≡ replied m (shown v ts) u.threads
 all_threads m v [] u = refl
@@ -274,7 +271,7 @@ abbrev pub Away : ℕ → Option (Reason V) → Type 0
 Away m None = Unit {0}
 Away m (Some r) = want_at m r ≡ None
 
-away_line : (m t : ℕ) (ws : List (Waiting V)) → Once ws → Away m (reason_of t ws) → leaves_line t (line_of m ws) ≡ line_of m ws
+pub away_line : (m t : ℕ) (ws : List (Waiting V)) → Once ws → Away m (reason_of t ws) → leaves_line t (line_of m ws) ≡ line_of m ws
 away_line m t [] o h = refl
 away_line m t (w ∷ ws) o h =
     ⊎_elim

@@ -1,5 +1,5 @@
 -- What is legal stays legal when the clock goes on, and where the first sleeper is due it may wake.
-use Rattle.std.proofs.Common.{◌≡◌, ◌≢◌, ℕ, ◌≤◌, List, [], ◌∷◌, ◌++◌, length, slice_get, false, Some, refl, sym, ap, ◌∙◌, subst, arith, ◌⊎◌, inl, inr, ⊎_elim, append_assoc}
+use Rattle.std.proofs.Common.{◌≡◌, ◌≢◌, ℕ, ◌≤◌, List, [], ◌∷◌, ◌++◌, length, slice_get, false, Some, refl, sym, ap, ◌∙◌, subst, arith, ◌⊎◌, inl, inr, ⊎_elim, append_assoc, Option, None}
 use Rattle.std.specs.Prelude.{Contains}
 use Rattle.std.proofs.lemmas.Option.{same_Some}
 use Rattle.hs_rules.specs.declared.entry.Entry.{Entry}
@@ -24,7 +24,7 @@ use Rattle.hs_laws.proofs.Expanded.{standing_of}
 
 -- ---- the first sleeper that is due
 
-abbrev AllAsleep : (Sleeper → Type 0) → List Sleeper → Type 0
+abbrev pub AllAsleep : (Sleeper → Type 0) → List Sleeper → Type 0
 AllAsleep P [] = Unit {0}
 AllAsleep P (s ∷ ss) = P s × AllAsleep P ss
 
@@ -32,7 +32,7 @@ added_asleep : (P : Sleeper → Type 0) (s : Sleeper) (ss : List Sleeper) → P 
 added_asleep P s [] p h = (p, tt)
 added_asleep P s (r ∷ rs) p h = cond_cases (AllAsleep P) (sleeper_before r s) (r ∷ sleeper_added s rs) (s ∷ r ∷ rs) (λ b. (h.0, added_asleep P s rs p h.1)) (λ b. (p, h))
 
-sorted_asleep : (P : Sleeper → Type 0) (ss : List Sleeper) → AllAsleep P ss → AllAsleep P (sorted_sleepers ss)
+pub sorted_asleep : (P : Sleeper → Type 0) (ss : List Sleeper) → AllAsleep P ss → AllAsleep P (sorted_sleepers ss)
 sorted_asleep P [] h = tt
 sorted_asleep P (s ∷ ss) h = added_asleep P s (sorted_sleepers ss) h.0 (sorted_asleep P ss h.1)
 
@@ -40,7 +40,7 @@ sorted_asleep P (s ∷ ss) h = added_asleep P s (sorted_sleepers ss) h.0 (sorted
 abbrev pub WaitsAsleep : List (Waiting V) → Sleeper → Type 0
 WaitsAsleep ws x = reason_of x.thread ws ≡ Some (Sleeping x.due)
 
-all_asleep : (ws vs : List (Waiting V)) → Each (λ t r. reason_of t vs ≡ Some r) ws → AllAsleep (WaitsAsleep vs) (sleepers_of ws)
+pub all_asleep : (ws vs : List (Waiting V)) → Each (λ t r. reason_of t vs ≡ Some r) ws → AllAsleep (WaitsAsleep vs) (sleepers_of ws)
 all_asleep [] vs h = tt
 all_asleep (w ∷ ws) vs h = by w.reason h.0 (all_asleep ws vs h.1)
   where
@@ -50,6 +50,15 @@ all_asleep (w ∷ ws) vs h = by w.reason h.0 (all_asleep ws vs h.1)
     by (Putting m a) e k = k
     by (Throwing u x) e k = k
     by (Sleeping due) e k = (e, k)
+
+-- where nobody is due first nobody sleeps
+pub none_earliest : (ss : List Sleeper) → earliest ss ≡ None → ss ≡ []
+none_earliest [] e = refl
+none_earliest (s ∷ ss) e = absurd (cc e)
+
+-- a reason to sleep says until when
+pub same_due : (d due : ℕ) → ◌≡◌ {A = Option (Reason V)} (Some (Sleeping d)) (Some (Sleeping due)) → d ≡ due
+same_due d due h = cc h
 
 earliest_is : (P : Sleeper → Type 0) (ss : List Sleeper) (due : ℕ) → AllAsleep P ss → earliest ss ≡ Some due → (x : Sleeper) × P x × (x.due ≡ due)
 earliest_is P [] due h e = absurd (cc e)

@@ -6,23 +6,11 @@ use Rattle.rules_meaning.specs.Values.{V}
 use Rattle.rules_waiting.specs.OneCell.{To_take, To_read, To_put, first_put, first_take, readers}
 use Rattle.rules_waiting.specs.Waiting.{Reason, Taking, Reading, Putting, Throwing, Sleeping, Waiting, leaves, is_blocked, reason_of, with_place, line_of, flight_of, flying_to}
 use Rattle.hs_rules.specs.Entries.{throwers}
-use Rattle.std.proofs.lemmas.Bool.Decides.{eqb_tells}
+pub use Rattle.std.proofs.lemmas.Bool.{cond-true as cond_true, cond-false as cond_false}
+pub use Rattle.std.proofs.lemmas.Bool.Decides.{eqb_tells as equal_or}
+pub use Rattle.plain_laws.proofs.Booleans.{cond_cases}
+pub use Rattle.plain_laws.proofs.Lists.{get_append as item_append}
 use Rattle.hs_laws.specs.Standing.{Once}
-
-pub cond_cases : {A : Type 0} (P : A → Type 0) (b : Bool) (x y : A) → (b ≡ true → P x) → (b ≡ false → P y) → P (cond b x y)
-cond_cases P true x y f g = f refl
-cond_cases P false x y f g = g refl
-
-pub cond_true : {A : Type 0} (b : Bool) (x y : A) → b ≡ true → cond b x y ≡ x
-cond_true true x y h = refl
-cond_true false x y h = absurd (cc h)
-
-pub cond_false : {A : Type 0} (b : Bool) (x y : A) → b ≡ false → cond b x y ≡ y
-cond_false true x y h = absurd (cc h)
-cond_false false x y h = refl
-
-pub equal_or : (a b : ℕ) → ((a == b ≡ true) × (a ≡ b)) ⊎ ((a == b ≡ false) × (a ≢ b))
-equal_or a b = eqb_tells a b
 
 pub item_same : {A : Type 0} (xs : List A) (n : ℕ) (x y : A) → slice_get xs n ≡ Some x → slice_get (slice_set xs n y) n ≡ Some y
 item_same [] n x y h = absurd (cc h)
@@ -349,11 +337,6 @@ pub some_item : {A : Type 0} (xs : List A) (k : ℕ) → k < length xs → (x : 
 some_item [] k h = absurd (omega arith)
 some_item (x ∷ xs) zero h = (x, refl)
 some_item (x ∷ xs) (suc k) h = some_item xs k (omega arith)
-
-pub item_append : {A : Type 0} (xs ys : List A) (k : ℕ) (x : A) → slice_get xs k ≡ Some x → slice_get (xs ++ ys) k ≡ Some x
-item_append [] ys k x h = absurd (cc h)
-item_append (z ∷ xs) ys zero x h = h
-item_append (z ∷ xs) ys (suc k) x h = item_append xs ys k x h
 
 pub item_below : {A : Type 0} (xs : List A) (k : ℕ) (x : A) → slice_get xs k ≡ Some x → k < length xs
 item_below [] k x h = absurd (cc h)

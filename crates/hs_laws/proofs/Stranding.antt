@@ -77,7 +77,7 @@ touched t (u ∷ us) p s th d h e =
     (equal_or u t)
 
 -- ---- who is to be stranded
-among : (n t : ℕ) (s : State) → t < n → Strands s t → StandsIn t (stranded_below n s)
+pub among : (n t : ℕ) (s : State) → t < n → Strands s t → StandsIn t (stranded_below n s)
 among zero t s l h = absurd (omega arith)
 among (suc n) t s l h =
     ⊎_elim

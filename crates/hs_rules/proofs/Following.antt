@@ -1,5 +1,6 @@
 -- A history in which nobody is stranded is a run where its entries follow one another.
 use Rattle.std.proofs.Common.{◌≡◌, List, [], ◌∷◌, Option, Some, None, refl}
+use Rattle.std.proofs.lemmas.Option.{same_Some}
 use Rattle.hs_rules.specs.declared.entry.Entry.{Entry}
 use Rattle.hs_rules.specs.declared.entry.Entry.TheVariants as entry
 use Rattle.rules_trees.specs.Programs.{Fn}
@@ -29,11 +30,8 @@ then_some : (o : Option State) (k : State → Option State) (u : State) → then
 then_some None k u h = let e : ⊥ = cc in absurd e
 then_some (Some m) k u h = (m, refl, h)
 
-some_same : (s u : State) → Some s ≡ Some u → s ≡ u
-some_same s u h = cc
-
 pub run_of : (code : Code) (s u : State) (es : List Entry) → AllOrdinary es → after_from code s es ≡ Some u → Run code s es u
-run_of code s u [] o h = some_same s u h
+run_of code s u [] o h = same_Some s u h
 run_of code s u (e ∷ es) o h =
     let (m, stepped, rest) = then_some (next code s e) (λ v. after_from code v es) u h in
     (m, (stepped, timely code s e o.0), run_of code m u es o.1 rest)

@@ -4,16 +4,15 @@ use Rattle.hs_base.specs.declared.tree.script.Body.{Body}
 use Rattle.hs_base.specs.declared.tree.script.Body.TheVariants as y
 use Rattle.hs_base.specs.declared.tree.script.Def.{Def}
 use Rattle.hs_base.specs.declared.tree.script.Script.{Script}
-use Rattle.rules_trees.specs.Programs.{Bd, pure_body, io_body, Fn, bd_of, fn_of, script_of}
-use Rattle.rules_typing.specs.Typing.{Fault, Need, is, Met, TypedName, Ctx, Sig}
+use Rattle.rules_trees.specs.Programs.{Fn, bd_of, fn_of, script_of}
+use Rattle.rules_typing.specs.Typing.{Fault, Need, is, Met, Ctx, Sig}
 use Rattle.rules_typing.specs.TypingFaults.{In}
-use Rattle.rules_typing.specs.TypingScripts.{result_of, params_in, head_faults, sigs_from, BodyHas, BodyBreaks, DefBreaks, AnyBreaks, Measured, unmeasured, measured_with, Accepted}
+use Rattle.rules_typing.specs.TypingScripts.{result_of, params_in, head_faults, sigs_from, BodyHas, DefBreaks, AnyBreaks, Measured, unmeasured, measured_with, Accepted}
 use Rattle.rules_sorts.specs.TypedMeaning.{BodyTyped, PureTyped}
 use Rattle.typing_judge.specs.Judging.{met}
 use Rattle.typing_judge.specs.JudgingScripts.{judge_body}
-use Rattle.typing_judge.proofs.Laws.{Agrees, met_true, true_met}
-use Rattle.typing_judge.proofs.Expressions.{agree}
-use Rattle.typing_judge.proofs.Actions.{agree_bl}
+use Rattle.typing_judge.proofs.Laws.{met_true, true_met}
+use Rattle.typing_judge.proofs.Scripts.{agree_body}
 use Rattle.hs_soundness.specs.AcceptedBodies.{BodiesTyped}
 use Rattle.hs_soundness.proofs.Faultless.{sure_body}
 use Rattle.hs_soundness.proofs.Wells.{ex_well}
@@ -29,10 +28,6 @@ met_where n h = by (met n) refl
     by : (b : Bool) → met n ≡ b → Met n
     by true e = met_true n e
     by false e = absurd (h (λ m. let z : true ≡ false = sym (true_met n m) ∙ e in absurd (cc z)))
-
-agree_body : (c : Ctx) (s : List TypedName) (d : Bd) → Agrees (judge_body c s d) (BodyHas c s d) (BodyBreaks c s d)
-agree_body c s (pure_body w e) = agree c s e
-agree_body c s (io_body w a) = agree_bl c s a
 
 -- a body that breaks nothing has the declared type
 body_has : (c : Ctx) (d : Fn) → ((f : Fault) → DefBreaks c d f → ⊥) → BodyHas c (params_in [] d.params) d.body (result_of d.body).ty

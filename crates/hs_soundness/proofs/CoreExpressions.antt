@@ -1,6 +1,6 @@
 -- An expression of a core action gives a value of its sort or an exception, in an environment that fits its scope.
 use Rattle.std.proofs.Common.{◌≡◌, ⊎_elim, ℕ, pos, List, [], ◌∷◌, Bool, true, false, cond, Option, Some, None, refl, sym, subst, bytes_eq}
-use Rattle.std.proofs.lemmas.Slice.Eq.{bytes_eq-Decides}
+use Rattle.plain_laws.proofs.Lists.{bytes_eq_sym}
 use Rattle.hs_base.specs.declared.tree.script.Script.{Script}
 use Rattle.hs_base.specs.declared.tree.forms.BinaryForm.TheVariants as b
 use Rattle.hs_base.specs.declared.tree.forms.UnaryForm.TheVariants as u
@@ -21,14 +21,6 @@ use Rattle.hs_soundness.specs.CoreSorts.{seen_as, with_written, written_in, IsTh
 use Rattle.hs_soundness.proofs.BodiesTyped.{pure_typed}
 
 -- ---- the names of the script in a scope
-
-same_bool : (p q : Bool) → (p ≡ true → q ≡ true) → (q ≡ true → p ≡ true) → p ≡ q
-same_bool true q f g = sym (f refl)
-same_bool false true f g = g refl
-same_bool false false f g = refl
-
-bytes_eq_sym : (x y : List ℕ) → bytes_eq x y ≡ bytes_eq y x
-bytes_eq_sym x y = same_bool (bytes_eq x y) (bytes_eq y x) (λ e. (bytes_eq-Decides y x).1 (sym ((bytes_eq-Decides x y).0 e))) (λ e. (bytes_eq-Decides x y).1 (sym ((bytes_eq-Decides y x).0 e)))
 
 abbrev seen_at : Option Sort → Option typing.Sort
 seen_at None = None

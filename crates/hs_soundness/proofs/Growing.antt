@@ -1,6 +1,5 @@
 -- Environments that fit: with one name more, and where more numbers are of a type.
-use Rattle.std.proofs.Common.{◌≡◌, ℕ, zero, suc, List, [], ◌∷◌, ◌++◌, length, Bool, true, false, cond, Option, Some, None, refl, sym, subst, arith, length-append}
-use Rattle.std.specs.Prelude.{slice_get}
+use Rattle.std.proofs.Common.{◌≡◌, ℕ, List, [], ◌∷◌, ◌++◌, length, Bool, true, false, cond, Option, Some, None, refl, sym, subst, arith, length-append}
 use Rattle.rules_trees.specs.Trees.{T, unit, int, bool, text, thread, exn, pair, maybe, either, list, cell, async}
 use Rattle.rules_meaning.specs.Values as val
 use Rattle.rules_expansion.specs.Names.{Name, Written, Added, same_name, Unread}
@@ -9,7 +8,8 @@ use Rattle.rules_sorts.specs.Sorts.{Sort, a_value, a_masking_name, an_instance, 
 use Rattle.rules_sorts.specs.TypedMeaning.{of_pair, of_maybe, of_either, of_list, of_thread, of_cell, HasV, any_cell}
 use Rattle.rules_code.specs.Slots.{Scope, slot_of}
 use Rattle.rules_code.specs.CodeTrees.{is_unread}
-use Rattle.rules_code.specs.Matching.{Seen, Matches}
+use Rattle.rules_code.specs.Matching.{Matches}
+use Rattle.rules_code.proofs.Slotted.{seen_bound}
 use Rattle.hs_soundness.specs.CoreSorts.{names_of, FitsAt, FitsScope, SlotsFit}
 
 -- ---- more numbers of a type
@@ -93,27 +93,6 @@ kept : (y : Name) (v : V) (env : Env) → is_unread y ≡ false → with_name y 
 kept (Written x) v env h = refl
 kept (Added z) v env h = refl
 kept Unread v env h = absurd (cc h)
-
-get_left : (xs ys : List V) (k : ℕ) (v : V) → slice_get xs k ≡ Some v → slice_get (xs ++ ys) k ≡ Some v
-get_left [] ys k v h = let z : None ≡ Some v = h in absurd (cc z)
-get_left (x ∷ xs) ys zero v h = h
-get_left (x ∷ xs) ys (suc k) v h = get_left xs ys k v h
-
-get_end : (xs : List V) (k : ℕ) (v : V) → length xs ≡ k → slice_get (xs ++ v ∷ []) k ≡ Some v
-get_end [] zero v h = refl
-get_end [] (suc k) v h = absurd (omega arith)
-get_end (x ∷ xs) zero v h = absurd (omega arith)
-get_end (x ∷ xs) (suc k) v h = get_end xs k v (omega arith)
-
-seen_more : (o : Option ℕ) (r : Option V) (vs us : List V) → Seen o r vs → Seen o r (vs ++ us)
-seen_more None None vs us h = tt
-seen_more None (Some v) vs us h = h
-seen_more (Some k) None vs us h = h
-seen_more (Some k) (Some v) vs us h = get_left vs us k v h
-
-seen_bound : (t : Bool) (n : ℕ) (o : Option ℕ) (r : Option V) (vs : List V) (v : V) → length vs ≡ n → Seen o r vs → Seen (cond t (Some n) o) (cond t (Some v) r) (vs ++ v ∷ [])
-seen_bound true n o r vs v e h = get_end vs n v e
-seen_bound false n o r vs v e h = seen_more o r vs (v ∷ []) h
 
 slots_with : (s : Scope) (env : Env) (vs : List V) (y : Name) (v : V) → Matches s env vs → Matches (y ∷ s) (record { name = y; value = v } ∷ env) (vs ++ v ∷ [])
 slots_with s env vs y v m = record {

@@ -1,5 +1,4 @@
 pub mod BodiesTyped
-pub mod Conditions
 pub mod CoreExpressions
 pub mod CoreSlots
 pub mod Faultless

@@ -20,20 +20,14 @@ use Rattle.rules_meaning.specs.Meaning.{has_no_quotient, floor_quotient, floor_r
 use Rattle.rules_typing.specs.Typing as typing
 use Rattle.rules_typing.specs.Typing.{Has, equal, order, first_of, second_of, inner_of, row_unary, row_binary}
 use Rattle.rules_sorts.specs.TypedMeaning.{of_int, of_bool, of_text, of_thread, of_exn, of_pair, of_maybe, of_either, of_list, HasV, Good, AllOf, AllGood, HasSort, Fits, FunctionsGood, IsStrict, Well, WellAll, WellLinks, WellConses, WellArms}
-use Rattle.hs_soundness.proofs.Conditions.{cond_cases, cond_true, cond_false, equal_or}
-use Rattle.std.proofs.lemmas.Slice.Eq.{bytes_eq-Decides}
+use Rattle.std.proofs.lemmas.Bool.{cond-true, cond-false}
+use Rattle.std.proofs.lemmas.Bool.Decides.{eqb_tells}
+use Rattle.plain_laws.proofs.Lists.{bytes_eq_sym}
+use Rattle.plain_laws.proofs.Booleans.{cond_cases}
 use Rattle.hs_base.specs.declared.pos.Pos.{Pos}
 
-same_bool : (p q : Bool) → (p ≡ true → q ≡ true) → (q ≡ true → p ≡ true) → p ≡ q
-same_bool true q f g = sym (f refl)
-same_bool false true f g = g refl
-same_bool false false f g = refl
-
-bytes_eq_sym : (x y : List ℕ) → bytes_eq x y ≡ bytes_eq y x
-bytes_eq_sym x y = same_bool (bytes_eq x y) (bytes_eq y x) (λ e. (bytes_eq-Decides y x).1 (sym ((bytes_eq-Decides x y).0 e))) (λ e. (bytes_eq-Decides x y).1 (sym ((bytes_eq-Decides y x).0 e)))
-
 meant_args_is : (p : Pos) (n : ℕ) (params ps : List T) (r t : T) → typing.meant_args p n params r ≡ typing.takes ps t → (length params ≡ n) × (params ≡ ps) × (r ≡ t)
-meant_args_is p n params ps r t e = ⊎_elim (λ q. by (q.1) (sym (cond_true (length params == n) (typing.takes params r) (typing.wrong (typing.arity p (typing.shown_count (length params)) (typing.shown_count n))) q.0) ∙ e)) (λ q. let z : typing.wrong (typing.arity p (typing.shown_count (length params)) (typing.shown_count n)) ≡ typing.takes ps t = sym (cond_false (length params == n) (typing.takes params r) (typing.wrong (typing.arity p (typing.shown_count (length params)) (typing.shown_count n))) q.0) ∙ e in absurd (cc z)) (equal_or (length params) n)
+meant_args_is p n params ps r t e = ⊎_elim (λ q. by (q.1) (sym (cond-true (length params == n) (typing.takes params r) (typing.wrong (typing.arity p (typing.shown_count (length params)) (typing.shown_count n))) q.0) ∙ e)) (λ q. let z : typing.wrong (typing.arity p (typing.shown_count (length params)) (typing.shown_count n)) ≡ typing.takes ps t = sym (cond-false (length params == n) (typing.takes params r) (typing.wrong (typing.arity p (typing.shown_count (length params)) (typing.shown_count n))) q.0) ∙ e in absurd (cc z)) (eqb_tells (length params) n)
   where
     by : length params ≡ n → typing.takes params r ≡ typing.takes ps t → (length params ≡ n) × (params ≡ ps) × (r ≡ t)
     by l q = (l, cc q, cc q)

@@ -1,7 +1,8 @@
 -- What writes of nodes and of the table do to the links back.
-use Rattle.std.proofs.Common.{◌≡◌, ◌≢◌, ℕ, zero, suc, ◌<◌, ◌≤◌, ◌==◌, List, [], length, map, get_or, set, Option, Some, None, refl, ap, sym, subst, ◌∙◌, arith, inl, inr, ◌+◌, ◌-◌, Bool, true, false, cond, IsSome, eq-eqb}
+use Rattle.std.proofs.Common.{◌≡◌, ◌≢◌, ℕ, zero, suc, ◌<◌, ◌≤◌, ◌==◌, List, [], length, map, get_or, set, Option, Some, None, refl, ap, sym, subst, ◌∙◌, arith, inl, inr, ◌+◌, ◌-◌, true, false, cond, IsSome, eq-eqb}
 use Rattle.std.proofs.lemmas.Bool.{cases_eq, ne_eqb, eqb-true}
 use Rattle.std.proofs.lemmas.List.{get_or-set_same, get_or-set_other, length-set, get_or-map}
+use Rattle.plain_laws.proofs.Booleans.{both_false}
 use Rattle.rules_waiting.specs.OneCell.{stands_in}
 use Rattle.slab.specs.Slab.{Slab, get, Updates}
 use Rattle.mvar_cell.specs.declared.lines.LineNode.{LineNode}
@@ -18,10 +19,6 @@ some_once a b o p q = let e : Some a ≡ Some b = sym p ∙ q in cc
 
 differs : (a b : ℕ) → a == b ≡ false → a ≢ b
 differs a b h e = let t = eq-eqb a b e in let no : ⊥ = cc in no
-
-none_later : (b c : Bool) → cond b true c ≡ false → (b ≡ false) × (c ≡ false)
-none_later true c h = let no : ⊥ = cc in absurd no
-none_later false c h = (refl, h)
 
 one_less : (n : ℕ) → n ≡ suc n - 1
 one_less n = omega arith
@@ -55,8 +52,8 @@ befores_apart f g s u k zero i z t h else absent on tail b = tt
 befores_apart f g s u k (suc n) i z t h else absent on tail b =
     let e : get u i ≡ get s i = h.same i (suc n) (omega arith) on tail in
     let at : get u (next_of (get s i)) ≡ get s (next_of (get s i)) = h.same (next_of (get s i)) n (omega arith) tail.1 tail.2 in
-    let later : stands_in t (places s (suc n) (next_of (get s i))) ≡ false = (none_later _ _ absent).1 in
-    let other : thread_of (get s (next_of (get s i))) ≢ t = differs _ _ (none_later _ _ later).0 in
+    let later : stands_in t (places s (suc n) (next_of (get s i))) ≡ false = (both_false _ _ absent).1 in
+    let other : thread_of (get s (next_of (get s i))) ≢ t = differs _ _ (both_false _ _ later).0 in
     let head : g (thread_of (get s (next_of (get s i)))) ≡ Some i = else _ other ∙ b.0 in
     let rest : HasBefores g u n (next_of (get s i)) = befores_apart f g s u k n (next_of (get s i)) z t (shorter h) else later tail.1 tail.2 b.1 in
     subst (λ o. (g (thread_of (get u (next_of o))) ≡ Some i) × HasBefores g u n (next_of o)) (sym e) (subst (λ o. g (thread_of o) ≡ Some i) (sym at) head, rest)
@@ -67,8 +64,8 @@ befores_longer f g s u k zero i z key last new h else here absent on t b =
     let e : get u i ≡ Some (record last { next = key }) = ap (get u) t ∙ h.linked in
     subst (λ o. (g (thread_of (get u (next_of o))) ≡ Some i) × Unit {0}) (sym e) (ap (λ o. g (thread_of o)) h.added ∙ here ∙ ap (λ x. Some x) (sym t), tt)
 befores_longer f g s u k (suc n) i z key last new h else here absent on t b =
-    let later : stands_in new.thread (places s (suc n) (next_of (get s i))) ≡ false = (none_later _ _ absent).1 in
-    let other : thread_of (get s (next_of (get s i))) ≢ new.thread = differs _ _ (none_later _ _ later).0 in
+    let later : stands_in new.thread (places s (suc n) (next_of (get s i))) ≡ false = (both_false _ _ absent).1 in
+    let other : thread_of (get s (next_of (get s i))) ≢ new.thread = differs _ _ (both_false _ _ later).0 in
     let away : (j : ℕ) → IsOn k (get s j) → j ≢ key = λ j there q. vacant_is_not_on k _ (ap (get s) q ∙ h.vacant) there in
     let e : get u i ≡ get s i = h.others i t.0 (away i on) in
     let same : thread_of (get u (next_of (get s i))) ≡ thread_of (get s (next_of (get s i))) =

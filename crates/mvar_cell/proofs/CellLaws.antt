@@ -1,20 +1,18 @@
 -- Laws of the calls of one cell alone.
-use Rattle.std.proofs.Common.{◌≡◌, ℕ, ◌==◌, Bool, true, false, cond, List, [], ◌∷◌, ◌++◌, Option, Some, None, refl, ap, sym, subst, ◌∙◌, eq-eqb, set}
+use Rattle.std.proofs.Common.{◌≡◌, ℕ, ◌==◌, true, false, cond, List, [], ◌∷◌, ◌++◌, Option, Some, None, refl, ap, sym, subst, ◌∙◌, eq-eqb, set}
 use Rattle.std.proofs.lemmas.List.{set-get_or}
+use Rattle.plain_laws.proofs.Booleans.{both_false}
 use Rattle.hs_base.specs.declared.value.Value.{Value}
 use Rattle.rules_waiting.specs.OneCell.{To_take, To_read, To_put, Place, Cell, Call, Take, Read, Put, Try_take, Try_put, After, Reply, Took, Saw, Gave, Tried_take, Tried_put, cell_of, after_of, reply_of, made, call, called, joins_line, stands_in, leaves_line, readers, leave_line, shown, first_take, moves_in, comes_on, comes_in}
 use Rattle.mvar_cell.specs.Mvars.{Mvars, IsDistinct}
 use Rattle.mvar_cell.specs.Calls.{cell_at, IsCall, IsFull, IsEmpty, NobodyReads}
 
 -- ---- leaving
-step_false : (b c : Bool) → cond b true c ≡ false → (b ≡ false) × (c ≡ false)
-step_false true c h = let no : ⊥ = cc in absurd no
-step_false false c h = (refl, h)
 
 leaves_absent : (t : ℕ) (ps : List (Place Value)) → stands_in t ps ≡ false → leaves_line t ps ≡ ps
 leaves_absent t [] h = refl
 leaves_absent t (p ∷ ps) h =
-    let s = step_false (p.thread == t) (stands_in t ps) h in
+    let s = both_false (p.thread == t) (stands_in t ps) h in
     ap (λ b. cond b (leaves_line t ps) (p ∷ leaves_line t ps)) s.0 ∙ ap (λ qs. p ∷ qs) (leaves_absent t ps s.1)
 
 pub leaves_first : (p : Place Value) (ps : List (Place Value)) → stands_in p.thread ps ≡ false → leaves_line p.thread (p ∷ ps) ≡ ps

@@ -1,6 +1,7 @@
 -- What writes of single nodes do to chains.
 use Rattle.std.proofs.Common.{◌≡◌, ◌≢◌, ℕ, zero, suc, ◌≤◌, List, [], ◌∷◌, ◌++◌, Option, Some, None, refl, ap, sym, subst, ◌∙◌, arith, inl, inr, Bool, true, false, cond, IsSome, eq-eqb}
 use Rattle.std.proofs.lemmas.Bool.{cases_eq, ne_eqb}
+use Rattle.plain_laws.proofs.Booleans.{both_false}
 use Rattle.hs_base.specs.declared.value.Value.{Value}
 use Rattle.rules_waiting.specs.OneCell.{Place}
 use Rattle.slab.specs.Slab.{Slab, get}
@@ -215,14 +216,10 @@ pub places_more : (s : Slab LineNode) (n i : ℕ) → places s (suc n) i ≡ pla
 places_more s zero i = refl
 places_more s (suc n) i = ap (λ ps. place_of (get s i) ∷ ps) (places_more s n (next_of (get s i)))
 
-pub none_later : (b c : Bool) → cond b true c ≡ false → (b ≡ false) × (c ≡ false)
-none_later true c h = let no : ⊥ = cc in absurd no
-none_later false c h = (refl, h)
-
 pub none_append : (sought : Sought) (ps qs : List (Place Value)) → any_sought sought ps ≡ false → any_sought sought qs ≡ false → any_sought sought (ps ++ qs) ≡ false
 none_append sought [] qs h g = g
 none_append sought (p ∷ ps) qs h g =
-    let r = none_later (is_sought sought p) (any_sought sought ps) h in
+    let r = both_false (is_sought sought p) (any_sought sought ps) h in
     ap (λ b. cond b true (any_sought sought (ps ++ qs))) r.0 ∙ none_append sought ps qs r.1 g
 
 pub none_alone : (sought : Sought) (p : Place Value) → is_sought sought p ≡ false → any_sought sought (p ∷ []) ≡ false

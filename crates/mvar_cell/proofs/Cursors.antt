@@ -2,6 +2,7 @@
 use Rattle.std.proofs.Common.{◌≡◌, ◌≢◌, ℕ, zero, suc, ◌<◌, ◌≤◌, List, [], ◌∷◌, length, get_or, set, Option, Some, None, refl, ap, sym, subst, ◌∙◌, arith, inl, inr, ◌+◌, ◌-◌, true, false, cond, eq-eqb, unwrap_or}
 use Rattle.std.proofs.lemmas.Bool.{cases_eq, ne_eqb}
 use Rattle.std.proofs.lemmas.List.{get_or-set_same, get_or-set_other, length-set}
+use Rattle.plain_laws.proofs.Booleans.{both_false}
 use Rattle.slab.specs.Slab.{Slab, get, Updates}
 use Rattle.mvar_cell.specs.declared.lines.LineNode.{LineNode}
 use Rattle.mvar_cell.specs.declared.lines.Ends.{Ends}
@@ -9,14 +10,14 @@ use Rattle.mvar_cell.specs.declared.lines.Sought.{Sought}
 use Rattle.mvar_cell.specs.declared.lines.Sought.TheVariants.{Thread, Reader}
 use Rattle.mvar_cell.specs.Nodes.{place_of, next_of, places, IsOn, IsTail, IsChain, IsLine, IsSound, is_sought, any_sought, walk, behind, StandsBefore, Unlinks, Unlinked, ends_after_leaving}
 use Rattle.mvar_cell.specs.Cursors.{IsPassed, HasPassed, IsMarked, AreMarked, Searches, moved_cursor, cursor_after_leaving}
-use Rattle.mvar_cell.proofs.Chains.{tail_once, Keeps, Extends, vacant_is_not_on, on_one, walk_on, walk_next, places_more, none_later, none_append, none_alone}
+use Rattle.mvar_cell.proofs.Chains.{tail_once, Keeps, Extends, vacant_is_not_on, on_one, walk_on, walk_next, places_more, none_append, none_alone}
 use Rattle.mvar_cell.proofs.Writes.{long_chain_of, last_of, last_after}
 
 -- ---- the search
 -- where all places up to a node are no readers' and one behind the first is, the node is not the last
 reads_behind : (s : Slab LineNode) (n i a : ℕ) → any_sought Reader (places s (suc a) i) ≡ false → is_sought Reader (place_of (get s i)) ≡ false → any_sought Reader (places s n (next_of (get s i))) ≡ true → suc a ≡ suc n → ⊥
 reads_behind s n i a clear first stands e =
-    let none : any_sought Reader (places s n (next_of (get s i))) ≡ false = (none_later (is_sought Reader (place_of (get s i))) (any_sought Reader (places s n (next_of (get s i)))) (subst (λ x. any_sought Reader (places s x i) ≡ false) e clear)).1 in
+    let none : any_sought Reader (places s n (next_of (get s i))) ≡ false = (both_false (is_sought Reader (place_of (get s i))) (any_sought Reader (places s n (next_of (get s i)))) (subst (λ x. any_sought Reader (places s x i) ≡ false) e clear)).1 in
     let no : ⊥ = cc in no
 
 module _ (s : Slab LineNode) (e : Ends) (some : 0 < e.len) (first : is_sought Reader (place_of (get s e.first)) ≡ false) (stands : any_sought Reader (behind s e) ≡ true) where
@@ -150,7 +151,7 @@ passed_tail s u k zero i z key (suc a) others c ne lt is clear = let no : ⊥ = 
 passed_tail s u k (suc n) i z key (suc a) others c ne lt is clear =
     let apart : (j d : ℕ) → d ≤ n → IsTail s k d j z → j ≢ i = λ j d le r e. (let more : d ≡ suc n = tail_once s k d (suc n) i z (subst (λ x. IsTail s k d x z) e r) c.1 in let no : ⊥ = omega (arith, more, le) in no) in
     passed_kept s u k n (next_of (get s i)) z key (record { same = λ j d le on r. others j (apart j d le r) }) c.1.1 c.1.2
-    (record { steps = a; within = omega (arith, lt); is = is; clear = (none_later _ _ clear).1 })
+    (record { steps = a; within = omega (arith, lt); is = is; clear = (both_false _ _ clear).1 })
 
 pub marked_shorter : (s u : Slab LineNode) (k n i z : ℕ) (node : LineNode) (cursor : Option ℕ) → get s i ≡ Some node → ((j : ℕ) → j ≢ i → get u j ≡ get s j) → IsChain s k (suc n) i z → HasPassed s (suc n) i cursor → HasPassed u n node.next (moved_cursor cursor i None)
 marked_shorter s u k n i z node None was others c h = tt
@@ -172,7 +173,7 @@ first_stays s u k w m i z p j before gone h e le t =
 passed_without : (s u : Slab LineNode) (k a w m i z p j key : ℕ) (before gone : LineNode) → Unlinks s u p j before gone → p ≡ walk s w i → w ≤ m → IsOn k (get s i) → IsTail s k (suc m) i z → a < suc (suc m) → key ≡ walk s a i → key ≢ j → any_sought Reader (places s (suc a) i) ≡ false → IsPassed u (suc m) i key
 passed_without s u k zero zero m i z p j key before gone h e le on t lt is ne clear =
     let same : place_of (get u i) ≡ place_of (get s i) = ap (λ x. place_of (get u x)) (sym e) ∙ ap place_of h.linked ∙ ap place_of (sym h.was) ∙ ap (λ x. place_of (get s x)) e in
-    subst (IsPassed u (suc m) i) (sym is) (passed_here u m i (ap (is_sought Reader) same ∙ (none_later _ _ clear).0))
+    subst (IsPassed u (suc m) i) (sym is) (passed_here u m i (ap (is_sought Reader) same ∙ (both_false _ _ clear).0))
 passed_without s u k (suc zero) zero m i z p j key before gone h e le on t lt is ne clear =
     absurd (ne (is ∙ ap (λ x. next_of (get s x)) (sym e) ∙ ap next_of h.was ∙ h.follows))
 passed_without s u k (suc (suc a)) zero zero i z p j key before gone h e le on t lt is ne clear = let no : ⊥ = omega (arith, lt) in absurd no
@@ -184,24 +185,24 @@ passed_without s u k (suc (suc a)) zero (suc m) i z p j key before gone h e le o
     let not_p : (x d : ℕ) → d ≤ m → IsTail s k d x z → x ≢ p = λ x d le2 r q. (let v = tail_once s k d (suc (suc m)) i z (subst (λ y. IsTail s k d y z) (q ∙ e) r) t in let no : ⊥ = omega (arith, v, le2) in no) in
     let not_j : (x d : ℕ) → d ≤ m → IsTail s k d x z → x ≢ j = λ x d le2 r q. (let v = tail_once s k d (suc m) (next_of (get s i)) z (subst (λ y. IsTail s k d y z) (q ∙ sym next) r) t.2 in let no : ⊥ = omega (arith, v, le2) in no) in
     let keeps : Keeps s u k m z = record { same = λ x d le2 there r. h.others x (not_p x d le2 r) (not_j x d le2 r) } in
-    let later : (is_sought Reader (place_of (get s i)) ≡ false) × (any_sought Reader (places s (suc (suc a)) (next_of (get s i))) ≡ false) = none_later _ _ clear in
-    let was : IsPassed s (suc m) (next_of (get s (next_of (get s i)))) key = record { steps = a; within = omega (arith, lt); is = is; clear = (none_later _ _ later.1).1 } in
+    let later : (is_sought Reader (place_of (get s i)) ≡ false) × (any_sought Reader (places s (suc (suc a)) (next_of (get s i))) ≡ false) = both_false _ _ clear in
+    let was : IsPassed s (suc m) (next_of (get s (next_of (get s i)))) key = record { steps = a; within = omega (arith, lt); is = is; clear = (both_false _ _ later.1).1 } in
     let now : IsPassed u (suc m) (next_of (get s (next_of (get s i)))) key = passed_kept s u k m _ z key keeps t.2.1 t.2.2 was in
     passed_more u (suc m) i key (ap (is_sought Reader) same ∙ later.0) (subst (λ x. IsPassed u (suc m) x key) (far ∙ sym linked) now)
 passed_without s u k a (suc w) zero i z p j key before gone h e le on t lt is ne clear = let no : ⊥ = omega arith in absurd no
 passed_without s u k zero (suc w) (suc m) i z p j key before gone h e le on t lt is ne clear =
     let same : get u i ≡ get s i = first_stays s u k w m i z p j before gone h e le t in
-    subst (IsPassed u (suc (suc m)) i) (sym is) (passed_here u (suc m) i (ap (λ o. is_sought Reader (place_of o)) same ∙ (none_later _ _ clear).0))
+    subst (IsPassed u (suc (suc m)) i) (sym is) (passed_here u (suc m) i (ap (λ o. is_sought Reader (place_of o)) same ∙ (both_false _ _ clear).0))
 passed_without s u k (suc a) (suc w) (suc m) i z p j key before gone h e le on t lt is ne clear =
     let same : get u i ≡ get s i = first_stays s u k w m i z p j before gone h e le t in
-    let rest : IsPassed u (suc m) (next_of (get s i)) key = passed_without s u k a w m (next_of (get s i)) z p j key before gone h e (omega (arith, le)) t.1 t.2 (omega (arith, lt)) is ne (none_later _ _ clear).1 in
-    passed_more u (suc m) i key (ap (λ o. is_sought Reader (place_of o)) same ∙ (none_later _ _ clear).0) (subst (λ o. IsPassed u (suc m) (next_of o) key) (sym same) rest)
+    let rest : IsPassed u (suc m) (next_of (get s i)) key = passed_without s u k a w m (next_of (get s i)) z p j key before gone h e (omega (arith, le)) t.1 t.2 (omega (arith, lt)) is ne (both_false _ _ clear).1 in
+    passed_more u (suc m) i key (ap (λ o. is_sought Reader (place_of o)) same ∙ (both_false _ _ clear).0) (subst (λ o. IsPassed u (suc m) (next_of o) key) (sym same) rest)
 
 -- fewer places
 passed_prefix : (s : Slab LineNode) (n i : ℕ) → any_sought Reader (places s (suc n) i) ≡ false → any_sought Reader (places s n i) ≡ false
 passed_prefix s zero i h = refl
 passed_prefix s (suc n) i h =
-    let r = none_later _ _ h in
+    let r = both_false _ _ h in
     ap (λ b. cond b true (any_sought Reader (places s n (next_of (get s i))))) r.0 ∙ passed_prefix s n (next_of (get s i)) r.1
 
 -- ---- all lines

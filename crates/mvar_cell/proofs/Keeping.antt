@@ -1,6 +1,7 @@
 -- What a cell keeps as threads join its line, are served and leave.
 use Rattle.std.proofs.Common.{◌≡◌, ◌≢◌, ℕ, suc, ◌+◌, ◌≤◌, ◌==◌, Bool, true, false, cond, is_some, List, [], ◌∷◌, ◌++◌, length, Option, Some, None, refl, ap, sym, subst, ◌∙◌, arith, length-append}
-use Rattle.std.proofs.lemmas.Bool.{eqb-true}
+use Rattle.plain_laws.proofs.Booleans.{both_false}
+use Rattle.plain_laws.proofs.Numbers.{unequal_back}
 use Rattle.hs_base.specs.declared.value.Value.{Value}
 use Rattle.rules_waiting.specs.OneCell.{Want, To_take, To_read, To_put, Place, stands_in, leaves_line, readers, first_take, first_put, reads_it, takes_it}
 use Rattle.mvar_cell.specs.declared.cells.Stored.{Stored}
@@ -8,10 +9,6 @@ use Rattle.mvar_cell.specs.declared.lines.Sought.TheVariants.{Thread, Reader}
 use Rattle.mvar_cell.specs.Mvars.{AllWait, IsDistinct, IsCell, puts_it}
 use Rattle.mvar_cell.specs.Nodes.{any_sought}
 use Rattle.mvar_cell.proofs.CellLaws.{leaves_first}
-
-step_false : (b c : Bool) → cond b true c ≡ false → (b ≡ false) × (c ≡ false)
-step_false true c h = let no : ⊥ = cc in absurd no
-step_false false c h = (refl, h)
 
 -- ---- who waits
 waits_append : (full : Bool) (ps : List (Place Value)) (p : Place Value) → puts_it p.want ≡ full → AllWait full ps → AllWait full (ps ++ p ∷ [])
@@ -23,7 +20,7 @@ waits_middle full [] back p h = h.1
 waits_middle full (q ∷ front) back p h = (h.0, waits_middle full front back p h.1)
 
 -- at a full cell nobody waits to read or to take
-none_reads : (ps : List (Place Value)) → AllWait true ps → readers ps ≡ []
+pub none_reads : (ps : List (Place Value)) → AllWait true ps → readers ps ≡ []
 none_reads [] h = refl
 none_reads (p ∷ ps) h =
     elim p.want as (λ w. puts_it w ≡ true → cond (reads_it w) (p.thread ∷ readers ps) (readers ps) ≡ []) [
@@ -36,22 +33,19 @@ none_reads (p ∷ ps) h =
 stands_append : (t : ℕ) (ps : List (Place Value)) (p : Place Value) → stands_in t ps ≡ false → (p.thread == t) ≡ false → stands_in t (ps ++ p ∷ []) ≡ false
 stands_append t [] p h e = ap (λ b. cond b true false) e
 stands_append t (q ∷ ps) p h e =
-    let s = step_false (q.thread == t) (stands_in t ps) h in
+    let s = both_false (q.thread == t) (stands_in t ps) h in
     ap (λ b. cond b true (stands_in t (ps ++ p ∷ []))) s.0 ∙ stands_append t ps p s.1 e
-
-turned : (a b : ℕ) → a == b ≡ false → b == a ≡ false
-turned a b h = grind arith
 
 distinct_append : (ps : List (Place Value)) (p : Place Value) → stands_in p.thread ps ≡ false → IsDistinct ps → IsDistinct (ps ++ p ∷ [])
 distinct_append [] p h d = (refl, tt)
 distinct_append (q ∷ ps) p h d =
-    let s = step_false (q.thread == p.thread) (stands_in p.thread ps) h in
-    (stands_append q.thread ps p d.0 (turned q.thread p.thread s.0), distinct_append ps p s.1 d.1)
+    let s = both_false (q.thread == p.thread) (stands_in p.thread ps) h in
+    (stands_append q.thread ps p d.0 (unequal_back q.thread p.thread s.0), distinct_append ps p s.1 d.1)
 
 absent_middle : (x : ℕ) (front back : List (Place Value)) (p : Place Value) → stands_in x (front ++ p ∷ back) ≡ false → (p.thread == x ≡ false) × (stands_in x (front ++ back) ≡ false)
-absent_middle x [] back p h = step_false (p.thread == x) (stands_in x back) h
+absent_middle x [] back p h = both_false (p.thread == x) (stands_in x back) h
 absent_middle x (q ∷ front) back p h =
-    let s = step_false (q.thread == x) (stands_in x (front ++ p ∷ back)) h in
+    let s = both_false (q.thread == x) (stands_in x (front ++ p ∷ back)) h in
     let r = absent_middle x front back p s.1 in
     (r.0, ap (λ b. cond b true (stands_in x (front ++ back))) s.0 ∙ r.1)
 
@@ -62,7 +56,7 @@ distinct_middle (q ∷ front) back p d = ((absent_middle q.thread front back p d
 leaves_middle : (front back : List (Place Value)) (p : Place Value) → IsDistinct (front ++ p ∷ back) → leaves_line p.thread (front ++ p ∷ back) ≡ front ++ back
 leaves_middle [] back p d = leaves_first p back d.0
 leaves_middle (q ∷ front) back p d =
-    let other : q.thread == p.thread ≡ false = turned p.thread q.thread (absent_middle q.thread front back p d.0).0 in
+    let other : q.thread == p.thread ≡ false = unequal_back p.thread q.thread (absent_middle q.thread front back p d.0).0 in
     ap (λ b. cond b (leaves_line p.thread (front ++ p ∷ back)) (q ∷ leaves_line p.thread (front ++ p ∷ back))) other ∙ ap (λ qs. q ∷ qs) (leaves_middle front back p d.1)
 
 -- the one place of a thread is left out
@@ -73,9 +67,6 @@ leaves t line front back p was same d =
 pub standing : (t : ℕ) (ps : List (Place Value)) → any_sought (Thread t) ps ≡ stands_in t ps
 standing t [] = refl
 standing t (p ∷ ps) = ap (cond (p.thread == t) true) (standing t ps)
-
-pub same_thread : (a b : ℕ) → a == b ≡ true → a ≡ b
-same_thread a b h = eqb-true a b h
 
 -- ---- readers
 readers_append : (ps qs : List (Place Value)) → readers (ps ++ qs) ≡ readers ps ++ readers qs
@@ -89,7 +80,7 @@ readers_append (p ∷ ps) qs =
 none_in_front : (front : List (Place Value)) → any_sought Reader front ≡ false → readers front ≡ []
 none_in_front [] h = refl
 none_in_front (p ∷ front) h =
-    let s = step_false (reads_it p.want) (any_sought Reader front) h in
+    let s = both_false (reads_it p.want) (any_sought Reader front) h in
     ap (λ b. cond b (p.thread ∷ readers front) (readers front)) s.0 ∙ none_in_front front s.1
 
 pub some_reads : (ps : List (Place Value)) → length (readers ps) ≢ 0 → any_sought Reader ps ≡ true

@@ -1,8 +1,9 @@
 -- Contents and lines, seen as one list of cells.
-use Rattle.std.proofs.Common.{◌≡◌, ℕ, zero, suc, ◌<◌, Bool, true, false, cond, List, [], ◌∷◌, ◌++◌, length, refl, ap, sym, subst, ◌∙◌, arith, get_or, set, inl, inr, Option, None, below_more, length-append}
+use Rattle.std.proofs.Common.{◌≡◌, ℕ, zero, suc, ◌<◌, false, List, [], ◌∷◌, ◌++◌, length, refl, ap, sym, subst, ◌∙◌, arith, get_or, set, inl, inr, Option, None, below_more, length-append}
 use Rattle.std.proofs.lemmas.Bool.{cases_eq}
 use Rattle.std.proofs.lemmas.List.{set-get_or, length-set, get_or-set_same, get_or-set_other, get_or_default, get_or_append_left}
 use Rattle.std.proofs.Math.Seq.{get_or-append_seam}
+use Rattle.plain_laws.proofs.Booleans.{both_false}
 use Rattle.hs_base.specs.declared.value.Value.{Value}
 use Rattle.rules_waiting.specs.OneCell.{Place, Cell, Call, After, Reply, cell_of, after_of, made, call, stands_in}
 use Rattle.mvar_cell.specs.declared.cells.Stored.{Stored}
@@ -117,15 +118,11 @@ set_cell ss ls m s line h lt here =
 pub set_line : (ss : List Stored) (ls : List (List (Place Value))) (m : ℕ) (line : List (Place Value)) → AreCells ss ls → m < length ss → IsCell (get_or ss m no_content) line → AreCells ss (set ls m line)
 set_line ss ls m line h lt here = subst (λ xs. AreCells xs (set ls m line)) (set-get_or ss m no_content) (set_cell ss ls m (get_or ss m no_content) line h lt here)
 
-step_false : (b c : Bool) → cond b true c ≡ false → (b ≡ false) × (c ≡ false)
-step_false true c h = let no : ⊥ = cc in absurd no
-step_false false c h = (refl, h)
-
 -- who stands in no line
 pub nowhere_at : (t : ℕ) (cs : List (Cell Value)) (k : ℕ) → stands_among t cs ≡ false → stands_in t (get_or cs k (made None)).line ≡ false
 nowhere_at t [] k h = refl
-nowhere_at t (c ∷ cs) zero h = (step_false (stands_in t c.line) (stands_among t cs) h).0
-nowhere_at t (c ∷ cs) (suc k) h = nowhere_at t cs k (step_false (stands_in t c.line) (stands_among t cs) h).1
+nowhere_at t (c ∷ cs) zero h = (both_false (stands_in t c.line) (stands_among t cs) h).0
+nowhere_at t (c ∷ cs) (suc k) h = nowhere_at t cs k (both_false (stands_in t c.line) (stands_among t cs) h).1
 
 -- who stands in no line of a cell stands in no line
 pub nowhere : (t : ℕ) (old : Mvars) (ss : List Stored) (ls : List (List (Place Value))) → AreCells ss ls → cells_of ss ls ≡ old.cells → stands_among t old.cells ≡ false → (k : ℕ) → stands_in t (get_or ls k []) ≡ false

@@ -2,7 +2,7 @@
 use Rattle.std.proofs.Common.{◌≡◌, ◌≢◌, ℕ, ◌+◌, ◌≤◌, true, false, cond, is_some, List, [], ◌∷◌, ◌++◌, length, Option, Some, None, refl, ap, sym, subst, ◌∙◌, arith, get_or, set}
 use Rattle.std.proofs.lemmas.List.{set-get_or, set-set}
 use Rattle.hs_base.specs.declared.value.Value.{Value}
-use Rattle.rules_waiting.specs.OneCell.{Want, To_take, To_read, To_put, Place, Cell, Call, Try_take, Try_put, Leave, Took, Gave, Tried_take, Tried_put, cell_of, after_of, reply_of, call, readers, stands_in, leaves_line, first_put, first_take, reads_it}
+use Rattle.rules_waiting.specs.OneCell.{To_take, To_put, Place, Cell, Call, Try_take, Try_put, Leave, Took, Gave, Tried_take, Tried_put, cell_of, after_of, reply_of, call, readers, stands_in, leaves_line, first_put, first_take, reads_it}
 use Rattle.mvar_cell.specs.declared.cells.Stored.{Stored}
 use Rattle.mvar_cell.specs.declared.lines.Sought.TheVariants.{Thread, Reader}
 use Rattle.mvar_cell.specs.Nodes.{any_sought}
@@ -11,7 +11,7 @@ use Rattle.mvar_cell.specs.Calls.{cell_at, IsCall, IsFull, IsEmpty, NobodyReads,
 use Rattle.mvar_cell.specs.Readers.{FirstReads}
 use Rattle.mvar_cell.proofs.CellLaws.{try_take_empty, takes_alone, serves_put, stays, serves_take}
 use Rattle.mvar_cell.proofs.Seen.{Here, cell_seen, is_call, is_call_on_line, set_cell, nowhere_at, after_call}
-use Rattle.mvar_cell.proofs.Keeping.{joined, left, leaves, standing, reader_out, some_reads, no_length, readers_within, moved, first_waits}
+use Rattle.mvar_cell.proofs.Keeping.{joined, left, leaves, standing, reader_out, some_reads, no_length, readers_within, moved, first_waits, none_reads}
 
 module _ {m : ℕ} {old : Mvars} {ss : List Stored} {ls : List (List (Place Value))} (i : Here m old ss ls) where
   pub is_cell : IsCell (get_or ss m no_content) (get_or ls m [])
@@ -26,20 +26,10 @@ module _ {m : ℕ} {old : Mvars} {ss : List Stored} {ls : List (List (Place Valu
   pub readers_are : (get_or ss m no_content).readers ≡ length (readers (cell_at m old).line)
   readers_are = is_cell.counted ∙ ap (λ ps. length (readers ps)) (sym seen_line)
 
-  -- at a full cell all wait to put
-  no_puts_read : (ps : List (Place Value)) → AllWait true ps → readers ps ≡ []
-  no_puts_read [] h = refl
-  no_puts_read (p ∷ ps) h = by p.want h.0 (no_puts_read ps h.1)
-    where
-      by : (w : Want Value) → puts_it w ≡ true → readers ps ≡ [] → cond (reads_it w) (p.thread ∷ readers ps) (readers ps) ≡ []
-      by To_take e k = absurd (cc e)
-      by To_read e k = absurd (cc e)
-      by (To_put v) e k = k
-
   pub full_unread : (v : Value) → (cell_at m old).content ≡ Some v → (get_or ss m no_content).readers ≡ 0
   full_unread v e =
       let full : (get_or ss m no_content).content ≡ Some v = sym (ap (λ (c : Cell Value). c.content) (cell_seen m old ss ls i.cells i.seen)) ∙ e in
-      is_cell.counted ∙ ap length (no_puts_read (get_or ls m []) (subst (λ o. AllWait (is_some o) (get_or ls m [])) full is_cell.waits))
+      is_cell.counted ∙ ap length (none_reads (get_or ls m []) (subst (λ o. AllWait (is_some o) (get_or ls m [])) full is_cell.waits))
 
   pub is_full : (v : Value) (f : Option (ℕ × Value)) → (get_or ss m no_content).content ≡ Some v → first_put (get_or ls m []) ≡ f → IsFull v f (cell_at m old)
   is_full v f e q = record { content = content_is (Some v) e; putter = ap first_put seen_line ∙ q }

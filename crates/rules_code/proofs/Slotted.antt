@@ -2,6 +2,7 @@
 use Rattle.std.proofs.Common.{◌≡◌, ℕ, zero, suc, ◌+◌, ◌==◌, List, [], ◌∷◌, ◌++◌, length, Bool, true, false, cond, Option, Some, None, refl, ap, ◌∙◌, sym, subst, arith, append_assoc, length-append}
 use Rattle.std.specs.Prelude.{slice_get, bytes_eq}
 use Rattle.std.proofs.lemmas.List.{append-nil}
+use Rattle.plain_laws.proofs.Lists.{get_append}
 use Rattle.rules_trees.specs.Trees.{Ex, Exs, Links, Arms, lit, name, unary, binary, chain, conses, choose, items, empty, side, given, case, none, more, end, link, maybe_arms, either_arms, list_arms, pair_arms}
 use Rattle.rules_trees.specs.Programs.{Bd, pure_body, io_body, Fn}
 use Rattle.rules_expansion.specs.Names.{Written, same_name}
@@ -12,24 +13,19 @@ use Rattle.rules_code.specs.Matching.{Seen, Matches, Parallel}
 
 -- ---- slots
 
-get_left : (xs ys : List V) (k : ℕ) (v : V) → slice_get xs k ≡ Some v → slice_get (xs ++ ys) k ≡ Some v
-get_left [] ys k v h = let z : None ≡ Some v = h in cc
-get_left (x ∷ xs) ys zero v h = h
-get_left (x ∷ xs) ys (suc k) v h = get_left xs ys k v h
-
 get_end : (xs : List V) (k : ℕ) (v : V) → length xs ≡ k → slice_get (xs ++ v ∷ []) k ≡ Some v
 get_end [] zero v h = refl
 get_end [] (suc k) v h = absurd (omega arith)
 get_end (x ∷ xs) zero v h = absurd (omega arith)
 get_end (x ∷ xs) (suc k) v h = get_end xs k v (omega arith)
 
-seen_more : (o : Option ℕ) (r : Option V) (vs us : List V) → Seen o r vs → Seen o r (vs ++ us)
+pub seen_more : (o : Option ℕ) (r : Option V) (vs us : List V) → Seen o r vs → Seen o r (vs ++ us)
 seen_more None None vs us h = tt
 seen_more None (Some v) vs us h = h
 seen_more (Some k) None vs us h = h
-seen_more (Some k) (Some v) vs us h = get_left vs us k v h
+seen_more (Some k) (Some v) vs us h = get_append vs us k v h
 
-seen_bound : (t : Bool) (n : ℕ) (o : Option ℕ) (r : Option V) (vs : List V) (v : V) → length vs ≡ n → Seen o r vs → Seen (cond t (Some n) o) (cond t (Some v) r) (vs ++ v ∷ [])
+pub seen_bound : (t : Bool) (n : ℕ) (o : Option ℕ) (r : Option V) (vs : List V) (v : V) → length vs ≡ n → Seen o r vs → Seen (cond t (Some n) o) (cond t (Some v) r) (vs ++ v ∷ [])
 seen_bound true n o r vs v e h = get_end vs n v e
 seen_bound false n o r vs v e h = seen_more o r vs (v ∷ []) h
 

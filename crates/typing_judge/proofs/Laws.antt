@@ -1,6 +1,6 @@
 -- What the function of the rules says is what the rules say: one law for each way of putting parts together.
 use Rattle.std.proofs.Common.{◌≡◌, ◌<◌, ◌≤◌, ◌&&◌, List, [], ◌∷◌, ◌++◌, length, Bool, true, false, cond, Option, Some, None, refl, sym, ap, ◌∙◌, subst, arith, ◌⊎◌, inl, inr, ⊎_elim, ltb}
-use Rattle.std.proofs.lemmas.Bool.{ltb-true}
+use Rattle.std.proofs.lemmas.Bool.{ltb-true, and_parts}
 use Rattle.hs_base.specs.declared.pos.Pos.{Pos}
 use Rattle.hs_base.specs.declared.tree.expr.Name.{Name}
 use Rattle.rules_trees.specs.Trees.{T, unit, int, bool, text, thread, exn, pair, maybe, either, list, cell, async, Wr}
@@ -22,11 +22,6 @@ in_cases [] ys f h = inr h
 in_cases (x ∷ xs) ys f (inl e) = inl (inl e)
 in_cases (x ∷ xs) ys f (inr h) = ⊎_elim (λ k. inl (inr k)) (λ k. inr k) (in_cases xs ys f h)
 
-pub both_true : (a b : Bool) → (a && b) ≡ true → (a ≡ true) × (b ≡ true)
-both_true true true h = (refl, refl)
-both_true true false h = cc
-both_true false b h = cc
-
 pub same_true : (a b : T) → same a b ≡ true → a ≡ b
 same_true unit unit h = refl
 same_true int int h = refl
@@ -35,10 +30,10 @@ same_true text text h = refl
 same_true thread thread h = refl
 same_true exn exn h = refl
 same_true (pair a b) (pair c d) h =
-    let k = both_true (same a c) (same b d) h in ap (λ z. pair z b) (same_true a c k.0) ∙ ap (λ z. pair c z) (same_true b d k.1)
+    let k = and_parts (same a c) (same b d) h in ap (λ z. pair z b) (same_true a c k.0) ∙ ap (λ z. pair c z) (same_true b d k.1)
 same_true (maybe a) (maybe c) h = ap maybe (same_true a c h)
 same_true (either a b) (either c d) h =
-    let k = both_true (same a c) (same b d) h in ap (λ z. either z b) (same_true a c k.0) ∙ ap (λ z. either c z) (same_true b d k.1)
+    let k = and_parts (same a c) (same b d) h in ap (λ z. either z b) (same_true a c k.0) ∙ ap (λ z. either c z) (same_true b d k.1)
 same_true (list a) (list c) h = ap list (same_true a c h)
 same_true (cell a) (cell c) h = ap cell (same_true a c h)
 same_true (async a) (async c) h = ap async (same_true a c h)

@@ -27,7 +27,7 @@ rows_self a b c = inr (refl, inr (refl, omega arith))
 tested : ℕ → ℕ → ℕ → ℕ → ℕ → ℕ → Bool
 tested a b c x y z = lower a x (lower b y (ltb c z))
 
-lower_true : (m n : ℕ) (b : Bool) → lower m n b ≡ true → (m < n) ⊎ ((m ≡ n) × (b ≡ true))
+pub lower_true : (m n : ℕ) (b : Bool) → lower m n b ≡ true → (m < n) ⊎ ((m ≡ n) × (b ≡ true))
 lower_true m n b h = elim (ltb m n) as (λ t. ltb m n ≡ t → (t || cond (ltb n m) false b) ≡ true → (m < n) ⊎ ((m ≡ n) × (b ≡ true))) [
   | true ↦ λ w k. inl (ltb-true m n w)
   | false ↦ λ w. elim (ltb n m) as (λ t. ltb n m ≡ t → (false || cond t false b) ≡ true → (m < n) ⊎ ((m ≡ n) × (b ≡ true))) [
@@ -36,7 +36,7 @@ lower_true m n b h = elim (ltb m n) as (λ t. ltb m n ≡ t → (t || cond (ltb 
   ] refl
 ] refl h
 
-lower_false : (m n : ℕ) (b : Bool) → lower m n b ≡ false → (n < m) ⊎ ((n ≡ m) × (b ≡ false))
+pub lower_false : (m n : ℕ) (b : Bool) → lower m n b ≡ false → (n < m) ⊎ ((n ≡ m) × (b ≡ false))
 lower_false m n b h = elim (ltb m n) as (λ t. ltb m n ≡ t → (t || cond (ltb n m) false b) ≡ false → (n < m) ⊎ ((n ≡ m) × (b ≡ false))) [
   | true ↦ λ w k. let z : true ≡ false = k in cc
   | false ↦ λ w. elim (ltb n m) as (λ t. ltb n m ≡ t → (false || cond t false b) ≡ false → (n < m) ⊎ ((n ≡ m) × (b ≡ false))) [
@@ -83,7 +83,7 @@ least_is (x ∷ xs) o f h =
       λ g w. ⊎_elim (λ e. subst (λ z. Precedes f z) (sym e) (precedes_trans f (lesser o x) x (r.1 (lesser o x) refl) (lesser_new o x))) (λ v. r.2 g v) w,
     )
 
-none_some : (xs : List Fault) (g : Fault) → least (Some g) xs ≡ None → ⊥
+pub none_some : (xs : List Fault) (g : Fault) → least (Some g) xs ≡ None → ⊥
 none_some [] g h = cc
 none_some (x ∷ xs) g h = none_some xs (lesser (Some g) x) h
 

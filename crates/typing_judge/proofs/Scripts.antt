@@ -16,7 +16,7 @@ use Rattle.typing_judge.proofs.Laws.{Agrees, agree_part, agree_good, agree_needi
 use Rattle.typing_judge.proofs.Expressions.{agree}
 use Rattle.typing_judge.proofs.Actions.{agree_bl}
 
-agree_body : (c : Ctx) (s : List TypedName) (d : Bd) → Agrees (judge_body c s d) (BodyHas c s d) (BodyBreaks c s d)
+pub agree_body : (c : Ctx) (s : List TypedName) (d : Bd) → Agrees (judge_body c s d) (BodyHas c s d) (BodyBreaks c s d)
 agree_body c s (pure_body w e) = agree c s e
 agree_body c s (io_body w a) = agree_bl c s a
 

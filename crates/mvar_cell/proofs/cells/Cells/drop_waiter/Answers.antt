@@ -1,11 +1,11 @@
 -- A thread leaves one line.
 use Rattle.std.proofs.Common.{◌≡◌, ◌+◌, ◌-◌, Bool, true, false, cond, refl, ap, sym, ◌∙◌, arith, get_or}
 use Rattle.std.proofs.lemmas.List.{set-get_or}
+use Rattle.std.proofs.lemmas.Bool.{eqb-true}
 use Rattle.rules_waiting.specs.OneCell.{reads_it}
 use Rattle.mvar_cell.specs.declared.cells.Stored.{Stored}
 use Rattle.mvar_cell.specs.Nodes.{place}
 use Rattle.mvar_cell.specs.Mvars.{no_content}
-use Rattle.mvar_cell.proofs.Keeping.{same_thread}
 use Rattle.mvar_cell.proofs.Seen.{here_in, stored_at}
 use Rattle.mvar_cell.proofs.Steps.{cell_leaves, cells_leave, counted_one, stands_here}
 use Rattle.mvar_cell.proofs.cells.Cells.drop_waiter.Goals as goal
@@ -30,7 +30,7 @@ overflow_sub-index_mut c =
     let h = here_in c.args.m _ _ c.self.inside.lines _ c.self.invariant c.self.view_is c.requires.exists in
     let one = c.leave-want.ensures.lines in
     let p = place c.leave-want.result.0 c.leave-want.result.1 in
-    let thread : p.thread ≡ c.args.t = same_thread c.leave-want.result.0 c.args.t one.found in
+    let thread : p.thread ≡ c.args.t = eqb-true c.leave-want.result.0 c.args.t one.found in
     let again = stored_at h _ c.index_mut.ensures.value in
     let reads : reads_it p.want ≡ true = sym c.reads.ensures ∙ c.if-reads.true in
     let some = counted_one h one.front one.back p one.was reads in
@@ -44,7 +44,7 @@ invariant_of-self c =
     let h = here_in c.args.m _ _ c.self.inside.lines _ c.self.invariant c.self.view_is c.requires.exists in
     let one = c.leave-want.ensures.lines in
     let p = place c.leave-want.result.0 c.leave-want.result.1 in
-    let thread : p.thread ≡ c.args.t = same_thread c.leave-want.result.0 c.args.t one.found in
+    let thread : p.thread ≡ c.args.t = eqb-true c.leave-want.result.0 c.args.t one.found in
     let again = stored_at h _ c.index_mut.ensures.value in
     let reads : reads_it p.want ≡ true = sym c.reads.ensures ∙ c.if-reads.true in
     let some = counted_one h one.front one.back p one.was reads in
@@ -58,7 +58,7 @@ returns-then-reads-clause-call c =
     let h = here_in c.args.m _ _ c.self.inside.lines _ c.self.invariant c.self.view_is c.requires.exists in
     let one = c.leave-want.ensures.lines in
     let p = place c.leave-want.result.0 c.leave-want.result.1 in
-    let thread : p.thread ≡ c.args.t = same_thread c.leave-want.result.0 c.args.t one.found in
+    let thread : p.thread ≡ c.args.t = eqb-true c.leave-want.result.0 c.args.t one.found in
     let again = stored_at h _ c.index_mut.ensures.value in
     let reads : reads_it p.want ≡ true = sym c.reads.ensures ∙ c.if-reads.true in
     let some = counted_one h one.front one.back p one.was reads in
@@ -72,7 +72,7 @@ invariant_of-self-else-reads c =
     let h = here_in c.args.m _ _ c.self.inside.lines _ c.self.invariant c.self.view_is c.requires.exists in
     let one = c.leave-want.ensures.lines in
     let p = place c.leave-want.result.0 c.leave-want.result.1 in
-    let thread : p.thread ≡ c.args.t = same_thread c.leave-want.result.0 c.args.t one.found in
+    let thread : p.thread ≡ c.args.t = eqb-true c.leave-want.result.0 c.args.t one.found in
     let reads : reads_it p.want ≡ false = sym c.reads.ensures ∙ c.if-reads.false in
     let s = get_or ss c.args.m no_content in
     let same : s.readers ≡ cond (reads_it p.want) 1 0 + s.readers = sym (ap (λ (b : Bool). cond b 1 0 + s.readers) reads ∙ (let z : 0 + s.readers ≡ s.readers = omega arith in z)) in
@@ -84,7 +84,7 @@ returns-clause-call c =
     let h = here_in c.args.m _ _ c.self.inside.lines _ c.self.invariant c.self.view_is c.requires.exists in
     let one = c.leave-want.ensures.lines in
     let p = place c.leave-want.result.0 c.leave-want.result.1 in
-    let thread : p.thread ≡ c.args.t = same_thread c.leave-want.result.0 c.args.t one.found in
+    let thread : p.thread ≡ c.args.t = eqb-true c.leave-want.result.0 c.args.t one.found in
     let reads : reads_it p.want ≡ false = sym c.reads.ensures ∙ c.if-reads.false in
     let s = get_or ss c.args.m no_content in
     cell_leaves h _ ss s c.leave-want.new.self.lines c.args.t one.front one.back p one.was thread refl one.now (sym (set-get_or ss c.args.m no_content)) refl

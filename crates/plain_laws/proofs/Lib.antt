@@ -1,0 +1,4 @@
+pub mod Booleans
+pub mod Numbers
+pub mod Options
+pub mod Lists
