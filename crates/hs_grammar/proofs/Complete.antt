@@ -9,7 +9,7 @@ use Rattle.hs_grammar.proofs.Checks.{after_part, after, fine}
 use Rattle.hs_grammar.proofs.Spellings.{Parts, PartsAppend, PartsSub}
 use Rattle.hs_grammar.proofs.Good.{GoodOut, Closes, PartOut, Ends, good}
 use Rattle.hs_grammar.proofs.Reading.{read_seq, read_go_on}
-use Rattle.hs_grammar.proofs.Starts.{Shrinks, Starts, starts}
+use Rattle.hs_grammar.proofs.Starts.{Shrinks, single_begins, Starts, starts}
 use Rattle.hs_grammar.proofs.Loops.{Takes, loop_eq, another_takes, item_takes}
 
 pub tokens_length : (w : List Item) → length (tokens_of w) ≡ length w
@@ -19,9 +19,6 @@ tokens_length (i ∷ w) = ap suc (tokens_length w)
 -- a token that stands there is taken
 take_single : {A : Type 0} (o : Option ℕ) (l : TokenKind) (f : Token → Parser A) (t : Token) (w k : List Item) → Single o l t w k → take l f (tokens_of w) ≡ f t (tokens_of k)
 take_single o l f t w k h = ap (λ z. take l f (tokens_of z)) h.1 ∙ ap (λ b. take_if b t f (tokens_of k)) (same_of (kind_of t.tok) l h.0)
-
-single_begins : (o : Option ℕ) (l : TokenKind) (t : Token) (w k : List Item) → Single o l t w k → begins (l ∷ []) (tokens_of w) ≡ true
-single_begins o l t w k h = ap (λ z. begins (l ∷ []) (tokens_of z)) h.1 ∙ ap (λ b. either b false) (same_of (kind_of t.tok) l h.0)
 
 single_other : (o : Option ℕ) (l l' : TokenKind) (t : Token) (w k : List Item) → Single o l t w k → same_kind l l' ≡ false → begins (l' ∷ []) (tokens_of w) ≡ false
 single_other o l l' t w k h n = ap (λ z. begins (l' ∷ []) (tokens_of z)) h.1 ∙ (ap (λ z. either (same_kind z l') false) h.0 ∙ ap (λ b. either b false) n)

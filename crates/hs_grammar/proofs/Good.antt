@@ -268,6 +268,13 @@ ended_of_loop f as_item sep close S a w k h = (h.0.0, h.2.0, h.2.1, (h.0.1, h.1,
 abbrev pub PartOut : {A : Type 0} → ℕ → ℕ → Spelling A → Spelling A → Token → List Token → Out A → Type 0
 PartOut m j S C t ts o = ((j < m) × GoodOut m S C ts o) ⊎ ((o ≡ Stop too_deep (t ∷ ts)) × (j ≡ m))
 
+pub closes_made : {A B : Type 0} (f : B → A) (C : Spelling B) → Closes C → Closes (Made f C)
+closes_made f C c = (f c.0, c.1, (c.0, refl, c.2))
+
+pub closes_on_left : {A B : Type 0} (T : B → Spelling A) → ((b : B) → Closes (T b)) → (x : B ⊎ A) → Closes (OnLeft T x)
+closes_on_left T c (inl b) = c b
+closes_on_left T c (inr a) = closes_empty a
+
 module _ (m j : ℕ) (inner : Inner) (X Y : Parts) (xa : PartsAppend X) (ya : PartsAppend Y) (sub : PartsSub X Y)
     (part_good : (B : Type 0) (part : OpenerPart B) (t : Token) (ts : List Token) → PartOut m j (X B part) (Y B part) t ts (inner B part t ts))
     (part_closes : (B : Type 0) (part : OpenerPart B) → Closes (Y B part)) where
@@ -281,13 +288,6 @@ module _ (m j : ℕ) (inner : Inner) (X Y : Parts) (xa : PartsAppend X) (ya : Pa
   Ends (many f p) = Ends p
   Ends (ended f g sep close p) = Closes (λ c. Spelled Y j p (inr c)) × Ends p
   Ends (within g k part) = Unit {0}
-
-  closes_made : {A B : Type 0} (f : B → A) (C : Spelling B) → Closes C → Closes (Made f C)
-  closes_made f C c = (f c.0, c.1, (c.0, refl, c.2))
-
-  closes_on_left : {A B : Type 0} (T : B → Spelling A) → ((b : B) → Closes (T b)) → (x : B ⊎ A) → Closes (OnLeft T x)
-  closes_on_left T c (inl b) = c b
-  closes_on_left T c (inr a) = closes_empty a
 
   -- a shortest spelling
   pub shortest : {A : Type 0} (r : Rule A) → Ends r → Closes (Spelled Y j r)

@@ -1,15 +1,15 @@
 -- The parts that stand in an opener, by the levels of openers.
-use Rattle.std.proofs.Common.{◌≡◌, ℕ, zero, suc, ◌+◌, ◌≤◌, Bool, true, false, List, [], ◌++◌, Some, None, refl, ap, ◌⊎◌, inl, inr, arith}
+use Rattle.std.proofs.Common.{◌≡◌, ℕ, zero, suc, ◌+◌, ◌≤◌, Bool, true, false, List, [], ◌++◌, Some, None, refl, ap, inl, inr, arith}
 use Rattle.hs_base.specs.declared.tree.action.Stmt.TheVariants as s
 use Rattle.rules_tokens.specs.declared.token.Token.{Token}
 use Rattle.rules_grammar.specs.GrammarKinds as k
 use Rattle.rules_grammar.specs.Grammar.{rule_of, block_item, other_action, SpelledIn}
-use Rattle.rules_grammar.specs.GrammarForms.{Rule, give, one, seq, alt, go_on, many, ended, within, Spelling, Single, Made, OnLeft, Spelled}
+use Rattle.rules_grammar.specs.GrammarForms.{Rule, give, one, seq, alt, go_on, many, ended, within, Single, Made, OnLeft, Spelled}
 use Rattle.rules_grammar.specs.GrammarParts.{OpenerPart, type_in_parens, type_in_brackets, param_in_parens, block_in_braces, block_if, block_case, block_arms, let_stmt, no_items, two_names, expr_if, expr_case, expr_arms, expr_let, expr_in_parens, items_in_brackets, items_or_none}
 use Rattle.hs_grammar.specs.Parser.{either, Inner, read, enter}
 use Rattle.hs_grammar.proofs.KindLists.{both_true}
 use Rattle.hs_grammar.proofs.Spellings.{Parts, PartsAppend, appends, subs, PartsSub}
-use Rattle.hs_grammar.proofs.Good.{GoodOut, Closes, closes_then, closes_single, closes_empty, closes_end, PartOut, Ends, good}
+use Rattle.hs_grammar.proofs.Good.{GoodOut, Closes, closes_made, closes_on_left, closes_then, closes_single, closes_empty, closes_end, PartOut, Ends, good}
 use Rattle.hs_grammar.proofs.Checks.{plain, can_close, no_part, simple_part, near_part, opened, plain_item, close_action}
 
 pub parts_append : (n j : ℕ) → PartsAppend (SpelledIn n j)
@@ -24,29 +24,22 @@ parts_sub (suc n) (suc m) j l B part = subs (SpelledIn n (suc j)) (SpelledIn m (
 
 -- ---- each part can be closed
 module _ (Y : Parts) (ya : PartsAppend Y) (j : ℕ) (test : (B : Type 0) → OpenerPart B → Bool) (closes : (B : Type 0) (part : OpenerPart B) → test B part ≡ true → Closes (Y B part)) where
-  made : {A B : Type 0} (f : B → A) (C : Spelling B) → Closes C → Closes (Made f C)
-  made f C c = (f c.0, c.1, (c.0, refl, c.2))
-
-  on_left' : {A B : Type 0} (T : B → Spelling A) → ((b : B) → Closes (T b)) → (x : B ⊎ A) → Closes (OnLeft T x)
-  on_left' T c (inl b) = c b
-  on_left' T c (inr a) = closes_empty a
-
   either_closes : {A : Type 0} (p q : Rule A) → (can_close test p ≡ true → Closes (Spelled Y j p)) → (can_close test q ≡ true → Closes (Spelled Y j q)) → (b : Bool) → can_close test p ≡ b → either b (can_close test q) ≡ true → Closes (Spelled Y j (alt p q))
   either_closes p q f g true e h = let c = f e in (c.0, c.1, inl c.2)
   either_closes p q f g false e h = let c = g h in (c.0, c.1, inr c.2)
 
   closed : {A : Type 0} (r : Rule A) → can_close test r ≡ true → Closes (Spelled Y j r)
   closed (give x) h = closes_empty x
-  closed (one k f) h = made f (Single None k) (closes_single None k)
+  closed (one k f) h = closes_made f (Single None k) (closes_single None k)
   closed (seq f p q) h =
       let w = both_true (can_close test p) (can_close test q) h in
       closes_then 0 (Spelled Y j p) (Spelled Y j p) (λ b. Made (f b) (Spelled Y j q)) (λ b. Made (f b) (Spelled Y j q)) (appends Y ya j p) (appends Y ya j p) (λ a w k h. h)
-      (closed p w.0) (λ b. made (f b) (Spelled Y j q) (closed q w.1))
+      (closed p w.0) (λ b. closes_made (f b) (Spelled Y j q) (closed q w.1))
   closed (alt p q) h = either_closes p q (closed p) (closed q) (can_close test p) refl h
   closed (go_on f p q) h =
       let w = both_true (can_close test p) (can_close test q) h in
       closes_then 0 (Spelled Y j p) (Spelled Y j p) (OnLeft (λ b. Made (f b) (Spelled Y j q))) (OnLeft (λ b. Made (f b) (Spelled Y j q))) (appends Y ya j p) (appends Y ya j p) (λ a w k h. h)
-      (closed p w.0) (on_left' (λ b. Made (f b) (Spelled Y j q)) (λ b. made (f b) (Spelled Y j q) (closed q w.1)))
+      (closed p w.0) (closes_on_left (λ b. Made (f b) (Spelled Y j q)) (λ b. closes_made (f b) (Spelled Y j q) (closed q w.1)))
   closed (many f p) h = (f [], [], ([], refl, refl))
   closed (ended f g sep close p) h = absurd (cc h)
   closed (within {B = B} g k part) h =

@@ -55,6 +55,10 @@ shrinks_last sep close S s =
     (shrinks_then (Single None sep) (λ t. Then (Single None close) (λ u. Empty c)) (shrinks_single None sep)
     (λ t. shrinks_then (Single None close) (λ u. Empty c) (shrinks_single None close) (λ u. shrinks_empty c))))
 
+-- a token that stands there begins it
+pub single_begins : (o : Option ℕ) (l : TokenKind) (t : Token) (w k : List Item) → Single o l t w k → begins (l ∷ []) (tokens_of w) ≡ true
+single_begins o l t w k h = ap (λ z. begins (l ∷ []) (tokens_of z)) h.1 ∙ ap (λ b. either b false) (same_of (kind_of t.tok) l h.0)
+
 module _ (X : Parts) (x : (B : Type 0) (part : OpenerPart B) → Shrinks (X B part)) (j : ℕ) where
   pub shrinks : {A : Type 0} (r : Rule A) → Shrinks (Spelled X j r)
   shrinks (give y) = shrinks_empty y
@@ -73,14 +77,10 @@ module _ (X : Parts) (x : (B : Type 0) (part : OpenerPart B) → Shrinks (X B pa
   abbrev pub Starts : Bool → List TokenKind → List Item → List Item → Type 0
   Starts e ks w k = ((e ≡ true) × (w ≡ k)) ⊎ ((begins ks (tokens_of w) ≡ true) × (length k < length w))
 
-  single_starts : (o : Option ℕ) (l : TokenKind) (t : Token) (w k : List Item) → Single o l t w k → begins (l ∷ []) (tokens_of w) ≡ true
-  single_starts o l t w k h =
-      subst (λ z. begins (l ∷ []) (tokens_of z) ≡ true) (sym h.1) (ap (λ b. either b false) (same_of (kind_of t.tok) l h.0))
-
   pub starts : {A : Type 0} (r : Rule A) → fine r ≡ true → (a : A) (w k : List Item) → Spelled X j r a w k → Starts (may_be_empty r) (firsts r) w k
   unfolding may_be_empty firsts
   starts (give y) e a w k h = inl (refl, h.1)
-  starts (one l f) e a w k h = inr (single_starts None l h.0 w k h.2, single_less None l h.0 w k h.2)
+  starts (one l f) e a w k h = inr (single_begins None l h.0 w k h.2, single_less None l h.0 w k h.2)
   starts (seq f p q) e a w k h = by (starts p fp.0 h.0 w h.1 h.2) (starts q fq.0 h.3.0 h.1 k h.3.2)
     where
       fp : (fine p ≡ true) × (both (fine q) (apart (after p) (firsts q)) ≡ true)
@@ -157,7 +157,7 @@ module _ (X : Parts) (x : (B : Type 0) (part : OpenerPart B) → Shrinks (X B pa
           at_item (inl u) = go s.1.1 (ih (inl s.1.0) s.1.1 u) rest
           at_item (inr u) = go s.1.1 (ih (inr u.0) s.1.1 u.2) rest
   starts (within {B = B} g l part) e a w k h =
-      inr (single_starts (Some j) l h.0 w h.1 h.2, omega (arith, single_less (Some j) l h.0 w h.1 h.2, x B part h.3.0 h.1 k h.3.2))
+      inr (single_begins (Some j) l h.0 w h.1 h.2, omega (arith, single_less (Some j) l h.0 w h.1 h.2, x B part h.3.0 h.1 k h.3.2))
 
 pub parts_shrink : (n j : ℕ) (B : Type 0) (part : OpenerPart B) → Shrinks (SpelledIn n j B part)
 parts_shrink zero j B part = λ a w k h. absurd h

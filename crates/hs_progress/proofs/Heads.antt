@@ -1,6 +1,8 @@
 -- Each action function of an accepted script does what its head says, and `main` can begin.
 use Rattle.std.proofs.Common.{◌≡◌, ℕ, ◌+◌, List, [], ◌∷◌, Bool, true, false, cond, map, Option, Some, None, refl, sym, ap, ◌∙◌, subst, bytes_eq}
 use Rattle.std.specs.Prelude.{◌&&◌, codes}
+use Rattle.std.proofs.lemmas.Bool.{and_parts}
+use Rattle.plain_laws.proofs.Lists.{bytes_eq_sym}
 use Rattle.hs_base.specs.declared.tree.script.Body.{Body}
 use Rattle.hs_base.specs.declared.tree.script.Body.TheVariants as y
 use Rattle.hs_base.specs.declared.tree.script.Def.{Def}
@@ -19,8 +21,7 @@ use Rattle.hs_soundness.proofs.BodiesTyped.{bodies_typed}
 use Rattle.hs_soundness.proofs.WellBlocks.{bl_well}
 use Rattle.hs_progress.specs.CoreTyping.{with_bound, Sees, Does, Takes, takes_none, takes_one}
 use Rattle.hs_progress.specs.TypedStates.{ctx_of, KeepsHead, HeadsKept, Runs}
-use Rattle.hs_progress.proofs.Surface.{binds, bl_does, eq_sym}
-use Rattle.hs_cases.proofs.Entering.{both_true}
+use Rattle.hs_progress.proofs.Surface.{binds, bl_does}
 
 -- ---- parameters
 
@@ -65,7 +66,7 @@ module _ (script : List Fn) where
           → (typing.find (sigs_from (k + 1) (map fn_of ds)) f ≡ Some sig → Found sig (action_named f (actions_of (map fn_of ds)))) → Found sig (action_named f (actions_of (fn_with d b ∷ map fn_of ds)))
       by (y.Pure w x) q z r = pure_step (bytes_eq d.name.text f) (sig_of_fn k (fn_with d (y.Pure w x))) sig (typing.find (sigs_from (k + 1) (map fn_of ds)) f) (action_named f (actions_of (map fn_of ds))) refl z a r
       by (y.Action w x) q z r =
-          act_step (bytes_eq d.name.text f) (bytes_eq f d.name.text) (eq_sym d.name.text f) (sig_of_fn k (fn_with d (y.Action w x))) sig (typing.find (sigs_from (k + 1) (map fn_of ds)) f)
+          act_step (bytes_eq d.name.text f) (bytes_eq f d.name.text) (bytes_eq_sym d.name.text f) (sig_of_fn k (fn_with d (y.Action w x))) sig (typing.find (sigs_from (k + 1) (map fn_of ds)) f)
           (record { name = d.name.text; params = param_names (fn_of d).params; body = block_core (bl_of x) }) (action_named f (actions_of (map fn_of ds)))
           (record {
             here = k;
@@ -80,11 +81,11 @@ heads_kept s a f sig e w = heads_from (script_of s) 0 s.defs (bodies_typed s a) 
 
 -- ---- `main`
 
-no_types : (ts : List T) → is_none ts ≡ true → ts ≡ []
+pub no_types : (ts : List T) → is_none ts ≡ true → ts ≡ []
 no_types [] e = refl
 no_types (t ∷ ts) e = absurd (let z : false ≡ true = e in cc z)
 
-unit_is : (t : T) → is_unit t ≡ true → t ≡ unit
+pub unit_is : (t : T) → is_unit t ≡ true → t ≡ unit
 unit_is unit e = refl
 unit_is _ e = absurd (cc e)
 
@@ -104,8 +105,8 @@ main_runs s a = by (typing.find (sigs_from 0 (script_of s)) (codes "main")) refl
         → (a : Core) × (main_of (script_of s) ≡ Some a) × ((cells : ℕ → T → Type 0) → Runs cells (script_of s) a [] (a_value unit))
     by None e h = absurd (cc h)
     by (Some sig) e h =
-        let q = both_true sig.acts (is_none sig.params && is_unit sig.result) h in
-        let r = both_true (is_none sig.params) (is_unit sig.result) q.1 in
+        let q = and_parts sig.acts (is_none sig.params && is_unit sig.result) h in
+        let r = and_parts (is_none sig.params) (is_unit sig.result) q.1 in
         let f = heads_kept s a (codes "main") sig e q.0 in
         let m : main_of (script_of s) ≡ Some f.0.body = ap body_of f.1 in (
           f.0.body,

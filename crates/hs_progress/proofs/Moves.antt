@@ -27,13 +27,13 @@ use Rattle.hs_progress.specs.TypedStates.{ctx_of, HeadsKept, AllOfSorts, no_valu
 
 -- ---- names that are bound
 
-binds_read : (y : Name) (k : Sort) → Binds y k → is_unread y ≡ false
+pub binds_read : (y : Name) (k : Sort) → Binds y k → is_unread y ≡ false
 binds_read (Written x) k h = refl
 binds_read Unread k h = absurd h
 binds_read (Added z) k h = refl
 
 module _ (cells : ℕ → T → Type 0) where
-  binds_fits : (y : Name) (k : Sort) (v : V) → Binds y k → OfSort cells k v → FitsAt cells y (Some k) (Some v)
+  pub binds_fits : (y : Name) (k : Sort) (v : V) → Binds y k → OfSort cells k v → FitsAt cells y (Some k) (Some v)
   binds_fits (Written x) (a_value t) v b h = h
   binds_fits (Written x) a_masking_name v b h = h
   binds_fits (Written x) an_instance v b h = absurd b
@@ -52,7 +52,7 @@ module _ (cells : ℕ → T → Type 0) where
   -- ---- expressions of a primitive and of a call
 
   -- values for which P holds, or an exception
-  abbrev AllAre : (List V → Type 0) → Outcomes → Type 0
+  abbrev pub AllAre : (List V → Type 0) → Outcomes → Type 0
   AllAre P (AllGive vs) = P vs
   AllAre P (OneThrows e) = Unit {0}
   AllAre P OneStuck = ⊥
@@ -65,13 +65,13 @@ module _ (cells : ℕ → T → Type 0) where
   and_good k P Q Stuck r f h g = absurd h
 
   module _ (script : Script) (accepted : Accepted script) (here : ℕ) where
-    exs_sorts : {g : List SortedName} {es : List CoreEx} {ks : List Sort} (env : Env) → FitsScope cells g env → CoreAllHave (ctx_of (script_of script) here) g es ks → AllAre (AllOfSorts cells ks) (values_of_core (functions_of (script_of script)) env es)
+    pub exs_sorts : {g : List SortedName} {es : List CoreEx} {ks : List Sort} (env : Env) → FitsScope cells g env → CoreAllHave (ctx_of (script_of script) here) g es ks → AllAre (AllOfSorts cells ks) (values_of_core (functions_of (script_of script)) env es)
     exs_sorts env f no_more = no_values
     exs_sorts {g} env f (one_more {e} {k} {es} {ks} h hs) =
         and_good k (AllOfSorts cells ks) (AllOfSorts cells (k ∷ ks)) (value_of_core (functions_of (script_of script)) env e) (values_of_core (functions_of (script_of script)) env es) (λ v vs p q. one_value p q)
         (accepted_good cells script here g env e k accepted h f) (exs_sorts env f hs)
 
-    args_good : (g : List SortedName) (env : Env) (es : Exs) (ts : List T) → FitsScope cells g env → WellAll es → typing.HaveTypes (ctx_of (script_of script) here) (written_in g) es ts → AllAre (AllOf cells ts) (values_of_exs (functions_of (script_of script)) env es)
+    pub args_good : (g : List SortedName) (env : Env) (es : Exs) (ts : List T) → FitsScope cells g env → WellAll es → typing.HaveTypes (ctx_of (script_of script) here) (written_in g) es ts → AllAre (AllOf cells ts) (values_of_exs (functions_of (script_of script)) env es)
     args_good g env none ts f w h = subst (λ z. AllAre (AllOf cells z) (values_of_exs (functions_of (script_of script)) env none)) (sym h) tt
     args_good g env (more e es) ts f w h =
         subst (λ z. AllAre (AllOf cells z) (values_of_exs (functions_of (script_of script)) env (more e es))) (sym h.4)

@@ -1,5 +1,6 @@
 -- Each operation of a typed thread that isn't blocked goes on, to a typed state.
-use Rattle.std.proofs.Common.{◌≡◌, ◌≢◌, ⊎_elim, ℕ, zero, suc, ◌+◌, ◌<◌, ◌≤◌, ◌==◌, ℤ, pos, negsuc, List, [], ◌∷◌, ◌++◌, length, slice_get, true, false, cond, Option, Some, None, refl, sym, ap, ◌∙◌, subst, arith, length-append}
+use Rattle.std.proofs.Common.{◌≡◌, ⊎_elim, ℕ, zero, suc, ◌+◌, ◌<◌, ◌≤◌, ◌==◌, ℤ, pos, negsuc, List, [], ◌∷◌, ◌++◌, length, slice_get, true, false, cond, Option, Some, None, refl, sym, ap, ◌∙◌, subst, arith, length-append}
+use Rattle.plain_laws.proofs.Lists.{get_last, get_before_last}
 use Rattle.hs_base.specs.declared.exn.Exn.{Exn}
 use Rattle.hs_base.specs.declared.exn.Exn.TheVariants.{Timeout}
 use Rattle.hs_base.specs.declared.mask.Mask.{Mask}
@@ -17,12 +18,13 @@ use Rattle.hs_rules.specs.State.{AcquiredBy, ReleasedBy, Thread, State, with_ter
 use Rattle.hs_rules.specs.Primitives.{on_none, on_one, on_two, as_text, as_number, as_cell, as_thread, as_exn, as_instance, taken, given, take, read, put, try_take, try_put, throw_at, due_in, delay, clock_value, masking_text, line_feed, performed, operated}
 use Rattle.hs_laws.proofs.Lists.{cond_cases, cond_true, cond_false, equal_or, some_item, item_append, item_below}
 use Rattle.hs_laws.proofs.States.{Holds, Ready, ready_stopped, answer_holds}
+use Rattle.hs_laws.proofs.Growing.{term_length}
 use Rattle.hs_soundness.specs.CoreSorts.{OfSort, of_instance}
 use Rattle.hs_progress.specs.CoreTyping.{with_bound, Asks, asks_put_str, asks_put_str_ln, asks_h_put_str_ln, asks_new, asks_new_empty, asks_new_scope_cell, asks_take, asks_put, asks_put_end, asks_read, asks_read_end, asks_try_take, asks_try_put, asks_my_thread, asks_masking, asks_clock, asks_delay, asks_throw_to, asks_new_timeout, asks_acquired, asks_release}
 use Rattle.hs_progress.specs.TypedStates.{AllOfSorts, no_values, one_value, OpTyped, calls_typed, forks_typed, forks_unmask_typed, PartTyped, ret_typed, throw_typed, do_typed, FramesTyped, no_frames, mask_typed, ThreadTyped, ContentTyped, CellTyped, Purpose, for_values, for_end, held_by, Store, has, with_cell, with_thread, Sound, Follows}
 use Rattle.hs_progress.proofs.Moves.{more_fits}
 use Rattle.hs_progress.proofs.Stores.{stored_more, content_more, cell_more, part_more, frames_more, thread_more}
-use Rattle.hs_progress.proofs.Sounds.{length_with_term, SoundAt, pack, resumed_threads, resume_sound, unit_answer, taken_sound, given_sound}
+use Rattle.hs_progress.proofs.Sounds.{SoundAt, pack, resumed_threads, resume_sound, unit_answer, taken_sound, given_sound}
 
 module _ (ds : List Fn) (st : Store) where
   -- a typed state is left
@@ -171,24 +173,14 @@ module _ (ds : List Fn) (st : Store) where
 
   -- ---- new threads
 
-  pub at_end : {A : Type 0} (xs : List A) (y : A) → slice_get (xs ++ y ∷ []) (length xs) ≡ Some y
-  at_end [] y = refl
-  at_end (x ∷ xs) y = at_end xs y
-
-  pub before_end : {A : Type 0} (xs : List A) (y : A) (k : ℕ) → k ≢ length xs → slice_get (xs ++ y ∷ []) k ≡ slice_get xs k
-  before_end [] y zero n = absurd (n refl)
-  before_end [] y (suc k) n = refl
-  before_end (x ∷ xs) y zero n = refl
-  before_end (x ∷ xs) y (suc k) n = before_end xs y k (λ e. n (ap suc e))
-
   spawned : (j : Sort) (ts : List Thread) (new : Thread) → length ts ≡ st.count → ((k : ℕ) → ThreadTyped (has (with_thread j st)) ds (st.sorts k) (slice_get ts k)) → ThreadTyped (has (with_thread j st)) ds j (Some new)
       → (k : ℕ) → ThreadTyped (has (with_thread j st)) ds (cond (k == st.count) j (st.sorts k)) (slice_get (ts ++ new ∷ []) k)
   spawned j ts new long old typed k =
       ⊎_elim
       (λ q. subst (λ z. ThreadTyped (has (with_thread j st)) ds z (slice_get (ts ++ new ∷ []) k)) (sym (cond_true (k == st.count) j (st.sorts k) q.0))
-      (subst (ThreadTyped (has (with_thread j st)) ds j) (sym (ap (slice_get (ts ++ new ∷ [])) (q.1 ∙ sym long) ∙ at_end ts new)) typed))
+      (subst (ThreadTyped (has (with_thread j st)) ds j) (sym (ap (slice_get (ts ++ new ∷ [])) (q.1 ∙ sym long) ∙ get_last ts new)) typed))
       (λ q. subst (λ z. ThreadTyped (has (with_thread j st)) ds z (slice_get (ts ++ new ∷ []) k)) (sym (cond_false (k == st.count) j (st.sorts k) q.0))
-      (subst (ThreadTyped (has (with_thread j st)) ds (st.sorts k)) (sym (before_end ts new k (λ e. q.1 (e ∙ long)))) (old k)))
+      (subst (ThreadTyped (has (with_thread j st)) ds (st.sorts k)) (sym (get_before_last ts new k (λ e. q.1 (e ∙ long)))) (old k)))
       (equal_or k st.count)
 
   pub fork_sound : (s : State) (t : ℕ) (x : Term) → a_value thread ≡ st.sorts t → SoundAt ds st s → (j : Sort) → PartTyped (has st) ds x.part j × FramesTyped (has st) ds j x.frames
@@ -201,7 +193,7 @@ module _ (ds : List Fn) (st : Store) where
       let wide : Store = record { cells = st.cells; count = suc st.count; sorts = st.sorts } in
       let a : PartTyped (has wide) ds (Ret (val.Thread (length s.threads))) (st.sorts t) = subst (PartTyped (has wide) ds (Ret (val.Thread (length s.threads)))) same (ret_typed lt) in
       let ts = with_term t (slice_get s.threads t) (term (Ret (val.Thread (length s.threads))) (frames_of (slice_get s.threads t))) s.threads in
-      let long : length ts ≡ length s.threads = length_with_term t (slice_get s.threads t) (term (Ret (val.Thread (length s.threads))) (frames_of (slice_get s.threads t))) s.threads in
+      let long : length ts ≡ length s.threads = term_length t (slice_get s.threads t) (term (Ret (val.Thread (length s.threads))) (frames_of (slice_get s.threads t))) s.threads in
       let old : (k : ℕ) → ThreadTyped (has wide) ds (st.sorts k) (slice_get ts k) =
       resumed_threads ds wide s.threads t (Ret (val.Thread (length s.threads))) (slice_get s.threads t) refl (λ k. thread_more (has st) (has wide) grow ds (st.sorts k) (slice_get s.threads k) (h.threads k)) a in
       record {

@@ -13,13 +13,13 @@ use Rattle.rules_typing.specs.TypingScripts.{Accepted}
 use Rattle.hs_rules.specs.Terms.{Part, Ret, Throw, Do, Performs, Frame}
 use Rattle.rules_waiting.specs.Waiting.{Sleeping, Flying, is_blocked, reason_of, flight_of, flying_to, sleepers_of}
 use Rattle.hs_rules.specs.State.{Thread, State, resume, answer, resume_all}
-use Rattle.hs_rules.specs.Entries.{is_receptive, received, receive_entry, woken, stranded, on_thread, next, IsWork, IsIdle, IsTimely, IsLegal}
+use Rattle.hs_rules.specs.Entries.{is_receptive, received, receive_entry, woken, stranded, next, IsWork, IsIdle, IsTimely, IsLegal}
 use Rattle.hs_rules.specs.Entries as entries
 use Rattle.hs_rules.specs.Runs.{IsRun}
 use Rattle.hs_rules.specs.Endings.{IsDone, IsUncaught, IsTick, IsQuiet, IsDeadlock, AllWait}
 use Rattle.hs_laws.specs.BracketPhases.{Owing}
 use Rattle.hs_laws.specs.Standing.{NoneWorks}
-use Rattle.hs_laws.proofs.Lists.{cond_true, cond_false}
+use Rattle.hs_laws.proofs.Lists.{cond_true}
 use Rattle.hs_laws.proofs.NothingLegal.{idle, may_strand, quiet}
 use Rattle.hs_laws.proofs.HowItEnds.{main_ends}
 use Rattle.hs_laws.proofs.Expanded.{owing_of}
@@ -27,6 +27,7 @@ use Rattle.hs_progress.specs.GoingOn.{MainRuns, IsRunning, own_entry, MayStrand}
 use Rattle.hs_progress.proofs.Entries.{main_is_there, runs_go_on}
 use Rattle.hs_cases.specs.Cases as row
 use Rattle.hs_cases.proofs.Entering.{case_of, all_are}
+use Rattle.hs_cases.proofs.Options.{on_running}
 
 isnt_state : (u : State) → None ≡ Some u → ⊥
 isnt_state u e = let z : ◌≡◌ {A = Option State} None (Some u) = e in cc z
@@ -58,8 +59,6 @@ quiet_is_idle code s q e w = by (next code s e) refl
 -- ---- there is no work
 
 module _ (code : Code) (s : State) (m : MainRuns s) (i : IsIdle code s) where
-  on_running : (o : Option Thread) (th : Thread) (k : Thread → Option State) → o ≡ Some th → th.finished ≡ false → on_thread o k ≡ k th
-  on_running o th k is f = ap (λ z. on_thread z k) is ∙ cond_false th.finished None (k th) f
 
   not_now : (e : Entry) (u : State) → IsWork e → entries.entered code s e ≡ Some u → ⊥
   not_now e u w l = isnt_state u (sym (i e w) ∙ (on_running (slice_get s.threads 0) m.main (λ th. entries.entered code s e) m.there m.unfinished ∙ l))

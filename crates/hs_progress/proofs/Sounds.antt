@@ -1,5 +1,5 @@
 -- A thread that gets what it stands for, and a cell that gets a value of its type, keep a state typed.
-use Rattle.std.proofs.Common.{◌≡◌, ℕ, zero, suc, ◌==◌, List, [], ◌∷◌, length, slice_get, slice_set, true, false, cond, Option, Some, None, refl, sym, ap, ◌∙◌, subst, arith, ⊎_elim}
+use Rattle.std.proofs.Common.{◌≡◌, ℕ, zero, suc, ◌==◌, List, [], ◌∷◌, slice_get, slice_set, true, false, cond, Option, Some, None, refl, sym, ap, ◌∙◌, subst, arith, ⊎_elim}
 use Rattle.hs_base.specs.declared.exn.Exn.{Exn}
 use Rattle.rules_trees.specs.Trees.{unit}
 use Rattle.rules_trees.specs.Programs.{Fn}
@@ -19,9 +19,6 @@ use Rattle.hs_laws.proofs.States.{Holds, Waits, reads_hold}
 use Rattle.hs_progress.specs.CoreTyping.{asks_take, asks_put, asks_put_end, asks_read, asks_read_end, asks_throw_to, asks_delay}
 use Rattle.hs_progress.specs.TypedStates.{one_value, no_values, OpTyped, calls_typed, PartTyped, ret_typed, throw_typed, op_typed, FramesTyped, ThreadTyped, ContentTyped, CellTyped, TermTyped, Purpose, for_values, for_end, held_by, Store, has, with_sort, Sound, Follows}
 use Rattle.hs_laws.proofs.Growing.{set_length, term_length}
-
-pub length_with_term : (t : ℕ) (o : Option Thread) (u : Term) (ts : List Thread) → length (with_term t o u ts) ≡ length ts
-length_with_term = term_length
 
 -- ---- the reasons that are looked for
 
@@ -92,7 +89,7 @@ module _ (ds : List Fn) (st : Store) where
   resume_sound s t p h f = record {
     threads = resumed_threads s.threads t p (slice_get s.threads t) refl h.threads f;
     contents = h.contents;
-    counted = h.counted ∙ sym (length_with_term t (slice_get s.threads t) (term p (frames_of (slice_get s.threads t))) s.threads);
+    counted = h.counted ∙ sym (term_length t (slice_get s.threads t) (term p (frames_of (slice_get s.threads t))) s.threads);
   }
 
   resume_all_sound : (us : List ℕ) (p : Part) (s : State) → SoundAt s → Ones (FitsFor p) us → SoundAt (resume_all us p s)
@@ -116,7 +113,7 @@ module _ (ds : List Fn) (st : Store) where
       record {
         threads = λ k. subst (λ ts. ThreadTyped (has st) ds (cond (k == t) h.sort (st.sorts k)) (slice_get ts k)) (sym e) (sorted s.threads t th (record { term = u; finished = th.finished }) is d.threads h.sort (h.part, h.frames) k);
         contents = d.contents;
-        counted = d.counted ∙ sym (length_with_term t (slice_get s.threads t) u s.threads);
+        counted = d.counted ∙ sym (term_length t (slice_get s.threads t) u s.threads);
       }
 
   -- ---- what a blocked thread gets

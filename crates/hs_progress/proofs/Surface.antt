@@ -1,6 +1,7 @@
 -- The expansion of an action has the action's type, in every scope with the names that a script sees.
 use Rattle.std.proofs.Common.{◌≡◌, inl, inr, ℕ, ◌+◌, ◌==◌, List, [], ◌∷◌, length, Bool, true, false, cond, Option, Some, None, refl, sym, ap, ◌∙◌, subst, arith, bytes_eq, eqb-true}
 use Rattle.std.proofs.lemmas.Slice.Eq.{bytes_eq-Decides}
+use Rattle.plain_laws.proofs.Lists.{bytes_eq_sym}
 use Rattle.hs_base.specs.declared.tree.expr.Name.{Name}
 use Rattle.hs_base.specs.declared.pos.Pos.{Pos}
 use Rattle.hs_base.specs.declared.tree.forms.BareAction.TheVariants as z
@@ -39,14 +40,6 @@ use Rattle.hs_progress.specs.CoreTyping.{Binds, with_bound, Tidy, Sees, asks_put
 
 -- ---- scopes
 
-same_bool : (p q : Bool) → (p ≡ true → q ≡ true) → (q ≡ true → p ≡ true) → p ≡ q
-same_bool true q f g = sym (f refl)
-same_bool false true f g = g refl
-same_bool false false f g = refl
-
-pub eq_sym : (x y : List ℕ) → bytes_eq x y ≡ bytes_eq y x
-eq_sym x y = same_bool (bytes_eq x y) (bytes_eq y x) (λ e. (bytes_eq-Decides y x).1 (sym ((bytes_eq-Decides x y).0 e))) (λ e. (bytes_eq-Decides x y).1 (sym ((bytes_eq-Decides y x).0 e)))
-
 eq_refl : (x : List ℕ) → bytes_eq x x ≡ true
 eq_refl x = (bytes_eq-Decides x x).1 refl
 
@@ -71,7 +64,7 @@ mask_step : (g : List SortedName) (y : names.Name) (j : Sort) (x : List ℕ) →
 mask_step g (Added h) j x p r e = r e
 mask_step g Unread j x p r e = absurd p
 mask_step g (Written y) j x p r e =
-    mask_cond y (typing.look (written_in g) x) (sort_at (Written x) g) j (bytes_eq x y) p r (subst (λ t. cond t (Some (seen_as j)) (typing.look (written_in g) x) ≡ Some typing.masking_name) (eq_sym y x) e)
+    mask_cond y (typing.look (written_in g) x) (sort_at (Written x) g) j (bytes_eq x y) p r (subst (λ t. cond t (Some (seen_as j)) (typing.look (written_in g) x) ≡ Some typing.masking_name) (bytes_eq_sym y x) e)
 
 mask_there : (g : List SortedName) (x : List ℕ) → Tidy g → typing.look (written_in g) x ≡ Some typing.masking_name → sort_at (Written x) g ≡ Some a_masking_name
 mask_there [] x t e = let z : None ≡ Some typing.masking_name = e in absurd (cc z)

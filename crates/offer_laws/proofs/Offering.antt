@@ -17,10 +17,11 @@ use Rattle.hs_rules.specs.Entries.{IsLegal}
 use Rattle.hs_rules.specs.Runs.{IsRun}
 use Rattle.hs_laws.proofs.Lists.{equal_or, cond_true, cond_false}
 use Rattle.hs_laws.proofs.Expanded.{standing_of}
+use Rattle.hs_laws.proofs.Later.{AllAsleep, WaitsAsleep}
 use Rattle.exn_flight.specs.Asleep.{due_of}
 use Rattle.slot_laws.specs.SlotRules.{SlotPart, ret, throw, doing, SlotFrame, SlotTerm, local, on_term, locals}
 use Rattle.slot_states.specs.SlotStates.{SlotState, wakes, Represents, Enters, StandsBare, MainGoes}
-use Rattle.slot_states.proofs.Asleep.{AllAsleep, WaitsAsleep, each_asleep}
+use Rattle.slot_states.proofs.Asleep.{each_asleep}
 use Rattle.slot_states.proofs.Waking.{wake_until}
 use Rattle.entry_demands.specs.Demands.{Asks}
 use Rattle.entry_demands.proofs.Demanding.{asked}

@@ -1,5 +1,6 @@
 -- Which histories keep the law of the clock: those that timeless runs are written out as, and those in virtual timing.
-use Rattle.std.proofs.Common.{◌≡◌, ◌≢◌, ◌≤◌, ◌<◌, ℕ, nat_le, ◌==◌, Bool, true, false, cond, List, [], ◌∷◌, ◌++◌, Option, Some, None, refl, sym, ap, ◌∙◌, subst, arith, inl, ⊎_elim, append_assoc, append-nil}
+use Rattle.std.proofs.Common.{◌≡◌, ◌≢◌, ◌≤◌, ℕ, nat_le, ◌==◌, Bool, true, false, cond, List, [], ◌∷◌, ◌++◌, Option, Some, None, refl, sym, ap, ◌∙◌, subst, arith, inl, ⊎_elim, append_assoc, append-nil}
+use Rattle.std.proofs.lemmas.Bool.{leb-false}
 use Rattle.hs_base.specs.declared.clock_choice.ClockChoice.TheVariants.{Virtual}
 use Rattle.hs_rules.specs.declared.entry.Entry.{Entry}
 use Rattle.hs_rules.specs.declared.entry.Entry.TheVariants as entry
@@ -13,6 +14,7 @@ use Rattle.hs_rules.specs.Endings.{IsTick}
 use Rattle.hs_laws.specs.ClockLaw.{IsFrom, EndsInTick, TickStands, ClockKept}
 use Rattle.hs_laws.proofs.Ticking.{last_or, clock_begins, clock_works, clock_ticks}
 use Rattle.hs_laws.proofs.RunParts.{is_after, run_join, run_more}
+use Rattle.hs_laws.proofs.Later.{same_due}
 use Rattle.exn_flight.proofs.Order.{before_due}
 use Rattle.timing_laws.specs.WithoutTime.{timeless, TimelessRun, without_ticks, tick_until_due, with_its_tick}
 use Rattle.timing_laws.proofs.Timing.{none_sleeps, entry_back, time_ticks}
@@ -45,9 +47,6 @@ others_by at r s rs false e h = (s.due, refl, omega (arith, before_not r s e, h)
 added_others : (at : ℕ) (s : Sleeper) (rs : List Sleeper) → First at (earliest rs) → First at (earliest (sleeper_added s rs))
 added_others at s [] h = absurd (cc h.1)
 added_others at s (r ∷ rs) h = others_by at r s rs (sleeper_before r s) refl (due_of r at h)
-
-same_due : (d due : ℕ) → ◌≡◌ {A = Option (Reason V)} (Some (Sleeping d)) (Some (Sleeping due)) → d ≡ due
-same_due d due h = cc h
 
 first_by : (t due k : ℕ) (r : Reason V) (b : Bool) (ss : List Sleeper) (o : Option (Reason V)) → (o ≡ Some (Sleeping due) → First due (earliest (sorted_sleepers ss))) →
     cond b (Some r) o ≡ Some (Sleeping due) → First due (earliest (sorted_sleepers (with_sleeper k r ss)))
@@ -83,9 +82,6 @@ no_tick_first h = none_first h.0 (entry.Tick h.1) h.2
 abbrev Kept : List Fn → List Entry → Type 0
 Kept ds es = ClockKept ds es 0 × ¬ EndsInTick es
 
-later : (due now : ℕ) → nat_le due now ≡ false → now < due
-later due now h = grind arith
-
 module _ (ds : List Fn) (hs : List Entry) (s : State) (is : after ds hs ≡ Some s) (h : Kept ds hs) where
   kept_alone : (e : Entry) → ¬ IsTick e → Kept ds (hs ++ e ∷ [])
   kept_alone e n = (clock_works ds hs e 0 n h.0, no_tick_last hs e n)
@@ -94,7 +90,7 @@ module _ (ds : List Fn) (hs : List Entry) (s : State) (is : after ds hs ≡ Some
     stands : TickStands (code_of ds) hs s due
     stands = record {
       wanted = inl (λ e. none_sleeps t due s.blocked e r);
-      beside = λ e n g. (later due s.clock l, h.1);
+      beside = λ e n g. (leb-false due s.clock l, h.1);
     }
 
     ticked : ClockKept ds (hs ++ entry.Tick due ∷ []) 0

@@ -1,5 +1,6 @@
 -- What eager rules meet, and what endings that are alike have in common.
 use Rattle.std.proofs.Common.{◌≡◌, ◌<◌, ℕ, length, List, [], ◌∷◌, ◌++◌, true, false, Some, None, refl, sym, ap, ◌∙◌, subst, ◌⊎◌, inl, inr, ⊎_elim}
+use Rattle.std.proofs.lemmas.Bool.{and_parts}
 use Rattle.hs_base.specs.declared.exn.Exn.{Exn}
 use Rattle.hs_rules.specs.declared.entry.Entry.{Entry}
 use Rattle.hs_rules.specs.declared.entry.Entry.TheVariants as entry
@@ -19,7 +20,7 @@ use Rattle.reduction_laws.proofs.Apart.{Stands, IsApart}
 use Rattle.reduction_laws.proofs.Own.{main_runs, gone, Known, known, poised_next, eager_of, no_op, no_finish, Near, hit, main_hit, passing, frame_passed, Hit, own_receive}
 use Rattle.reduction_laws.proofs.Ending.{runs_or, alike_gone, apart_leads}
 use Rattle.hs_cases.specs.Cases as row
-use Rattle.hs_cases.proofs.Entering.{case_of, both_true}
+use Rattle.hs_cases.proofs.Entering.{case_of}
 use Rattle.hs_laws.proofs.Changes.{receiving, closing}
 
 pub others_commute : (code : Code) (t : ℕ) (s u : State) (e : Entry) (m : State) → EagerRule code t s u → IsOther t e → Leads code s e m → Commutes code t u e m
@@ -48,7 +49,7 @@ passed_all : (code : Code) (t : ℕ) (th : Thread) (e : Exn) (a : State) (fs gs 
     (ts : List ℕ) × LocalsLead code ts (hit t th e (gs ++ fs) a) (hit t th e fs a)
 passed_all code t th e a fs [] un m k p = ([], refl)
 passed_all code t th e a fs (g ∷ gs) un m k p =
-    let q = both_true (passes g) (passes_all gs) p in
+    let q = and_parts (passes g) (passes_all gs) p in
     let r = passed_all code t th e a fs gs un m k q.1 in
     let c = subst (EagerRule code t (hit t th e (g ∷ gs ++ fs) a)) (frame_passed t th e g (gs ++ fs) a)
     (eager_of code t (hit t th e (g ∷ gs ++ fs) a) (record { term = term (Throw e) (g ∷ gs ++ fs); finished = th.finished }) (term (Throw e) (gs ++ fs)) (main_hit t th e (g ∷ gs ++ fs) a k m) (passing code t th e g (gs ++ fs) a un k q.0)) in

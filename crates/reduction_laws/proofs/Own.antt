@@ -1,5 +1,6 @@
 -- What a thread that stands before a eager local rule can do itself, and what comes of an exception from outside.
 use Rattle.std.proofs.Common.{◌≡◌, ℕ, List, [], ◌∷◌, ◌++◌, slice_get, slice_set, Bool, true, false, not, ◌&&◌, ◌||◌, Option, Some, None, refl, sym, ap, ◌∙◌, subst, ◌⊎◌, inl, inr, ⊎_elim, suc}
+use Rattle.std.proofs.lemmas.Bool.{and_parts}
 use Rattle.hs_base.specs.declared.exn.Exn.{Exn}
 use Rattle.hs_rules.specs.declared.entry.Entry.{Entry}
 use Rattle.hs_rules.specs.declared.entry.Entry.TheVariants as entry
@@ -22,7 +23,7 @@ use Rattle.reduction_laws.specs.NoThrowTo.{NobodyThrows}
 use Rattle.hs_laws.proofs.SameCases.{put_in}
 use Rattle.reduction_laws.proofs.Apart.{Stands, SameFlag, same_flag, flags, resumed, Other, all_other}
 use Rattle.hs_cases.specs.Cases as row
-use Rattle.hs_cases.proofs.Entering.{case_of, entered_is, both_true, not_true}
+use Rattle.hs_cases.proofs.Entering.{case_of, entered_is, not_true}
 
 -- ---- main
 
@@ -168,7 +169,7 @@ unmasked_more : (gs fs : List Frame) → passes_all gs ≡ true → is_unmasked 
 unmasked_more [] fs p m = m
 unmasked_more (BindTo x b env ∷ gs) fs p m = unmasked_more gs fs p m
 unmasked_more (CatchBy x b env ∷ gs) fs p m = absurd (cc p)
-unmasked_more (MaskIn k ∷ gs) fs p m = (both_true (is_unmasked k) (passes_all gs) p).0
+unmasked_more (MaskIn k ∷ gs) fs p m = (and_parts (is_unmasked k) (passes_all gs) p).0
 
 opens_value : (code : Code) (v : V) (fs : List Frame) (x : Term) → leaving_is_eager fs ≡ true → local code (Ret v) fs ≡ Some x → Opens fs x
 opens_value code v [] x c r = absurd (cc c)
@@ -176,13 +177,13 @@ opens_value code v (BindTo y b env ∷ fs) x c r =
     subst (Opens (BindTo y b env ∷ fs)) (same_item r) (record { part = refl; unmasked = c; near = inr (BindTo y b env, refl, refl) })
 opens_value code v (CatchBy y b env ∷ fs) x c r = absurd (cc c)
 opens_value code v (MaskIn m ∷ fs) x c r =
-    let k = both_true (is_unmasked m) (is_unmasked (mask_at fs)) c in
+    let k = and_parts (is_unmasked m) (is_unmasked (mask_at fs)) c in
     subst (Opens (MaskIn m ∷ fs)) (same_item r) (record { part = refl; unmasked = k.1; near = inr (MaskIn m, k.0, refl) })
 
 opens_step : (fs : List Frame) (o : Option Term) (x : Term) → is_unmasked (mask_at fs) ≡ true → step_is_eager o ≡ true → on_top fs o ≡ Some x → Opens fs x
 opens_step fs None x m c r = absurd (cc r)
 opens_step fs (Some y) x m c r =
-    let k = both_true (not (is_throw y.part)) (passes_all y.frames) c in
+    let k = and_parts (not (is_throw y.part)) (passes_all y.frames) c in
     subst (Opens fs) (same_item r) (record { part = not_true (is_throw y.part) k.0; unmasked = unmasked_more y.frames fs k.1 m; near = inl (y.frames, k.1, refl) })
 
 opens : (code : Code) (p : Part) (fs : List Frame) (x : Term) → is_unmasked (mask_at fs) ≡ true → is_eager_though_open code p fs ≡ true → local code p fs ≡ Some x → Opens fs x
@@ -241,7 +242,7 @@ pub record Hit (code : Code) (t : ℕ) (s u : State) (th : Thread) (x : Term) : 
 module _ (code : Code) (t : ℕ) (s : State) (th : Thread) (x : Term) (h : Poised code t s th x) where
   eager_open : is_eager code th.term.part th.term.frames ≡ true → is_receptive t th.term s ≡ true → (is_unmasked (mask_at th.term.frames) ≡ true) × (is_eager_though_open code th.term.part th.term.frames ≡ true)
   eager_open c r =
-      let k = both_true (not (is_throw th.term.part)) (is_open (is_blocked t s.blocked) (mask_at th.term.frames)) r in
+      let k = and_parts (not (is_throw th.term.part)) (is_open (is_blocked t s.blocked) (mask_at th.term.frames)) r in
       let m : is_unmasked (mask_at th.term.frames) ≡ true = ap (λ b. is_open b (mask_at th.term.frames)) (sym h.free) ∙ k.1 in
       (m, by (is_throw th.term.part) (is_unmasked (mask_at th.term.frames)) (is_eager_though_open code th.term.part th.term.frames) (not_true (is_throw th.term.part) k.0) m c)
     where

@@ -18,7 +18,7 @@ use Rattle.reduction_laws.proofs.Going.{Met, Joins, met, taken_too, one_of, unco
 abbrev pub non_ticks : List Move → ℕ
 non_ticks vs = length (without_ticks (entries_of vs))
 
-at_most_one : (e : Entry) → length (without_ticks (e ∷ [])) ≤ 1
+pub at_most_one : (e : Entry) → length (without_ticks (e ∷ [])) ≤ 1
 at_most_one (entry.Tick at) = omega arith
 at_most_one _ = omega arith
 

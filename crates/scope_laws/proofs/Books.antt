@@ -1,5 +1,6 @@
 -- A cell goes on in its scope: what changes in the book, and what stays.
-use Rattle.std.proofs.Common.{◌≡◌, ◌≢◌, ◌==◌, ℕ, zero, suc, List, [], ◌∷◌, ◌++◌, length, slice_get, cond, Option, Some, None, refl, sym, ap, ◌∙◌, subst, ⊎_elim}
+use Rattle.std.proofs.Common.{◌≡◌, ◌≢◌, ◌==◌, ℕ, suc, List, [], ◌∷◌, ◌++◌, length, slice_get, cond, Option, Some, None, refl, sym, ap, ◌∙◌, subst, ⊎_elim}
+use Rattle.plain_laws.proofs.Lists.{get_last, get_before_last}
 use Rattle.rules_meaning.specs.Values.{V}
 use Rattle.hs_rules.specs.Terms.{Part, Term, term}
 use Rattle.hs_rules.specs.State.{Thread, State, thread_with, frames_of, resume, resume_all, spawn}
@@ -15,16 +16,6 @@ use Rattle.hs_progress.proofs.Sounds.{takes_is}
 use Rattle.scope_laws.proofs.Threads.{lines_left, lines_each, threads_set_at, threads_set, not_both}
 
 -- ---- lists, longer at the end
-
-pub at_end : {A : Type 0} (xs : List A) (y : A) → slice_get (xs ++ y ∷ []) (length xs) ≡ Some y
-at_end [] y = refl
-at_end (x ∷ xs) y = at_end xs y
-
-pub before_end : {A : Type 0} (xs : List A) (y : A) (k : ℕ) → k ≢ length xs → slice_get (xs ++ y ∷ []) k ≡ slice_get xs k
-before_end [] y zero n = absurd (n refl)
-before_end [] y (suc k) n = refl
-before_end (x ∷ xs) y zero n = refl
-before_end (x ∷ xs) y (suc k) n = before_end xs y k (λ e. n (ap suc e))
 
 pub none_at_end : {A : Type 0} (xs : List A) → slice_get xs (length xs) ≡ None
 none_at_end [] = refl
@@ -93,8 +84,8 @@ pub spawn_fits : (cells : List Purpose) (b : Book) (s : State) (x : Term) → Fi
 spawn_fits cells b s x h new = record {
   threads = λ u. ⊎_elim
       (λ e. subst (λ v. HeldThread cells b v (slice_get (s.threads ++ thread_with x ∷ []) v)) (sym e.1)
-      (subst (HeldThread cells b (length s.threads)) (sym (at_end s.threads (thread_with x))) (new (subst (HeldThread cells b (length s.threads)) (none_at_end s.threads) (h.threads (length s.threads))))))
-      (λ e. subst (HeldThread cells b u) (sym (before_end s.threads (thread_with x) u e.1)) (h.threads u))
+      (subst (HeldThread cells b (length s.threads)) (sym (get_last s.threads (thread_with x))) (new (subst (HeldThread cells b (length s.threads)) (none_at_end s.threads) (h.threads (length s.threads))))))
+      (λ e. subst (HeldThread cells b u) (sym (get_before_last s.threads (thread_with x) u e.1)) (h.threads u))
       (equal_or u (length s.threads));
   contents = h.contents;
   once = h.once;
@@ -112,9 +103,9 @@ pub fork_fits : (cells : List Purpose) (b b' : Book) (s : State) (t : ℕ) (th :
 fork_fits cells b b' s t th p x h is long later same still own new contents once child = record {
   threads = λ u. ⊎_elim
       (λ e. subst (λ v. HeldThread cells b' v (slice_get ((resume t p s).threads ++ thread_with x ∷ []) v)) (sym e.1)
-      (subst (HeldThread cells b' (length (resume t p s).threads)) (sym (at_end (resume t p s).threads (thread_with x)))
+      (subst (HeldThread cells b' (length (resume t p s).threads)) (sym (get_last (resume t p s).threads (thread_with x)))
       (subst (λ c. Held (at_values cells) b'.roles c (b'.owed c) x.part x.frames (b'.guarded c)) (sym long) new)))
-      (λ e. subst (HeldThread cells b' u) (sym (before_end (resume t p s).threads (thread_with x) u e.1))
+      (λ e. subst (HeldThread cells b' u) (sym (get_before_last (resume t p s).threads (thread_with x) u e.1))
       (threads_set_at cells b' s.threads t (slice_get s.threads t) (term p (frames_of (slice_get s.threads t))) u refl
       (λ n. held_thread cells cells b b' u (slice_get s.threads u) (later u n) (same u n) (still u (λ z. e.1 (z ∙ sym long))) (h.threads u))
       (λ y e. subst (λ o. Held (at_values cells) b'.roles t (b'.owed t) p (frames_of o) (b'.guarded t)) (sym is) own)
@@ -146,7 +137,7 @@ pub contents_more : (cells : List Purpose) (roles : ℕ → Role) (cs : List (Op
 contents_more cells roles cs c h m =
     ⊎_elim
     (λ e. subst (λ r. CellFits r (slice_get (cs ++ c ∷ []) m) (slice_get cells m)) (sym (no_cell_is (roles m) (slice_get cells m) (subst (λ o. CellFits (roles m) o (slice_get cells m)) (ap (slice_get cs) e.1 ∙ none_at_end cs) (h m)))) tt)
-    (λ e. subst (λ o. CellFits (roles m) o (slice_get cells m)) (sym (before_end cs c m e.1)) (h m))
+    (λ e. subst (λ o. CellFits (roles m) o (slice_get cells m)) (sym (get_before_last cs c m e.1)) (h m))
     (equal_or m (length cs))
 
 -- ---- lines

@@ -1,5 +1,6 @@
 -- The law of async scopes follows from the fact that every entry keeps.
-use Rattle.std.proofs.Common.{◌≡◌, ◌≢◌, ◌==◌, ℕ, suc, List, [], ◌∷◌, slice_get, Bool, true, false, Option, Some, None, refl, sym, ap, ◌∙◌, subst, ◌⊎◌, inl, inr, ⊎_elim}
+use Rattle.std.proofs.Common.{◌≡◌, ◌≢◌, ◌==◌, ℕ, suc, List, [], ◌∷◌, slice_get, false, Option, Some, None, refl, sym, ap, ◌∙◌, subst, ◌⊎◌, inl, inr, ⊎_elim}
+use Rattle.std.proofs.lemmas.Bool.{false_from_ne_true}
 use Rattle.hs_base.specs.declared.tree.script.Script.{Script}
 use Rattle.hs_rules.specs.declared.entry.Entry.{Entry}
 use Rattle.rules_trees.specs.Programs.{script_of}
@@ -32,10 +33,6 @@ bare_guards (Throw x) fs i e = ap (guards (Throw x)) e
 bare_guards (Do a env) fs i e = absurd i
 bare_guards (Performs op) fs i e = absurd i
 
-never_true : (b : Bool) → (b ≡ true → ⊥) → b ≡ false
-never_true true n = absurd (n refl)
-never_true false n = refl
-
 one_is_some : {n : ℕ} → n ≡ 1 → n ≢ 0
 one_is_some e z = let q : 1 ≡ 0 = sym e ∙ z in absurd (cc q)
 
@@ -67,7 +64,7 @@ module _ (script : Script) (s : State) (k : Scoped (script_of script) s) (standi
 
     unfinished : (th : Thread) → slice_get s.threads p ≡ Some th → th.finished ≡ false
     unfinished th is =
-        never_true th.finished (λ f. let bare = standing.finished p th is f in one_is_some (once th is) (ap (count m) (bare_guards th.term.part th.term.frames bare.0 bare.1)))
+        false_from_ne_true th.finished (λ f. let bare = standing.finished p th is f in one_is_some (once th is) (ap (count m) (bare_guards th.term.part th.term.frames bare.0 bare.1)))
 
     one_guards : OneGuards s m
     one_guards =
@@ -92,7 +89,7 @@ module _ (script : Script) (s : State) (k : Scoped (script_of script) s) (standi
     child_owes th is = held_owes values k.book.roles c (k.book.owed c) m (k.fits.child m p c e) (held_at c th is)
 
     child_unfinished : (th : Thread) → slice_get s.threads c ≡ Some th → th.finished ≡ false
-    child_unfinished th is = never_true th.finished (λ f. let bare = standing.finished c th is f in bare_owes m th.term.part th.term.frames bare.0 bare.1 (child_owes th is))
+    child_unfinished th is = false_from_ne_true th.finished (λ f. let bare = standing.finished c th is f in bare_owes m th.term.part th.term.frames bare.0 bare.1 (child_owes th is))
 
     child_goes_on : Acts s m c ⊎ Ends s m c
     child_goes_on =

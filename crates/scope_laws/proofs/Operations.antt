@@ -1,5 +1,6 @@
 -- Each operation of a typed thread keeps a book that fits, or leads to one.
 use Rattle.std.proofs.Common.{◌≡◌, ◌≢◌, ◌==◌, ℕ, suc, ◌<◌, List, [], ◌∷◌, ◌++◌, length, slice_get, slice_set, true, false, cond, Option, Some, None, refl, sym, ap, ◌∙◌, subst, arith, ⊎_elim}
+use Rattle.plain_laws.proofs.Lists.{get_last, get_before_last}
 use Rattle.hs_base.specs.declared.exn.Exn.TheVariants.{Timeout}
 use Rattle.hs_base.specs.declared.mask.Mask.{Mask}
 use Rattle.hs_base.specs.declared.mask.Mask.TheVariants.{Unmasked}
@@ -24,7 +25,6 @@ use Rattle.hs_laws.specs.BracketLaw.{count, IsMasked}
 use Rattle.hs_laws.proofs.Lists.{cond_true, cond_false, equal_or, item_same, item_other, item_below}
 use Rattle.hs_laws.proofs.States.{Holds, Ready, ready_stopped, answer_holds}
 use Rattle.hs_progress.specs.TypedStates.{Store, has, OpTyped, FramesTyped, ThreadTyped, Sound}
-use Rattle.hs_progress.proofs.Sounds.{length_with_term}
 use Rattle.scope_laws.specs.ScopePhases.{Role, Plain, Fresh, Running, Ended, IsOf, IsChild, IsCell, IsCommon, Fine, OfValues, Clean, Below, no_frames, below_mask}
 use Rattle.scope_laws.specs.ScopePhases.{stop_throwing, stop_reading, Held, held_ret, held_do, held_op, held_new_op, held_new_cell, held_fork_op, held_forked, held_stop, held_child, held_put_op}
 use Rattle.scope_laws.specs.ScopesKept.{IsForEnd, at_values, CellFits, WaitsFor, AllWaitFor, Book, HeldThread, Fits}
@@ -33,8 +33,9 @@ use Rattle.scope_laws.proofs.Later.{Nearly, Later, below_more}
 use Rattle.scope_laws.proofs.Answers.{stop_part, throw_answered, read_answered, throws_itself}
 use Rattle.scope_laws.proofs.Threads.{FitsIn, resume_fits, block_fits, taken_fits, reads_fit, given_fits}
 use Rattle.scope_laws.proofs.Typed.{Kept, take_at, try_take_at, try_put_at, new_end}
-use Rattle.scope_laws.proofs.Books.{with_one, one_same, one_other, roles_each, nearly_set, later_set, change_fits, spawn_fits, fork_fits, none_at_end, at_end, before_end, no_cell_is, full_is, contents_more, no_taker, all_cells, count_new, count_apart, count_none}
+use Rattle.scope_laws.proofs.Books.{with_one, one_same, one_other, roles_each, nearly_set, later_set, change_fits, spawn_fits, fork_fits, none_at_end, no_cell_is, full_is, contents_more, no_taker, all_cells, count_new, count_apart, count_none}
 use Rattle.hs_laws.proofs.CellSteps as steps
+use Rattle.hs_laws.proofs.Growing.{term_length}
 
 -- ---- primitives that only answer
 
@@ -128,8 +129,8 @@ module _ (ds : List Fn) (st st' : Store) (kept : Kept st st'.cells) (b : Book) w
 
       made_contents : IsForEnd (slice_get st'.cells (length s.cells)) → (m : ℕ) → CellFits (made.roles m) (slice_get (s.cells ++ None ∷ []) m) (slice_get st'.cells m)
       made_contents i =
-          roles_each (λ m r. CellFits r (slice_get (s.cells ++ None ∷ []) m) (slice_get st'.cells m)) (length s.cells) (Fresh t) b.roles (at_end s.cells None, i)
-          (λ m n. subst (λ o. CellFits (b.roles m) o (slice_get st'.cells m)) (sym (before_end s.cells None m n)) (h.contents m))
+          roles_each (λ m r. CellFits r (slice_get (s.cells ++ None ∷ []) m) (slice_get st'.cells m)) (length s.cells) (Fresh t) b.roles (get_last s.cells None, i)
+          (λ m n. subst (λ o. CellFits (b.roles m) o (slice_get st'.cells m)) (sym (get_before_last s.cells None m n)) (h.contents m))
 
       made_once : (m p c : ℕ) → made.roles m ≡ Running p c → count m (b.guarded p) ≡ 1
       made_once =
@@ -237,7 +238,7 @@ module _ (ds : List Fn) (st st' : Store) (kept : Kept st st'.cells) (b : Book) w
     child = length s.threads
 
     long : length (answer t (val.Thread child) s).threads ≡ child
-    long = length_with_term t (slice_get s.threads t) (term (Ret (val.Thread child)) (frames_of (slice_get s.threads t))) s.threads
+    long = term_length t (slice_get s.threads t) (term (Ret (val.Thread child)) (frames_of (slice_get s.threads t))) s.threads
 
     other_child : child ≢ t
     other_child e = let lt : t < length s.threads = item_below s.threads t th is in let same : length s.threads ≡ t = e in absurd (omega (arith, lt, same))

@@ -1,5 +1,6 @@
 -- An entry that leaves a state with slots is entered.
 use Rattle.std.proofs.Common.{◌≡◌, ℕ, zero, suc, nat_le, true, false, cond, List, [], ◌∷◌, Option, Some, None, refl, arith, slice_get}
+use Rattle.std.proofs.lemmas.Bool.{leb-true}
 use Rattle.hs_base.specs.declared.mask.Mask.TheVariants.{Unmasked}
 use Rattle.hs_base.specs.declared.exn.Exn.{Exn}
 use Rattle.hs_base.specs.declared.tree.script.Script.{Script}
@@ -13,7 +14,6 @@ use Rattle.exn_flight.specs.Asleep.{due_of}
 use Rattle.slot_laws.specs.SlotRules.{SlotPart, ret, throw, performs, SlotFrame, SlotTerm, at, locals}
 use Rattle.slot_states.specs.SlotStates.{SlotThread, SlotState, moves, receives, wakes, ticks, Enters, MainGoes}
 use Rattle.slot_states.specs.Resting.{is_receptive}
-use Rattle.slot_states.proofs.Asleep.{has_come}
 use Rattle.slot_states.proofs.Moving.{local_entered, tick_entered}
 use Rattle.slot_states.proofs.Receiving.{receive_entered}
 use Rattle.slot_states.proofs.Waking.{due_wake_entered}
@@ -67,7 +67,7 @@ module _ (script : Script) (accepted : Accepted script) (x : SlotState) (main : 
   wake_leaves t y None h e = absurd (cc e)
   wake_leaves t y (Some due) h e =
       let p = passed (nat_le due x.clock) (Some (wakes t x)) y e in
-      left script (entry.Wake t) x (wakes t x) y (due_wake_entered script accepted x t due h (has_come due x.clock p.0) main) p.1
+      left script (entry.Wake t) x (wakes t x) y (due_wake_entered script accepted x t due h (leb-true due x.clock p.0) main) p.1
 
   -- ---- Finish
   end_leaves : (t : ℕ) (th : SlotThread) (y : SlotState) → slice_get x.threads t ≡ Some th → th.finished ≡ false → th.blocked ≡ false →
@@ -85,7 +85,7 @@ module _ (script : Script) (accepted : Accepted script) (x : SlotState) (main : 
   tick_leaves : (now : ℕ) (y : SlotState) → cond (nat_le x.clock now) (Some (ticks now x)) None ≡ Some y → Enters script (entry.Tick now) x y
   tick_leaves now y e =
       let p = passed (nat_le x.clock now) (Some (ticks now x)) y e in
-      left script (entry.Tick now) x (ticks now x) y (tick_entered script accepted x now (has_come x.clock now p.0) main) p.1
+      left script (entry.Tick now) x (ticks now x) y (tick_entered script accepted x now (leb-true x.clock now p.0) main) p.1
 
   -- ---- Stranded
   stranded_leaves : (y : SlotState) → x.sleepers ≡ [] → rest_from x.flight 0 x.threads ≡ true → (ts : List ℕ) → waiting_from 0 x.threads ≡ ts → stranded ts x ≡ Some y → Enters script entry.Stranded x y

@@ -1,8 +1,8 @@
 -- Whether all rest, and who waits at a cell and can be interrupted, found by going through the threads.
 use Rattle.std.proofs.Common.{◌≡◌, ◌≢◌, ◌↔◌, ℕ, zero, suc, ◌+◌, Bool, true, false, not, ◌&&◌, ◌||◌, List, [], ◌∷◌, Some, refl, sym, ap, subst, arith, slice_get, inl, inr, ⊎_elim}
 use Rattle.std.specs.Prelude.{Contains}
-use Rattle.hs_base.specs.declared.mask.Mask.{Mask}
-use Rattle.hs_base.specs.declared.mask.Mask.TheVariants.{Unmasked, Masked, Uninterruptible}
+use Rattle.std.proofs.lemmas.Bool.{and_parts, and_from}
+use Rattle.hs_base.specs.declared.mask.Mask.TheVariants.{Unmasked}
 use Rattle.rules_meaning.specs.Values as val
 use Rattle.rules_meaning.specs.Values.{V}
 use Rattle.rules_expansion.specs.declared.primitive.Primitive.{Primitive}
@@ -11,16 +11,11 @@ use Rattle.rules_waiting.specs.Waiting.{Flying, flying_to, first_awake}
 use Rattle.hs_rules.specs.Entries.{is_interruptible}
 use Rattle.hs_laws.proofs.Lists.{cond_cases, cond_true, StandsIn}
 use Rattle.slot_laws.specs.SlotRules.{calls, SlotPart, performs, mask_from}
-use Rattle.slot_laws.proofs.Heads.{both_true}
 use Rattle.slot_states.specs.SlotStates.{SlotThread, SlotState}
 use Rattle.slot_states.specs.Resting.{is_receptive, WaitsAt, takes, reads, puts, WaitsOpen, AllRest}
 use Rattle.slot_states.proofs.Places.{contains_stands, stands_contains}
 use Rattle.slot_entries.specs.Entering.{is_empty, rests, rest_from, waits_to, waits_at_cell, waits_open, waiting_from}
-
-true_both : (a b : Bool) → a ≡ true → b ≡ true → a && b ≡ true
-true_both true true p q = refl
-true_both true false p q = absurd (cc q)
-true_both false b p q = absurd (cc p)
+use Rattle.hs_cases.proofs.Entering.{not_hard, interruptible}
 
 -- ---- who rests
 
@@ -45,13 +40,13 @@ rest_at fs n [] h t k th is e = absurd (cc is)
 rest_at fs n (a ∷ ths) h zero k th is e =
     let same : n ≡ k = omega (arith, e) in
     let it : a ≡ th = cc is in
-    subst (λ z. rests fs k z ≡ true) it (subst (λ z. rests fs z a ≡ true) same (both_true (rests fs n a) (rest_from fs (suc n) ths) h).0)
-rest_at fs n (a ∷ ths) h (suc t) k th is e = rest_at fs (suc n) ths (both_true (rests fs n a) (rest_from fs (suc n) ths) h).1 t k th is (omega (arith, e))
+    subst (λ z. rests fs k z ≡ true) it (subst (λ z. rests fs z a ≡ true) same (and_parts (rests fs n a) (rest_from fs (suc n) ths) h).0)
+rest_at fs n (a ∷ ths) h (suc t) k th is e = rest_at fs (suc n) ths (and_parts (rests fs n a) (rest_from fs (suc n) ths) h).1 t k th is (omega (arith, e))
 
 at_rest : (fs : List Flying) (n : ℕ) (ths : List SlotThread) → ((t k : ℕ) (th : SlotThread) → slice_get ths t ≡ Some th → n + t ≡ k → rests fs k th ≡ true) → rest_from fs n ths ≡ true
 at_rest fs n [] h = refl
 at_rest fs n (a ∷ ths) h =
-    true_both (rests fs n a) (rest_from fs (suc n) ths) (h 0 n a refl (omega arith))
+    and_from (rests fs n a) (rest_from fs (suc n) ths) (h 0 n a refl (omega arith))
     (at_rest fs (suc n) ths (λ t k th is e. h (suc t) k th is (omega (arith, e))))
 
 -- all rest exactly where all threads are found to, where nobody sleeps
@@ -75,16 +70,6 @@ rest_all x r = at_rest x.flight 0 x.threads (λ t k th is e. by t k th is (omega
 
 -- ---- who waits at a cell and can be interrupted
 
-not_hard : (m : Mask) → is_interruptible m ≡ true → m ≢ Uninterruptible
-not_hard Unmasked e h = cc h
-not_hard Masked e h = cc h
-not_hard Uninterruptible e h = cc e
-
-interruptible : (m : Mask) → m ≢ Uninterruptible → is_interruptible m ≡ true
-interruptible Unmasked n = refl
-interruptible Masked n = refl
-interruptible Uninterruptible n = absurd (n refl)
-
 call_waits : (p : Primitive) (vs : List V) → waits_to p vs ≡ true → (m : ℕ) × WaitsAt m (performs (calls p vs))
 call_waits TakeMVar (val.Cell m ∷ []) e = (m, takes)
 call_waits ReadMVar (val.Cell m ∷ []) e = (m, reads)
@@ -102,15 +87,15 @@ waits_part m p puts = refl
 
 found_open : (x : SlotState) (t : ℕ) (th : SlotThread) → slice_get x.threads t ≡ Some th → waits_open th ≡ true → WaitsOpen x t
 found_open x t th is e =
-    let a = both_true th.blocked (waits_at_cell th.term.part && is_interruptible (mask_from Unmasked th.term.frames)) e in
-    let b = both_true (waits_at_cell th.term.part) (is_interruptible (mask_from Unmasked th.term.frames)) a.1 in
+    let a = and_parts th.blocked (waits_at_cell th.term.part && is_interruptible (mask_from Unmasked th.term.frames)) e in
+    let b = and_parts (waits_at_cell th.term.part) (is_interruptible (mask_from Unmasked th.term.frames)) a.1 in
     let c = part_waits th.term.part b.0 in
     record { thread = th; is = is; blocked = a.0; cell = c.0; at = c.1; open_now = not_hard (mask_from Unmasked th.term.frames) b.1 }
 
 open_found : (x : SlotState) (t : ℕ) (w : WaitsOpen x t) → waits_open w.thread ≡ true
 open_found x t w =
-    true_both w.thread.blocked _ w.blocked
-    (true_both (waits_at_cell w.thread.term.part) (is_interruptible (mask_from Unmasked w.thread.term.frames)) (waits_part w.cell w.thread.term.part w.at) (interruptible (mask_from Unmasked w.thread.term.frames) w.open_now))
+    and_from w.thread.blocked _ w.blocked
+    (and_from (waits_at_cell w.thread.term.part) (is_interruptible (mask_from Unmasked w.thread.term.frames)) (waits_part w.cell w.thread.term.part w.at) (interruptible (mask_from Unmasked w.thread.term.frames) w.open_now))
 
 -- one of these threads, which are numbered from n, has number u and waits so
 abbrev Found : ℕ → List SlotThread → ℕ → Type 0

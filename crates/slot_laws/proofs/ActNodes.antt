@@ -12,18 +12,12 @@ use Rattle.rules_code.specs.declared.code.Fun.{Fun}
 use Rattle.rules_meaning.specs.Values.{value_of, values_of}
 use Rattle.rules_code.specs.Slots.{Sx, trees}
 use Rattle.rules_code.specs.CodeTrees.{Sa, a_bad, act_decode, act_in, act_trees_onto, act_trees, act_tree_at, SlottedFunction, functions_at}
+use Rattle.rules_code.proofs.ActTrees.{act_trees-length}
 
 onto-prefix : (ts : List Sx) (ks : List Act) (us : List Sa) → (more : List Sa) × (act_trees_onto ts ks us ≡ us ++ more)
 onto-prefix ts [] us = ([], sym (append-nil us))
 onto-prefix ts (k ∷ ks) us =
     let r = onto-prefix ts ks (us ++ act_decode ts us k ∷ []) in (act_decode ts us k ∷ r.0, r.1 ∙ append_assoc us (act_decode ts us k ∷ []) r.0)
-
-onto-length : (ts : List Sx) (ks : List Act) (us : List Sa) → length (act_trees_onto ts ks us) ≡ length us + length ks
-onto-length ts [] us = omega arith
-onto-length ts (k ∷ ks) us = let h = onto-length ts ks (us ++ act_decode ts us k ∷ []) in let l = length-append us (act_decode ts us k ∷ []) in omega (arith, h, l)
-
-acts-length : (ns : List Node) (ks : List Act) → length (act_trees ns ks) ≡ length ks
-acts-length ns ks = let h = onto-length (trees ns) ks [] in omega (arith, h)
 
 onto-at : (ts : List Sx) (ks : List Act) (us : List Sa) (j : ℕ) (k : Act) → slice_get ks j ≡ Some k
     → get_or (act_trees_onto ts ks us) (length us + j) a_bad ≡ act_decode ts (take (length us + j) (act_trees_onto ts ks us)) k
@@ -46,7 +40,7 @@ act_is ns ks i k h =
     let e : 0 + i.0 ≡ i.0 = omega arith in ap (λ j. get_or (act_trees ns ks) j a_bad) (sym e) ∙ (onto-at (trees ns) ks [] i.0 k h ∙ ap (λ j. act_decode (trees ns) (take j (act_trees ns ks)) k) e)
 
 act_past : (ns : List Node) (ks : List Act) (i : ActId) → length ks ≤ i.0 → act_tree_at ns ks i ≡ a_bad
-act_past ns ks i h = get_or_past (act_trees ns ks) i.0 a_bad (let l = acts-length ns ks in omega (arith, l))
+act_past ns ks i h = get_or_past (act_trees ns ks) i.0 a_bad (let l = act_trees-length ns ks in omega (arith, l))
 
 pub act_none : (ns : List Node) (ks : List Act) (i : ActId) → slice_get ks i.0 ≡ None → act_tree_at ns ks i ≡ a_bad
 act_none ns ks i h = ⊎_elim (λ w. let e = w.2 in cc) (λ w. act_past ns ks i w.0) (slice_get_cases ks i.0).1

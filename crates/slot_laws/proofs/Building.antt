@@ -1,6 +1,7 @@
 -- For each typed term there is a term with slots that stands for it.
 use Rattle.std.proofs.Common.{◌≡◌, ℕ, ◌==◌, List, [], ◌∷◌, ◌++◌, length, Bool, true, false, cond, Option, Some, None, refl, sym, ap, ◌∙◌, subst, arith, slice_get, length-append, eqb-true}
 use Rattle.std.proofs.lemmas.Slice.Eq.{bytes_eq-Decides}
+use Rattle.plain_laws.proofs.Lists.{get_last}
 use Rattle.hs_base.specs.declared.tree.script.Script.{Script}
 use Rattle.hs_rules.specs.declared.entry.Entry.{Entry}
 use Rattle.rules_trees.specs.Trees.{T}
@@ -27,6 +28,7 @@ use Rattle.slot_laws.specs.SlotRules as slot
 use Rattle.slot_laws.specs.SlotRules.{SlotOp, SlotPart, SlotFrame, SlotTerm, at}
 use Rattle.slot_laws.specs.Standing.{tree_of, Reads, Awaits, OpStands, calls_stands, forks_stands, forks_unmask_stands, PartStands, ret_stands, throw_stands, do_stands, op_stands, FramesStand, none_stand, bind_stands, then_stands, catch_stands, mask_stands}
 use Rattle.slot_laws.specs.Stacks.{StacksStand}
+pub use Rattle.plain_laws.proofs.Lists.{get_last as last_item}
 
 -- ---- an environment finds the same by names that are the same
 
@@ -56,10 +58,6 @@ abbrev value_or : Option V → V
 value_or None = UnitValue
 value_or (Some v) = v
 
-pub last_item : {A : Type 0} (xs : List A) (y : A) → slice_get (xs ++ y ∷ []) (length xs) ≡ Some y
-last_item [] y = refl
-last_item (x ∷ xs) y = last_item xs y
-
 module _ (env : Env) where
   abbrev slots_in : List SortedName → List V
   slots_in [] = []
@@ -84,7 +82,7 @@ module _ (env : Env) where
 
   agree_end : (k : Sort) (n : ℕ) (w r : Option V) (vs : List V) → length vs ≡ n → r ≡ w → Agree (Some k) (Some n) w (vs ++ value_or r ∷ [])
   agree_end k n None r vs l e = tt
-  agree_end k n (Some v) r vs l e = ap (slice_get (vs ++ value_or r ∷ [])) (sym l) ∙ (last_item vs (value_or r) ∙ ap (λ z. Some (value_or z)) e)
+  agree_end k n (Some v) r vs l e = ap (slice_get (vs ++ value_or r ∷ [])) (sym l) ∙ (get_last vs (value_or r) ∙ ap (λ z. Some (value_or z)) e)
 
   agree_bound : (t : Bool) (k : Sort) (n : ℕ) (o : Option Sort) (m : Option ℕ) (w r : Option V) (vs : List V) → length vs ≡ n → (t ≡ true → r ≡ w) → Agree o m w vs → Agree (cond t (Some k) o) (cond t (Some n) m) w (vs ++ value_or r ∷ [])
   agree_bound true k n o m w r vs l e h = agree_end k n w r vs l (e refl)

@@ -1,5 +1,6 @@
 -- What the next local rule of an action with slots evaluates is an expression of the script, in a scope that its values fit.
 use Rattle.std.proofs.Common.{◌≡◌, ℕ, zero, suc, List, [], ◌∷◌, Bool, true, false, cond, map, Option, Some, None, refl, sym, ap, ◌∙◌, subst, slice_get}
+use Rattle.plain_laws.proofs.Lists.{get_mapped}
 use Rattle.hs_base.specs.declared.mask.Mask.TheVariants.{Unmasked}
 use Rattle.hs_base.specs.declared.tree.script.Script.{Script}
 use Rattle.rules_trees.specs.Trees.{T, Exs, none, more}
@@ -144,13 +145,8 @@ decoded_same ts us _ = refl
 pub nodes_same : (b : CodeBody) (i : ActId) (k : Act) → slice_get b.acts i.0 ≡ Some k → slots_evaluated (act_tree_at b.nodes b.acts i) ≡ map (tree_at b.nodes) (nodes_evaluated k)
 nodes_same b i k h = ap slots_evaluated (act_is b.nodes b.acts i k h) ∙ decoded_same (trees b.nodes) _ k
 
-item_mapped : {A B : Type 0} (f : A → B) (xs : List A) (n : ℕ) (x : A) → slice_get xs n ≡ Some x → slice_get (map f xs) n ≡ Some (f x)
-item_mapped f [] n x e = absurd (let z : ◌≡◌ {A = Option _} None (Some x) = e in cc z)
-item_mapped f (y ∷ xs) zero x e = let z : y ≡ x = cc e in ap (λ w. Some (f w)) z
-item_mapped f (y ∷ xs) (suc n) x e = item_mapped f xs n x e
-
 pub node_at : (b : CodeBody) (i : ActId) (k : Act) → slice_get b.acts i.0 ≡ Some k → (n : ℕ) (e : ExprId) → slice_get (nodes_evaluated k) n ≡ Some e → slice_get (slots_evaluated (act_tree_at b.nodes b.acts i)) n ≡ Some (tree_at b.nodes e)
-node_at b i k h n e p = ap (λ z. slice_get z n) (nodes_same b i k h) ∙ item_mapped (tree_at b.nodes) (nodes_evaluated k) n e p
+node_at b i k h n e p = ap (λ z. slice_get z n) (nodes_same b i k h) ∙ get_mapped (tree_at b.nodes) (nodes_evaluated k) n e p
 
 pub node_evaluable : (store : Option Store) (b : CodeBody) (i : ActId) (k : Act) → slice_get b.acts i.0 ≡ Some k → (vs : List V) (ss : List SlotFrame) (t : named.Term) → Stands (cells_of store) (script_of b.of.value) (at (doing (act_tree_at b.nodes b.acts i) vs) ss) t
     → (n : ℕ) (e : ExprId) → slice_get (nodes_evaluated k) n ≡ Some e → Evaluable (script_of b.of.value) t.part n (tree_at b.nodes e) vs

@@ -1,5 +1,6 @@
 -- Stacks stand for the threads of a first state, and after a fork.
 use Rattle.std.proofs.Common.{◌≡◌, ℕ, zero, suc, ◌<◌, ◌≤◌, ◌==◌, true, false, List, [], ◌∷◌, ◌++◌, length, Some, refl, sym, ap, ◌∙◌, subst, arith, slice_get, slice_set, ⊎_elim}
+use Rattle.plain_laws.proofs.Lists.{get_last, get_before_last}
 use Rattle.hs_base.specs.declared.mask.Mask.{Mask}
 use Rattle.hs_base.specs.declared.mask.Mask.TheVariants.{Unmasked}
 use Rattle.hs_base.specs.declared.tree.script.Script.{Script}
@@ -18,10 +19,10 @@ use Rattle.hs_rules.specs.Terms as named
 use Rattle.hs_rules.specs.Terms.{term, Ret, Do, Performs, Forks, ForksUnmask, MaskIn}
 use Rattle.hs_laws.proofs.Lists.{equal_or, cond_true, cond_false, item_same}
 use Rattle.hs_laws.proofs.States.{other_thread}
+use Rattle.hs_laws.proofs.Growing.{term_length}
 use Rattle.hs_progress.specs.TypedStates.{no_frames, mask_typed, ThreadTyped, stored, Store, has, with_thread}
 use Rattle.hs_progress.proofs.Stores.{stored_more}
-use Rattle.hs_progress.proofs.Sounds.{length_with_term}
-use Rattle.hs_progress.proofs.Operations.{fork_sound, at_end, before_end}
+use Rattle.hs_progress.proofs.Operations.{fork_sound}
 use Rattle.slot_laws.specs.SlotRules as slot
 use Rattle.slot_laws.specs.SlotRules.{SlotPart, SlotTerm, at, mask_in}
 use Rattle.slot_laws.specs.Standing.{Reads, forks_stands, forks_unmask_stands, PartStands, ret_stands, do_stands, op_stands, FramesStand, none_stand, mask_stands, StandsIn}
@@ -59,8 +60,8 @@ module _ (ds : List Fn) (stacks : ℕ → SlotTerm) (s : State) (w : StacksStand
   new_stands : (v : ℕ) → v ≡ n → more.sorts v ≡ j → then v ≡ at p (mask_in m ∷ []) → (b : Thread) → slice_get (ts ++ record { term = term q (MaskIn m ∷ []); finished = false } ∷ []) v ≡ Some b → StandsIn ds more v (then v) b.term
   new_stands v e k f b g =
       let new : Thread = record { term = term q (MaskIn m ∷ []); finished = false } in
-      let long : length ts ≡ n = length_with_term t (slice_get s.threads t) answered s.threads in
-      let c : slice_get (ts ++ new ∷ []) v ≡ Some new = ap (slice_get (ts ++ new ∷ [])) (e ∙ sym long) ∙ at_end ds w.store ts new in
+      let long : length ts ≡ n = term_length t (slice_get s.threads t) answered s.threads in
+      let c : slice_get (ts ++ new ∷ []) v ≡ Some new = ap (slice_get (ts ++ new ∷ [])) (e ∙ sym long) ∙ get_last ts new in
       subst (StandsIn ds more v (then v)) (term_is new b (sym c ∙ g)) (place v new.term j (at p (mask_in m ∷ [])) k f (part_more (has w.store) (has more) grow ds h, mask_stands none_stand))
 
   old_stands : (v : ℕ) → more.sorts v ≡ w.store.sorts v → then v ≡ with_stack t (at (slot.ret (val.Thread n)) (stacks t).frames) stacks v → (b : Thread) → slice_get ts v ≡ Some b → StandsIn ds more v (then v) b.term
@@ -86,13 +87,13 @@ module _ (ds : List Fn) (stacks : ℕ → SlotTerm) (s : State) (w : StacksStand
   all_stand : (v : ℕ) (b : Thread) → slice_get (ts ++ record { term = term q (MaskIn m ∷ []); finished = false } ∷ []) v ≡ Some b → StandsIn ds more v (then v) b.term
   all_stand v b g =
       let counted : w.store.count ≡ n = w.sound.counted in
-      let long : length ts ≡ n = length_with_term t (slice_get s.threads t) answered s.threads in
+      let long : length ts ≡ n = term_length t (slice_get s.threads t) answered s.threads in
       ⊎_elim
       (λ e. new_stands v (e.1 ∙ counted) (cond_true (v == w.store.count) j (w.store.sorts v) e.0)
       (cond_true (v == n) (at p (mask_in m ∷ [])) (with_stack t (at (slot.ret (val.Thread n)) (stacks t).frames) stacks v) (subst (λ z. (v == z) ≡ true) counted e.0)) b g)
       (λ e. old_stands v (cond_false (v == w.store.count) j (w.store.sorts v) e.0)
       (cond_false (v == n) (at p (mask_in m ∷ [])) (with_stack t (at (slot.ret (val.Thread n)) (stacks t).frames) stacks v) (subst (λ z. (v == z) ≡ false) counted e.0)) b
-      (sym (before_end ds w.store ts (record { term = term q (MaskIn m ∷ []); finished = false }) v (λ x. e.1 (x ∙ (long ∙ sym counted)))) ∙ g))
+      (sym (get_before_last ts (record { term = term q (MaskIn m ∷ []); finished = false }) v (λ x. e.1 (x ∙ (long ∙ sym counted)))) ∙ g))
       (equal_or v w.store.count)
 
   forked_stand : StacksStand ds then (spawn (term q (MaskIn m ∷ [])) (answer t (val.Thread n) s))

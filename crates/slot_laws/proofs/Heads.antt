@@ -1,6 +1,7 @@
 -- `main` can begin, in no values.
-use Rattle.std.proofs.Common.{◌≡◌, ℕ, List, [], ◌∷◌, Bool, true, false, Option, Some, None, refl, sym, ap, subst}
+use Rattle.std.proofs.Common.{◌≡◌, ℕ, List, [], ◌∷◌, true, Option, Some, None, refl, sym, ap, subst}
 use Rattle.std.specs.Prelude.{◌&&◌, codes}
+use Rattle.std.proofs.lemmas.Bool.{and_parts}
 use Rattle.hs_base.specs.declared.tree.script.Script.{Script}
 use Rattle.rules_trees.specs.Trees.{T, unit}
 use Rattle.rules_trees.specs.Programs.{script_of}
@@ -26,20 +27,7 @@ use Rattle.hs_progress.specs.TypedStates.{Store}
 use Rattle.slot_laws.specs.SlotRules.{doing, SlotFrame, mask_in, at}
 use Rattle.slot_laws.specs.Standing.{cells_of, Reads, PartStands, do_stands, none_stand, mask_stands, Stands}
 use Rattle.hs_progress.specs.TypedStates.{ctx_of, KeepsHead}
-use Rattle.hs_progress.proofs.Heads.{heads_kept}
-
-pub both_true : (p q : Bool) → p && q ≡ true → (p ≡ true) × (q ≡ true)
-both_true true true e = (refl, refl)
-both_true true false e = absurd (cc e)
-both_true false q e = absurd (cc e)
-
-no_types : (ts : List T) → is_none ts ≡ true → ts ≡ []
-no_types [] e = refl
-no_types (t ∷ ts) e = absurd (let z : false ≡ true = e in cc z)
-
-unit_is : (t : T) → is_unit t ≡ true → t ≡ unit
-unit_is unit e = refl
-unit_is _ e = absurd (cc e)
+use Rattle.hs_progress.proofs.Heads.{heads_kept, no_types, unit_is}
 
 -- a function without parameters, in no values
 reads_of : (s : Script) (sig : Sig) (d : ActionFunction) (ps : List Name) → d.params ≡ ps → sig.params ≡ [] → KeepsHead (script_of s) sig d → (cells : ℕ → T → Type 0) → Reads cells (script_of s) (tree_or_bad (script_of s) (Some d.body)) [] d.body [] (a_value sig.result)
@@ -58,8 +46,8 @@ main_reads s a = by (typing.find (sigs_from 0 (script_of s)) (codes "main")) ref
         → (a : Core) × (main_of (script_of s) ≡ Some a) × ((cells : ℕ → T → Type 0) → Reads cells (script_of s) (main_tree (script_of s)) [] a [] (a_value unit))
     by None e h = absurd (cc h)
     by (Some sig) e h =
-        let q = both_true sig.acts (is_none sig.params && is_unit sig.result) h in
-        let r = both_true (is_none sig.params) (is_unit sig.result) q.1 in
+        let q = and_parts sig.acts (is_none sig.params && is_unit sig.result) h in
+        let r = and_parts (is_none sig.params) (is_unit sig.result) q.1 in
         let f = heads_kept s a (codes "main") sig e q.0 in
         let m : main_of (script_of s) ≡ Some f.0.body = ap body_of f.1 in (
           f.0.body,

@@ -33,8 +33,9 @@ use Rattle.slot_laws.specs.SlotRules.{SlotPart, doing, performs, calls, bind_to,
 use Rattle.hs_progress.specs.CoreTyping.{Binds, with_bound, Does, does_return, does_throw, does_let, does_bind, does_then, does_if, does_maybe, does_either, does_list, does_pair, does_call, does_perform, does_fork, does_fork_unmask, does_catch, does_mask, does_mask_hard, does_restore}
 use Rattle.slot_laws.specs.Standing.{tree_of, Reads, Awaits, calls_stands, forks_stands, forks_unmask_stands, PartStands, ret_stands, throw_stands, do_stands, op_stands, FramesStand, none_stand, bind_stands, then_stands, catch_stands, mask_stands, Stands, BothStand, StepsTo}
 use Rattle.hs_progress.specs.TypedStates.{ctx_of, HeadsKept, AllOfSorts}
+use Rattle.hs_progress.proofs.Moves.{binds_read, exs_sorts, args_good}
 use Rattle.slot_laws.proofs.SlotFraming.{framed}
-use Rattle.slot_laws.proofs.Steps.{Entered, binds_read, same_masks, more_fits, slot_is, mask_of, exs_sorts, exs_slots, args_good, takes_fit, takes_count, takes_names, place_found, throws, rets, goes_on, value_steps, values_step, throwing, awaited}
+use Rattle.slot_laws.proofs.Steps.{Entered, same_masks, more_fits, slot_is, mask_of, exs_slots, takes_fit, takes_count, takes_names, place_found, throws, rets, goes_on, value_steps, values_step, throwing, awaited}
 
 module _ (cells : ℕ → T → Type 0) (script : Script) (accepted : Accepted script) (heads : HeadsKept (script_of script)) where
   abbrev ds : List Fn

@@ -4,17 +4,16 @@ use Rattle.std.specs.Prelude.{slice_get}
 use Rattle.hs_base.specs.declared.exn.Exn.{Exn}
 use Rattle.hs_base.specs.declared.mask.Mask.TheVariants.{Unmasked}
 use Rattle.hs_base.specs.declared.tree.script.Script.{Script}
-use Rattle.rules_trees.specs.Trees.{T, exn, Exs, none, more}
+use Rattle.rules_trees.specs.Trees.{T, exn}
 use Rattle.rules_trees.specs.Programs.{Fn, script_of}
 use Rattle.rules_meaning.specs.Values as val
 use Rattle.rules_expansion.specs.Names.{Name, Written, Added, Unread}
 use Rattle.rules_meaning.specs.Values.{V, Env, with_name, value_at, Outcome, Gives, Throws, Stuck, Outcomes, AllGive, OneThrows, OneStuck, and_then}
-use Rattle.rules_meaning.specs.Meaning.{functions_of, value_of_ex, values_of_exs}
-use Rattle.rules_sorts.specs.Sorts.{Sort, a_value, a_masking_name, an_instance, a_scope_cell, SortedName}
-use Rattle.rules_typing.specs.Typing as typing
+use Rattle.rules_meaning.specs.Meaning.{functions_of}
+use Rattle.rules_sorts.specs.Sorts.{Sort, a_value, a_masking_name, SortedName}
 use Rattle.rules_typing.specs.TypingScripts.{Accepted}
-use Rattle.rules_sorts.specs.TypedMeaning.{AllOf, WellAll}
-use Rattle.rules_expansion.specs.Core.{CoreEx, OfScript, Core, ActionFunction, action_named}
+use Rattle.rules_sorts.specs.TypedMeaning.{AllOf}
+use Rattle.rules_expansion.specs.Core.{CoreEx, Core, ActionFunction, action_named}
 use Rattle.rules_meaning.specs.CoreMeaning.{value_of_core, values_of_core}
 use Rattle.rules_code.specs.Slots.{Scope, slot_of, Root, roots_of, run_all}
 use Rattle.rules_code.specs.CodeTrees.{Sa, is_unread, slot_or_end, slotted_core_exs, place_among, scope_of_names, slotted_function, slotted_functions}
@@ -22,38 +21,22 @@ use Rattle.rules_code.specs.Matching.{Seen}
 use Rattle.hs_rules.specs.Terms as named
 use Rattle.hs_rules.specs.Terms.{Frame, Do}
 use Rattle.hs_rules.specs.LocalRules as name
-use Rattle.hs_soundness.specs.CoreSorts.{names_of, written_in, of_masking, OfSort, FitsAt, FitsScope, GoodSort, SlotsFit}
-use Rattle.hs_soundness.proofs.CoreExpressions.{accepted_good}
+use Rattle.hs_soundness.specs.CoreSorts.{names_of, of_masking, OfSort, FitsAt, GoodSort, SlotsFit}
 use Rattle.hs_soundness.proofs.CoreSlots.{core_slots}
 use Rattle.hs_soundness.proofs.Growing.{fits_with}
 use Rattle.slot_laws.specs.SlotRules as slot
 use Rattle.slot_laws.specs.SlotRules.{SlotFrame, SlotTerm}
 use Rattle.hs_progress.specs.CoreTyping.{Binds, with_bound, CoreAllHave, no_more, one_more, Takes, takes_none, takes_one}
 use Rattle.slot_laws.specs.Standing.{Reads, Awaits, ret_stands, throw_stands, do_stands, FramesStand, none_stand, bind_stands, then_stands, catch_stands, mask_stands, Stands, StepsTo}
-use Rattle.hs_progress.specs.TypedStates.{ctx_of, AllOfSorts, no_values, one_value}
+use Rattle.hs_progress.specs.TypedStates.{ctx_of}
+use Rattle.hs_progress.proofs.Moves.{binds_read, binds_fits, AllAre}
 
 -- ---- names that are bound
 
-pub binds_read : (y : Name) (k : Sort) → Binds y k → is_unread y ≡ false
-binds_read (Written x) k h = refl
-binds_read Unread k h = absurd h
-binds_read (Added z) k h = refl
-
--- values for which P holds, or an exception
-abbrev pub AllAre : (List V → Type 0) → Outcomes → Type 0
-AllAre P (AllGive vs) = P vs
-AllAre P (OneThrows e) = Unit {0}
-AllAre P OneStuck = ⊥
-
 module _ (cells : ℕ → T → Type 0) where
-  binds_fits : (y : Name) (k : Sort) (v : V) → Binds y k → OfSort cells k v → FitsAt cells y (Some k) (Some v)
-  binds_fits (Written x) an_instance v b h = absurd b
-  binds_fits (Written x) (a_scope_cell t) v b h = absurd b
-  binds_fits Unread k v b h = absurd b
-  binds_fits _ _ v b h = h
 
   pub more_fits : (g : List SortedName) (env : Env) (vs : List V) (y : Name) (k : Sort) (v : V) → Binds y k → OfSort cells k v → SlotsFit cells g env vs → SlotsFit cells (with_bound y k g) (with_name y v env) (vs ++ v ∷ [])
-  more_fits g env vs y k v b h f = fits_with cells g env vs y k v (binds_read y k b) (binds_fits y k v b h) f
+  more_fits g env vs y k v b h f = fits_with cells g env vs y k v (binds_read y k b) (binds_fits cells y k v b h) f
 
   -- ---- the slot of a masking name
 
@@ -78,18 +61,7 @@ module _ (cells : ℕ → T → Type 0) where
 
   -- ---- expressions of a primitive
 
-  and_all : (k : Sort) (P Q : List V → Type 0) → ((v : V) (vs : List V) → OfSort cells k v → P vs → Q (v ∷ vs)) → (o : Outcome) (r : Outcomes) → GoodSort cells k o → AllAre P r → AllAre Q (and_then o r)
-  and_all k P Q f (Gives v) (AllGive vs) h g = f v vs h g
-  and_all k P Q f (Gives v) (OneThrows e) h g = tt
-  and_all k P Q f (Gives v) OneStuck h g = absurd g
-  and_all k P Q f (Throws e) r h g = tt
-  and_all k P Q f Stuck r h g = absurd h
-
   module _ (script : Script) (accepted : Accepted script) (here : ℕ) where
-    pub exs_sorts : {g : List SortedName} {es : List CoreEx} {ks : List Sort} (env : Env) → FitsScope cells g env → CoreAllHave (ctx_of (script_of script) here) g es ks → AllAre (AllOfSorts cells ks) (values_of_core (functions_of (script_of script)) env es)
-    exs_sorts env f no_more = no_values
-    exs_sorts {g} env f (one_more {e} {k} {es} {ks} h hs) =
-        and_all k (AllOfSorts cells ks) (AllOfSorts cells (k ∷ ks)) (λ v vs p q. one_value p q) (value_of_core (functions_of (script_of script)) env e) (values_of_core (functions_of (script_of script)) env es) (accepted_good cells script here g env e k accepted h f) (exs_sorts env f hs)
 
     pub exs_slots : {g : List SortedName} {es : List CoreEx} {ks : List Sort} (env : Env) (vs : List V) → SlotsFit cells g env vs → CoreAllHave (ctx_of (script_of script) here) g es ks
         → run_all (slotted_core_exs (roots_of (script_of script)) (names_of g) es) vs ≡ values_of_core (functions_of (script_of script)) env es
@@ -97,13 +69,6 @@ module _ (cells : ℕ → T → Type 0) where
     exs_slots {g} env vs f (one_more {e} {k} {es} {ks} h hs) =
         ap (λ o. and_then o (run_all (slotted_core_exs (roots_of (script_of script)) (names_of g) es) vs)) (core_slots cells (script_of script) (ctx_of (script_of script) here) g env vs e k h f)
         ∙ ap (and_then (value_of_core (functions_of (script_of script)) env e)) (exs_slots env vs f hs)
-
-    pub args_good : (g : List SortedName) (env : Env) (es : Exs) (ts : List T) → FitsScope cells g env → WellAll es → typing.HaveTypes (ctx_of (script_of script) here) (written_in g) es ts → AllAre (AllOf cells ts) (values_of_exs (functions_of (script_of script)) env es)
-    args_good g env none ts f w h = subst (λ z. AllAre (AllOf cells z) (values_of_exs (functions_of (script_of script)) env none)) (sym h) tt
-    args_good g env (more e es) ts f w h =
-        subst (λ z. AllAre (AllOf cells z) (values_of_exs (functions_of (script_of script)) env (more e es))) (sym h.4)
-        (and_all (a_value h.0) (AllOf cells h.1) (AllOf cells (h.0 ∷ h.1)) (λ v vs p q. (p, q)) (value_of_ex (functions_of (script_of script)) env e) (values_of_exs (functions_of (script_of script)) env es)
-        (accepted_good cells script here g env (OfScript e) (a_value h.0) accepted (h.0, w.0, h.2, refl) f) (args_good g env es h.1 f w.1 h.3))
 
   -- ---- parameters
 
@@ -171,12 +136,12 @@ module _ (cells : ℕ → T → Type 0) (script : List Fn) where
         by (Throws x) z = throws x
         by Stuck z = absurd z
 
-    pub values_step : (P : List V → Type 0) (o r : Outcomes) (f : List V → Option SlotTerm) (g : List V → Option named.Term) → r ≡ o → AllAre P o
+    pub values_step : (P : List V → Type 0) (o r : Outcomes) (f : List V → Option SlotTerm) (g : List V → Option named.Term) → r ≡ o → AllAre cells P o
         → ((vs : List V) → P vs → StepsTo cells script (slot.on_top ss (f vs)) (name.on_top fs (g vs)))
         → StepsTo cells script (slot.on_top ss (slot.on_values r f)) (name.on_top fs (name.on_values o g))
     values_step P o r f g e h w = subst (λ z. StepsTo cells script (slot.on_top ss (slot.on_values z f)) (name.on_top fs (name.on_values o g))) (sym e) (by o h)
       where
-        by : (q : Outcomes) → AllAre P q → StepsTo cells script (slot.on_top ss (slot.on_values q f)) (name.on_top fs (name.on_values q g))
+        by : (q : Outcomes) → AllAre cells P q → StepsTo cells script (slot.on_top ss (slot.on_values q f)) (name.on_top fs (name.on_values q g))
         by (AllGive vs) z = w vs z
         by (OneThrows x) z = throws x
         by OneStuck z = absurd z

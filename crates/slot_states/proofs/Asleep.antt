@@ -1,38 +1,17 @@
 -- What the sorted sleepers say of who is blocked until a time.
-use Rattle.std.proofs.Common.{◌≡◌, ℕ, ◌<◌, ◌≤◌, ◌==◌, nat_le, List, [], ◌∷◌, Bool, true, false, cond, Option, Some, None, refl, sym, ap, ◌∙◌, subst, arith, ⊎_elim, eq-eqb}
+use Rattle.std.proofs.Common.{◌≡◌, ℕ, ◌<◌, ◌≤◌, ◌==◌, nat_le, List, [], ◌∷◌, Bool, true, false, cond, Option, Some, None, refl, sym, ap, ◌∙◌, subst, ⊎_elim, eq-eqb}
 use Rattle.std.proofs.lemmas.Bool.Decides.{leb_tells}
 use Rattle.std.proofs.lemmas.Option.{same_Some}
+use Rattle.std.proofs.lemmas.Bool.{leb-true}
 use Rattle.rules_meaning.specs.Values.{V}
 use Rattle.rules_waiting.specs.Waiting.{Reason, Sleeping, Waiting, Sleeper, reason_of, with_sleeper, sleepers_of, sleeper_before, sleeper_added, sorted_sleepers, first_awake}
 use Rattle.exn_flight.specs.Asleep.{due_of}
 use Rattle.hs_laws.specs.Standing.{Once}
-use Rattle.hs_laws.proofs.Lists.{cond_cases, cond_true, cond_false, equal_or, Each, once_reason}
+use Rattle.hs_laws.proofs.Lists.{cond_cases, cond_true, cond_false, equal_or, once_reason}
+use Rattle.hs_laws.proofs.Later.{AllAsleep, sorted_asleep, WaitsAsleep, all_asleep, same_due}
 
 -- ---- each of the sorted sleepers is blocked until it is due
-abbrev pub AllAsleep : (Sleeper → Type 0) → List Sleeper → Type 0
-AllAsleep P [] = Unit {0}
-AllAsleep P (s ∷ ss) = P s × AllAsleep P ss
 
-added_asleep : (P : Sleeper → Type 0) (s : Sleeper) (ss : List Sleeper) → P s → AllAsleep P ss → AllAsleep P (sleeper_added s ss)
-added_asleep P s [] p h = (p, tt)
-added_asleep P s (r ∷ rs) p h = cond_cases (AllAsleep P) (sleeper_before r s) (r ∷ sleeper_added s rs) (s ∷ r ∷ rs) (λ b. (h.0, added_asleep P s rs p h.1)) (λ b. (p, h))
-
-sorted_asleep : (P : Sleeper → Type 0) (ss : List Sleeper) → AllAsleep P ss → AllAsleep P (sorted_sleepers ss)
-sorted_asleep P [] h = tt
-sorted_asleep P (s ∷ ss) h = added_asleep P s (sorted_sleepers ss) h.0 (sorted_asleep P ss h.1)
-
-abbrev pub WaitsAsleep : List (Waiting V) → Sleeper → Type 0
-WaitsAsleep ws x = reason_of x.thread ws ≡ Some (Sleeping x.due)
-
-all_asleep : (ws vs : List (Waiting V)) → Each (λ t r. reason_of t vs ≡ Some r) ws → AllAsleep (WaitsAsleep vs) (sleepers_of ws)
-all_asleep [] vs h = tt
-all_asleep (w ∷ ws) vs h = by w.reason h.0 (all_asleep ws vs h.1)
-  where
-    by : (r : Reason V) → reason_of w.thread vs ≡ Some r → AllAsleep (WaitsAsleep vs) (sleepers_of ws) → AllAsleep (WaitsAsleep vs) (with_sleeper w.thread r (sleepers_of ws))
-    by (Sleeping due) e k = (e, k)
-    by _ e k = k
-
--- so does each of those that are blocked
 pub each_asleep : (ws : List (Waiting V)) → Once ws → AllAsleep (WaitsAsleep ws) (sorted_sleepers (sleepers_of ws))
 each_asleep ws o = sorted_asleep (WaitsAsleep ws) (sleepers_of ws) (all_asleep ws ws (once_reason ws o))
 
@@ -44,14 +23,11 @@ awake_in P now t (s ∷ ss) h e =
     (λ d. awake_in P now t ss h.1 (sym (cond_false (nat_le s.due now) (Some s.thread) (first_awake now ss) d.0) ∙ e))
     (leb_tells s.due now)
 
-pub has_come : (due now : ℕ) → nat_le due now ≡ true → due ≤ now
-has_come due now e = grind arith
-
 -- who wakes first sleeps until a time that has come
 pub first_due : (now t : ℕ) (ws : List (Waiting V)) → Once ws → first_awake now (sorted_sleepers (sleepers_of ws)) ≡ Some t → (due : ℕ) × (reason_of t ws ≡ Some (Sleeping due)) × (due ≤ now)
 first_due now t ws o e =
     let k = awake_in (WaitsAsleep ws) now t (sorted_sleepers (sleepers_of ws)) (each_asleep ws o) e in
-    (k.0.due, subst (λ u. reason_of u ws ≡ Some (Sleeping k.0.due)) k.2 k.1, has_come k.0.due now k.3)
+    (k.0.due, subst (λ u. reason_of u ws ≡ Some (Sleeping k.0.due)) k.2 k.1, leb-true k.0.due now k.3)
 
 -- ---- a list whose order is put right says of each the same
 was_added : (P : Sleeper → Type 0) (s : Sleeper) (ss : List Sleeper) → AllAsleep P (sleeper_added s ss) → P s × AllAsleep P ss
@@ -136,15 +112,12 @@ all_found (s ∷ ss) = (
   all_changed (IsFound ss) (IsFound (s ∷ ss)) (λ x h. some_or (s.thread == x.thread) s.due (due_of x.thread ss) (λ q. h)) ss (all_found ss),
 )
 
-same_time : (d due : ℕ) → ◌≡◌ {A = Option (Reason V)} (Some (Sleeping d)) (Some (Sleeping due)) → d ≡ due
-same_time d due h = cc h
-
 -- and the other way round
 pub due_until : (t due : ℕ) (ws : List (Waiting V)) → Once ws → reason_of t ws ≡ Some (Sleeping due) → due_of t (sorted_sleepers (sleepers_of ws)) ≡ Some due
 due_until t due ws o e =
     let ss : List Sleeper = sorted_sleepers (sleepers_of ws) in
     let k = sleeper_in (IsFound ss) t due ws (was_sorted (IsFound ss) (sleepers_of ws) (all_found ss)) e in
-    k.1 ∙ ap Some (same_time k.0 due (sym (sleeps_until t k.0 ws o k.1) ∙ e))
+    k.1 ∙ ap Some (same_due k.0 due (sym (sleeps_until t k.0 ws o k.1) ∙ e))
 
 -- who wakes first is due
 pub first_is_due : (now t : ℕ) (ws : List (Waiting V)) → Once ws → first_awake now (sorted_sleepers (sleepers_of ws)) ≡ Some t → (due : ℕ) × (due_of t (sorted_sleepers (sleepers_of ws)) ≡ Some due) × (due ≤ now)

@@ -11,11 +11,11 @@ use Rattle.hs_laws.specs.CellLaw.{told}
 use Rattle.hs_laws.specs.CellLaw as law
 use Rattle.hs_laws.specs.Standing.{Once}
 use Rattle.hs_laws.proofs.Lists.{once_left, ones_changed}
-use Rattle.hs_laws.proofs.CellSteps.{line_leaves, not_blocked_line, Follows, take_follows, read_follows, put_follows, try_take_follows, try_put_follows, Still, take_still, read_still, put_still, try_take_still, try_put_still}
+use Rattle.hs_laws.proofs.CellSteps.{line_leaves, not_blocked_line, Follows, take_follows, read_follows, put_follows, try_take_follows, try_put_follows, Still, take_still, read_still, put_still, try_take_still, try_put_still, same_taker}
+use Rattle.hs_laws.proofs.Growing.{set_length}
 use Rattle.slot_states.specs.SlotStates.{SlotThread, told_all}
 use Rattle.slot_states.specs.SlotStates as slots
-use Rattle.slot_states.proofs.Following.{set_long}
-use Rattle.slot_states.proofs.Lines.{left_by, EachReply, left_both, left_swap, leaves_swap, each_both, each_shown, Quiet, free_quiet, stands_quiet, all_quiet, block_quiet, put_stands, take_stands, readers_stand, same_taker}
+use Rattle.slot_states.proofs.Lines.{left_by, EachReply, left_both, left_swap, leaves_swap, each_both, each_shown, Quiet, free_quiet, stands_quiet, all_quiet, block_quiet, put_stands, take_stands, readers_stand}
 
 -- ---- all but threads, cells and the blocked stays, and there are as many cells
 
@@ -30,11 +30,11 @@ all_kept [] p s = (refl, refl)
 all_kept (t ∷ ts) p s = kept_then s (resume t p s) (resume_all ts p (resume t p s)) (refl, refl) (all_kept ts p (resume t p s))
 
 moves_kept : (m : ℕ) (w : Option (ℕ × V)) (s : State) → Kept s (moves_in m w s)
-moves_kept m None s = (refl, set_long s.cells m None)
-moves_kept m (Some w) s = (refl, set_long s.cells m (Some w.1))
+moves_kept m None s = (refl, set_length s.cells m None)
+moves_kept m (Some w) s = (refl, set_length s.cells m (Some w.1))
 
 goes_kept : (m : ℕ) (a : V) (w : Option ℕ) (s : State) → Kept s (goes_in m a w s)
-goes_kept m a None s = (refl, set_long s.cells m (Some a))
+goes_kept m a None s = (refl, set_length s.cells m (Some a))
 goes_kept m a (Some t) s = (refl, refl)
 
 taken_kept : (m t : ℕ) (v : V) (s : State) → Kept s (taken m (answer t v s))

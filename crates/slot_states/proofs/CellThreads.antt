@@ -19,7 +19,7 @@ use Rattle.hs_laws.specs.Standing.{Standing}
 use Rattle.hs_laws.specs.BracketPhases.{Blocks}
 use Rattle.hs_laws.proofs.Lists.{cond_true, cond_false, equal_or, some_item}
 use Rattle.hs_laws.proofs.Stranding.{reason_blocked}
-use Rattle.hs_laws.proofs.CellSteps.{Away}
+use Rattle.hs_laws.proofs.CellSteps.{Away, away_line}
 use Rattle.hs_laws.proofs.Expanded.{standing_of}
 use Rattle.hs_progress.specs.TypedStates.{has}
 use Rattle.slot_laws.specs.SlotRules.{SlotPart, performs, calls}
@@ -29,7 +29,7 @@ use Rattle.slot_states.specs.Resting.{NotThrowing, NotAsleep, WaitsAt, takes, re
 use Rattle.slot_states.proofs.Following.{same_some}
 use Rattle.slot_states.proofs.Reading.{call_is, call_of, named_of, blocked_there, blocked_at, line_stays}
 use Rattle.slot_states.proofs.CellReading.{waits_below}
-use Rattle.slot_states.proofs.Lines.{own_stands, stands_waits, waits_stands, free_stands, stands_quiet, Quiet, not_throwing, not_asleep, one_left, away_stays}
+use Rattle.slot_states.proofs.Lines.{own_stands, stands_waits, waits_stands, free_stands, stands_quiet, Quiet, not_throwing, not_asleep, one_left}
 
 -- ---- the operation of who waits at a cell
 
@@ -146,7 +146,7 @@ module _ (ds : List Fn) (x : SlotState) (s : State) (r : Represents ds x s) wher
           exists = below;
           stands = ap (stands_in t) (line_is m below) ∙ here;
           only = one_left t m x.cells (λ j d n i.
-              line_stays j t s d (subst (SameCell j s) i (r.agrees.cells j)) (away_stays j t s.blocked g.once (subst (Away j) (sym k.waits) (want_away m j k.reason wants.0 n wants.1))));
+              line_stays j t s d (subst (SameCell j s) i (r.agrees.cells j)) (away_line j t s.blocked g.once (subst (Away j) (sym k.waits) (want_away m j k.reason wants.0 n wants.1))));
           silent = subst (NotThrowing t) (sym r.agrees.flight) (not_throwing t s.blocked quiet.0);
           awake = subst (NotAsleep t) (sym r.agrees.sleepers) (not_asleep t s.blocked quiet.1);
         }

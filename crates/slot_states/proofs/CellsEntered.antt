@@ -1,5 +1,6 @@
 -- The Op of an operation on a cell, and of one that makes a cell.
 use Rattle.std.proofs.Common.{◌≡◌, ◌≢◌, ℕ, ◌+◌, ◌<◌, false, List, [], ◌∷◌, ◌++◌, length, slice_get, slice_set, Option, Some, None, refl, sym, ap, ◌∙◌, subst, arith, ⊎_elim, length-append}
+use Rattle.plain_laws.proofs.Lists.{get_last, get_before_last}
 use Rattle.hs_base.specs.declared.mask.Mask.{Mask}
 use Rattle.hs_base.specs.declared.mask.Mask.TheVariants.{Unmasked}
 use Rattle.hs_base.specs.declared.tree.script.Script.{Script}
@@ -26,11 +27,12 @@ use Rattle.hs_laws.specs.CellLaw as law
 use Rattle.hs_laws.proofs.Lists.{equal_or, item_same, item_other, some_item}
 use Rattle.hs_laws.proofs.CellSteps.{leaves_absent}
 use Rattle.hs_laws.proofs.Expanded.{standing_of}
+use Rattle.hs_laws.proofs.Growing.{set_length}
 use Rattle.slot_laws.specs.SlotRules.{ret, performs, calls, mask_from}
 use Rattle.slot_states.specs.SlotStates as slots
 use Rattle.slot_states.specs.SlotStates.{SlotThread, SlotState, told_all, or_unmade, called, makes, SameCell, Represents, Enters, StandsAt, MainGoes}
 use Rattle.slot_states.specs.Resting.{WaitsAt, takes, reads, puts}
-use Rattle.slot_states.proofs.Following.{last_item, item_before, set_long, Follow, follow_start, follow_resume, follow_block, Parts, parts_of, entered}
+use Rattle.slot_states.proofs.Following.{Follow, follow_start, follow_resume, follow_block, Parts, parts_of, entered}
 use Rattle.slot_states.proofs.Lines.{left_by}
 use Rattle.slot_states.proofs.CellReading.{waits_below, try_take_below, try_put_below}
 use Rattle.slot_states.proofs.Reading.{AtOp, at_call, op_leads, same_cell}
@@ -63,7 +65,7 @@ module _ (ds : List Fn) (x : SlotState) (s : State) (r : Represents ds x s) (t :
   parts_go : (m : ℕ) (q : Call V) (c : Cell V) (o : Option State) → slice_get x.cells m ≡ Some c → (d : Made m t s o (call q c)) → (y : SlotState)
       → y ≡ record x { threads = told_all t m (call q c).replies x.threads; cells = slice_set x.cells m (call q c).cell } → Parts y d.after
   parts_go m q c o e d y same = subst (λ z. Parts z d.after) (sym same) (record {
-    made = set_long x.cells m (call q c).cell ∙ (r.agrees.made ∙ sym d.kept.1);
+    made = set_length x.cells m (call q c).cell ∙ (r.agrees.made ∙ sym d.kept.1);
     cells = λ k. ⊎_elim (λ n. subst (λ j. SameCell j d.after (slice_get cells' j)) (sym n.1) own) (λ n. other k n.1) (equal_or k m);
     flight = r.agrees.flight ∙ sym (goes_quiet d.goes).0;
     sleepers = r.agrees.sleepers ∙ ap sorted_sleepers (sym (goes_quiet d.goes).1);
@@ -123,11 +125,11 @@ module _ (script : Script) (accepted : Accepted script) (es : List Entry) (s : S
   new_cells : (o : Option V) → is_blocked t s.blocked ≡ false → (k : ℕ) → SameCell k (with_new o) (slice_get (x.cells ++ made o ∷ []) k)
   new_cells o free k =
       ⊎_elim
-      (λ q. subst (λ j. SameCell j (with_new o) (slice_get (x.cells ++ made o ∷ []) j)) (sym q.1) (subst (SameCell (length x.cells) (with_new o)) (sym (last_item x.cells (made o))) (record {
-        content = ap (slice_get (s.cells ++ o ∷ [])) r.agrees.made ∙ last_item s.cells o;
+      (λ q. subst (λ j. SameCell j (with_new o) (slice_get (x.cells ++ made o ∷ []) j)) (sym q.1) (subst (SameCell (length x.cells) (with_new o)) (sym (get_last x.cells (made o))) (record {
+        content = ap (slice_get (s.cells ++ o ∷ [])) r.agrees.made ∙ get_last s.cells o;
         line = line (length x.cells) ∙ no_line (script_of script) x s r (standing_of (script_of script) es s run) (length x.cells) (λ lt. absurd (omega (arith, lt)));
       })))
-      (λ q. subst (SameCell k (with_new o)) (sym (item_before x.cells (made o) k q.1)) (same_cell k s (with_new o) (slice_get x.cells k) (item_before s.cells o k (λ e. q.1 (e ∙ sym r.agrees.made))) (line k) (r.agrees.cells k)))
+      (λ q. subst (SameCell k (with_new o)) (sym (get_before_last x.cells (made o) k q.1)) (same_cell k s (with_new o) (slice_get x.cells k) (get_before_last s.cells o k (λ e. q.1 (e ∙ sym r.agrees.made))) (line k) (r.agrees.cells k)))
       (equal_or k (length x.cells))
     where
       line : (j : ℕ) → line_of j (with_new o).blocked ≡ line_of j s.blocked

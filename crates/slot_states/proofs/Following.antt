@@ -1,5 +1,5 @@
 -- Threads with slots and threads of the rules change alike, step by step within one entry, which leaves a state that is stood for.
-use Rattle.std.proofs.Common.{◌≡◌, ◌≢◌, ℕ, zero, suc, ◌==◌, List, [], ◌∷◌, ◌++◌, length, slice_get, slice_set, Bool, true, false, cond, Option, Some, None, refl, sym, ap, ◌∙◌, subst, ⊎_elim, ◌+◌}
+use Rattle.std.proofs.Common.{◌≡◌, ◌≢◌, ℕ, ◌==◌, List, [], ◌∷◌, length, slice_get, slice_set, Bool, true, false, cond, Option, Some, None, refl, sym, ap, ◌∙◌, subst, ⊎_elim, ◌+◌}
 use Rattle.hs_base.specs.declared.tree.script.Script.{Script}
 use Rattle.hs_rules.specs.declared.entry.Entry.{Entry}
 use Rattle.rules_trees.specs.Programs.{Fn, script_of}
@@ -13,28 +13,17 @@ use Rattle.hs_rules.specs.Entries.{Leads}
 use Rattle.hs_rules.specs.Runs.{IsRun}
 use Rattle.hs_laws.proofs.Lists.{cond_true, cond_false, equal_or, item_same, item_other}
 use Rattle.hs_laws.proofs.States.{other_thread}
-use Rattle.hs_laws.proofs.Growing.{term_length}
+use Rattle.hs_laws.proofs.Growing.{term_length, set_length}
 use Rattle.hs_laws.proofs.Stranding.{left_free}
 use Rattle.hs_progress.specs.TypedStates.{Stays}
 use Rattle.slot_laws.proofs.StacksStand.{entries_stand}
 use Rattle.slot_laws.specs.SlotRules.{SlotPart, SlotTerm, at}
-pub use Rattle.slot_laws.proofs.Building.{last_item}
 use Rattle.slot_laws.specs.Standing.{EndsAs}
 use Rattle.slot_laws.specs.Stacks.{Resumed, stayed, resumed, with_stack}
 use Rattle.slot_states.specs.SlotStates as slots
 use Rattle.slot_states.specs.SlotStates.{SlotThread, SlotState, set_thread, changed, resumed_by, blocking, blocked_at, finishing, finished_at, SameThread, SameCell, Agrees, terms, term_at, Represents}
 
 -- ---- lists
-pub set_long : {A : Type 0} (xs : List A) (n : ℕ) (y : A) → length (slice_set xs n y) ≡ length xs
-set_long [] n y = refl
-set_long (x ∷ xs) zero y = refl
-set_long (x ∷ xs) (suc n) y = ap suc (set_long xs n y)
-
-pub item_before : {A : Type 0} (xs : List A) (y : A) (k : ℕ) → k ≢ length xs → slice_get (xs ++ y ∷ []) k ≡ slice_get xs k
-item_before [] y zero n = absurd (n refl)
-item_before [] y (suc k) n = refl
-item_before (x ∷ xs) y zero n = refl
-item_before (x ∷ xs) y (suc k) n = item_before xs y k (λ e. n (ap suc e))
 
 pub changed_is : (ths : List SlotThread) (t : ℕ) (f : SlotThread → SlotThread) (th : SlotThread) → slice_get ths t ≡ Some th → slice_get (changed t f ths) t ≡ Some (f th)
 changed_is ths t f th e = ap (λ o. slice_get (set_thread t f o ths) t) e ∙ item_same ths t th (f th) e
@@ -48,7 +37,7 @@ changed_other ths t u f n = other_set ths t u f (slice_get ths t) n
 
 set_count : (ths : List SlotThread) (t : ℕ) (f : SlotThread → SlotThread) (o : Option SlotThread) → length (set_thread t f o ths) ≡ length ths
 set_count ths t f None = refl
-set_count ths t f (Some th) = set_long ths t (f th)
+set_count ths t f (Some th) = set_length ths t (f th)
 
 pub changed_count : (ths : List SlotThread) (t : ℕ) (f : SlotThread → SlotThread) → length (changed t f ths) ≡ length ths
 changed_count ths t f = set_count ths t f (slice_get ths t)
@@ -200,7 +189,7 @@ module _ (xs : List SlotThread) (ts : List Thread) (ys : List SlotThread) (us : 
   pub follow_finish : (t : ℕ) (th : Thread) → slice_get us t ≡ Some th → Follow xs ts (finished_at t ys) (slice_set us t (record { term = th.term; finished = true })) ws
   follow_finish t th is =
       let new : Thread = record { term = th.term; finished = true } in
-      one_changes t th is finishing new (slice_set us t new) ws (item_same us t th new is) (set_long us t new) (λ v n. (item_other us t v new n, refl)) (λ y g h. (refl, h)) (λ st u y h. h)
+      one_changes t th is finishing new (slice_set us t new) ws (item_same us t th new is) (set_length us t new) (λ v n. (item_other us t v new n, refl)) (λ y g h. (refl, h)) (λ st u y h. h)
 
 -- ---- the state that an entry leaves
 

@@ -22,13 +22,12 @@ use Rattle.hs_laws.proofs.Lists.{those}
 use Rattle.hs_laws.proofs.Changes as change
 use Rattle.hs_laws.proofs.Changes.{Changes, Stands, Calm, Makes, all_kept, changes}
 use Rattle.hs_rules.specs.Endings.{used, frames_in}
-use Rattle.hs_laws.proofs.Growing.{term_length}
+use Rattle.hs_laws.proofs.Growing.{term_length, set_length}
 use Rattle.slot_laws.specs.SlotRules.{calls, SlotPart}
 use Rattle.slot_laws.specs.Standing.{calls_stands, forks_stands, forks_unmask_stands, PartStands, op_stands}
 use Rattle.slot_states.specs.SlotStates.{SlotState, Represents}
 use Rattle.slot_states.specs.Growing.{performed, op_of, forked, celled, doer, growth, IsNoLocal}
 use Rattle.slot_states.specs.Printing.{output_by, errors_by}
-use Rattle.slot_states.proofs.Following.{set_long}
 use Rattle.slot_states.proofs.Printed.{next_adds}
 use Rattle.slot_states.proofs.Reading.{slotted_of}
 
@@ -69,7 +68,7 @@ module _ (s : State) (i j : ℕ) where
   )
 
   set_grows : (m : ℕ) (o : Option V) (u : State) → Grows u → Grows (record u { cells = slice_set u.cells m o })
-  set_grows m o u h = (h.0, set_long u.cells m o ∙ h.1, h.2)
+  set_grows m o u h = (h.0, set_length u.cells m o ∙ h.1, h.2)
 
 -- ---- what an operation of the rules makes
 abbrev threads_of : Operation → ℕ
@@ -147,7 +146,7 @@ module _ (ds : List Fn) (x : SlotState) (s : State) (r : Represents ds x s) wher
   changed_grows n (change.receives {t} {f} h o q) = goes t (Throw f.exn) (answer f.thrower UnitValue s) (goes f.thrower (Ret UnitValue) s same)
   changed_grows n (change.wakes {t} q) = goes t (Ret UnitValue) s same
   changed_grows n (change.finishes {t} {th} line h f b) = (
-    set_long s.threads t (record { term = th.term; finished = true }) ∙ same.0,
+    set_length s.threads t (record { term = th.term; finished = true }) ∙ same.0,
     same.1,
     set_frames s.threads t th (record { term = th.term; finished = true }) h.0 (none_counts th.finished (length th.term.frames) (ap length f)) ∙ same.2,
   )

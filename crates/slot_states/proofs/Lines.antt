@@ -3,19 +3,16 @@
 use Rattle.std.proofs.Common.{◌≡◌, ◌≢◌, ℕ, zero, suc, ◌==◌, Bool, true, false, List, [], ◌∷◌, ◌++◌, slice_get, slice_set, Option, Some, None, refl, sym, ap, ◌∙◌, subst, arith, ⊎_elim, append-nil}
 use Rattle.rules_meaning.specs.Values.{V}
 use Rattle.rules_waiting.specs.OneCell.{Want, Place, Cell, Leave, Reply, cell_of, leaves_line, stands_in, put_of, takes_it, reads_it, first_put, first_take, readers, shown, call}
-use Rattle.rules_waiting.specs.Waiting.{Reason, Taking, Throwing, Sleeping, Waiting, blocks, leaves, is_blocked, reason_of, want_at, with_place, line_of, at_cell, flight_of, withdrawn, sleepers_of, sorted_sleepers, still_asleep}
+use Rattle.rules_waiting.specs.Waiting.{Reason, Throwing, Sleeping, Waiting, blocks, leaves, is_blocked, reason_of, want_at, with_place, line_of, at_cell, flight_of, withdrawn, sleepers_of, sorted_sleepers, still_asleep}
 use Rattle.hs_laws.specs.Standing.{Once}
-use Rattle.hs_rules.specs.Terms.{Ret}
-use Rattle.hs_rules.specs.State.{State, resume_all}
-use Rattle.hs_rules.specs.Primitives.{read_by_all}
-use Rattle.hs_laws.proofs.Lists.{cond_cases, cond_true, cond_false, equal_or, first_of_kind, takes, reads_at, those, take_is_first, only_thread, readers_are, distinct_those, ones_those_if, once_reason, Ones, ones_changed}
+use Rattle.hs_laws.proofs.Lists.{cond_cases, cond_true, cond_false, equal_or, Ones, ones_changed}
 use Rattle.hs_laws.proofs.Stranding.{reason_blocked}
-use Rattle.hs_laws.proofs.CellSteps.{leaves_absent, line_leaves, Away, away_leaves}
+use Rattle.hs_laws.proofs.CellSteps.{leaves_absent}
 use Rattle.exn_flight.proofs.OneList.{flight_blocks, flight_leaves, sleepers_block, sleepers_leave}
 use Rattle.exn_flight.proofs.SortedLeaving.{leaves_in_order}
 use Rattle.slot_states.specs.SlotStates.{cell_at, left_lines}
 use Rattle.slot_states.specs.Resting.{NotThrowing, NotAsleep}
-use Rattle.slot_states.proofs.Leaving.{Silent, Awake, no_flying, no_sleeper, cell_waits, flight_stays, sleepers_stay, stays_all}
+use Rattle.slot_states.proofs.Leaving.{Silent, Awake, no_flying, no_sleeper, cell_waits, flight_stays, sleepers_stay}
 
 -- ---- threads leave in either order
 
@@ -204,28 +201,6 @@ readers_stand (p ∷ ps) =
     ones_changed (λ u. stands_in u ps ≡ true) (λ u. stands_in u (p ∷ ps) ≡ true) (readers ps) (λ u h. cond_cases (λ b. b ≡ true) (p.thread == u) true (stands_in u ps) (λ f. refl) (λ f. h)) (readers_stand ps) in
     cond_cases (Ones (λ u. stands_in u (p ∷ ps) ≡ true)) (reads_it p.want) (p.thread ∷ readers ps) (readers ps) (λ q. (own_stands p ps, rest)) (λ q. rest)
 
--- ---- after all that read a cell were answered, the same thread is the first that takes
-
-abbrev TakesNot : ℕ → Option (Reason V) → Type 0
-TakesNot m None = Unit {0}
-TakesNot m (Some r) = takes m r ≡ None
-
-abbrev taker_or : ℕ → ℕ → Reason V → Option (ℕ × Unit {0}) → Option (ℕ × Unit {0})
-taker_or m t r o = elim (takes m r) [ None ↦ o | Some a ↦ Some (t, a) ]
-
-reader_takes_not : (m : ℕ) (r : Reason V) → reads_at m r ≡ true → takes m r ≡ None
-reader_takes_not m (Taking k) e = absurd (cc e)
-reader_takes_not m _ e = refl
-
-pub same_taker : (m : ℕ) (v : V) (u : State) → Once u.blocked → first_take (line_of m (read_by_all m v u).blocked) ≡ first_take (line_of m u.blocked)
-same_taker m v u o =
-    let read : List ℕ = those (λ t. reads_at m) u.blocked in
-    let none = ones_those_if (λ t r. reason_of t u.blocked ≡ Some r) (λ t. TakesNot m (reason_of t u.blocked)) (λ t. reads_at m) u.blocked (λ t r b e. subst (TakesNot m) (sym e) (reader_takes_not m r b)) (once_reason u.blocked o) in
-    let one : first_of_kind (takes m) (resume_all read (Ret v) u).blocked ≡ first_of_kind (takes m) u.blocked =
-    stays_all (first_of_kind (takes m)) (taker_or m) (TakesNot m) (λ w ws. refl) (λ t r q h. ap (λ z. elim z [ None ↦ q | Some a ↦ Some (t, a) ]) h) read (Ret v) u o (distinct_those (λ t. reads_at m) u.blocked o) none in
-    let two = subst (λ us. first_of_kind (takes m) (resume_all us (Ret v) u).blocked ≡ first_of_kind (takes m) u.blocked) (sym (readers_are m u.blocked)) one in
-    take_is_first m (read_by_all m v u).blocked ∙ (ap only_thread two ∙ sym (take_is_first m u.blocked))
-
 -- ---- a thread leaves all lines
 
 pub lines_same : (t : ℕ) (cs : List (Cell V)) → ((k : ℕ) (c : Cell V) → slice_get cs k ≡ Some c → leaves_line t c.line ≡ c.line) → left_lines t cs ≡ cs
@@ -239,7 +214,3 @@ one_left t zero (c ∷ cs) h = ap (λ ds. cell_of c.content (leaves_line t c.lin
 one_left t (suc m) (c ∷ cs) h =
     ap (λ ps. cell_of c.content ps ∷ left_lines t cs) (h zero c (λ q. absurd (omega (arith, q))) refl)
     ∙ ap (λ ds. c ∷ ds) (one_left t m cs (λ k d n e. h (suc k) d (λ q. n (omega (arith, q))) e))
-
--- it waits for nothing at another cell
-pub away_stays : (m t : ℕ) (ws : List (Waiting V)) → Once ws → Away m (reason_of t ws) → leaves_line t (line_of m ws) ≡ line_of m ws
-away_stays m t ws o a = sym (line_leaves m t ws) ∙ away_leaves m t ws o a

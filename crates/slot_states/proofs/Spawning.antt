@@ -1,6 +1,7 @@
 -- Forks: what they leave is stood for.
 use Rattle.std.proofs.Common.{◌≡◌, ◌≢◌, ℕ, ◌+◌, ◌++◌, ◌<◌, ◌==◌, List, [], ◌∷◌, length, Some, refl, sym, ap, ◌∙◌, subst, Bool, true, false, slice_get, ⊎_elim, arith}
 use Rattle.std.proofs.lemmas.List.{length-append}
+use Rattle.plain_laws.proofs.Lists.{get_last, get_before_last}
 use Rattle.hs_base.specs.declared.mask.Mask.{Mask}
 use Rattle.hs_base.specs.declared.mask.Mask.TheVariants.{Unmasked}
 use Rattle.hs_base.specs.declared.tree.script.Script.{Script}
@@ -26,7 +27,7 @@ use Rattle.slot_laws.specs.SlotRules.{ret, forks, forks_unmask, doing, performs,
 use Rattle.slot_laws.specs.Stacks.{StacksStand, with_stack}
 use Rattle.slot_laws.proofs.Forking.{forks_stand, forks_unmask_stand}
 use Rattle.slot_states.specs.SlotStates.{SlotThread, SlotState, answered, resumed_by, spawned, forks_to, SameThread, terms, term_at, Represents, Enters, StandsAt, MainGoes}
-use Rattle.slot_states.proofs.Following.{last_item, item_before, Follow, changed_terms, changed_count, follow_start, follow_resume, agreeing}
+use Rattle.slot_states.proofs.Following.{Follow, changed_terms, changed_count, follow_start, follow_resume, agreeing}
 use Rattle.slot_states.proofs.Reading.{AtOp, at_fork, at_fork_unmask, op_leads, stacks_same}
 use Rattle.slot_states.proofs.Operating.{parts_same, Goes}
 
@@ -43,7 +44,7 @@ module _ (ths : List SlotThread) (t : ℕ) (h : SlotThread) (is : slice_get ths 
 
       new : (v == length ths ≡ true) × (v ≡ length ths) → terms (spawned st (answered t w ths)) v ≡ with_stack (length ths) st (with_stack t (at (ret w) (terms ths t).frames) (terms ths)) v
       new e =
-          ap term_at (ap (slice_get (spawned st (answered t w ths))) (e.1 ∙ sym long) ∙ last_item (answered t w ths) (new_thread st))
+          ap term_at (ap (slice_get (spawned st (answered t w ths))) (e.1 ∙ sym long) ∙ get_last (answered t w ths) (new_thread st))
           ∙ sym (cond_true (v == length ths) st (with_stack t (at (ret w) (terms ths t).frames) (terms ths) v) e.0)
 
       was : (v : ℕ) → terms (answered t w ths) v ≡ with_stack t (at (ret w) (terms ths t).frames) (terms ths) v
@@ -51,7 +52,7 @@ module _ (ths : List SlotThread) (t : ℕ) (h : SlotThread) (is : slice_get ths 
 
       old : (v == length ths ≡ false) × (v ≢ length ths) → terms (spawned st (answered t w ths)) v ≡ with_stack (length ths) st (with_stack t (at (ret w) (terms ths t).frames) (terms ths)) v
       old e =
-          ap term_at (item_before (answered t w ths) (new_thread st) v (λ q. e.1 (q ∙ long)))
+          ap term_at (get_before_last (answered t w ths) (new_thread st) v (λ q. e.1 (q ∙ long)))
           ∙ (was v ∙ sym (cond_false (v == length ths) st (with_stack t (at (ret w) (terms ths t).frames) (terms ths) v) e.0))
 
 -- ---- who is blocked
@@ -73,11 +74,11 @@ spawned_same ys us ws new th long f b same v =
     ⊎_elim
     (λ e.
     subst (λ z. SameThread (slice_get (ys ++ new ∷ []) z) (slice_get (us ++ th ∷ []) z) (is_blocked z ws)) (sym e.1)
-    (subst (λ o. SameThread o (slice_get (us ++ th ∷ []) (length us)) (is_blocked (length us) ws)) (sym (ap (slice_get (ys ++ new ∷ [])) (sym long) ∙ last_item ys new))
-    (subst (λ o. SameThread (Some new) o (is_blocked (length us) ws)) (sym (last_item us th)) (f, b))))
+    (subst (λ o. SameThread o (slice_get (us ++ th ∷ []) (length us)) (is_blocked (length us) ws)) (sym (ap (slice_get (ys ++ new ∷ [])) (sym long) ∙ get_last ys new))
+    (subst (λ o. SameThread (Some new) o (is_blocked (length us) ws)) (sym (get_last us th)) (f, b))))
     (λ e.
-    subst (λ o. SameThread o (slice_get (us ++ th ∷ []) v) (is_blocked v ws)) (sym (item_before ys new v (λ q. e.1 (q ∙ long))))
-    (subst (λ o. SameThread (slice_get ys v) o (is_blocked v ws)) (sym (item_before us th v e.1)) (same v)))
+    subst (λ o. SameThread o (slice_get (us ++ th ∷ []) v) (is_blocked v ws)) (sym (get_before_last ys new v (λ q. e.1 (q ∙ long))))
+    (subst (λ o. SameThread (slice_get ys v) o (is_blocked v ws)) (sym (get_before_last us th v e.1)) (same v)))
     (equal_or v (length us))
 
 -- ---- one fork

@@ -1,5 +1,5 @@
 -- Those who wait at a cell and can be interrupted are stranded.
-use Rattle.std.proofs.Common.{◌≡◌, ℕ, zero, suc, ◌+◌, ◌<◌, ◌==◌, List, [], ◌∷◌, length, Bool, true, false, cond, ◌↔◌, Option, Some, None, refl, sym, ap, ◌∙◌, subst, arith, inl, ⊎_elim, slice_get}
+use Rattle.std.proofs.Common.{◌≡◌, ℕ, ◌+◌, ◌==◌, List, [], ◌∷◌, length, Bool, true, false, ◌↔◌, Option, Some, None, refl, sym, ap, ◌∙◌, subst, inl, ⊎_elim, slice_get}
 use Rattle.std.specs.Prelude.{Contains}
 use Rattle.hs_base.specs.declared.exn.Exn.TheVariants.{BlockedIndefinitely}
 use Rattle.hs_base.specs.declared.tree.script.Script.{Script}
@@ -12,16 +12,16 @@ use Rattle.rules_waiting.specs.Waiting.{Reason, Waiting, is_blocked, reason_of, 
 use Rattle.hs_rules.specs.Terms as named
 use Rattle.hs_rules.specs.Terms.{Operation, Calls, Ret, Throw, Do, Performs, mask_at}
 use Rattle.hs_rules.specs.State.{State, frames_of, resume, resume_all}
-use Rattle.hs_rules.specs.Entries.{is_stranded, stranded_below, stranded}
+use Rattle.hs_rules.specs.Entries.{stranded}
 use Rattle.hs_cases.proofs.Entering.{waits_so, stranded_so}
+use Rattle.hs_cases.proofs.Lines.{all_left}
 use Rattle.hs_laws.specs.MaskLaw as law
 use Rattle.hs_laws.specs.MaskLaw.{AreStranded}
 use Rattle.hs_laws.specs.Standing.{Standing}
-use Rattle.hs_laws.proofs.Lists.{cond_true, cond_false, equal_or, item_below, ones_changed, StandsIn, stands_before, stands_behind}
+use Rattle.hs_laws.proofs.Lists.{cond_true, cond_false, equal_or, item_below, ones_changed, StandsIn}
 use Rattle.hs_laws.proofs.Growing.{term_length}
 use Rattle.hs_laws.proofs.States.{Strands, strands_each, stranded_distinct}
-use Rattle.hs_laws.proofs.CellSteps.{all_line}
-use Rattle.hs_laws.proofs.Stranding.{reason_blocked, are_stranded}
+use Rattle.hs_laws.proofs.Stranding.{reason_blocked, are_stranded, among}
 use Rattle.hs_laws.proofs.Expanded.{standing_of, strands_of}
 use Rattle.hs_progress.specs.TypedStates.{has}
 use Rattle.slot_laws.specs.SlotRules.{SlotPart, throw, at}
@@ -71,19 +71,8 @@ module _ (ds : List Fn) (x : SlotState) (s : State) (r : Represents ds x s) (sta
 strands_is : (s : State) (t : ℕ) → law.WaitsOpen s t → Strands s t
 strands_is s t w = stranded_so s t (record { thread = w.thread; is = w.is; reason = w.reason; waits = w.waits; there = w.at; open_now = w.open_now })
 
-among_below : (n t : ℕ) (s : State) → t < n → Strands s t → StandsIn t (stranded_below n s)
-among_below zero t s l h = absurd (omega (arith, l))
-among_below (suc n) t s l h =
-    ⊎_elim
-    (λ q. stands_behind t (stranded_below n s) _ (by q.1))
-    (λ q. stands_before t (stranded_below n s) _ (among_below n t s (omega (arith, l, q.1)) h))
-    (equal_or n t)
-  where
-    by : n ≡ t → StandsIn t (cond (is_stranded (slice_get s.threads n) (reason_of n s.blocked)) (n ∷ []) [])
-    by e = subst (StandsIn t) (sym (cond_true (is_stranded (slice_get s.threads n) (reason_of n s.blocked)) (n ∷ []) [] (subst (Strands s) (sym e) h))) (inl e)
-
 pub open_stands : (s : State) (t : ℕ) → law.WaitsOpen s t → StandsIn t (stranded s)
-open_stands s t w = among_below (length s.threads) t s (item_below s.threads t w.thread w.is) (strands_is s t w)
+open_stands s t w = among (length s.threads) t s (item_below s.threads t w.thread w.is) (strands_is s t w)
 
 strands_open : (s : State) (t : ℕ) → Strands s t → law.WaitsOpen s t
 strands_open s t h =
@@ -98,7 +87,7 @@ pub stands_open : (s : State) (t : ℕ) → StandsIn t (stranded s) → law.Wait
 stands_open s t h = strands_open s t (one_of (Strands s) t (stranded s) (strands_each (length s.threads) s) h)
 
 -- ---- some threads with slots get a part
-resumed_other : (ts : List ℕ) (p : SlotPart) (ths : List SlotThread) (t : ℕ) → is_among t ts ≡ false → slice_get (all_resumed ts p ths) t ≡ slice_get ths t
+pub resumed_other : (ts : List ℕ) (p : SlotPart) (ths : List SlotThread) (t : ℕ) → is_among t ts ≡ false → slice_get (all_resumed ts p ths) t ≡ slice_get ths t
 resumed_other [] p ths t a = refl
 resumed_other (u ∷ us) p ths t a =
     ⊎_elim
@@ -208,7 +197,7 @@ module _ (ds : List Fn) (x : SlotState) (s : State) (r : Represents ds x s) (sta
           made = all_left_count ts x.cells ∙ (a.made ∙ ap length (sym rest.cells));
           cells = λ m. subst (SameCell m after) (sym (all_left_cell ts m x.cells))
               (all_shown m ts s after (slice_get x.cells m) (ap (λ cs. slice_get cs m) rest.cells)
-              (all_line m (stranded s) (Throw BlockedIndefinitely) s ∙ sym (leave_same ts (stranded s) same_threads (line_of m s.blocked))) (a.cells m));
+              (all_left m (stranded s) (Throw BlockedIndefinitely) s ∙ sym (leave_same ts (stranded s) same_threads (line_of m s.blocked))) (a.cells m));
           flight = a.flight ∙ sym (flight_stays_all (stranded s) (Throw BlockedIndefinitely) s once apart (ones_changed (Strands s) (λ t. Silent (reason_of t s.blocked)) (stranded s) (λ t h. (strands_quietly s t h).0) each));
           sleepers = a.sleepers ∙ ap sorted_sleepers (sym (sleepers_stay_all (stranded s) (Throw BlockedIndefinitely) s once apart (ones_changed (Strands s) (λ t. Awake (reason_of t s.blocked)) (stranded s) (λ t h. (strands_quietly s t h).1) each)));
           clock = a.clock ∙ sym rest.clock;

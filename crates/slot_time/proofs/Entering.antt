@@ -1,5 +1,6 @@
 -- An entry that isn't a Tick, a Wake or a reading of the clock does alike without time.
-use Rattle.std.proofs.Common.{◌≡◌, ℕ, zero, suc, Bool, true, false, List, [], ◌∷◌, length, Option, Some, None, refl, sym, ap, ◌∙◌, slice_get}
+use Rattle.std.proofs.Common.{◌≡◌, ℕ, zero, suc, true, false, List, [], ◌∷◌, length, Option, Some, None, refl, sym, ap, ◌∙◌, slice_get}
+use Rattle.std.proofs.lemmas.Bool.{false_from_ne_true}
 use Rattle.hs_base.specs.declared.mask.Mask.TheVariants.{Unmasked}
 use Rattle.hs_base.specs.declared.exn.Exn.{Exn}
 use Rattle.hs_rules.specs.declared.entry.Entry.{Entry}
@@ -20,10 +21,6 @@ use Rattle.slot_time.proofs.Performing.{operation_alike}
 abbrev pub IsWake : Entry → Type 0
 IsWake (entry.Wake t) = Unit {0}
 IsWake _ = ⊥
-
-false_of : (b : Bool) → ¬ (b ≡ true) → b ≡ false
-false_of true n = absurd (n refl)
-false_of false n = refl
 
 module _ (funs : List SlottedFunction) (x : SlotState) where
   moved_alike : (t : ℕ) (o : Option SlotTerm) → Alikes (moved t o (untimed x)) (moved t o x)
@@ -77,7 +74,7 @@ module _ (funs : List SlottedFunction) (x : SlotState) where
   strand_alike (s ∷ ss) = ap without_time (none_strands (untimed_all (s ∷ ss)) (untimed x) (some_sleeps s ss))
 
   reads_none : (t : ℕ) (th : SlotThread) → slice_get x.threads t ≡ Some th → ¬ (thread_reads_clock (slice_get x.threads t) ≡ true) → part_reads_clock th.term.part ≡ false
-  reads_none t th is n = sym (ap thread_reads_clock is) ∙ false_of (thread_reads_clock (slice_get x.threads t)) n
+  reads_none t th is n = sym (ap thread_reads_clock is) ∙ false_from_ne_true (thread_reads_clock (slice_get x.threads t)) n
 
   entered_alike : (e : Entry) → ¬ IsTick e → ¬ IsWake e → ¬ ReadsClock x e → Alikes (entered funs (untimed x) e) (entered funs x e)
   entered_alike (entry.Local t k) a b c = on_alike (slice_get x.threads t) (λ th. local_entry funs t k th (untimed x)) (λ th. local_entry funs t k th x) (λ th is. local_alike t k th)

@@ -1,6 +1,7 @@
 -- Whoever sleeps may wake without time, and with it after at most one Tick.
-use Rattle.std.proofs.Common.{◌≡◌, ◌⊎◌, ℕ, nat_le, Bool, true, false, cond, List, Option, Some, None, refl, sym, ap, ◌∙◌, subst, arith, inl, inr, slice_get}
+use Rattle.std.proofs.Common.{◌≡◌, ◌⊎◌, ℕ, nat_le, Bool, true, false, cond, List, Option, Some, None, refl, sym, ap, ◌∙◌, subst, inl, inr, slice_get}
 use Rattle.std.proofs.lemmas.Option.{same_Some}
+use Rattle.plain_laws.proofs.Numbers.{le_back, le_itself}
 use Rattle.hs_rules.specs.declared.entry.Entry.{Entry}
 use Rattle.hs_rules.specs.declared.entry.Entry.TheVariants as entry
 use Rattle.hs_rules.specs.Endings.{IsTick}
@@ -15,12 +16,6 @@ use Rattle.slot_time.specs.WithoutTime.{untimed, ReadsClock, ticked_to, due_firs
 use Rattle.slot_time.proofs.Sleepers.{now_due, due_still, leave_alike}
 use Rattle.slot_time.proofs.Untimed.{alike_there, Alikes}
 use Rattle.slot_time.proofs.Entering.{next_alike}
-
-due_or : (due now : ℕ) → nat_le due now ≡ false → nat_le now due ≡ true
-due_or due now h = grind arith
-
-due_is_due : (due : ℕ) → nat_le due due ≡ true
-due_is_due due = grind arith
 
 -- who wakes sleeps, until a time that has come
 woken_by : (t : ℕ) (o : Option ℕ) (x y : SlotState) → woken t o x ≡ Some y → (due : ℕ) × (o ≡ Some due) × (nat_le due x.clock ≡ true) × (wakes t x ≡ y)
@@ -67,11 +62,11 @@ module _ (funs : List SlottedFunction) where
   module _ (t due : ℕ) (x : SlotState) (main : SlotThread) (is : slice_get x.threads 0 ≡ Some main) (f : main.finished ≡ false) (d : due_of t x.sleepers ≡ Some due) where
     wakes_at : (b : Bool) → nat_le due x.clock ≡ b → (y : SlotState) × (next funs (cond b x (ticks due x)) (entry.Wake t) ≡ Some y) × (untimed y ≡ untimed (wakes t (untimed x)))
     wakes_at true come = (wakes t x, wake_is t due x main is f d come, sym (wakes_alike t x))
-    wakes_at false come = (wakes t (ticks due x), wake_is t due (ticks due x) main is f d (due_is_due due), sym (wakes_alike t x))
+    wakes_at false come = (wakes t (ticks due x), wake_is t due (ticks due x) main is f d (le_itself due), sym (wakes_alike t x))
 
     ticks_at : (b : Bool) → nat_le due x.clock ≡ b → (cond b x (ticks due x) ≡ x) ⊎ (next funs x (entry.Tick due) ≡ Some (cond b x (ticks due x)))
     ticks_at true come = inl refl
-    ticks_at false come = inr (tick_is due x main is f (due_or due x.clock come))
+    ticks_at false come = inr (tick_is due x main is f (le_back due x.clock come))
 
     wakes_due : (y : SlotState) × (next funs (ticked_to (due_of t x.sleepers) x) (entry.Wake t) ≡ Some y) × (untimed y ≡ untimed (wakes t (untimed x)))
     wakes_due = subst (λ o. (y : SlotState) × (next funs (ticked_to o x) (entry.Wake t) ≡ Some y) × (untimed y ≡ untimed (wakes t (untimed x)))) (sym d) (wakes_at (nat_le due x.clock) refl)

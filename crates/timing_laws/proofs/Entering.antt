@@ -1,5 +1,6 @@
 -- An entry that is no Tick and no Wake goes on in states that are alike, and where it doesn't read the clock it leaves such.
-use Rattle.std.proofs.Common.{◌≡◌, ℕ, zero, suc, Bool, true, false, cond, List, [], ◌∷◌, ◌++◌, length, Option, Some, slice_get, refl, sym, ap, ◌∙◌}
+use Rattle.std.proofs.Common.{◌≡◌, ℕ, zero, suc, false, cond, List, [], ◌∷◌, ◌++◌, length, Option, Some, slice_get, refl, sym, ap, ◌∙◌}
+use Rattle.std.proofs.lemmas.Bool.{false_from_ne_true}
 use Rattle.hs_base.specs.declared.exn.Exn.TheVariants.{BlockedIndefinitely}
 use Rattle.hs_rules.specs.declared.entry.Entry.{Entry}
 use Rattle.hs_rules.specs.declared.entry.Entry.TheVariants as entry
@@ -95,12 +96,8 @@ strands_too code s r h (row.strands {t} {ts} m e a) = (
 
 -- ---- entries
 
-false_of : (b : Bool) → ¬ (b ≡ true) → b ≡ false
-false_of true n = absurd (n refl)
-false_of false n = refl
-
 reads_none : (s : State) (e : Entry) → ¬ ReadsClock s e → AtOp s e ReadsNone
-reads_none s (entry.Op t) n = λ th op is p. false_of (part_reads_clock (Performs op)) (λ q. n (ap thread_reads_clock is ∙ (ap part_reads_clock p ∙ q)))
+reads_none s (entry.Op t) n = λ th op is p. false_from_ne_true (part_reads_clock (Performs op)) (λ q. n (ap thread_reads_clock is ∙ (ap part_reads_clock p ∙ q)))
 reads_none s _ n = tt
 
 module _ (code : Code) (s r : State) (h : Alike s r) where

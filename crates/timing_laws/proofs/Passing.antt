@@ -1,7 +1,8 @@
 -- What an entry that leads on has passed: the tests, and the thread that it is of.
-use Rattle.std.proofs.Common.{◌≡◌, Bool, true, false, cond, Option, Some, None, refl, ap, ◌∙◌}
+use Rattle.std.proofs.Common.{◌≡◌, Bool, true, false, cond, Option, Some, None, refl}
 use Rattle.hs_rules.specs.State.{Thread, State}
 use Rattle.hs_rules.specs.Entries.{on_thread}
+pub use Rattle.hs_cases.proofs.Options.{on_running}
 
 pub same_item : {A : Type 0} {a b : A} → Some a ≡ Some b → a ≡ b
 same_item h = cc h
@@ -18,7 +19,3 @@ passed false x u e = absurd (cc e)
 pub thread_there : (o : Option Thread) (k : Thread → Option State) (u : State) → on_thread o k ≡ Some u → (th : Thread) × (o ≡ Some th) × (th.finished ≡ false) × (k th ≡ Some u)
 thread_there None k u e = absurd (cc e)
 thread_there (Some th) k u e = let h = passed_not th.finished (k th) u e in (th, refl, h.0, h.1)
-
--- and the other way round
-pub on_running : (o : Option Thread) (th : Thread) (k : Thread → Option State) → o ≡ Some th → th.finished ≡ false → on_thread o k ≡ k th
-on_running o th k e f = ap (λ p. on_thread p k) e ∙ ap (λ b. cond b None (k th)) f

@@ -1,5 +1,6 @@
 -- Time decides nothing but what is read off the clock.
-use Rattle.std.proofs.Common.{◌≡◌, ◌↔◌, ℕ, nat_le, Bool, true, false, cond, List, [], ◌∷◌, ◌++◌, ◌==◌, Option, Some, None, slice_get, refl, sym, ap, ◌∙◌, subst, arith}
+use Rattle.std.proofs.Common.{◌≡◌, ◌↔◌, ℕ, nat_le, Bool, true, false, cond, List, [], ◌∷◌, ◌++◌, ◌==◌, Option, Some, None, slice_get, refl, sym, ap, ◌∙◌, subst}
+use Rattle.plain_laws.proofs.Numbers.{le_back, le_itself}
 use Rattle.hs_rules.specs.declared.entry.Entry.{Entry}
 use Rattle.hs_rules.specs.declared.entry.Entry.TheVariants as entry
 use Rattle.rules_meaning.specs.Values.{V, UnitValue}
@@ -53,12 +54,6 @@ sleeps_too _ due h = absurd (cc h)
 answer_alike : (t : ℕ) (s r : State) → Alike s r → Alike (answer t UnitValue s) (answer t UnitValue r)
 answer_alike t s r h = resume_alike s r h t (Ret UnitValue)
 
-due_or : (due now : ℕ) → nat_le due now ≡ false → nat_le now due ≡ true
-due_or due now h = grind arith
-
-due_is_due : (due : ℕ) → nat_le due due ≡ true
-due_is_due due = grind arith
-
 module _ (code : Code) where
   -- ---- Wake
 
@@ -93,7 +88,7 @@ module _ (code : Code) where
     )
     wakes_at false d = (
       answer t UnitValue later,
-      (later, (tick_is due s main m f (due_or due s.clock d), tt), (answer t UnitValue later, (wake_is t due later main m f r (due_is_due due), tt), refl)),
+      (later, (tick_is due s main m f (le_back due s.clock d), tt), (answer t UnitValue later, (wake_is t due later main m f r (le_itself due), tt), refl)),
       answer_alike t later (timeless s) (sym (timeless_twice s)),
     )
 
