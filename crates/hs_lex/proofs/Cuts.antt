@@ -1,6 +1,6 @@
 -- A list cut behind some elements.
-use Rattle.std.proofs.Common.{◌≡◌, ℕ, zero, suc, ◌+◌, ◌-◌, ◌<◌, ◌≤◌, List, [], ◌∷◌, ◌++◌, length, take, drop, get_or, Bool, true, refl, sym, ap, ◌∙◌, arith, append_assoc, length-append, length-drop, drop-cons, add-one}
-use Rattle.std.proofs.Math.Seq.{take-append_seam, drop-append_seam, take-length}
+use Rattle.std.proofs.Common.{◌≡◌, ℕ, zero, suc, ◌+◌, ◌<◌, ◌≤◌, List, [], ◌∷◌, ◌++◌, length, take, drop, get_or, Bool, true, refl, sym, ap, ◌∙◌, arith, append_assoc, length-append, drop-cons, add-one}
+use Rattle.std.proofs.Math.Seq.{take-append_seam, drop-append_seam}
 use Rattle.hs_lex.specs.Fronts.{IsCut, Begins}
 
 pub cut_take : (rest : List ℕ) (n : ℕ) (front after : List ℕ) → IsCut rest n front after → take n rest ≡ front
@@ -49,7 +49,3 @@ pub item_at : (xs : List ℕ) (i x : ℕ) → i < length xs → x ≡ get_or xs 
 item_at [] i x more e = absurd (omega arith)
 item_at (y ∷ ys) zero x more e = sym e
 item_at (y ∷ ys) (suc i) x more e = item_at ys i x (omega arith) e
-
--- `&rest[n..]`
-pub slice_from : (rest : List ℕ) (n : ℕ) → take (length rest - n) (drop n rest) ≡ drop n rest
-slice_from rest n = ap (λ k. take k (drop n rest)) (sym (length-drop n rest)) ∙ take-length (drop n rest)

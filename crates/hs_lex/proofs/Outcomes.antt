@@ -50,7 +50,7 @@ tokens_same a b l s e =
     let of : List Token → List ℕ → Pos → Tokens = λ x y z. record { list = x; source = y; end = z } in
     ap (λ x. of x a.source a.end) l ∙ (ap (λ y. of b.list y a.end) s ∙ ap (λ z. of b.list b.source z) e)
 
-lexed_same : (bytes : List ℕ) (a b : Tokens) → HasTokens bytes a → HasTokens bytes b → a ≡ b
+pub lexed_same : (bytes : List ℕ) (a b : Tokens) → HasTokens bytes a → HasTokens bytes b → a ≡ b
 lexed_same bytes a b h k =
     let texts : h.characters ≡ k.characters = text_same bytes h.characters k.characters h.text k.text in
     let pieces : h.pieces ≡ k.pieces = (read_same h.pieces k.pieces [] [] h.read k.read dead_end dead_end (h.split ∙ (texts ∙ sym k.split))).0 in

@@ -8,6 +8,7 @@ use Rattle.std.proofs.lemmas.Bool.{cond-true, cond-false, or_right, or_left, or_
 use Rattle.std.proofs.lemmas.List.{take_more, take-append-drop, length-take-le}
 use Rattle.std.proofs.lemmas.List.Folds.{list_any-append}
 use Rattle.std.proofs.lemmas.Str.{encodes-append, length-encode, length-le-encodes}
+use Rattle.std.proofs.Math.Bool.{or-false}
 use Rattle.hs_base.specs.declared.pos.Pos.{Pos}
 use Rattle.rules_tokens.specs.Tokens.{is_line_feed, line_feeds, last_line, position_after}
 use Rattle.hs_lex.specs.declared.place.Place.{Place}
@@ -56,15 +57,11 @@ last_line_feed (x ∷ xs) c e =
     list_any-append is_line_feed (x ∷ xs) (c ∷ []) ∙ or_right (list_any is_line_feed (x ∷ xs)) (is_line_feed c || false) (or_left (is_line_feed c) false e) in
     cond-true (list_any is_line_feed ((x ∷ xs) ++ c ∷ [])) (last_line (xs ++ c ∷ [])) ((x ∷ xs) ++ c ∷ []) here ∙ last_line_feed xs c e
 
-or_false : (b : Bool) → (b || false) ≡ b
-or_false true = refl
-or_false false = refl
-
 last_line_other : (cs : List ℕ) (c : ℕ) → is_line_feed c ≡ false → last_line (cs ++ c ∷ []) ≡ last_line cs ++ c ∷ []
 last_line_other [] c e = cond-false (is_line_feed c || false) [] (c ∷ []) (or_from (is_line_feed c) false e refl)
 last_line_other (x ∷ xs) c e =
     let same : list_any is_line_feed ((x ∷ xs) ++ c ∷ []) ≡ list_any is_line_feed (x ∷ xs) =
-    list_any-append is_line_feed (x ∷ xs) (c ∷ []) ∙ (ap (λ b. list_any is_line_feed (x ∷ xs) || b) (or_from (is_line_feed c) false e refl) ∙ or_false (list_any is_line_feed (x ∷ xs))) in
+    list_any-append is_line_feed (x ∷ xs) (c ∷ []) ∙ (ap (λ b. list_any is_line_feed (x ∷ xs) || b) (or_from (is_line_feed c) false e refl) ∙ or-false (list_any is_line_feed (x ∷ xs))) in
     ap (λ b. if b then last_line (xs ++ c ∷ []) else (x ∷ xs) ++ c ∷ []) same ∙ choose (list_any is_line_feed (x ∷ xs)) (last_line_other xs c e)
   where
     choose : (b : Bool) → last_line (xs ++ c ∷ []) ≡ last_line xs ++ c ∷ [] → (if b then last_line (xs ++ c ∷ []) else (x ∷ xs) ++ c ∷ []) ≡ (if b then last_line xs else x ∷ xs) ++ c ∷ []

@@ -1,9 +1,9 @@
 -- The longest front of a list whose elements all pass a test.
-use Rattle.std.proofs.Common.{◌≡◌, ℕ, ◌+◌, ◌<◌, ◌≤◌, List, [], ◌∷◌, ◌++◌, length, Bool, true, false, not, cond, Some, None, refl, sym, ap, ◌∙◌, subst, arith, ⊎_elim, length-append}
+use Rattle.std.proofs.Common.{◌≡◌, ℕ, ◌+◌, ◌≤◌, List, [], ◌∷◌, ◌++◌, length, Bool, true, false, not, refl, sym, ap, ◌∙◌, subst, arith, ⊎_elim, length-append}
 use Rattle.std.specs.List.{list_all, prefix_len, position}
 use Rattle.std.specs.Option.{unwrap_or}
-use Rattle.std.proofs.lemmas.Bool.{cases_Bool, cases_lt, lt-ltb, le-ltb, cond-true, cond-false, and_from}
-use Rattle.std.proofs.lemmas.List.Sums.{prefix_len-le-length}
+use Rattle.std.proofs.lemmas.Bool.{cases_Bool, cond-true, cond-false, and_from}
+use Rattle.plain_laws.proofs.Lists.{until, prefix_not_not}
 use Rattle.hs_lex.proofs.Longest.{Stops}
 
 -- the first n elements pass, and there the list stops
@@ -34,22 +34,6 @@ prefix_is_run p (x ∷ xs) =
     ⊎_elim (λ (e : p x ≡ true). subst (IsRun p (x ∷ xs)) (sym (cond-true (p x) (1 + prefix_len p xs) 0 e)) (longer p x xs (prefix_len p xs) e (prefix_is_run p xs)))
     (λ (e : p x ≡ false). subst (IsRun p (x ∷ xs)) (sym (cond-false (p x) (1 + prefix_len p xs) 0 e)) (none p x xs e))
     (cases_Bool (p x))
-
-not_not : (b : Bool) → not (not b) ≡ b
-not_not true = refl
-not_not false = refl
-
-prefix_not_not : (p : ℕ → Bool) (xs : List ℕ) → prefix_len (λ x. not (not (p x))) xs ≡ prefix_len p xs
-prefix_not_not p [] = refl
-prefix_not_not p (x ∷ xs) = ap (λ b. cond b (1 + prefix_len (λ x. not (not (p x))) xs) 0) (not_not (p x)) ∙ ap (λ n. cond (p x) (1 + n) 0) (prefix_not_not p xs)
-
-until : (p : ℕ → Bool) (xs : List ℕ) → unwrap_or (position p xs) (length xs) ≡ prefix_len (λ x. not (p x)) xs
-until p xs =
-    let n : ℕ = prefix_len (λ x. not (p x)) xs in
-    ⊎_elim (λ (h : n < length xs). ap (λ b. unwrap_or (cond b (Some n) None) (length xs)) (lt-ltb n (length xs) h))
-    (λ (h : length xs ≤ n). let w : n ≤ length xs = prefix_len-le-length (λ x. not (p x)) xs in
-    ap (λ b. unwrap_or (cond b (Some n) None) (length xs)) (le-ltb n (length xs) h) ∙ (let e : length xs ≡ n = omega arith in e))
-    (cases_lt n (length xs))
 
 -- up to the first element that passes, or to the end
 pub run_until : (p : ℕ → Bool) (xs : List ℕ) → IsRun (λ x. not (p x)) xs (unwrap_or (position p xs) (length xs))

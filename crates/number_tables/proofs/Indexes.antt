@@ -8,6 +8,7 @@ use Rattle.std.proofs.lemmas.Cmp.{nat_list_eq_equiv}
 use Rattle.std.proofs.lemmas.Slice.Eq.{bytes_eq-Decides}
 use Rattle.std.proofs.lemmas.Bool.{false_from_ne_true}
 use Rattle.std.proofs.lemmas.List.{map_push, length-map}
+pub use Rattle.plain_laws.proofs.Lists.{get_append as get_old, get_last}
 use Rattle.number_tables.specs.Tables.{IsIndex, IsNumberOf, AreApart, number_at}
 
 same_keys : (xs ys : List ℕ) → pointwise nat_eq xs ys ≡ true → xs ≡ ys
@@ -17,15 +18,6 @@ key_itself : (xs : List ℕ) → pointwise nat_eq xs xs ≡ true
 key_itself xs = (bytes_eq-Decides xs xs).1 refl
 
 -- ---- lists with one more
-
-pub get_old : {X : Type 0} (xs more : List X) (n : ℕ) (x : X) → slice_get xs n ≡ Some x → slice_get (xs ++ more) n ≡ Some x
-get_old [] more n x e = let z : None ≡ Some x = e in absurd (cc z)
-get_old (y ∷ xs) more zero x e = e
-get_old (y ∷ xs) more (suc n) x e = get_old xs more n x e
-
-pub get_last : {X : Type 0} (xs : List X) (x : X) → slice_get (xs ++ x ∷ []) (length xs) ≡ Some x
-get_last [] x = refl
-get_last (y ∷ xs) x = get_last xs x
 
 pub get_among : {X : Type 0} (xs : List X) (y : X) (n : ℕ) (x : X) → slice_get (xs ++ y ∷ []) n ≡ Some x → (slice_get xs n ≡ Some x) ⊎ ((n ≡ length xs) × (y ≡ x))
 get_among [] y zero x e = inr (refl, cc)

@@ -2,8 +2,8 @@ use Rattle.std.proofs.Common.{◌≡◌, ◌≤◌, length, take, drop, ◌-◌,
 use Rattle.std.specs.Prelude.{not}
 use Rattle.std.specs.List.{position}
 use Rattle.std.specs.Option.{unwrap_or}
+use Rattle.plain_laws.proofs.Lists.{slice_from}
 use Rattle.rules_tokens.specs.Tokens.{is_line_feed}
-use Rattle.hs_lex.proofs.Cuts.{slice_from}
 use Rattle.hs_lex.proofs.Runs.{IsRun, run_until, run_length}
 use Rattle.hs_lex.proofs.Pieces.{comment_front, two_within}
 use Rattle.hs_lex.proofs.gaps.comment.Goals as goal

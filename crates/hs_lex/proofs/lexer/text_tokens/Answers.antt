@@ -1,6 +1,7 @@
 use Rattle.std.proofs.Common.{◌≡◌, ℕ, List, [], ◌∷◌, ◌++◌, ◌-◌, ◌<◌, length, take, drop, Result, Err, Some, refl, sym, ap, ◌∙◌, subst, arith}
 use Rattle.std.specs.Prelude.{MatchOption, ⊤}
 use Rattle.std.specs.Str.{encode_utf8_all}
+use Rattle.plain_laws.proofs.Lists.{slice_from}
 use Rattle.rules_tokens.specs.Tokens.{Outcome, Faulty, LexesTo}
 use Rattle.rules_tokens.specs.declared.token.Tokens.{Tokens}
 use Rattle.hs_lex.specs.declared.fault.LexFault.{LexFault}
@@ -8,7 +9,6 @@ use Rattle.hs_lex.specs.declared.front.Front.{Front}
 use Rattle.hs_lex.specs.declared.front.Front.TheVariants as front
 use Rattle.hs_lex.specs.Answers.{said, IsRight}
 use Rattle.hs_lex.specs.Fronts.{StandsAt, fault_of}
-use Rattle.hs_lex.proofs.Cuts.{slice_from}
 use Rattle.hs_lex.proofs.Ends.{place_boundary, place_rest}
 use Rattle.hs_lex.proofs.Streams.{IsReadTo, read_gap, read_token, read_fault, token_len}
 use Rattle.hs_lex.proofs.lexer.text_tokens.Goals as goal

@@ -1,8 +1,8 @@
 use Rattle.std.proofs.Common.{◌≡◌, ℕ, List, ◌+◌, ◌-◌, ◌≤◌, length, take, drop, subst, arith}
+use Rattle.plain_laws.proofs.Lists.{slice_from}
 use Rattle.hs_lex.specs.declared.literal.Meaning.{Meaning}
 use Rattle.hs_lex.specs.declared.literal.Meaning.TheVariants as meaning
 use Rattle.hs_lex.specs.Fronts.{IsClosedAt, MeansAll}
-use Rattle.hs_lex.proofs.Cuts.{slice_from}
 use Rattle.hs_lex.proofs.Pieces.{literal_front, wrong_front, wrong_within}
 use Rattle.hs_lex.proofs.literal.literal.Goals as goal
 

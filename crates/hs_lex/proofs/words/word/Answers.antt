@@ -5,7 +5,8 @@ use Rattle.std.specs.Option.{unwrap_or}
 use Rattle.std.specs.Str.{encode_utf8_all}
 use Rattle.rules_tokens.specs.Tokens.{continues_word, IsWord}
 use Rattle.std.proofs.lemmas.List.{take-append-drop}
-use Rattle.hs_lex.proofs.Cuts.{slice_from, cut_take}
+use Rattle.plain_laws.proofs.Lists.{slice_from}
+use Rattle.hs_lex.proofs.Cuts.{cut_take}
 use Rattle.hs_lex.proofs.Runs.{IsRun, run_while}
 use Rattle.hs_lex.proofs.Pieces.{word_run, word_front}
 use Rattle.hs_lex.proofs.words.word.Goals as goal
