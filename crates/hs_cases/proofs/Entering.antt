@@ -21,7 +21,6 @@ use Rattle.hs_cases.specs.Cases.{told, finished, Performs, Unfinished, MainRuns,
 use Rattle.hs_cases.proofs.Options.{landed, tested, on_running}
 use Rattle.hs_cases.proofs.Performing.{performed_is}
 use Rattle.hs_cases.proofs.Performing as performing
-pub use Rattle.std.proofs.lemmas.Bool.{and_parts as both_true}
 
 -- ---- tests and their words
 

@@ -1,5 +1,6 @@
 -- Lines that only lose threads.
-use Rattle.std.proofs.Common.{◌≡◌, ◌≤◌, ℕ, suc, ◌==◌, List, [], ◌∷◌, length, Bool, true, false, cond, Option, Some, None, refl, sym, ap, ◌∙◌, subst, arith}
+use Rattle.std.proofs.Common.{◌≡◌, ◌≤◌, ℕ, suc, ◌==◌, List, [], ◌∷◌, length, true, false, Option, Some, None, refl, sym, ap, ◌∙◌, subst, arith}
+use Rattle.plain_laws.proofs.Booleans.{both_false}
 use Rattle.rules_meaning.specs.Values.{V}
 use Rattle.rules_waiting.specs.OneCell.{Want, Place, leaves_line, stands_in}
 use Rattle.rules_waiting.specs.Waiting.{Waiting, with_place, want_at, leaves, is_blocked, line_of}
@@ -25,14 +26,10 @@ shorter_line t (p ∷ ps) =
     let k = shorter_line t ps in
     cond_cases (λ z. length z ≤ suc (length ps)) (p.thread == t) (leaves_line t ps) (p ∷ leaves_line t ps) (λ b. omega (arith, k)) (λ b. omega (arith, k))
 
-pub not_first : (b x : Bool) → cond b true x ≡ false → (b ≡ false) × (x ≡ false)
-not_first true x e = absurd (cc e)
-not_first false x e = (refl, e)
-
 absent_line : (u t : ℕ) (ps : List (Place V)) → stands_in u ps ≡ false → stands_in u (leaves_line t ps) ≡ false
 absent_line u t [] e = refl
 absent_line u t (p ∷ ps) e =
-    let k = not_first (p.thread == u) (stands_in u ps) e in
+    let k = both_false (p.thread == u) (stands_in u ps) e in
     let l = absent_line u t ps k.1 in
     cond_cases (λ z. stands_in u z ≡ false) (p.thread == t) (leaves_line t ps) (p ∷ leaves_line t ps) (λ b. l) (λ b. cond_false (p.thread == u) true (stands_in u (leaves_line t ps)) k.0 ∙ l)
 
@@ -49,7 +46,7 @@ lost_all (t ∷ ts) p s = lost_both s.blocked (leaves t s.blocked) (resume_all t
 -- who isn't blocked stands in no line
 pub free_stands : (m t : ℕ) (ws : List (Waiting V)) → is_blocked t ws ≡ false → stands_in t (line_of m ws) ≡ false
 free_stands m t [] e = refl
-free_stands m t (w ∷ ws) e = let k = not_first (w.thread == t) (is_blocked t ws) e in placed (want_at m w.reason) k.0 (free_stands m t ws k.1)
+free_stands m t (w ∷ ws) e = let k = both_false (w.thread == t) (is_blocked t ws) e in placed (want_at m w.reason) k.0 (free_stands m t ws k.1)
   where
     placed : (o : Option (Want V)) → w.thread == t ≡ false → stands_in t (line_of m ws) ≡ false → stands_in t (with_place w.thread o (line_of m ws)) ≡ false
     placed None n h = h

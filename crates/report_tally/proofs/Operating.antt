@@ -1,6 +1,7 @@
 -- What an operation does to the lines of cells, and what comes out of them by it.
 use Rattle.std.proofs.Common.{◌≡◌, ◌≤◌, ℕ, ◌==◌, List, [], ◌∷◌, ◌++◌, length, Bool, true, false, cond, not, ◌&&◌, Option, Some, None, slice_get, slice_set, refl, sym, ap, ◌∙◌, subst, arith, ⊎_elim}
 use Rattle.std.proofs.lemmas.List.{append-nil}
+use Rattle.std.proofs.Math.Bool.{and-true}
 use Rattle.hs_base.specs.declared.mask.Mask.{Mask}
 use Rattle.rules_meaning.specs.Values.{V, UnitValue, Truth}
 use Rattle.rules_waiting.specs.OneCell.{Want, Place, To_take, To_read, To_put, Cell, Call, Make, Take, Read, Put, Try_take, Try_put, readers, stands_in}
@@ -38,10 +39,6 @@ Free t s = (m : ℕ) → stands_in t (line_of m s.blocked) ≡ false
 and_false : (b : Bool) → (b && false) ≡ false
 and_false true = refl
 and_false false = refl
-
-and_true : (b : Bool) → (b && true) ≡ b
-and_true true = refl
-and_true false = refl
 
 same_number : (t : ℕ) → (t == t) ≡ true
 same_number t = ⊎_elim (λ e. e.0) (λ e. absurd (e.1 refl)) (equal_or t t)
@@ -82,7 +79,7 @@ module _ (t : ℕ) (s : State) (free : Free t s) where
     stands = λ m.
         ap (stands_in t) (line_more m s.blocked (record { thread = t; reason = r }))
         ∙ (stands_append (line_of m s.blocked) (with_place t (want_at m r) []) (free m)
-        ∙ (ap (λ o. stands_in t (with_place t o [])) (wants m) ∙ (stands_by w (k == m) ∙ sym (all m ∙ and_true (k == m)))));
+        ∙ (ap (λ o. stands_in t (with_place t o [])) (wants m) ∙ (stands_by w (k == m) ∙ sym (all m ∙ and-true (k == m)))));
     shorter = λ m off.
         let e = ap length (line_more m s.blocked (record { thread = t; reason = r }) ∙ (ap (λ o. line_of m s.blocked ++ with_place t o []) (wants m ∙ cond_false (k == m) (Some w) None (sym (on m) ∙ off)) ∙ append-nil (line_of m s.blocked))) in
         omega (arith, e);

@@ -1,5 +1,6 @@
 -- The counts after one more entry.
-use Rattle.std.proofs.Common.{◌≡◌, ℕ, ◌+◌, ◌==◌, max, List, [], ◌∷◌, ◌++◌, length, true, false, cond, ◌&&◌, sym, ap, ◌∙◌, subst, arith, ⊎_elim}
+use Rattle.std.proofs.Common.{◌≡◌, ℕ, ◌+◌, ◌==◌, max, List, [], ◌∷◌, ◌++◌, length, true, cond, ◌&&◌, sym, ap, ◌∙◌, subst, arith}
+use Rattle.std.proofs.lemmas.Bool.{eqb-true}
 use Rattle.hs_rules.specs.declared.entry.Entry.{Entry}
 use Rattle.hs_rules.specs.declared.entry.Entry.TheVariants.{Local, Op, Receive}
 use Rattle.hs_rules.specs.Entries.{Leads}
@@ -8,7 +9,7 @@ use Rattle.hs_rules.proofs.Histories.{steps_of_last}
 use Rattle.hs_rules.specs.Runs.{IsRun}
 use Rattle.hs_rules.specs.State.{State}
 use Rattle.hs_laws.specs.CellLaw.{outs}
-use Rattle.hs_laws.proofs.Lists.{cond_cases, cond_true, cond_false, equal_or}
+use Rattle.hs_laws.proofs.Lists.{cond_cases, cond_true, cond_false}
 use Rattle.rules_meaning.specs.CoreMeaning.{code_of}
 use Rattle.rules_waiting.specs.Waiting.{is_blocked}
 use Rattle.rules_trees.specs.Programs.{Fn}
@@ -21,9 +22,6 @@ use Rattle.report_tally.specs.Touching.{is_on, waits_there, serves, full_in}
 use Rattle.report_tally.specs.Tallying.{thread_after, touched, op_after, cell_after, IsCounted, Tallies, SeesOp, Sees}
 use Rattle.report_tally.proofs.Sums.{total_more, total_of_more}
 use Rattle.report_tally.proofs.Steps.{OpAdds, op_adds, IsNoOp, other_adds}
-
-number : (a b : ℕ) → (a == b) ≡ true → a ≡ b
-number a b e = ⊎_elim (λ same. same.1) (λ other. let z : true ≡ false = sym e ∙ other.0 in absurd (cc z)) (equal_or a b)
 
 same_thread : (c : ThreadCounts) (l o w r : ℕ) → c.local ≡ l → c.ops ≡ o → c.waits ≡ w → c.receives ≡ r → c ≡ record { local = l; ops = o; waits = w; receives = r }
 same_thread c l o w r a b d e = λ i. record { local = a i; ops = b i; waits = d i; receives = e i }
@@ -54,7 +52,7 @@ module _ (ds : List Fn) (es : List Entry) (s u : State) (t : ℕ) (run : IsRun d
       (λ off. by_adding (Op k) _ leads (omega arith) (let z = ap one_if off in omega (arith, z)) (let z = cond_false (k == t) (one_if (is_blocked t u.blocked)) 0 off in omega (arith, z)) (omega arith))
     where
       here : (k == t) ≡ true → one_if seen.blocked ≡ cond (k == t) (one_if (is_blocked t u.blocked)) 0
-      here on = ap one_if (sees.blocked ∙ ap (λ x. is_blocked x u.blocked) (number k t on)) ∙ sym (cond_true (k == t) (one_if (is_blocked t u.blocked)) 0 on)
+      here on = ap one_if (sees.blocked ∙ ap (λ x. is_blocked x u.blocked) (eqb-true k t on)) ∙ sym (cond_true (k == t) (one_if (is_blocked t u.blocked)) 0 on)
   thread_goes_on (Receive k) seen leads sees =
       cond_cases (Becomes (Receive k)) (k == t) (record before { receives = before.receives + 1 }) before
       (λ on. by_adding (Receive k) _ leads (omega arith) (omega arith) (omega arith) (ap (λ z. before.receives + z) (sym (ap one_if on))))

@@ -1,12 +1,12 @@
 -- Digits at the begin of some bytes.
-use Rattle.std.proofs.Common.{◌≡◌, ℕ, ◌+◌, ◌<◌, ◌≤◌, List, [], ◌∷◌, ◌++◌, length, Bool, true, false, not, cond, Some, None, Option, refl, sym, ap, ◌∙◌, subst, arith, ⊎_elim}
+use Rattle.std.proofs.Common.{◌≡◌, ℕ, ◌+◌, ◌<◌, ◌≤◌, List, [], ◌∷◌, ◌++◌, length, true, false, not, Option, refl, sym, ap, ◌∙◌, subst, arith, ⊎_elim}
 use Rattle.std.specs.Char.{is_ascii_digit, digit_value}
 use Rattle.std.specs.List.{prefix_len, position}
 use Rattle.std.specs.Option.{unwrap_or}
 use Rattle.std.specs.Str.Parse.{AllDigits}
-use Rattle.std.proofs.lemmas.Bool.{cases_Bool, cases_lt, lt-ltb, le-ltb, cond-true, cond-false}
+use Rattle.std.proofs.lemmas.Bool.{cases_Bool, cond-true, cond-false}
 use Rattle.std.proofs.lemmas.Bool.Decides.{nat_tests}
-use Rattle.std.proofs.lemmas.List.Sums.{prefix_len-le-length}
+use Rattle.plain_laws.proofs.Lists.{until, prefix_not_not}
 use Rattle.trace_text.specs.Fields.{EndsNumber}
 
 -- digits go so far, and no further
@@ -43,22 +43,6 @@ prefix_ends (b ∷ bs) =
     ⊎_elim (λ (e : is_ascii_digit b ≡ true). subst (DigitsEnd (b ∷ bs)) (sym (cond-true (is_ascii_digit b) (1 + prefix_len is_ascii_digit bs) 0 e)) (longer b bs (prefix_len is_ascii_digit bs) e (prefix_ends bs)))
     (λ (e : is_ascii_digit b ≡ false). subst (DigitsEnd (b ∷ bs)) (sym (cond-false (is_ascii_digit b) (1 + prefix_len is_ascii_digit bs) 0 e)) (none b bs e))
     (cases_Bool (is_ascii_digit b))
-
-not_not : (b : Bool) → not (not b) ≡ b
-not_not true = refl
-not_not false = refl
-
-prefix_not_not : (p : ℕ → Bool) (xs : List ℕ) → prefix_len (λ x. not (not (p x))) xs ≡ prefix_len p xs
-prefix_not_not p [] = refl
-prefix_not_not p (x ∷ xs) = ap (λ b. cond b (1 + prefix_len (λ x. not (not (p x))) xs) 0) (not_not (p x)) ∙ ap (λ n. cond (p x) (1 + n) 0) (prefix_not_not p xs)
-
-pub until : (p : ℕ → Bool) (xs : List ℕ) → unwrap_or (position p xs) (length xs) ≡ prefix_len (λ x. not (p x)) xs
-until p xs =
-    let n : ℕ = prefix_len (λ x. not (p x)) xs in
-    ⊎_elim (λ (h : n < length xs). ap (λ b. unwrap_or (cond b (Some n) None) (length xs)) (lt-ltb n (length xs) h))
-    (λ (h : length xs ≤ n). let w : n ≤ length xs = prefix_len-le-length (λ x. not (p x)) xs in
-    ap (λ b. unwrap_or (cond b (Some n) None) (length xs)) (le-ltb n (length xs) h) ∙ (let e : length xs ≡ n = omega arith in e))
-    (cases_lt n (length xs))
 
 -- where the code finds that digits end
 pub digits_end : (bytes : List ℕ) (found : Option ℕ) (len : ℕ) → found ≡ position (λ b. not (is_ascii_digit b)) bytes → len ≡ unwrap_or found (length bytes) → DigitsEnd bytes len

@@ -11,7 +11,7 @@ has_header : (text : List ℕ) (es : List Entry) (rest : List ℕ) → Reads tex
 has_header text es rest r none = none (flat_map line_of es ++ rest) (r.spelled ∙ append_assoc header (flat_map line_of es) rest)
 
 -- the entries behind others fit too
-fit_behind : (es fs : List Entry) → AllByRecursion Fits (es ++ fs) → AllByRecursion Fits fs
+pub fit_behind : (es fs : List Entry) → AllByRecursion Fits (es ++ fs) → AllByRecursion Fits fs
 fit_behind [] fs p = p
 fit_behind (e ∷ es) fs p = fit_behind es fs p.1
 

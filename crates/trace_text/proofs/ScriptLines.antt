@@ -9,7 +9,7 @@ use Rattle.std.proofs.lemmas.List.Sums.{fails_before_first}
 use Rattle.std.proofs.lemmas.Slice.Eq.{starts_is}
 use Rattle.std.specs.Cmp.Lexicographic.{pointwise}
 use Rattle.std.proofs.Math.Dec.{eqb}
-use Rattle.std.proofs.Math.Seq.{take-length, take-append_seam}
+use Rattle.std.proofs.Math.Seq.{take-append_seam}
 use Rattle.rules_traces.specs.Traces.{BeginsLine, IsScriptLine, script_line}
 
 -- a line begins at this place, and no line before it is `script`
@@ -20,9 +20,6 @@ pub record IsSearched (text : List ℕ) (begin : ℕ) : Type 0 where
 
 pub searched_none : (text : List ℕ) → IsSearched text 0
 searched_none text = record { within = omega arith; begins = inl refl; before = λ at h. omega arith }
-
-pub slice_from : (xs : List ℕ) (n : ℕ) → take (length xs - n) (drop n xs) ≡ drop n xs
-slice_from xs n = ap (λ k. take k (drop n xs)) (sym (length-drop n xs)) ∙ take-length (drop n xs)
 
 is_ten : (b : ℕ) → (b == 10) ≡ true → b ≡ 10
 is_ten b e = (Decides-eqb b 10).0 e
