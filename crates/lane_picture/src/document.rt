@@ -7,7 +7,7 @@ ghost use Rattle.lane_picture.specs.Shapes.{spelled};
 ghost use Rattle.lane_picture.specs.Drawing.{grid_of, at_least, full_width, full_height, opening_size, opening_box, opening, thread_tag, cell_tag, names, ending_words, ending_shape, legend_start, legend, picture};
 
 use crate::drawing::{write_entry_marks, write_lane_marks};
-use crate::film::{Ending, Frame, Lane};
+use crate::film::{Ending, Entry, Frame, Lane};
 use crate::frills::{LEGEND, STYLE};
 use crate::grid::{Grid, Width, height};
 use crate::pieces::{write_label, write_line, write_tag};
@@ -153,7 +153,12 @@ fn write_column(
     let after = film.get(column as usize);
     match (before, after) {
         (Some(before), Some(after)) => {
-            write_entry_marks(alloc, text, grid, column, before, after)
+            let entry = Entry {
+                column,
+                before,
+                after,
+            };
+            write_entry_marks(alloc, text, grid, &entry)
         }
         (_, _) => Ok(()),
     }

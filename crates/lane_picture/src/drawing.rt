@@ -6,7 +6,7 @@ ghost use Rattle.lane_picture.specs.Marks.{Happens, Answers, Strands, at_column,
 ghost use Rattle.lane_picture.specs.Marks.{lane_of as lane_by};
 ghost use Rattle.lane_picture.specs.Shapes.{spelled, stranded_name};
 
-use crate::film::{Doing, Event, Frame, Lane};
+use crate::film::{Doing, Entry, Event, Frame, Lane};
 use crate::grid::Grid;
 use crate::pieces::{write_group, write_group_end};
 use crate::shapes::{class_of_look, runs, write_arrow, write_band, write_event_shape, write_hit};
@@ -69,19 +69,17 @@ fn write_happened(
     alloc: Global,
     text: &mut String,
     grid: Grid,
-    column: u32,
     lane: Lane,
-    before: &Frame,
-    after: &Frame,
+    entry: &Entry,
 ) -> Result<(), AllocError>
-    requires { length before.now.poses < 2 ^ 33 }
-    ensures { OnOk result (string_bytes text.new ≡ string_bytes text.old ++ spelled grid (at_column lane column (Happens before.now after.now))) }
+    requires { length entry.now.before.now.poses < 2 ^ 33 }
+    ensures { OnOk result (string_bytes text.new ≡ string_bytes text.old ++ spelled grid (at_column lane entry.now.column (Happens entry.now.before.now entry.now.after.now))) }
 {
     let _lane = lane;
     let mut words = String::new(alloc);
-    write_happens(&mut words, column, before, after)?;
+    write_happens(&mut words, entry.column, entry.before, entry.after)?;
     write_group(text, "entry", words.as_str())?;
-    write_event_shape(alloc, text, grid, column, before, after, &after.event)?;
+    write_event_shape(alloc, text, grid, entry)?;
     write_group_end(text)
 }
 
@@ -89,15 +87,13 @@ fn write_event_marks(
     alloc: Global,
     text: &mut String,
     grid: Grid,
-    column: u32,
-    before: &Frame,
-    after: &Frame,
+    entry: &Entry,
 ) -> Result<(), AllocError>
-    requires { length before.now.poses < 2 ^ 33 }
-    ensures { OnOk result (string_bytes text.new ≡ string_bytes text.old ++ flat_map (spelled grid) (event_marks column (lane_by after.now.event) before.now after.now)) }
+    requires { length entry.now.before.now.poses < 2 ^ 33 }
+    ensures { OnOk result (string_bytes text.new ≡ string_bytes text.old ++ flat_map (spelled grid) (event_marks entry.now.column (lane_by entry.now.after.now.event) entry.now.before.now entry.now.after.now)) }
 {
-    match lane_of(&after.event) {
-        Some(lane) => write_happened(alloc, text, grid, column, lane, before, after),
+    match lane_of(&entry.after.event) {
+        Some(lane) => write_happened(alloc, text, grid, lane, entry),
         None => Ok(()),
     }
 }
@@ -174,16 +170,15 @@ fn write_freed(
     alloc: Global,
     text: &mut String,
     grid: Grid,
-    column: u32,
-    event: &Event,
+    entry: &Entry,
     thread: u32,
     cell: u32,
 ) -> Result<(), AllocError>
-    ensures { OnOk result (string_bytes text.new ≡ string_bytes text.old ++ flat_map (spelled grid) (freed column event.now thread cell)) }
+    ensures { OnOk result (string_bytes text.new ≡ string_bytes text.old ++ flat_map (spelled grid) (freed entry.now.column entry.now.after.now.event thread cell)) }
 {
-    match event {
-        Event::Does(_, _) => write_answered(alloc, text, grid, column, cell, thread),
-        Event::Strands => write_stranded(alloc, text, grid, column, thread, cell),
+    match &entry.after.event {
+        Event::Does(_, _) => write_answered(alloc, text, grid, entry.column, cell, thread),
+        Event::Strands => write_stranded(alloc, text, grid, entry.column, thread, cell),
         _ => Ok(()),
     }
 }
@@ -192,38 +187,34 @@ fn write_freed_at(
     alloc: Global,
     text: &mut String,
     grid: Grid,
-    column: u32,
-    before: &Frame,
-    after: &Frame,
+    entry: &Entry,
     thread: u32,
 ) -> Result<(), AllocError>
-    ensures { OnOk result (string_bytes text.new ≡ string_bytes text.old ++ flat_map (spelled grid) (freed_at column before.now after.now thread)) }
+    ensures { OnOk result (string_bytes text.new ≡ string_bytes text.old ++ flat_map (spelled grid) (freed_at entry.now.column entry.now.before.now entry.now.after.now thread)) }
 {
-    let Some(cell) = cell_of(thread_doing(before, thread)) else {
+    let Some(cell) = cell_of(thread_doing(entry.before, thread)) else {
         return Ok(());
     };
-    if runs(thread_doing(after, thread)) {
-        write_freed(alloc, text, grid, column, &after.event, thread, cell)
+    if runs(thread_doing(entry.after, thread)) {
+        write_freed(alloc, text, grid, entry, thread, cell)
     } else {
         Ok(())
     }
 }
 
-/// The marks of a column, whose entry led from one frame to the other.
+/// The marks of an entry, in its column.
 pub(crate) fn write_entry_marks(
     alloc: Global,
     text: &mut String,
     grid: Grid,
-    column: u32,
-    before: &Frame,
-    after: &Frame,
+    entry: &Entry,
 ) -> Result<(), NoMemory>
-    ensures { OnOk result (string_bytes text.new ≡ string_bytes text.old ++ flat_map (spelled grid) (entry_marks column before.now after.now)) }
+    ensures { OnOk result (string_bytes text.new ≡ string_bytes text.old ++ flat_map (spelled grid) (entry_marks entry.now.column entry.now.before.now entry.now.after.now)) }
 {
-    let threads = u32::try_from(before.poses.len()).map_err(|_| NoMemory)?;
-    write_event_marks(alloc, text, grid, column, before, after)?;
+    let threads = u32::try_from(entry.before.poses.len()).map_err(|_| NoMemory)?;
+    write_event_marks(alloc, text, grid, entry)?;
     for thread in 0..threads {
-        write_freed_at(alloc, text, grid, column, before, after, thread)?;
+        write_freed_at(alloc, text, grid, entry, thread)?;
     }
     Ok(())
 }

@@ -77,6 +77,14 @@ pub struct Frame {
     pub cells: Items<bool>,
 }
 
+/// The entry of a column, between the frame before it and the one that it leaves.
+#[derive(Clone, Copy)]
+pub(crate) struct Entry<'a> {
+    pub column: u32,
+    pub before: &'a Frame,
+    pub after: &'a Frame,
+}
+
 /// What a history has come to.
 #[derive(Clone, Copy)]
 pub enum Ending {

@@ -1,12 +1,12 @@
 //! What is drawn for each mark.
-ghost use Rattle.std.specs.Prelude.{◌≡◌, ◌++◌, ◌<◌, ◌+◌, ◌^◌, OnOk, codes, string_bytes, length};
+ghost use Rattle.std.specs.Prelude.{◌≡◌, ◌++◌, ◌<◌, ◌+◌, ◌^◌, OnOk, IfOk, codes, string_bytes, length};
 ghost use Rattle.lane_picture.specs.Marks.{is_running, doing_in};
 ghost use Rattle.lane_picture.specs.Words.{exn_name};
 ghost use Rattle.lane_picture.specs.Pieces.{label};
 ghost use Rattle.lane_picture.specs.Grids.{left, middle, at, row, span_width};
 ghost use Rattle.lane_picture.specs.Shapes.{doing_class, mask_class, look_class, full_class, doing_tag, words_on, band, arrow, glyph, bar, hit_mark, hit, last, ticked, printed, taken, given, link, sign_of, event_shape};
 
-use crate::film::{Deed, Doing, Event, Frame, Look};
+use crate::film::{Deed, Doing, Entry, Event, Look};
 use crate::grid::{Grid, height};
 use crate::pieces::{
     write_disc, write_label, write_line, write_lozenge, write_rect, write_tag, write_turned,
@@ -314,15 +314,15 @@ fn write_fork(
 fn write_link(
     text: &mut String,
     grid: Grid,
-    column: u32,
+    entry: &Entry,
     t: u32,
-    before: &Frame,
     goes: bool,
     deed: &Deed,
 ) -> Result<(), AllocError>
-    requires { length before.now.poses < 2 ^ 33 }
-    ensures { OnOk result (string_bytes text.new ≡ string_bytes text.old ++ link grid column t before.now goes deed.now) }
+    requires { length entry.now.before.now.poses < 2 ^ 33 }
+    ensures { OnOk result (string_bytes text.new ≡ string_bytes text.old ++ link grid entry.now.column t entry.now.before.now goes deed.now) }
 {
+    let column = entry.column;
     match deed {
         Deed::Prints(x) => write_printed(text, grid, column, t, x.as_str()),
         Deed::Reports(x) => write_printed(text, grid, column, t, x.as_str()),
@@ -331,7 +331,7 @@ fn write_link(
         Deed::Puts(m) => write_given(text, grid, column, t, *m, goes),
         Deed::TriesToTake(m) => write_given(text, grid, column, t, *m, false),
         Deed::TriesToPut(m) => write_given(text, grid, column, t, *m, false),
-        Deed::Forks => write_fork(text, grid, column, t, before.poses.len()),
+        Deed::Forks => write_fork(text, grid, column, t, entry.before.poses.len()),
         Deed::MakesCell => Ok(()),
         Deed::Throws(_, _) => Ok(()),
         Deed::Delays => Ok(()),
@@ -374,51 +374,39 @@ pub(crate) fn runs(doing: Doing) -> bool
 fn write_does(
     text: &mut String,
     grid: Grid,
-    column: u32,
+    entry: &Entry,
     t: u32,
-    before: &Frame,
-    after: &Frame,
     deed: &Deed,
 ) -> Result<(), AllocError>
-    requires { length before.now.poses < 2 ^ 33 }
-    ensures { OnOk result (string_bytes text.new ≡ string_bytes text.old ++ (link grid column t before.now (is_running (doing_in after.now t)) deed.now ++ glyph grid column t (sign_of deed.now))) }
+    requires { length entry.now.before.now.poses < 2 ^ 33 }
+    ensures { OnOk result (string_bytes text.new ≡ string_bytes text.old ++ (link grid entry.now.column t entry.now.before.now (is_running (doing_in entry.now.after.now t)) deed.now ++ glyph grid entry.now.column t (sign_of deed.now))) }
 {
-    let goes = runs(thread_doing(after, t));
-    write_link(text, grid, column, t, before, goes, deed)?;
-    write_glyph(text, grid, column, t, sign(deed))
+    let goes = runs(thread_doing(entry.after, t));
+    write_link(text, grid, entry, t, goes, deed)?;
+    write_glyph(text, grid, entry.column, t, sign(deed))
+}
+
+fn name_of(alloc: Global, exn: &Exn) -> Result<String, AllocError>
+    ensures { IfOk result (λ name. string_bytes name ≡ exn_name exn.now) }
+{
+    let mut name = String::new(alloc);
+    write_exn(&mut name, exn)?;
+    Ok(name)
 }
 
 fn write_receives(
-    alloc: Global,
     text: &mut String,
     grid: Grid,
     column: u32,
     t: u32,
     from: u32,
-    exn: &Exn,
+    name: &str,
 ) -> Result<(), AllocError>
-    ensures { OnOk result (string_bytes text.new ≡ string_bytes text.old ++ (arrow (codes "kill") (middle grid.width column) from t ++ hit grid column t (exn_name exn.now))) }
+    ensures { OnOk result (string_bytes text.new ≡ string_bytes text.old ++ (arrow (codes "kill") (middle grid.width column) from t ++ hit grid column t name.now)) }
 {
-    let mut name = String::new(alloc);
-    write_exn(&mut name, exn)?;
     let x = grid.width.mid(column);
     write_arrow(text, "kill", x, from as u64, t as u64)?;
-    write_hit(text, grid, column, t as u64, name.as_str())
-}
-
-fn write_fails(
-    alloc: Global,
-    text: &mut String,
-    grid: Grid,
-    column: u32,
-    t: u32,
-    exn: &Exn,
-) -> Result<(), AllocError>
-    ensures { OnOk result (string_bytes text.new ≡ string_bytes text.old ++ last grid column t (exn_name exn.now)) }
-{
-    let mut name = String::new(alloc);
-    write_exn(&mut name, exn)?;
-    write_last(text, grid, column, t, name.as_str())
+    write_hit(text, grid, column, t as u64, name)
 }
 
 fn write_ticks(text: &mut String, grid: Grid, column: u32, moment: u64) -> Result<(), AllocError>
@@ -433,29 +421,31 @@ fn write_ticks(text: &mut String, grid: Grid, column: u32, moment: u64) -> Resul
     }
 }
 
-/// The event of a column.
+/// What the entry of a column does.
 pub(crate) fn write_event_shape(
     alloc: Global,
     text: &mut String,
     grid: Grid,
-    column: u32,
-    before: &Frame,
-    after: &Frame,
-    event: &Event,
+    entry: &Entry,
 ) -> Result<(), AllocError>
-    requires { length before.now.poses < 2 ^ 33 }
-    ensures { OnOk result (string_bytes text.new ≡ string_bytes text.old ++ event_shape grid column before.now after.now event.now) }
+    requires { length entry.now.before.now.poses < 2 ^ 33 }
+    ensures { OnOk result (string_bytes text.new ≡ string_bytes text.old ++ event_shape grid entry.now.column entry.now.before.now entry.now.after.now entry.now.after.now.event) }
 {
-    match event {
+    let column = entry.column;
+    match &entry.after.event {
         Event::Nothing => Ok(()),
         Event::Steps(t, k) => write_bar(text, grid, column, *t, *k),
-        Event::Does(t, deed) => write_does(text, grid, column, *t, before, after, deed),
+        Event::Does(t, deed) => write_does(text, grid, entry, *t, deed),
         Event::Receives(t, from, exn) => {
-            write_receives(alloc, text, grid, column, *t, *from, exn)
+            let name = name_of(alloc, exn)?;
+            write_receives(text, grid, column, *t, *from, name.as_str())
         }
         Event::Wakes(t) => write_glyph(text, grid, column, *t, "U"),
         Event::Returns(t) => write_last(text, grid, column, *t, "value"),
-        Event::Fails(t, exn) => write_fails(alloc, text, grid, column, *t, exn),
+        Event::Fails(t, exn) => {
+            let name = name_of(alloc, exn)?;
+            write_last(text, grid, column, *t, name.as_str())
+        }
         Event::Ticks(moment) => write_ticks(text, grid, column, *moment),
         Event::Strands => Ok(()),
     }

@@ -8,8 +8,8 @@ use Rattle.lane_picture.proofs.drawing.write_entry_marks.Goals as goal
 pub loop-thread-preserved : goal.loop-thread-preserved
 loop-thread-preserved c =
     let f = spelled c.args.grid in
-    let first = event_marks c.args.column (lane_of c.args.after.now.event) c.args.before.now c.args.after.now in
-    let each = freed_at c.args.column c.args.before.now c.args.after.now in
+    let first = event_marks c.args.entry.now.column (lane_of c.args.entry.now.after.now.event) c.args.entry.now.before.now c.args.entry.now.after.now in
+    let each = freed_at c.args.entry.now.column c.args.entry.now.before.now c.args.entry.now.after.now in
     let t = c.loop-thread.thread in
     c.in_ok-write_freed_at.ensures
     ∙ (ap (λ z. z ++ flat_map f (each t)) c.loop-thread.invariant

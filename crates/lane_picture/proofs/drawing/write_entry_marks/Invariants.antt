@@ -5,4 +5,4 @@ use Rattle.lane_picture.specs.Shapes.{spelled}
 use Rattle.lane_picture.proofs.drawing.write_entry_marks.Given as goal
 
 abbrev pub invariant-loop-thread : goal.invariant-loop-thread
-invariant-loop-thread l = string_bytes l.text ≡ string_bytes l.fn.text ++ flat_map (spelled l.grid) (event_marks l.column (lane_of l.after.event) l.before l.after ++ all_below (freed_at l.column l.before l.after) l.thread)
+invariant-loop-thread l = string_bytes l.text ≡ string_bytes l.fn.text ++ flat_map (spelled l.grid) (event_marks l.entry.column (lane_of l.entry.after.now.event) l.entry.before.now l.entry.after.now ++ all_below (freed_at l.entry.column l.entry.before.now l.entry.after.now) l.thread)
