@@ -14,8 +14,8 @@ use parse_leaves::{Cursor, Halt};
 use rules_tokens::symbol;
 use std::alloc::Global;
 
-pub fn boxed_arms<'a, F: Fn(&mut Cursor<'a>, u32) -> Result<Expr, Halt>>(
-    cursor: &mut Cursor<'a>,
+pub fn boxed_arms<F: Fn(&mut Cursor, u32) -> Result<Expr, Halt>>(
+    cursor: &mut Cursor,
     alloc: Global,
     depth: u32,
     inner: &F,
@@ -28,8 +28,8 @@ pub fn boxed_arms<'a, F: Fn(&mut Cursor<'a>, u32) -> Result<Expr, Halt>>(
     Ok(Boxed::new(alloc, arms)?)
 }
 
-fn expr_arms<'a, F: Fn(&mut Cursor<'a>, u32) -> Result<Expr, Halt>>(
-    cursor: &mut Cursor<'a>,
+fn expr_arms<F: Fn(&mut Cursor, u32) -> Result<Expr, Halt>>(
+    cursor: &mut Cursor,
     alloc: Global,
     depth: u32,
     inner: &F,
@@ -42,8 +42,8 @@ fn expr_arms<'a, F: Fn(&mut Cursor<'a>, u32) -> Result<Expr, Halt>>(
     arms_in_braces(cursor, alloc, depth - 1, inner)
 }
 
-fn arms_in_braces<'a, F: Fn(&mut Cursor<'a>, u32) -> Result<Expr, Halt>>(
-    cursor: &mut Cursor<'a>,
+fn arms_in_braces<F: Fn(&mut Cursor, u32) -> Result<Expr, Halt>>(
+    cursor: &mut Cursor,
     alloc: Global,
     depth: u32,
     inner: &F,

@@ -1,52 +1,48 @@
-ghost use Rattle.std.specs.Prelude.{◌≡◌, ◌+◌, ◌<◌, ◌≤◌, length, OnOk, [], ◌∷◌};
+ghost use Rattle.std.specs.Prelude.{◌≡◌, ◌+◌, ◌<◌, length, OnOk, [], ◌∷◌};
 ghost use Rattle.rules_grammar.specs.Grammar as g;
 ghost use Rattle.hs_grammar.specs.Parser as parser;
 ghost use Rattle.parse_leaves.specs.Readers.{ReadsBelow};
 ghost use Rattle.parse_leaves.specs.Reads.{Reads};
+ghost use Rattle.parse_leaves.proofs.Steps.{item-product_link, item-sum_link, item-cons_link, item-and_link, item-or_link};
 ghost use Rattle.parse_exprs.specs.Exprs.{compared};
 
+use crate::links::{Links, all_links};
 use hs_base::tree::forms::UnaryForm;
 use hs_base::{CompareOp, Expr, Link, ListLink, Pos, SumLink};
-use hs_items::{Boxed, Items};
+use hs_items::Boxed;
 use parse_leaves::{Cursor, Halt, trees};
 use parse_operands::app;
 use rules_tokens::symbol;
 use std::alloc::Global;
 
-fn product_link<'a, F: Fn(&mut Cursor<'a>, u32) -> Result<Expr, Halt>>(
-    cursor: &mut Cursor<'a>,
-    alloc: Global,
-    depth: u32,
-    inner: &F,
-) -> Result<Link, Halt>
-    requires { ReadsBelow F.Fn inner.now g.expr depth }
-    ensures reads { Reads (parser.read (parser.enter depth) g.product_link cursor.old) result cursor.new }
-    ensures shorter { OnOk result (length cursor.new < length cursor.old) }
-{
-    let pos = cursor.symbol(symbol::STAR)?;
-    let operand = app(cursor, alloc, depth, inner)?;
-    Ok(Link { pos, operand })
-}
+/// The links of a product.
+struct Products;
 
-fn product_links<'a, F: Fn(&mut Cursor<'a>, u32) -> Result<Expr, Halt>>(
-    cursor: &mut Cursor<'a>,
-    alloc: Global,
-    depth: u32,
-    inner: &F,
-) -> Result<Items<Link>, Halt>
-    requires { ReadsBelow F.Fn inner.now g.expr depth }
-    ensures reads { Reads (parser.read (parser.enter depth) (g.many g.product_link) cursor.old) result cursor.new }
-    ensures shorter { OnOk result (length cursor.new ≤ length cursor.old) }
-{
-    let mut items = Items::new(alloc);
-    'items: while cursor.at_symbol(symbol::STAR) {
-        items.add(product_link(cursor, alloc, depth, inner)?)?;
+impl Links for Products {
+    type Link = Link;
+
+    ghost rule = { g.product_link };
+
+    fn begins(cursor: &Cursor) -> bool {
+        cursor.at_symbol(symbol::STAR)
     }
-    Ok(items)
+
+    fn link<F: Fn(&mut Cursor, u32) -> Result<Expr, Halt>>(
+        cursor: &mut Cursor,
+        alloc: Global,
+        depth: u32,
+        inner: &F,
+    ) -> Result<Link, Halt> {
+        let pos = cursor.symbol(symbol::STAR)?;
+        let operand = app(cursor, alloc, depth, inner)?;
+        Ok(Link { pos, operand })
+    }
+
+    ghost repeats = { item-product_link };
 }
 
-fn product<'a, F: Fn(&mut Cursor<'a>, u32) -> Result<Expr, Halt>>(
-    cursor: &mut Cursor<'a>,
+fn product<F: Fn(&mut Cursor, u32) -> Result<Expr, Halt>>(
+    cursor: &mut Cursor,
     alloc: Global,
     depth: u32,
     inner: &F,
@@ -56,12 +52,12 @@ fn product<'a, F: Fn(&mut Cursor<'a>, u32) -> Result<Expr, Halt>>(
     ensures shorter { OnOk result (length cursor.new < length cursor.old) }
 {
     let first = app(cursor, alloc, depth, inner)?;
-    let links = product_links(cursor, alloc, depth, inner)?;
+    let links = all_links::<Products, F>(cursor, alloc, depth, inner)?;
     trees::product(alloc, first, links)
 }
 
-fn first_term<'a, F: Fn(&mut Cursor<'a>, u32) -> Result<Expr, Halt>>(
-    cursor: &mut Cursor<'a>,
+fn first_term<F: Fn(&mut Cursor, u32) -> Result<Expr, Halt>>(
+    cursor: &mut Cursor,
     alloc: Global,
     depth: u32,
     inner: &F,
@@ -79,44 +75,38 @@ fn first_term<'a, F: Fn(&mut Cursor<'a>, u32) -> Result<Expr, Halt>>(
     product(cursor, alloc, depth, inner)
 }
 
-fn sum_link<'a, F: Fn(&mut Cursor<'a>, u32) -> Result<Expr, Halt>>(
-    cursor: &mut Cursor<'a>,
-    alloc: Global,
-    depth: u32,
-    inner: &F,
-) -> Result<SumLink, Halt>
-    requires { ReadsBelow F.Fn inner.now g.expr depth }
-    ensures reads { Reads (parser.read (parser.enter depth) g.sum_link cursor.old) result cursor.new }
-    ensures shorter { OnOk result (length cursor.new < length cursor.old) }
-{
-    let operator = cursor.sum_operator(depth)?;
-    let term = product(cursor, alloc, depth, inner)?;
-    Ok(SumLink {
-        op: operator.0,
-        pos: operator.1,
-        operand: term,
-    })
-}
+/// The links of a sum.
+struct Sums;
 
-fn sum_links<'a, F: Fn(&mut Cursor<'a>, u32) -> Result<Expr, Halt>>(
-    cursor: &mut Cursor<'a>,
-    alloc: Global,
-    depth: u32,
-    inner: &F,
-) -> Result<Items<SumLink>, Halt>
-    requires { ReadsBelow F.Fn inner.now g.expr depth }
-    ensures reads { Reads (parser.read (parser.enter depth) (g.many g.sum_link) cursor.old) result cursor.new }
-    ensures shorter { OnOk result (length cursor.new ≤ length cursor.old) }
-{
-    let mut items = Items::new(alloc);
-    'items: while cursor.at_sum_operator() {
-        items.add(sum_link(cursor, alloc, depth, inner)?)?;
+impl Links for Sums {
+    type Link = SumLink;
+
+    ghost rule = { g.sum_link };
+
+    fn begins(cursor: &Cursor) -> bool {
+        cursor.at_sum_operator()
     }
-    Ok(items)
+
+    fn link<F: Fn(&mut Cursor, u32) -> Result<Expr, Halt>>(
+        cursor: &mut Cursor,
+        alloc: Global,
+        depth: u32,
+        inner: &F,
+    ) -> Result<SumLink, Halt> {
+        let operator = cursor.sum_operator(depth)?;
+        let term = product(cursor, alloc, depth, inner)?;
+        Ok(SumLink {
+            op: operator.0,
+            pos: operator.1,
+            operand: term,
+        })
+    }
+
+    ghost repeats = { item-sum_link };
 }
 
-fn sum<'a, F: Fn(&mut Cursor<'a>, u32) -> Result<Expr, Halt>>(
-    cursor: &mut Cursor<'a>,
+fn sum<F: Fn(&mut Cursor, u32) -> Result<Expr, Halt>>(
+    cursor: &mut Cursor,
     alloc: Global,
     depth: u32,
     inner: &F,
@@ -126,48 +116,42 @@ fn sum<'a, F: Fn(&mut Cursor<'a>, u32) -> Result<Expr, Halt>>(
     ensures shorter { OnOk result (length cursor.new < length cursor.old) }
 {
     let first = first_term(cursor, alloc, depth, inner)?;
-    let links = sum_links(cursor, alloc, depth, inner)?;
+    let links = all_links::<Sums, F>(cursor, alloc, depth, inner)?;
     trees::sum(alloc, first, links)
 }
 
-fn cons_link<'a, F: Fn(&mut Cursor<'a>, u32) -> Result<Expr, Halt>>(
-    cursor: &mut Cursor<'a>,
-    alloc: Global,
-    depth: u32,
-    inner: &F,
-) -> Result<ListLink, Halt>
-    requires { ReadsBelow F.Fn inner.now g.expr depth }
-    ensures reads { Reads (parser.read (parser.enter depth) g.cons_link cursor.old) result cursor.new }
-    ensures shorter { OnOk result (length cursor.new < length cursor.old) }
-{
-    let operator = cursor.cons_operator(depth)?;
-    let operand = sum(cursor, alloc, depth, inner)?;
-    Ok(ListLink {
-        op: operator.0,
-        pos: operator.1,
-        operand,
-    })
-}
+/// The links of a list, by `:` and `++`.
+struct Conses;
 
-fn cons_links<'a, F: Fn(&mut Cursor<'a>, u32) -> Result<Expr, Halt>>(
-    cursor: &mut Cursor<'a>,
-    alloc: Global,
-    depth: u32,
-    inner: &F,
-) -> Result<Items<ListLink>, Halt>
-    requires { ReadsBelow F.Fn inner.now g.expr depth }
-    ensures reads { Reads (parser.read (parser.enter depth) (g.many g.cons_link) cursor.old) result cursor.new }
-    ensures shorter { OnOk result (length cursor.new ≤ length cursor.old) }
-{
-    let mut items = Items::new(alloc);
-    'items: while cursor.at_cons_operator() {
-        items.add(cons_link(cursor, alloc, depth, inner)?)?;
+impl Links for Conses {
+    type Link = ListLink;
+
+    ghost rule = { g.cons_link };
+
+    fn begins(cursor: &Cursor) -> bool {
+        cursor.at_cons_operator()
     }
-    Ok(items)
+
+    fn link<F: Fn(&mut Cursor, u32) -> Result<Expr, Halt>>(
+        cursor: &mut Cursor,
+        alloc: Global,
+        depth: u32,
+        inner: &F,
+    ) -> Result<ListLink, Halt> {
+        let operator = cursor.cons_operator(depth)?;
+        let operand = sum(cursor, alloc, depth, inner)?;
+        Ok(ListLink {
+            op: operator.0,
+            pos: operator.1,
+            operand,
+        })
+    }
+
+    ghost repeats = { item-cons_link };
 }
 
-fn cons<'a, F: Fn(&mut Cursor<'a>, u32) -> Result<Expr, Halt>>(
-    cursor: &mut Cursor<'a>,
+fn cons<F: Fn(&mut Cursor, u32) -> Result<Expr, Halt>>(
+    cursor: &mut Cursor,
     alloc: Global,
     depth: u32,
     inner: &F,
@@ -177,12 +161,12 @@ fn cons<'a, F: Fn(&mut Cursor<'a>, u32) -> Result<Expr, Halt>>(
     ensures shorter { OnOk result (length cursor.new < length cursor.old) }
 {
     let first = sum(cursor, alloc, depth, inner)?;
-    let links = cons_links(cursor, alloc, depth, inner)?;
+    let links = all_links::<Conses, F>(cursor, alloc, depth, inner)?;
     trees::cons(alloc, first, links)
 }
 
-fn comparison<'a, F: Fn(&mut Cursor<'a>, u32) -> Result<Expr, Halt>>(
-    cursor: &mut Cursor<'a>,
+fn comparison<F: Fn(&mut Cursor, u32) -> Result<Expr, Halt>>(
+    cursor: &mut Cursor,
     alloc: Global,
     depth: u32,
     inner: &F,
@@ -198,8 +182,8 @@ fn comparison<'a, F: Fn(&mut Cursor<'a>, u32) -> Result<Expr, Halt>>(
     Ok(first)
 }
 
-fn compare_end<'a, F: Fn(&mut Cursor<'a>, u32) -> Result<Expr, Halt>>(
-    cursor: &mut Cursor<'a>,
+fn compare_end<F: Fn(&mut Cursor, u32) -> Result<Expr, Halt>>(
+    cursor: &mut Cursor,
     alloc: Global,
     depth: u32,
     inner: &F,
@@ -214,8 +198,8 @@ fn compare_end<'a, F: Fn(&mut Cursor<'a>, u32) -> Result<Expr, Halt>>(
 }
 
 /// An operator, its position, and what stands behind it.
-fn compared<'a, F: Fn(&mut Cursor<'a>, u32) -> Result<Expr, Halt>>(
-    cursor: &mut Cursor<'a>,
+fn compared<F: Fn(&mut Cursor, u32) -> Result<Expr, Halt>>(
+    cursor: &mut Cursor,
     alloc: Global,
     depth: u32,
     inner: &F,
@@ -229,40 +213,34 @@ fn compared<'a, F: Fn(&mut Cursor<'a>, u32) -> Result<Expr, Halt>>(
     Ok((operator.0, operator.1, second))
 }
 
-fn and_link<'a, F: Fn(&mut Cursor<'a>, u32) -> Result<Expr, Halt>>(
-    cursor: &mut Cursor<'a>,
-    alloc: Global,
-    depth: u32,
-    inner: &F,
-) -> Result<Link, Halt>
-    requires { ReadsBelow F.Fn inner.now g.expr depth }
-    ensures reads { Reads (parser.read (parser.enter depth) g.and_link cursor.old) result cursor.new }
-    ensures shorter { OnOk result (length cursor.new < length cursor.old) }
-{
-    let pos = cursor.symbol(symbol::AND)?;
-    let operand = comparison(cursor, alloc, depth, inner)?;
-    Ok(Link { pos, operand })
-}
+/// The links of `&&`.
+struct Ands;
 
-fn and_links<'a, F: Fn(&mut Cursor<'a>, u32) -> Result<Expr, Halt>>(
-    cursor: &mut Cursor<'a>,
-    alloc: Global,
-    depth: u32,
-    inner: &F,
-) -> Result<Items<Link>, Halt>
-    requires { ReadsBelow F.Fn inner.now g.expr depth }
-    ensures reads { Reads (parser.read (parser.enter depth) (g.many g.and_link) cursor.old) result cursor.new }
-    ensures shorter { OnOk result (length cursor.new ≤ length cursor.old) }
-{
-    let mut items = Items::new(alloc);
-    'items: while cursor.at_symbol(symbol::AND) {
-        items.add(and_link(cursor, alloc, depth, inner)?)?;
+impl Links for Ands {
+    type Link = Link;
+
+    ghost rule = { g.and_link };
+
+    fn begins(cursor: &Cursor) -> bool {
+        cursor.at_symbol(symbol::AND)
     }
-    Ok(items)
+
+    fn link<F: Fn(&mut Cursor, u32) -> Result<Expr, Halt>>(
+        cursor: &mut Cursor,
+        alloc: Global,
+        depth: u32,
+        inner: &F,
+    ) -> Result<Link, Halt> {
+        let pos = cursor.symbol(symbol::AND)?;
+        let operand = comparison(cursor, alloc, depth, inner)?;
+        Ok(Link { pos, operand })
+    }
+
+    ghost repeats = { item-and_link };
 }
 
-fn and<'a, F: Fn(&mut Cursor<'a>, u32) -> Result<Expr, Halt>>(
-    cursor: &mut Cursor<'a>,
+fn and<F: Fn(&mut Cursor, u32) -> Result<Expr, Halt>>(
+    cursor: &mut Cursor,
     alloc: Global,
     depth: u32,
     inner: &F,
@@ -272,44 +250,38 @@ fn and<'a, F: Fn(&mut Cursor<'a>, u32) -> Result<Expr, Halt>>(
     ensures shorter { OnOk result (length cursor.new < length cursor.old) }
 {
     let first = comparison(cursor, alloc, depth, inner)?;
-    let links = and_links(cursor, alloc, depth, inner)?;
+    let links = all_links::<Ands, F>(cursor, alloc, depth, inner)?;
     trees::and(alloc, first, links)
 }
 
-fn or_link<'a, F: Fn(&mut Cursor<'a>, u32) -> Result<Expr, Halt>>(
-    cursor: &mut Cursor<'a>,
-    alloc: Global,
-    depth: u32,
-    inner: &F,
-) -> Result<Link, Halt>
-    requires { ReadsBelow F.Fn inner.now g.expr depth }
-    ensures reads { Reads (parser.read (parser.enter depth) g.or_link cursor.old) result cursor.new }
-    ensures shorter { OnOk result (length cursor.new < length cursor.old) }
-{
-    let pos = cursor.symbol(symbol::OR)?;
-    let operand = and(cursor, alloc, depth, inner)?;
-    Ok(Link { pos, operand })
-}
+/// The links of `||`.
+struct Ors;
 
-fn or_links<'a, F: Fn(&mut Cursor<'a>, u32) -> Result<Expr, Halt>>(
-    cursor: &mut Cursor<'a>,
-    alloc: Global,
-    depth: u32,
-    inner: &F,
-) -> Result<Items<Link>, Halt>
-    requires { ReadsBelow F.Fn inner.now g.expr depth }
-    ensures reads { Reads (parser.read (parser.enter depth) (g.many g.or_link) cursor.old) result cursor.new }
-    ensures shorter { OnOk result (length cursor.new ≤ length cursor.old) }
-{
-    let mut items = Items::new(alloc);
-    'items: while cursor.at_symbol(symbol::OR) {
-        items.add(or_link(cursor, alloc, depth, inner)?)?;
+impl Links for Ors {
+    type Link = Link;
+
+    ghost rule = { g.or_link };
+
+    fn begins(cursor: &Cursor) -> bool {
+        cursor.at_symbol(symbol::OR)
     }
-    Ok(items)
+
+    fn link<F: Fn(&mut Cursor, u32) -> Result<Expr, Halt>>(
+        cursor: &mut Cursor,
+        alloc: Global,
+        depth: u32,
+        inner: &F,
+    ) -> Result<Link, Halt> {
+        let pos = cursor.symbol(symbol::OR)?;
+        let operand = and(cursor, alloc, depth, inner)?;
+        Ok(Link { pos, operand })
+    }
+
+    ghost repeats = { item-or_link };
 }
 
-pub fn or<'a, F: Fn(&mut Cursor<'a>, u32) -> Result<Expr, Halt>>(
-    cursor: &mut Cursor<'a>,
+pub fn or<F: Fn(&mut Cursor, u32) -> Result<Expr, Halt>>(
+    cursor: &mut Cursor,
     alloc: Global,
     depth: u32,
     inner: &F,
@@ -319,6 +291,6 @@ pub fn or<'a, F: Fn(&mut Cursor<'a>, u32) -> Result<Expr, Halt>>(
     ensures shorter { OnOk result (length cursor.new < length cursor.old) }
 {
     let first = and(cursor, alloc, depth, inner)?;
-    let links = or_links(cursor, alloc, depth, inner)?;
+    let links = all_links::<Ors, F>(cursor, alloc, depth, inner)?;
     trees::or(alloc, first, links)
 }

@@ -18,8 +18,8 @@ use rules_tokens::{symbol, word};
 use std::alloc::Global;
 
 /// An expression, around what `inner` reads in its openers.
-pub fn expr_with<'a, F: Fn(&mut Cursor<'a>, u32) -> Result<Expr, Halt>>(
-    cursor: &mut Cursor<'a>,
+pub fn expr_with<F: Fn(&mut Cursor, u32) -> Result<Expr, Halt>>(
+    cursor: &mut Cursor,
     alloc: Global,
     depth: u32,
     inner: &F,
@@ -40,8 +40,8 @@ pub fn expr_with<'a, F: Fn(&mut Cursor<'a>, u32) -> Result<Expr, Halt>>(
     or(cursor, alloc, depth, inner)
 }
 
-fn expr_if<'a, F: Fn(&mut Cursor<'a>, u32) -> Result<Expr, Halt>>(
-    cursor: &mut Cursor<'a>,
+fn expr_if<F: Fn(&mut Cursor, u32) -> Result<Expr, Halt>>(
+    cursor: &mut Cursor,
     alloc: Global,
     depth: u32,
     inner: &F,
@@ -54,8 +54,8 @@ fn expr_if<'a, F: Fn(&mut Cursor<'a>, u32) -> Result<Expr, Halt>>(
     behind_if(cursor, alloc, depth - 1, inner, pos)
 }
 
-fn behind_if<'a, F: Fn(&mut Cursor<'a>, u32) -> Result<Expr, Halt>>(
-    cursor: &mut Cursor<'a>,
+fn behind_if<F: Fn(&mut Cursor, u32) -> Result<Expr, Halt>>(
+    cursor: &mut Cursor,
     alloc: Global,
     depth: u32,
     inner: &F,
@@ -72,8 +72,8 @@ fn behind_if<'a, F: Fn(&mut Cursor<'a>, u32) -> Result<Expr, Halt>>(
 }
 
 /// What stands behind `then`.
-fn expr_branches<'a, F: Fn(&mut Cursor<'a>, u32) -> Result<Expr, Halt>>(
-    cursor: &mut Cursor<'a>,
+fn expr_branches<F: Fn(&mut Cursor, u32) -> Result<Expr, Halt>>(
+    cursor: &mut Cursor,
     alloc: Global,
     depth: u32,
     inner: &F,
@@ -89,8 +89,8 @@ fn expr_branches<'a, F: Fn(&mut Cursor<'a>, u32) -> Result<Expr, Halt>>(
 }
 
 /// An expression in a box.
-fn boxed_expr<'a, F: Fn(&mut Cursor<'a>, u32) -> Result<Expr, Halt>>(
-    cursor: &mut Cursor<'a>,
+fn boxed_expr<F: Fn(&mut Cursor, u32) -> Result<Expr, Halt>>(
+    cursor: &mut Cursor,
     alloc: Global,
     depth: u32,
     inner: &F,
@@ -103,8 +103,8 @@ fn boxed_expr<'a, F: Fn(&mut Cursor<'a>, u32) -> Result<Expr, Halt>>(
     Ok(Boxed::new(alloc, value)?)
 }
 
-fn expr_let<'a, F: Fn(&mut Cursor<'a>, u32) -> Result<Expr, Halt>>(
-    cursor: &mut Cursor<'a>,
+fn expr_let<F: Fn(&mut Cursor, u32) -> Result<Expr, Halt>>(
+    cursor: &mut Cursor,
     alloc: Global,
     depth: u32,
     inner: &F,
@@ -118,8 +118,8 @@ fn expr_let<'a, F: Fn(&mut Cursor<'a>, u32) -> Result<Expr, Halt>>(
     Ok(Expr::Let(pos, parts.0, parts.1, parts.2))
 }
 
-fn behind_let<'a, F: Fn(&mut Cursor<'a>, u32) -> Result<Expr, Halt>>(
-    cursor: &mut Cursor<'a>,
+fn behind_let<F: Fn(&mut Cursor, u32) -> Result<Expr, Halt>>(
+    cursor: &mut Cursor,
     alloc: Global,
     depth: u32,
     inner: &F,
@@ -136,8 +136,8 @@ fn behind_let<'a, F: Fn(&mut Cursor<'a>, u32) -> Result<Expr, Halt>>(
     Ok((name, value, body))
 }
 
-fn expr_case<'a, F: Fn(&mut Cursor<'a>, u32) -> Result<Expr, Halt>>(
-    cursor: &mut Cursor<'a>,
+fn expr_case<F: Fn(&mut Cursor, u32) -> Result<Expr, Halt>>(
+    cursor: &mut Cursor,
     alloc: Global,
     depth: u32,
     inner: &F,
@@ -151,8 +151,8 @@ fn expr_case<'a, F: Fn(&mut Cursor<'a>, u32) -> Result<Expr, Halt>>(
     Ok(Expr::Case(pos, parts.0, parts.1))
 }
 
-fn behind_case<'a, F: Fn(&mut Cursor<'a>, u32) -> Result<Expr, Halt>>(
-    cursor: &mut Cursor<'a>,
+fn behind_case<F: Fn(&mut Cursor, u32) -> Result<Expr, Halt>>(
+    cursor: &mut Cursor,
     alloc: Global,
     depth: u32,
     inner: &F,

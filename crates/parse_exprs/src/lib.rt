@@ -9,5 +9,6 @@ mod arms;
 mod chains;
 mod exprs;
 mod forms;
+mod links;
 
 pub use exprs::{arg, args, expr, two_args};

@@ -2,7 +2,7 @@ use Rattle.std.proofs.Common.{rules}
 use Rattle.hs_grammar.specs.Parser.{firsts, may_be_empty, read_then}
 use Rattle.rules_grammar.specs.Grammar.{and_link}
 use Rattle.parse_leaves.proofs.Steps.{steps}
-use Rattle.parse_exprs.proofs.chains.and_link.Goals as goal
+use Rattle.parse_exprs.proofs.chains.AndsLinks.link.Goals as goal
 
 pub returns-in_err-pos-clause-reads : goal.returns-in_err-pos-clause-reads
 unfolding firsts may_be_empty read_then and_link

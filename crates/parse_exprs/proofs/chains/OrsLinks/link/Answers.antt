@@ -1,17 +1,17 @@
 use Rattle.std.proofs.Common.{rules}
 use Rattle.hs_grammar.specs.Parser.{firsts, may_be_empty, read_then}
-use Rattle.rules_grammar.specs.Grammar.{product_link}
+use Rattle.rules_grammar.specs.Grammar.{or_link}
 use Rattle.parse_leaves.proofs.Steps.{steps}
-use Rattle.parse_exprs.proofs.chains.product_link.Goals as goal
+use Rattle.parse_exprs.proofs.chains.OrsLinks.link.Goals as goal
 
 pub returns-in_err-pos-clause-reads : goal.returns-in_err-pos-clause-reads
-unfolding firsts may_be_empty read_then product_link
+unfolding firsts may_be_empty read_then or_link
 returns-in_err-pos-clause-reads b c = search (rules, steps)
 
 pub returns-in_err-operand-clause-reads : goal.returns-in_err-operand-clause-reads
-unfolding firsts may_be_empty read_then product_link
+unfolding firsts may_be_empty read_then or_link
 returns-in_err-operand-clause-reads b c = search (rules, steps)
 
 pub returns-clause-reads : goal.returns-clause-reads
-unfolding firsts may_be_empty read_then product_link
+unfolding firsts may_be_empty read_then or_link
 returns-clause-reads b c = search (rules, steps)

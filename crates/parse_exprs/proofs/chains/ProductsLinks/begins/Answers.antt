@@ -1,0 +1,7 @@
+use Rattle.hs_grammar.specs.Parser.{firsts, may_be_empty, read_then}
+use Rattle.rules_grammar.specs.Grammar.{product_link}
+use Rattle.parse_exprs.proofs.chains.ProductsLinks.begins.Goals as goal
+
+pub returns : goal.returns
+unfolding firsts may_be_empty read_then product_link
+returns c = c.at_symbol.ensures
