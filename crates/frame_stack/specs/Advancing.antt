@@ -1,14 +1,16 @@
 -- What a thread on its way over the frames of a stack is (own).
-use Rattle.std.specs.Prelude.{◌≡◌, ◌≤◌, List, [], ◌++◌, length, drop}
+use Rattle.std.specs.Prelude.{◌≡◌, ℕ, ◌≤◌, List, [], ◌++◌, length, drop, Option}
 use Rattle.hs_base.specs.declared.mask.Mask.{Mask}
 use Rattle.rules_trees.specs.Programs.{script_of}
 use Rattle.rules_sorts.specs.TypedMeaning.{any_cell}
 use Rattle.rules_code.specs.declared.code.CodeBody.{CodeBody}
 use Rattle.hs_rules.specs.Terms.{Term}
 use Rattle.slot_laws.specs.Standing.{Stands}
-use Rattle.slot_laws.specs.SlotRules.{SlotPart, ret, throw, doing, performs}
+use Rattle.slot_laws.specs.SlotRules.{SlotPart, ret, throw, doing, performs, SlotTerm, at, local, locals}
+use Rattle.local_steps.specs.declared.active.Active.{Active}
 use Rattle.local_steps.specs.declared.active.Frame.{Frame}
 use Rattle.local_steps.specs.Frames.{mask_inside}
+use Rattle.local_steps.specs.Machine.{active_of, frames_of, funs_of}
 use Rattle.frame_stack.specs.declared.advancing.Walk.{Walk}
 use Rattle.frame_stack.specs.Parts.{Stacked, term_of}
 
@@ -26,6 +28,18 @@ IsBare (performs p) fs = ⊥
 -- its frames: those of its own, and those of the stack that are left
 abbrev pub over_frames : Walk → List Frame → List Frame
 over_frames w fs = w.own.list ++ drop w.gone fs
+
+-- the term that it is at
+abbrev pub walk_term : CodeBody → Walk → List Frame → SlotTerm
+walk_term b w fs = at (active_of b w.part) (frames_of b (over_frames w fs))
+
+-- what its next rule gives, over the frames of a stack that stand in this masking state
+abbrev pub walk_step : CodeBody → Mask → Walk → List Frame → Option SlotTerm
+walk_step b s w fs = local (funs_of b) s (active_of b w.part) (frames_of b (over_frames w fs))
+
+-- what so many rules give of an active part over such frames
+abbrev pub rules_from : CodeBody → Mask → ℕ → Active → List Frame → Option SlotTerm
+rules_from b s k p fs = locals (funs_of b) s k (at (active_of b p) (frames_of b fs))
 
 -- its own frames stand in the masking state inside the stack's frames that are left
 pub record IsOver (s : Mask) (fs : List Frame) (w : Walk) : Type 0 where

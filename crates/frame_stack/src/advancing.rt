@@ -10,7 +10,7 @@ ghost use Rattle.slot_laws.specs.SlotRules.{at, local, locals};
 ghost use Rattle.local_steps.specs.Machine.{active_of, frames_of, funs_of};
 ghost use Rattle.frame_stack.specs.Parts.{part_of, term_of, IsOp};
 ghost use Rattle.frame_stack.specs.Slicing.{Fits};
-ghost use Rattle.frame_stack.specs.Advancing.{MayAdvance, IsBare, IsOver, over_frames};
+ghost use Rattle.frame_stack.specs.Advancing.{MayAdvance, IsBare, IsOver, over_frames, rules_from, walk_step, walk_term};
 
 use crate::control::Control;
 use crate::running::control;
@@ -143,8 +143,8 @@ fn turn(
 ) -> Result<bool, NoMemory>
     requires over { IsOver frames.now.below frames.now.list walk.old }
     ensures over { IfOk result (λ done. IsTrue done → IsOver frames.now.below frames.now.list walk.new) }
-    ensures rule { IfOk result (λ done. IsTrue done → local (funs_of body.now) frames.now.below (active_of body.now walk.old.part) (frames_of body.now (over_frames walk.old frames.now.list)) ≡ Some (at (active_of body.now walk.new.part) (frames_of body.now (over_frames walk.new frames.now.list)))) }
-    ensures none { IfOk result (λ done. (done ≡ false) → local (funs_of body.now) frames.now.below (active_of body.now walk.old.part) (frames_of body.now (over_frames walk.old frames.now.list)) ≡ None) }
+    ensures rule { IfOk result (λ done. IsTrue done → walk_step body.now frames.now.below walk.old frames.now.list ≡ Some (walk_term body.now walk.new frames.now.list)) }
+    ensures none { IfOk result (λ done. (done ≡ false) → walk_step body.now frames.now.below walk.old frames.now.list ≡ None) }
 {
     if !framed(alloc, frames, walk)? {
         return Ok(false);
@@ -160,7 +160,7 @@ fn walked(
     frames: &Frames,
     k: u32,
 ) -> Result<Option<Walk>, NoMemory>
-    ensures { IfOk result (λ found. MatchOption found (locals (funs_of body.now) frames.now.below k (at (active_of body.now start) (frames_of body.now frames.now.list)) ≡ None) (λ w. IsOver frames.now.below frames.now.list w × (locals (funs_of body.now) frames.now.below k (at (active_of body.now start) (frames_of body.now frames.now.list)) ≡ Some (at (active_of body.now w.part) (frames_of body.now (over_frames w frames.now.list)))))) }
+    ensures { IfOk result (λ found. MatchOption found (rules_from body.now frames.now.below k start frames.now.list ≡ None) (λ w. IsOver frames.now.below frames.now.list w × (rules_from body.now frames.now.below k start frames.now.list ≡ Some (walk_term body.now w frames.now.list)))) }
 {
     let mut walk = Walk {
         part: start,

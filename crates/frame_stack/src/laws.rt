@@ -1,25 +1,22 @@
 //! What a stack is of a term with names.
 
-ghost use Rattle.std.specs.Prelude.{◌≡◌, ℕ, List, Option, Some, length};
+ghost use Rattle.std.specs.Prelude.{◌≡◌, List, Option, length};
 ghost use Rattle.hs_base.specs.declared.mask.Mask.TheVariants.{Unmasked};
 ghost use Rattle.hs_base.specs.declared.exn.Exn.{Exn};
-ghost use Rattle.rules_trees.specs.Programs.{Fn, script_of};
+ghost use Rattle.rules_trees.specs.Programs.{Fn};
 ghost use Rattle.rules_expansion.specs.declared.primitive.Primitive.{Primitive};
 ghost use Rattle.rules_meaning.specs.Values.{V};
-ghost use Rattle.rules_meaning.specs.CoreMeaning.{code_of};
 ghost use Rattle.rules_sorts.specs.Sorts.{Sort};
 ghost use Rattle.rules_code.specs.declared.code.CodeBody.{CodeBody};
-ghost use Rattle.rules_code.specs.CodeTrees.{StandsFor};
 ghost use Rattle.hs_rules.specs.Terms as named;
-ghost use Rattle.hs_rules.specs.Terms.{Ret, Throw, Performs, Calls, Term, mask_at};
-ghost use Rattle.hs_rules.specs.LocalRules as rules;
+ghost use Rattle.hs_rules.specs.Terms.{Ret, Throw, Performs, Calls, mask_at};
 ghost use Rattle.hs_progress.specs.TypedStates.{Store};
-ghost use Rattle.slot_laws.specs.SlotRules.{ret, throw, performs, calls, locals};
-ghost use Rattle.slot_laws.specs.Standing.{cells_of, PartStands, FramesStand, Stands};
+ghost use Rattle.slot_laws.specs.SlotRules.{ret, throw, performs, calls};
+ghost use Rattle.slot_laws.specs.Standing.{cells_of, PartStands, FramesStand};
 ghost use Rattle.local_steps.specs.declared.active.Frame.{Frame};
 ghost use Rattle.local_steps.specs.Frames.{mask_inside};
-ghost use Rattle.local_steps.specs.Machine.{frames_of, funs_of};
-ghost use Rattle.frame_stack.specs.Parts.{Stacked, term_of};
+ghost use Rattle.local_steps.specs.Machine.{frames_of};
+ghost use Rattle.frame_stack.specs.Laws.{StackRulesAreTermRules};
 
 /// Where the frames of a stack stand for frames with names, they are as many, and the masking state inside them is the same.
 /// Where its part stands for one with names, a value is that value, an exception that exception, a primitive with values
@@ -34,5 +31,5 @@ pub fn stacks_are_terms()
 
 /// Local rules of a stack are local rules of each term with names that it stands for, and it stands for the term after them.
 pub fn stacks_move_as_terms()
-    ensures { (store : Option Store) (b : CodeBody) → StandsFor b.nodes b.acts b.funs b.main b.of.value → (k : ℕ) (s u : Stacked) (t : Term) → Stands (cells_of store) (script_of b.of.value) (term_of b s) t → locals (funs_of b) Unmasked k (term_of b s) ≡ Some (term_of b u) → (v : Term) × (rules.locals (code_of (script_of b.of.value)) k t ≡ Some v) × Stands (cells_of store) (script_of b.of.value) (term_of b u) v }
+    ensures { StackRulesAreTermRules }
 {}

@@ -29,32 +29,41 @@ pub struct Ran {
     pub steps: u32,
 }
 
+/// What a job lets its slice do.
+#[derive(Clone, Copy)]
+pub struct SliceBounds {
+    /// The masking state of its thread.
+    pub mask: Mask,
+    /// So many rules at most.
+    pub budget: u32,
+    /// It is cut by this one.
+    pub ticket: u64,
+}
+
 /// Some local rules of an action alone: the budget, or as many as it goes on.
 pub fn run<C: Cutter>(
     alloc: Global,
     body: &CodeBody,
     start: Active,
-    mask: Mask,
-    budget: u32,
-    ticket: u64,
+    bounds: SliceBounds,
     cutter: &mut C,
 ) -> Result<Ran, SliceFault>
-    requires may { ∥ MayGo body.now mask (active_of body.now start) [] ∥₁ }
+    requires may { ∥ MayGo body.now bounds.mask (active_of body.now start) [] ∥₁ }
     requires doing { Stops (active_of body.now start) [] → ⊥ }
-    requires budget { 0 < budget }
-    ensures moves { IfOk result (λ r. locals (funs_of body.now) mask r.steps (at (active_of body.now start) []) ≡ Some (at (active_of body.now r.end) (frames_of body.now r.pushed.list))) }
-    ensures under { IfOk result (λ r. r.pushed.below ≡ mask) }
-    ensures steps { IfOk result (λ r. (0 < r.steps) × (r.steps ≤ budget)) }
-    ensures stops { IfOk result (λ r. Stops (active_of body.now r.end) r.pushed.list ⊎ (r.steps ≡ budget)) }
-    ensures may { IfOk result (λ r. ∥ MayGo body.now mask (active_of body.now r.end) (frames_of body.now r.pushed.list) ∥₁) }
-    ensures cut { IfErr result (Cuts ticket (C.last cutter.new)) }
+    requires budget { 0 < bounds.budget }
+    ensures moves { IfOk result (λ r. locals (funs_of body.now) bounds.mask r.steps (at (active_of body.now start) []) ≡ Some (at (active_of body.now r.end) (frames_of body.now r.pushed.list))) }
+    ensures under { IfOk result (λ r. r.pushed.below ≡ bounds.mask) }
+    ensures steps { IfOk result (λ r. (0 < r.steps) × (r.steps ≤ bounds.budget)) }
+    ensures stops { IfOk result (λ r. Stops (active_of body.now r.end) r.pushed.list ⊎ (r.steps ≡ bounds.budget)) }
+    ensures may { IfOk result (λ r. ∥ MayGo body.now bounds.mask (active_of body.now r.end) (frames_of body.now r.pushed.list) ∥₁) }
+    ensures cut { IfErr result (Cuts bounds.ticket (C.last cutter.new)) }
 {
     let mut active = start;
-    let mut frames = Frames::new(alloc, mask);
+    let mut frames = Frames::new(alloc, bounds.mask);
     let mut spare = Spare::new(alloc);
-    for done in 0..budget {
+    for done in 0..bounds.budget {
         if done % LOOK == 0 {
-            look(ticket, cutter)?;
+            look(bounds.ticket, cutter)?;
         }
         step_on(alloc, body, &mut active, &mut frames, &mut spare)?;
         if stopped(&active, &frames) {
@@ -68,7 +77,7 @@ pub fn run<C: Cutter>(
     Ok(Ran {
         pushed: frames,
         end: active,
-        steps: budget,
+        steps: bounds.budget,
     })
 }
 

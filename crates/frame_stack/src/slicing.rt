@@ -6,7 +6,7 @@ ghost use Rattle.frame_stack.specs.Slicing.{Cuts, Stops};
 
 use crate::fault::SliceFault;
 use crate::job::Job;
-use crate::running::{Ran, active, control, run};
+use crate::running::{SliceBounds, Ran, active, control, run};
 use crate::sliced::Slice;
 use hs_io::Cutter;
 use rules_code::{Code, CodeBody};
@@ -44,7 +44,12 @@ pub fn slice<C: Cutter>(
         of,
     } = job;
     let first = active(alloc, &start)?;
-    let ran = run(alloc, body(code), first, mask, budget, ticket, cutter)?;
+    let bounds = SliceBounds {
+        mask,
+        budget,
+        ticket,
+    };
+    let ran = run(alloc, body(code), first, bounds, cutter)?;
     let Ran { pushed, end, steps } = ran;
     let end = control(end);
     Ok(Slice {

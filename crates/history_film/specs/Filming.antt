@@ -9,7 +9,7 @@ use Rattle.rules_meaning.specs.Values.{V}
 use Rattle.rules_meaning.specs.Values as val
 use Rattle.rules_meaning.specs.CoreMeaning.{Code, code_of}
 use Rattle.rules_expansion.specs.declared.primitive.Primitive.{Primitive}
-use Rattle.rules_expansion.specs.declared.primitive.Primitive.TheVariants.{PutStr, PutStrLn, HPutStrLn, NewMVar, NewEmptyMVar, TakeMVar, PutMVar, ReadMVar, TryTakeMVar, TryPutMVar, ThreadDelay, ThrowTo, Acquired, Release}
+use Rattle.rules_expansion.specs.declared.primitive.Primitive.TheVariants.{PutStr, PutStrLn, HPutStrLn, NewMVar, NewEmptyMVar, TakeMVar, PutMVar, ReadMVar, TryTakeMVar, TryPutMVar, MyThreadId, GetMaskingState, ClockMicros, ThreadDelay, ThrowTo, NewTimeout, Acquired, Release}
 use Rattle.rules_waiting.specs.Waiting.{Reason, Taking, Reading, Putting, Throwing, Sleeping, reason_of, flight_of, flying_to, first_thrown}
 use Rattle.hs_rules.specs.Terms.{Operation, Calls, Forks, ForksUnmask, Part, Ret, Throw, Do, Performs, mask_at}
 use Rattle.hs_rules.specs.State.{Thread, State}
@@ -72,7 +72,7 @@ abbrev pub on_throw : List V → Deed
 on_throw (val.Thread u ∷ vs) = on_exn (λ e. deed.Throws u e) vs
 on_throw _ = deed.Asks
 
--- what only asks isn't named here
+-- Each is named, so that a new one is shown as somebody decided.
 abbrev pub primitive_deed : Primitive → List V → Deed
 primitive_deed PutStr vs = on_text (λ x. deed.Prints x) vs
 primitive_deed PutStrLn vs = on_text (λ x. deed.Prints x) vs
@@ -84,11 +84,14 @@ primitive_deed PutMVar vs = on_cell (λ m. deed.Puts m) vs
 primitive_deed ReadMVar vs = on_cell (λ m. deed.Reads m) vs
 primitive_deed TryTakeMVar vs = on_cell (λ m. deed.TriesToTake m) vs
 primitive_deed TryPutMVar vs = on_cell (λ m. deed.TriesToPut m) vs
+primitive_deed MyThreadId vs = deed.Asks
+primitive_deed GetMaskingState vs = deed.Asks
+primitive_deed ClockMicros vs = deed.Asks
+primitive_deed NewTimeout vs = deed.Asks
 primitive_deed ThreadDelay vs = deed.Delays
 primitive_deed ThrowTo vs = on_throw vs
 primitive_deed Acquired vs = deed.Acquires
 primitive_deed Release vs = deed.Releases
-primitive_deed _ vs = deed.Asks
 
 abbrev pub deed_of : Operation → Deed
 deed_of (Calls p vs) = primitive_deed p vs

@@ -1,5 +1,5 @@
 -- Frames in memory: a list that stands in a masking state (own).
-use Rattle.std.specs.Prelude.{◌≡◌, ◌<◌, ◌^◌, List, [], ◌∷◌, length}
+use Rattle.std.specs.Prelude.{◌≡◌, ℕ, ◌+◌, ◌<◌, ◌^◌, List, [], ◌∷◌, drop, length}
 use Rattle.hs_base.specs.declared.mask.Mask.{Mask}
 use Rattle.local_steps.specs.declared.active.Frame.{Frame}
 use Rattle.local_steps.specs.declared.active.Frame.TheVariants as f
@@ -35,6 +35,11 @@ IsIn s (f.Mask m) = m.outside ≡ s
 abbrev pub IsNested : Mask → List Frame → Type 0
 IsNested s [] = Unit {0}
 IsNested s (f ∷ fs) = IsIn (mask_inside s fs) f × IsNested s fs
+
+-- a copy of the frame that has so many others inside of it, alone in the masking state outside of it
+abbrev pub IsOneFrame : Framed → ℕ → Framed → Type 0
+IsOneFrame all inner one =
+    (f : Frame) × (drop inner all.list ≡ f ∷ drop (inner + 1) all.list) × (one ≡ framed (mask_inside all.below (drop (inner + 1) all.list)) (f ∷ []))
 
 -- what always holds of frames: the state inside them is known, and they are less than 2^32
 pub record AreFrames (below mask : Mask) (list : List Frame) : Type 0 where

@@ -1,9 +1,11 @@
 -- What active parts and frames of a code stand for: terms with slots (own).
 use Rattle.std.specs.Prelude.{ℕ, List, [], ◌∷◌, Option, Some, None, take}
 use Rattle.rules_meaning.specs.Values.{value_of, values_of}
+use Rattle.rules_code.specs.declared.act.Act.{Act}
 use Rattle.rules_code.specs.declared.act.ActId.{ActId}
 use Rattle.rules_code.specs.declared.code.CodeBody.{CodeBody}
-use Rattle.rules_code.specs.CodeTrees.{Sa, act_in, act_trees, act_tree_at, SlottedFunction, functions_at}
+use Rattle.rules_code.specs.Slots.{trees}
+use Rattle.rules_code.specs.CodeTrees.{Sa, act_decode, act_in, act_trees, act_tree_at, SlottedFunction, functions_at}
 use Rattle.slot_laws.specs.SlotRules.{calls, forks, forks_unmask, SlotPart, ret, throw, doing, performs, SlotFrame, bind_to, then_to, catch_by, mask_in, SlotTerm, at}
 use Rattle.local_steps.specs.declared.active.Active.{Active}
 use Rattle.local_steps.specs.declared.active.Active.TheVariants as a
@@ -23,6 +25,10 @@ act_of b i = act_tree_at b.nodes b.acts i
 -- a part of the action with the number `above`: its number is lower
 abbrev pub below_of : CodeBody → ℕ → ActId → Sa
 below_of b above i = act_in (take above (act_trees b.nodes b.acts)) i
+
+-- an action with the number `above`, as it stands over those with lower numbers
+abbrev pub decoded_above : CodeBody → ℕ → Act → Sa
+decoded_above b above k = act_decode (trees b.nodes) (take above (act_trees b.nodes b.acts)) k
 
 abbrev pub active_of : CodeBody → Active → SlotPart
 active_of b (a.Doing i vs) = doing (act_of b i) (values_of vs)

@@ -24,8 +24,8 @@ pub struct Parts<'a> {
 impl Parts<'_> {
     /// A part, whose number is lower. One that isn't lower stands for nothing.
     #[tactic(auto, using(slot_laws::proofs::ActNodes::act_rules))]
-    pub fn at(&self, part: ActId) -> ActId
-        ensures { act_of self.now.body.now result ≡ below_of self.now.body.now self.now.above part }
+    pub fn at(self, part: ActId) -> ActId
+        ensures { act_of self.entry.body.now result ≡ below_of self.entry.body.now self.entry.above part }
     {
         if part.0 < self.above {
             part

@@ -4,7 +4,7 @@ ghost use Rattle.hs_base.specs.declared.mask.Mask.{Mask};
 ghost use Rattle.hs_base.specs.declared.mask.Mask.TheVariants.{Masked};
 ghost use Rattle.local_steps.specs.declared.active.Frame.{Frame};
 ghost use Rattle.local_steps.specs.declared.active.Frame.TheVariants as kind;
-ghost use Rattle.local_steps.specs.Frames.{framed, mask_inside, IsScope, IsHandler, IsIn, IsNested, masking};
+ghost use Rattle.local_steps.specs.Frames.{framed, mask_inside, IsOneFrame, IsScope, IsHandler, IsIn, IsNested, masking};
 
 use crate::active::{Frame, Masking};
 use hs_base::{Mask, NoMemory};
@@ -170,7 +170,7 @@ impl Frames {
     /// are no so many. The masking state inside of it is handed in, so nothing is looked for.
     pub fn alone(&self, alloc: Global, inner: u32, inside: Mask) -> Result<Option<Frames>, NoMemory>
         requires { inside ≡ mask_inside self.now.below (drop inner self.now.list) }
-        ensures { IfOk result (λ found. MatchOption found (drop inner self.now.list ≡ []) (λ fs. (f : Frame) × (drop inner self.now.list ≡ f ∷ drop (inner + 1) self.now.list) × (fs ≡ framed (mask_inside self.now.below (drop (inner + 1) self.now.list)) (f ∷ [])))) }
+        ensures { IfOk result (λ found. MatchOption found (drop inner self.now.list ≡ []) (IsOneFrame self.now inner)) }
     {
         let inner = inner as usize;
         let count = self.frames.len();

@@ -2,13 +2,13 @@
 //! its environment alone, so the part isn't moved, and no frame is touched.
 //!
 //! This is the quick way; `stepping` has all rules.
-ghost use Rattle.std.specs.Prelude.{◌≡◌, List, None, Some, IfOk, IfSome, IsTrue, length, slice_get};
+ghost use Rattle.std.specs.Prelude.{◌≡◌, List, Some, IfOk, IfSome, IsTrue, length, slice_get};
 ghost use Rattle.hs_base.specs.declared.mask.Mask.{Mask};
 ghost use Rattle.rules_meaning.specs.Values.{V, values_of};
-ghost use Rattle.rules_code.specs.Slots.{run, run_all, trees, tree_at, trees_in};
 ghost use Rattle.slot_laws.specs.SlotRules as rules;
 ghost use Rattle.slot_laws.specs.SlotRules.{SlotFrame, at, doing, just_part, local};
-ghost use Rattle.local_steps.specs.Machine.{act_of, active_of, below_of, funs_of};
+ghost use Rattle.local_steps.specs.InPlace.{GoesToArm, GoesToBody};
+ghost use Rattle.local_steps.specs.Machine.{act_of, active_of, funs_of};
 
 use crate::active::Active;
 use crate::acts::{Parts, act_at};
@@ -19,6 +19,13 @@ use hs_items::Items;
 use rules_code::{Act, ActId, CodeBody, ExprId, Fun};
 use slot_env::{Env, Spare};
 use std::alloc::Global;
+
+/// The number of a function, and its arguments.
+#[derive(Clone, Copy)]
+struct Called<'a> {
+    function: u32,
+    args: &'a Items<ExprId>,
+}
 
 /// Does the local rule of such an action, a call with its arguments in spare memory. Whether it did: else the part is as before.
 pub fn step_in_place(
@@ -35,20 +42,20 @@ pub fn step_in_place(
     };
     match act_at(body, *at) {
         Some(Act::If(e, i, j)) => Ok(branch(body, at, *e, *i, *j, env)),
-        Some(Act::Call(f, ids)) => match call(alloc, body, *f, ids, env, spare)? {
-            None => Ok(false),
-            Some(first) => {
-                *at = first;
-                Ok(true)
-            }
-        },
+        Some(Act::Call(function, args)) => {
+            let called = Called {
+                function: *function,
+                args,
+            };
+            call(alloc, body, called, at, env, spare)
+        }
         _ => Ok(false),
     }
 }
 
 /// `if`
 fn branch(body: &CodeBody, at: &mut ActId, e: ExprId, i: ActId, j: ActId, env: &Env) -> bool
-    ensures rule { IsTrue result → rules.on_value (run (tree_at body.now.nodes e) (values_of env.now)) (rules.chosen (below_of body.now at.old.0 i) (below_of body.now at.old.0 j) (values_of env.now)) ≡ just_part (doing (act_of body.now at.new) (values_of env.now)) }
+    ensures rule { IsTrue result → GoesToArm body.now at.old.0 e i j (values_of env.now) at.new }
     ensures same { (IsTrue result → ⊥) → at.new ≡ at.old }
 {
     match env.test(&body.nodes, e) {
@@ -72,28 +79,30 @@ fn fun_for(body: &CodeBody, f: u32, count: usize) -> Option<Fun>
     }
 }
 
-/// `f e ..`, whose arguments are the environment from then on. The body of the function, or nothing, where all is as before.
+/// `f e ..`, whose arguments are the environment from then on, and whose function's body is the action. Whether it did: else all is
+/// as before.
 #[tactic(auto, using(slot_laws::proofs::ActNodes::values_count))]
 fn call(
     alloc: Global,
     body: &CodeBody,
-    f: u32,
-    ids: &Items<ExprId>,
+    called: Called,
+    at: &mut ActId,
     env: &mut Env,
     spare: &mut Spare,
-) -> Result<Option<ActId>, NoMemory>
-    ensures rule { IfOk result (λ next. IfSome next (λ to. rules.on_values (run_all (trees_in (trees body.now.nodes) ids.now) (values_of env.old)) (rules.called (slice_get (funs_of body.now) f)) ≡ just_part (doing (act_of body.now to) (values_of env.new)))) }
-    ensures same { IfOk result (λ next. next ≡ None → env.new ≡ env.old) }
+) -> Result<bool, NoMemory>
+    ensures rule { IfOk result (λ done. IsTrue done → GoesToBody body.now called.entry.function called.entry.args.now (values_of env.old) at.new (values_of env.new)) }
+    ensures same { IfOk result (λ done. (IsTrue done → ⊥) → (at.new ≡ at.old) × (env.new ≡ env.old)) }
 {
     let room = spare.take(alloc);
-    let FoundAll::Values(args) = eval_all(alloc, &body.nodes, ids, env, room)? else {
-        return Ok(None);
+    let FoundAll::Values(args) = eval_all(alloc, &body.nodes, called.args, env, room)? else {
+        return Ok(false);
     };
-    match fun_for(body, f, args.len()) {
-        None => Ok(None),
+    match fun_for(body, called.function, args.len()) {
+        None => Ok(false),
         Some(fun) => {
             env.refill(alloc, args, spare)?;
-            Ok(Some(fun.body))
+            *at = fun.body;
+            Ok(true)
         }
     }
 }

@@ -10,7 +10,7 @@ ghost use Rattle.slot_laws.specs.SlotRules as rules;
 ghost use Rattle.slot_laws.specs.SlotRules.{at, just_part, performs, forks, forks_unmask, on_top, first_step, bind_to, then_to, catch_by, mask_in, doing, local};
 ghost use Rattle.local_steps.specs.declared.active.StepResult.TheVariants as next;
 ghost use Rattle.local_steps.specs.Frames.{mask_inside};
-ghost use Rattle.local_steps.specs.Machine.{act_of, active_of, frames_of, next_of, alone_of, funs_of};
+ghost use Rattle.local_steps.specs.Machine.{act_of, active_of, decoded_above, frames_of, next_of, alone_of, funs_of};
 
 use crate::active::{Active, Frame, StepResult};
 use crate::acts::{Parts, act_at};
@@ -174,7 +174,7 @@ fn act_step(
     env: Env,
     frames: &mut Frames,
 ) -> Result<StepResult, NoMemory>
-    ensures rule { IfOk result (λ n. next_of body.now n frames.new.list ≡ on_top (frames_of body.now frames.old.list) (first_step (funs_of body.now) (mask_inside frames.old.below frames.old.list) (act_decode (trees body.now.nodes) (take above (act_trees body.now.nodes body.now.acts)) act.now) (values_of env))) }
+    ensures rule { IfOk result (λ n. next_of body.now n frames.new.list ≡ on_top (frames_of body.now frames.old.list) (first_step (funs_of body.now) (mask_inside frames.old.below frames.old.list) (decoded_above body.now above act.now) (values_of env))) }
     ensures below { frames.new.below ≡ frames.old.below }
     ensures stuck { IfOk result (λ n. n ≡ next.Stuck → frames.new ≡ frames.old) }
     ensures err { OnErr result (frames.new ≡ frames.old) }

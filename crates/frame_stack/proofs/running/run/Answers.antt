@@ -13,7 +13,7 @@ loop-done-init g c =
     record {
       moves = ap (λ (z : Framed). Some (at (active_of b c.args.start) (frames_of b z.list))) e;
       under = ap (λ (z : Framed). z.below) c.new-frames.ensures;
-      may = subst (λ (z : Framed). ∥ MayGo b c.args.mask (active_of b c.args.start) (frames_of b z.list) ∥₁) e c.requires.may;
+      may = subst (λ (z : Framed). ∥ MayGo b c.args.bounds.mask (active_of b c.args.start) (frames_of b z.list) ∥₁) e c.requires.may;
       goes = subst (λ (z : Framed). Stops (active_of b c.args.start) z.list → ⊥) e c.requires.doing;
     }
 
@@ -26,7 +26,7 @@ pub returns-then-stopped-clause-moves : goal.returns-then-stopped-clause-moves
 returns-then-stopped-clause-moves g c =
     let b = c.args.body.now in
     let l = c.loop-done in
-    one_further b c.args.mask l.frames.below l.done (active_of b c.args.start) (active_of b l.active) (active_of b c.step_on.new.active) (frames_of b l.frames.list) (frames_of b c.step_on.new.frames.list)
+    one_further b c.args.bounds.mask l.frames.below l.done (active_of b c.args.start) (active_of b l.active) (active_of b c.step_on.new.active) (frames_of b l.frames.list) (frames_of b c.step_on.new.frames.list)
     l.invariant.under l.invariant.moves (c.in_ok-step_on.ensures {u = tt}).rule
 
 pub returns-then-stopped-clause-may : goal.returns-then-stopped-clause-may
@@ -40,7 +40,7 @@ loop-done-preserved g c =
     let l = c.loop-done in
     let told = c.in_ok-step_on.ensures {u = tt} in
     record {
-      moves = one_further b c.args.mask l.frames.below l.done (active_of b c.args.start) (active_of b l.active) (active_of b c.step_on.new.active) (frames_of b l.frames.list) (frames_of b c.step_on.new.frames.list)
+      moves = one_further b c.args.bounds.mask l.frames.below l.done (active_of b c.args.start) (active_of b l.active) (active_of b c.step_on.new.active) (frames_of b l.frames.list) (frames_of b c.step_on.new.frames.list)
           l.invariant.under l.invariant.moves told.rule;
       under = told.below ∙ l.invariant.under;
       may = subst (λ m. ∥ MayGo b m (active_of b c.step_on.new.active) (frames_of b c.step_on.new.frames.list) ∥₁) l.invariant.under told.may;

@@ -6,8 +6,8 @@ use Rattle.frame_stack.proofs.running.run.Given as goal
 
 abbrev pub invariant-loop-done : goal.invariant-loop-done
 invariant-loop-done g l = record {
-  moves : locals (funs_of l.body) l.fn.mask l.done (at (active_of l.body l.fn.start) []) ≡ Some (at (active_of l.body l.active) (frames_of l.body l.frames.list));
-  under : l.frames.below ≡ l.fn.mask;
-  may : ∥ MayGo l.body l.fn.mask (active_of l.body l.active) (frames_of l.body l.frames.list) ∥₁;
+  moves : locals (funs_of l.body) l.fn.bounds.mask l.done (at (active_of l.body l.fn.start) []) ≡ Some (at (active_of l.body l.active) (frames_of l.body l.frames.list));
+  under : l.frames.below ≡ l.fn.bounds.mask;
+  may : ∥ MayGo l.body l.fn.bounds.mask (active_of l.body l.active) (frames_of l.body l.frames.list) ∥₁;
   goes : Stops (active_of l.body l.active) l.frames.list → ⊥;
 }
