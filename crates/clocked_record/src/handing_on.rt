@@ -9,7 +9,7 @@ ghost use Rattle.thread_table.specs.Table.{IsAt};
 ghost use Rattle.world_entries.specs.Worlds.{Goes, Starts};
 ghost use Rattle.run_record.specs.declared.acts.Next.TheVariants as next;
 ghost use Rattle.run_record.specs.Acts.{entry_of};
-ghost use Rattle.run_record.specs.Records.{IsNext, Same, Appended, Prints, WouldExceed};
+ghost use Rattle.run_record.specs.Records.{IsAccepted, IsNext, Same, Appended, Prints, WouldExceed};
 
 use crate::clocked::Clocked;
 use frame_stack::Slice;
@@ -50,7 +50,7 @@ impl<K: Clock> Clocked<K> {
         requires code { slice.of.value ≡ self.old.record.of.value }
         requires starts { Starts slice self.old.record.world }
         requires fuel { steps_of self.old.record.history.list + slice.steps ≤ self.old.record.fuel }
-        ensures ok { IfOk result (λ over. MatchOption over (Appended (entry.Local slice.tid slice.steps) self.old.record self.new.record) (λ kind. (kind ≡ limit.Frames) × Same self.old.record self.new.record × WouldExceed kind (entry.Local slice.tid slice.steps) self.old.record)) }
+        ensures ok { IfOk result (λ over. IsAccepted slice over self.old.record self.new.record) }
         ensures err { OnErr result (Same self.old.record self.new.record) }
         ensures clock { self.new.clock ≡ self.old.clock }
         ensures lent { self.new.lent ≡ self.old.lent }

@@ -1,7 +1,8 @@
 -- What a clause says of the hands and of one hand.
-use Rattle.std.specs.Prelude.{◌≡◌, ℕ, ◌+◌, ◌<◌, List, length, Option, Some, if◌then◌else◌, ◌==◌}
+use Rattle.std.specs.Prelude.{◌≡◌, ℕ, ◌+◌, ◌<◌, List, [], ◌∷◌, ◌++◌, length, Option, Some, if◌then◌else◌, ◌==◌}
 use Rattle.rules_code.specs.declared.code.CodeBody.{CodeBody}
 use Rattle.ticket_queues.specs.declared.view.QueueView.{QueueView}
+use Rattle.ticket_queues.specs.QueueRule.{SameTickets}
 use Rattle.ticket_queues.specs.Deques.{deque_view}
 use Rattle.ticket_queues.specs.Inboxes.{IsInboxPass, inbox_view}
 use Rattle.cut_flags.specs.declared.view.Reading.{Reading}
@@ -81,3 +82,12 @@ module _ {J S : Type 0} (number : J → ℕ) (belongs : J → CodeBody) where
   -- there is a state that meets the rule of the deque at `from`, with this hand's view, in which the deque is empty
   abbrev pub FoundEmpty : ℕ → Hand J S → Type 0
   FoundEmpty from x = EmptyAt number belongs from x.jobs
+
+  -- this job was taken: it belongs to the code, and its ticket joins those that the hand took
+  abbrev pub TookJob : CodeBody → Hand J S → Hand J S → J → Type 0
+  TookJob code x y j = (belongs j ≡ code) × (pushed_by y ≡ pushed_by x) × SameTickets (taken_by y) (taken_by x ++ number j ∷ [])
+
+module _ {J S : Type 0} (number : S → ℕ) (belongs : S → CodeBody) where
+  -- this slice was taken: it belongs to the code, and its ticket joins those that the hand collected
+  abbrev pub CollectedSlice : CodeBody → Hand J S → Hand J S → S → Type 0
+  CollectedSlice code x y s = (belongs s ≡ code) × (handed_in_by y ≡ handed_in_by x) × (collected_by y ≡ collected_by x ++ number s ∷ [])

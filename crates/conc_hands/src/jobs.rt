@@ -1,7 +1,7 @@
 //! The calls on jobs.
 ghost use Rattle.std.specs.Prelude.{◌≡◌, ◌≢◌, ◌-◌, ◌<◌, ◌↔◌, ◌∷◌, ◌++◌, [], OnOk, IfErr, IsNone, MatchOption};
 ghost use Rattle.ticket_queues.specs.QueueRule.{SameTickets, MetEmpty};
-ghost use Rattle.conc_hands.specs.Hands.{hands_code, hands_count, IsHandOf, number_of, room_of, pushed_by, taken_by, own_view, SameJobs, SameSlices, SameFlags, FoundEmpty};
+ghost use Rattle.conc_hands.specs.Hands.{hands_code, hands_count, IsHandOf, number_of, room_of, pushed_by, taken_by, own_view, SameJobs, SameSlices, SameFlags, FoundEmpty, TookJob};
 
 use crate::ends::steal_at;
 use crate::hand::Hand;
@@ -43,7 +43,7 @@ impl<J: Ticketed, S: Ticketed> Hands<J, S> {
     pub fn pop(&self, hand: &mut Hand<J, S>) -> Option<J>
         requires { IsHandOf self.now hand.old }
         ensures hand { IsHandOf self.now hand.new × (number_of hand.new ≡ number_of hand.old) × (room_of hand.new ≡ room_of hand.old) }
-        ensures job { MatchOption result (SameJobs hand.old hand.new × MetEmpty J.number J.belongs (own_view hand.old)) (λ x. (J.belongs x ≡ hands_code self.now) × (pushed_by hand.new ≡ pushed_by hand.old) × SameTickets (taken_by hand.new) (taken_by hand.old ++ J.number x ∷ [])) }
+        ensures job { MatchOption result (SameJobs hand.old hand.new × MetEmpty J.number J.belongs (own_view hand.old)) (TookJob J.number J.belongs (hands_code self.now) hand.old hand.new) }
         ensures alone { hands_count self.now ≡ 1 → IsNone result ↔ SameTickets (pushed_by hand.old) (taken_by hand.old) }
         ensures others { SameSlices hand.old hand.new × SameFlags hand.old hand.new }
     {
@@ -55,7 +55,7 @@ impl<J: Ticketed, S: Ticketed> Hands<J, S> {
         requires hand { IsHandOf self.now hand.old }
         requires from { (from < hands_count self.now) × (from ≢ number_of hand.old) }
         ensures hand { IsHandOf self.now hand.new × (number_of hand.new ≡ number_of hand.old) × (room_of hand.new ≡ room_of hand.old) }
-        ensures job { MatchOption result (SameJobs hand.old hand.new × FoundEmpty J.number J.belongs from hand.old) (λ x. (J.belongs x ≡ hands_code self.now) × (pushed_by hand.new ≡ pushed_by hand.old) × SameTickets (taken_by hand.new) (taken_by hand.old ++ J.number x ∷ [])) }
+        ensures job { MatchOption result (SameJobs hand.old hand.new × FoundEmpty J.number J.belongs from hand.old) (TookJob J.number J.belongs (hands_code self.now) hand.old hand.new) }
         ensures others { SameSlices hand.old hand.new × SameFlags hand.old hand.new }
     {
         steal_at(rt, &self.doors, &mut hand.jobs, from)

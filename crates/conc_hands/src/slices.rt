@@ -1,7 +1,7 @@
 //! The calls on slices.
 ghost use Rattle.std.specs.Prelude.{◌≡◌, ◌↔◌, ◌∷◌, ◌++◌, [], OnOk, IfErr, IsNone, MatchOption};
 ghost use Rattle.ticket_queues.specs.QueueRule.{SameTickets, MetEmpty};
-ghost use Rattle.conc_hands.specs.Hands.{hands_code, hands_count, IsHandOf, number_of, room_of, handed_in_by, collected_by, inbox_view_of, SameJobs, SameSlices, SameFlags};
+ghost use Rattle.conc_hands.specs.Hands.{hands_code, hands_count, IsHandOf, number_of, room_of, handed_in_by, collected_by, inbox_view_of, SameJobs, SameSlices, SameFlags, CollectedSlice};
 
 use crate::hand::Hand;
 use crate::hands::Hands;
@@ -25,7 +25,7 @@ impl<J: Ticketed, S: Ticketed + Drop> Hands<J, S> {
     pub fn collect<R: Wait>(&self, rt: &R, hand: &mut Hand<J, S>) -> Option<S>
         requires { IsHandOf self.now hand.old }
         ensures hand { IsHandOf self.now hand.new × (number_of hand.new ≡ number_of hand.old) × (room_of hand.new ≡ room_of hand.old) }
-        ensures slice { MatchOption result (SameSlices hand.old hand.new × MetEmpty S.number S.belongs (inbox_view_of hand.old)) (λ x. (S.belongs x ≡ hands_code self.now) × (handed_in_by hand.new ≡ handed_in_by hand.old) × (collected_by hand.new ≡ collected_by hand.old ++ S.number x ∷ [])) }
+        ensures slice { MatchOption result (SameSlices hand.old hand.new × MetEmpty S.number S.belongs (inbox_view_of hand.old)) (CollectedSlice S.number S.belongs (hands_code self.now) hand.old hand.new) }
         ensures alone { hands_count self.now ≡ 1 → IsNone result ↔ SameTickets (handed_in_by hand.old) (collected_by hand.old) }
         ensures others { SameJobs hand.old hand.new × SameFlags hand.old hand.new }
     {

@@ -1,5 +1,5 @@
 -- What a clause says of a turn, and of the turn while somebody has it.
-use Rattle.std.specs.Prelude.{◌≡◌, ℕ, ◌<◌, true, List, [], ◌∷◌, Option, Some, None}
+use Rattle.std.specs.Prelude.{◌≡◌, ℕ, ◌+◌, ◌<◌, true, List, [], ◌∷◌, Option, Some, None}
 use Rattle.atomic_table.specs.Seated.{TableId}
 use Rattle.hs_rules.specs.declared.kept.Plan.{Plan}
 use Rattle.hs_rules.specs.declared.entry.Entry.{Entry}
@@ -9,7 +9,8 @@ use Rattle.conc_turn.specs.declared.turn.Turn.{Turn}
 use Rattle.conc_turn.specs.declared.turn.Held.{Held}
 use Rattle.conc_turn.specs.declared.turn.Tried.{Tried}
 use Rattle.conc_turn.specs.declared.turn.Tried.TheVariants.{Got, Busy}
-use Rattle.conc_turn.specs.Seats.{IsSeatAt}
+use Rattle.conc_turn.specs.Seats.{IsSeatAt, seen_by, shares_of, lost_by}
+use mathlib.Core.List.{IsPrefix}
 
 module _ {D : Type 0} where
   abbrev pub turn_table : Turn D → TableId
@@ -67,3 +68,12 @@ module _ {D : Type 0} (plan_of : D → Plan) (history_of : D → List Entry) whe
   IsHeldOf t h =
       IsTaken h × (held_table h ≡ turn_table t) × (held_plan h ≡ Some (turn_plan plan_of t))
       × (plan_of (value_in h) ≡ turn_plan plan_of t) × (history_of (value_in h) ≡ found_by h)
+
+  -- a try that got the turn: what the seat had seen begins the value's history, and its shares and lost tries are the seat's
+  abbrev pub IsGot : Turn D → Seat → Held D → Type 0
+  IsGot t s h = IsHeldOf t h × IsPrefix (seen_by s) (history_of (value_in h)) × (held_shares h ≡ shares_of s) × (held_lost h ≡ lost_by s)
+
+module _ {D : Type 0} (plan_of : D → Plan) where
+  -- a try that found the turn taken: the word was 1, and the seat is as it was, with one lost try more
+  abbrev pub IsLost : Turn D → Seat → Seat → ℕ → Type 0
+  IsLost t old s word = (word ≡ 1) × IsSeatOf plan_of t s × (seen_by s ≡ seen_by old) × (shares_of s ≡ shares_of old) × (lost_by s ≡ lost_by old + 1)

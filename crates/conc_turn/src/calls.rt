@@ -3,7 +3,7 @@ ghost use Rattle.std.specs.Prelude.{◌≡◌, ◌+◌, ◌<◌, ◌≤◌, IfOk
 ghost use mathlib.Core.List.{IsPrefix};
 ghost use Rattle.conc_turn.specs.TurnRule.{longer};
 ghost use Rattle.conc_turn.specs.Seats.{seen_by, shares_of, lost_by};
-ghost use Rattle.conc_turn.specs.Turns.{turn_plan, IsSeatOf, MatchTried, IsHeldOf, value_in, held_shares, held_lost};
+ghost use Rattle.conc_turn.specs.Turns.{turn_plan, IsGot, IsLost, IsSeatOf, MatchTried, IsHeldOf, value_in, held_shares, held_lost};
 
 use crate::rule::{AddShares, Amount, Compare, SplitShares, TryTake};
 use crate::seat::Seat;
@@ -52,7 +52,7 @@ impl<D: Kept> Turn<D> {
     /// Tries to take the turn, by one step. Takes no memory and doesn't wait.
     pub fn try_take(&self, seat: Seat) -> Tried<'_, D>
         requires { IsSeatOf D.plan self.now seat }
-        ensures { MatchTried result (λ h. IsHeldOf D.plan D.history self.now h × IsPrefix (seen_by seat) (D.history (value_in h)) × (held_shares h ≡ shares_of seat) × (held_lost h ≡ lost_by seat)) (λ s word. (word ≡ 1) × IsSeatOf D.plan self.now s × (seen_by s ≡ seen_by seat) × (shares_of s ≡ shares_of seat) × (lost_by s ≡ lost_by seat + 1)) }
+        ensures { MatchTried result (IsGot D.plan D.history self.now seat) (IsLost D.plan self.now seat) }
     {
         let mut seat = seat.badge.into_seat();
         let found = self

@@ -50,6 +50,14 @@ IsCommitted (Short n) s old_end old new_end new = (old_end ≡ None) × Starts s
 IsCommitted Taken s old_end old new_end new = (old_end ≡ None) × Starts s old.world × (s.steps ≤ left old) × Accepted s new_end old new
 IsCommitted NoMemory s old_end old new_end new = (old_end ≡ None) × Same old new × (new_end ≡ Some end.Memory)
 
+-- why a slice is not taken: nothing changes
+abbrev pub IsRefused : Committed → Slice → Option RunEnd → Record → Type 0
+IsRefused why s end r = IsCommitted why s end r end r
+
+-- it may be taken: it starts where its thread stands, and the fuel lets it
+abbrev pub MayBeTaken : Slice → Option RunEnd → Record → Type 0
+MayBeTaken s end r = (end ≡ None) × Starts s r.world × (s.steps ≤ left r)
+
 -- What became of a slice of the same job that was made anew in its place.
 pub record IsCommittedAnew (c : Committed) (s : Slice) (old_end : Option RunEnd) (old : Record) (new_end : Option RunEnd) (new : Record) : Type 0 where
   pub slice : Slice

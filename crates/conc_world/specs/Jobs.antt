@@ -1,5 +1,5 @@
 -- Jobs that are made, and exceptions that overtake them (own).
-use Rattle.std.specs.Prelude.{◌≡◌, ◌≢◌, ◌≤◌, ◌-◌, ◌↔◌, ℕ, min, List, Some, None, IsSome, IsTrue, Contains, take, drop, length, slice_get}
+use Rattle.std.specs.Prelude.{◌≡◌, ◌≢◌, ◌<◌, ◌≤◌, ◌+◌, ◌-◌, ◌↔◌, ℕ, min, List, Some, None, IsSome, IsTrue, Contains, take, drop, length, slice_get}
 use Rattle.hs_base.specs.declared.mask.Mask.TheVariants.{Unmasked}
 use Rattle.hs_rules.specs.declared.entry.Entry.{Entry}
 use Rattle.hs_rules.specs.declared.entry.Entry.TheVariants as entry
@@ -40,6 +40,10 @@ pub record Added (k t since : ℕ) (old new : Tickets) : Type 0 where
   pub out : job new k ≡ Some (record { thread = t; since = since })
   pub others : (j : ℕ) → j ≢ k → job new j ≡ job old j
 
+-- a new job of this record: it has the next ticket, which is out for its thread from now on
+abbrev pub IsHandedOut : Job → Record → ℕ → ℕ → ℕ → Tickets → Tickets → Type 0
+IsHandedOut j r given now since old new = IsJob j r × (j.ticket ≡ given + 1) × (now ≡ j.ticket) × Added j.ticket j.tid since old new
+
 -- the ticket isn't out; all others are as they were
 pub record TakenBack (k : ℕ) (old new : Tickets) : Type 0 where
   pub out : job new k ≡ None
@@ -70,3 +74,7 @@ pub record Knows (s : Tickets) (seen : ℕ) (es : List Entry) : Type 0 where
   pub within : seen ≤ length es
   pub made : (k : ℕ) (o : Out) → job s k ≡ Some o → o.since ≤ seen
   pub marked : (k : ℕ) (o : Out) → job s k ≡ Some o → IsTrue (is_overtaken s k) ↔ Received o.thread (drop o.since (take seen es))
+
+-- the ticket was overtaken and is taken back, and no lower one was overtaken
+abbrev pub IsFirstTakenBack : ℕ → List Entry → Tickets → Tickets → Type 0
+IsFirstTakenBack k es old new = IsOvertaken k old es × ((j : ℕ) → j < k → IsOvertaken j old es → ⊥) × TakenBack k old new

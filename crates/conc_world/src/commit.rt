@@ -10,7 +10,7 @@ ghost use Rattle.frame_stack.specs.Slicing.{IsDoing};
 ghost use Rattle.run_record.specs.Records.{Same};
 ghost use Rattle.run_course.specs.Settled.{Accepted};
 ghost use Rattle.conc_world.specs.Jobs.{left};
-ghost use Rattle.conc_world.specs.Committing.{IsCommitted, IsStale, TicketBack};
+ghost use Rattle.conc_world.specs.Committing.{IsCommitted, IsRefused, IsStale, MayBeTaken, TicketBack};
 
 use crate::answers::{Committed, Why};
 use crate::desk::Desk;
@@ -157,7 +157,7 @@ impl<O: Sink, E: Sink, K: Clock> Desk<O, E, K> {
         slice: &Slice,
         effort: &mut Effort,
     ) -> Result<Option<Committed>, Undecided>
-        ensures refused { IfOk result (λ found. MatchOption found ((self.now.course.end ≡ None) × Starts slice.now self.now.course.clocked.record.world × (slice.now.steps ≤ left self.now.course.clocked.record)) (λ why. IsCommitted why slice.now self.now.course.end self.now.course.clocked.record self.now.course.end self.now.course.clocked.record)) }
+        ensures refused { IfOk result (λ found. MatchOption found (MayBeTaken slice.now self.now.course.end self.now.course.clocked.record) (λ why. IsRefused why slice.now self.now.course.end self.now.course.clocked.record)) }
         ensures err { OnErr result (IsEndless effort.old → ⊥) }
         ensures goes { OnErr result ((self.now.course.end ≡ None) × IsAt slice.now.tid Goes self.now.course.clocked.record.world.threads.list.items) }
     {

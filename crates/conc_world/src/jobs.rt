@@ -9,7 +9,7 @@ ghost use Rattle.run_record.specs.Records.{Same};
 ghost use Rattle.run_course.specs.declared.ends.RunEnd.TheVariants as end;
 ghost use Rattle.job_tickets.specs.declared.tickets.Out.{Out};
 ghost use Rattle.job_tickets.specs.Out.{job, ticket_of, is_overtaken, HasRoom, IsIdle};
-ghost use Rattle.conc_world.specs.Jobs.{Added, AllOut, IsJob, IsOvertaken, SameJobs, TakenBack, left};
+ghost use Rattle.conc_world.specs.Jobs.{Added, AllOut, IsFirstTakenBack, IsHandedOut, IsJob, IsOvertaken, SameJobs, TakenBack, left};
 
 use crate::desk::Desk;
 use frame_stack::{Control, Job, Slice, slice};
@@ -22,7 +22,7 @@ use std::alloc::Global;
 use std::snapshot::Snapshot;
 
 /// A slice has so many steps at most.
-pub(crate) const MOST_STEPS: u32 = 1024;
+pub const MOST_STEPS: u32 = 1024;
 
 /// A copy of a control that is to do an action.
 fn start_of(alloc: Global, control: &Control) -> Result<Control, NoMemory>
@@ -66,7 +66,7 @@ impl<O: Sink, E: Sink, K: Clock> Desk<O, E, K> {
     /// A job of a thread that is to do an action and has no job out, in turn; or nothing where there is an ending or no such
     /// thread. Where memory runs out the ending is Memory.
     pub fn next_job(&mut self) -> Result<Option<Job>, NoMemory>
-        ensures some { IfOk result (λ found. IfSome found (λ j. (self.old.course.end ≡ None) × IsJob j self.new.course.clocked.record × (j.ticket ≡ self.old.given + 1) × (self.new.given ≡ j.ticket) × Added j.ticket j.tid (length self.old.course.clocked.record.history.list) self.old.tickets self.new.tickets)) }
+        ensures some { IfOk result (λ found. IfSome found (λ j. (self.old.course.end ≡ None) × IsHandedOut j self.new.course.clocked.record self.old.given self.new.given (length self.old.course.clocked.record.history.list) self.old.tickets self.new.tickets)) }
         ensures none { IfOk result (λ found. IfNone found ((self.old.course.end ≡ None → AllOut self.old.tickets self.new.course.clocked.record) × SameJobs self.old.tickets self.new.tickets × (self.new.given ≡ self.old.given))) }
         ensures err { OnErr result ((self.new.given ≡ self.old.given) × (self.old.course.end ≡ None) × (self.new.course.end ≡ Some end.Memory) × SameJobs self.old.tickets self.new.tickets) }
         ensures end { OnOk result (self.new.course.end ≡ self.old.course.end) }
@@ -90,7 +90,7 @@ impl<O: Sink, E: Sink, K: Clock> Desk<O, E, K> {
     /// The same where there is no ending, but that want of memory is left to the caller.
     fn make_job(&mut self) -> Result<Option<Job>, NoMemory>
         requires none { self.old.course.end ≡ None }
-        ensures some { IfOk result (λ found. IfSome found (λ j. IsJob j self.new.course.clocked.record × (j.ticket ≡ self.old.given + 1) × (self.new.given ≡ j.ticket) × Added j.ticket j.tid (length self.old.course.clocked.record.history.list) self.old.tickets self.new.tickets)) }
+        ensures some { IfOk result (λ found. IfSome found (λ j. IsHandedOut j self.new.course.clocked.record self.old.given self.new.given (length self.old.course.clocked.record.history.list) self.old.tickets self.new.tickets)) }
         ensures none { IfOk result (λ found. IfNone found (AllOut self.old.tickets self.new.course.clocked.record × SameJobs self.old.tickets self.new.tickets × (self.new.given ≡ self.old.given))) }
         ensures err { OnErr result (SameJobs self.old.tickets self.new.tickets × (self.new.given ≡ self.old.given)) }
         ensures end { self.new.course.end ≡ None }
@@ -215,7 +215,7 @@ impl<O: Sink, E: Sink, K: Clock> Desk<O, E, K> {
 
     /// The least ticket that is out and whose thread has received an exception since it was made. It is taken back.
     pub fn overtaken(&mut self) -> Option<u64>
-        ensures some { IfSome result (λ k. IsOvertaken k self.old.tickets self.old.course.clocked.record.history.list × ((j : ℕ) → j < k → IsOvertaken j self.old.tickets self.old.course.clocked.record.history.list → ⊥) × TakenBack k self.old.tickets self.new.tickets) }
+        ensures some { IfSome result (λ k. IsFirstTakenBack k self.old.course.clocked.record.history.list self.old.tickets self.new.tickets) }
         ensures none { IfNone result (((j : ℕ) → IsOvertaken j self.old.tickets self.old.course.clocked.record.history.list → ⊥) × SameJobs self.old.tickets self.new.tickets) }
         ensures given { self.new.given ≡ self.old.given }
         ensures course { self.new.course ≡ self.old.course }

@@ -21,5 +21,6 @@ mod running;
 
 pub use answers::{Closed, Committed, Made, Parts, Why};
 pub use desk::Desk;
+pub use jobs::MOST_STEPS;
 pub use run_course::RunEnd;
 pub use running::alone;

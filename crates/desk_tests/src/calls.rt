@@ -8,6 +8,9 @@ const HELLO: &[u8] = b"main :: IO () = { putStrLn \"hello\" };";
 
 const TWICE: &[u8] = b"main :: IO () = { putStrLn \"a\"; putStrLn \"b\" };";
 
+const COUNT: &[u8] = b"count (n :: Int) :: IO () = { count (n + 1) };
+main :: IO () = { count 0 };";
+
 #[test]
 fn a_desk_runs_alone(rt: HostRuntime) -> Result<(), Fail> {
     let Some(mut desk) = at(rt.alloc(), HELLO, 1_000) else {
@@ -49,6 +52,23 @@ fn a_job_is_made_once_and_may_be_dropped(rt: HostRuntime) -> Result<(), Fail> {
     assert!(rt; desk.control_of(0).is_some());
     assert!(rt; desk.control_of(1).is_none());
     assert!(rt; desk.history().is_empty());
+    Ok(())
+}
+
+#[test]
+fn a_desk_goes_on_in_place_while_slices_are_short(rt: HostRuntime) -> Result<(), Fail> {
+    let Some(mut desk) = at(rt.alloc(), TWICE, 1_000) else {
+        return Err(Fail::new("no desk"));
+    };
+    desk.go_on(64, 64)?;
+    assert_eq!(rt; desk.ended().copied(), Some(RunEnd::Done));
+    let Some(mut desk) = at(rt.alloc(), COUNT, 1_000) else {
+        return Err(Fail::new("no desk"));
+    };
+    desk.go_on(64, 64)?;
+    assert!(rt; desk.ended().is_none());
+    assert_eq!(rt; desk.history().steps(), 64);
+    assert_eq!(rt; desk.next_job()?.map(|job| job.ticket), Some(1));
     Ok(())
 }
 

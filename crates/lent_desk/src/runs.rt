@@ -5,7 +5,7 @@ ghost use Rattle.run_course.specs.Settled.{GoesOn, KeepsPlan};
 use crate::desk::LentDesk;
 use crate::lent::LentAs;
 use caps_visits::{Runs, Unsliced};
-use conc_world::{Committed, Desk, Made, alone};
+use conc_world::{Committed, Desk, MOST_STEPS, Made, alone};
 use frame_stack::{Job, Slice, SliceFault, slice};
 use hs_base::NoMemory;
 use hs_io::{Clock, Cutter, Sink};
@@ -14,8 +14,6 @@ use std::alloc::Global;
 
 /// A slice of fewer rules than this takes less time than to hand out its job.
 const SHORT: u32 = 64;
-/// A slice that is made anew may be as long as any.
-const LONG: u32 = 1024;
 /// So many slices one after the other at most, so that the turn comes back to those that wait for it.
 const IN_PLACE: u32 = 64;
 
@@ -29,7 +27,7 @@ fn go_on_after<O: Sink, E: Sink, K: Clock>(desk: &mut Desk<O, E, K>, made: Made,
 {
     match made {
         Made::Anew => {
-            let _ = desk.go_on(IN_PLACE, LONG);
+            let _ = desk.go_on(IN_PLACE, MOST_STEPS);
         }
         Made::Before => {
             if rules < SHORT {

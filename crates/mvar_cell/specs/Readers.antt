@@ -1,6 +1,7 @@
 -- Readers of one cell, taken out of its line one by one.
-use Rattle.std.specs.Prelude.{◌≡◌, ℕ, List, [], ◌∷◌, Option, Some, None}
-use Rattle.rules_waiting.specs.OneCell.{Leave, readers, first_take}
+use Rattle.std.specs.Prelude.{◌≡◌, ℕ, ◌<◌, List, [], ◌∷◌, ◌++◌, length, Option, Some, None}
+use Rattle.hs_base.specs.declared.value.Value.{Value}
+use Rattle.rules_waiting.specs.OneCell.{Call, Leave, Reply, readers, first_take, shown}
 use Rattle.mvar_cell.specs.Mvars.{Mvars}
 use Rattle.mvar_cell.specs.Calls.{cell_at, IsCall, NobodyReads}
 
@@ -19,3 +20,10 @@ IsNextReader (Some t) m old new = FirstReads t m old new
 abbrev pub AreAllReaders : List ℕ → ℕ → Mvars → Mvars → Type 0
 AreAllReaders [] m old new = IsNextReader None m old new
 AreAllReaders (t ∷ ts) m old new = (mid : Mvars) × IsNextReader (Some t) m old mid × AreAllReaders ts m mid new
+
+-- A call of thread t that brings a value to an empty cell, behind its readers: all of these together are that one call of the
+-- machine, in which each reader is answered the value first.
+abbrev pub IsOneCallWithReaders : (ℕ → Value → Call Value) → Type 0
+IsOneCallWithReaders q =
+    (ts : List ℕ) (m t : ℕ) (v : Value) (old mid new : Mvars) (rs : List (Reply Value)) → m < length old.cells → (cell_at m old).content ≡ None
+    → AreAllReaders ts m old mid → IsCall (q t v) m mid new rs → IsCall (q t v) m old new (shown v ts ++ rs)

@@ -8,7 +8,7 @@ ghost use Rattle.thread_table.specs.Listing as at;
 ghost use Rattle.thread_table.specs.Table.{IsAt};
 ghost use Rattle.world_entries.specs.Worlds.{Goes, Starts};
 ghost use Rattle.run_record.specs.declared.acts.Next.TheVariants as next;
-ghost use Rattle.run_record.specs.Records.{IsNext, Same, Appended, WouldExceed};
+ghost use Rattle.run_record.specs.Records.{IsAccepted, IsNext, Same, Appended, WouldExceed};
 ghost use Rattle.clocked_record.specs.Clocks.{work, Looked};
 ghost use Rattle.run_course.specs.declared.ends.RunEnd.TheVariants as end;
 ghost use Rattle.run_course.specs.Endings.{EndsBy, IsConcluded, IsOpen};
@@ -220,7 +220,7 @@ impl<O: Sink, E: Sink, K: Clock> Course<O, E, K> {
         requires code { slice.of.value ≡ self.old.clocked.record.of.value }
         requires starts { Starts slice self.old.clocked.record.world }
         requires fuel { steps_of self.old.clocked.record.history.list + slice.steps ≤ self.old.clocked.record.fuel }
-        ensures ok { IfOk result (λ over. MatchOption over (Appended (entry.Local slice.tid slice.steps) self.old.clocked.record self.new.clocked.record) (λ kind. (kind ≡ limit.Frames) × Same self.old.clocked.record self.new.clocked.record × WouldExceed kind (entry.Local slice.tid slice.steps) self.new.clocked.record)) }
+        ensures ok { IfOk result (λ over. IsAccepted slice over self.old.clocked.record self.new.clocked.record) }
         ensures err { OnErr result (Same self.old.clocked.record self.new.clocked.record) }
         ensures end { self.new.end ≡ None }
         ensures lent { (self.new.out_lent ≡ self.old.out_lent) × (self.new.err_lent ≡ self.old.err_lent) × (self.new.clocked.lent ≡ self.old.clocked.lent) }

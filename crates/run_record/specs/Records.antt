@@ -1,8 +1,10 @@
 -- What can be done next, and what a record is after it (own).
-use Rattle.std.specs.Prelude.{◌≡◌, ◌++◌, ◌+◌, ◌∷◌, [], ℕ, Bool, cond, List, Some, length}
+use Rattle.std.specs.Prelude.{◌≡◌, ◌++◌, ◌+◌, ◌∷◌, [], ℕ, Bool, cond, List, Option, Some, MatchOption, length}
 use Rattle.rules_code.specs.declared.code.CodeBody.{CodeBody}
 use Rattle.hs_rules.specs.declared.entry.Entry.{Entry}
+use Rattle.hs_rules.specs.declared.entry.Entry.TheVariants as entry
 use Rattle.hs_rules.specs.declared.entry.LimitKind.{LimitKind}
+use Rattle.hs_rules.specs.declared.entry.LimitKind.TheVariants as limit
 use Rattle.hs_rules.specs.Endings.{RunEnding, IsDone, IsUncaught, IsWithin}
 use Rattle.hs_rules.specs.Entries.{Leads}
 use Rattle.rules_meaning.specs.CoreMeaning.{code_of}
@@ -14,6 +16,7 @@ use Rattle.rules_trees.specs.Programs.{Fn, script_of}
 use Rattle.rules_waiting.specs.Waiting.{first_awake, earliest}
 use Rattle.slot_states.specs.Resting as rest
 use Rattle.slot_states.specs.Resting.{NobodyActs}
+use Rattle.frame_stack.specs.declared.sliced.Slice.{Slice}
 use Rattle.thread_table.specs.Kinds.{IsKind}
 use Rattle.thread_table.specs.declared.kinds.EntryKind.TheVariants as kind
 use Rattle.world_entries.specs.declared.world.World.{World}
@@ -76,6 +79,12 @@ pub record Appended (e : Entry) (old new : Record) : Type 0 where
 -- the entry would exceed this limit, the first in their order
 abbrev pub WouldExceed : LimitKind → Entry → Record → Type 0
 WouldExceed kind e r = ∥ HasLimit kind e r.limits (script r) r.history.list r.fuel ∥₁
+
+-- what comes of a slice: its local rules are one more entry, or nothing has changed, as they would exceed the limit of frames
+abbrev pub IsAccepted : Slice → Option LimitKind → Record → Record → Type 0
+IsAccepted slice over old new =
+    MatchOption over (Appended (entry.Local slice.tid slice.steps) old new)
+    (λ kind. (kind ≡ limit.Frames) × Same old new × WouldExceed kind (entry.Local slice.tid slice.steps) old)
 
 -- the history has this ending
 abbrev pub EndsAs : RunEnding → Record → Type 0

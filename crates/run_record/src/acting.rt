@@ -6,7 +6,7 @@ ghost use Rattle.hs_rules.specs.declared.entry.Entry.TheVariants as entry;
 ghost use Rattle.hs_rules.specs.declared.entry.LimitKind.TheVariants as limit;
 ghost use Rattle.world_entries.specs.Worlds.{Goes, HasRoom, IsLive, Makes, SameState, Starts};
 ghost use Rattle.run_record.specs.Acts.{entry_of};
-ghost use Rattle.run_record.specs.Records.{Can, Same, Appended, Prints, PrintsIn, WouldExceed};
+ghost use Rattle.run_record.specs.Records.{Can, IsAccepted, Same, Appended, Prints, PrintsIn, WouldExceed};
 
 use crate::acts::NextEntry;
 use crate::record::Record;
@@ -57,7 +57,7 @@ impl Record {
         requires code { slice.of.value ≡ self.old.of.value }
         requires starts { Starts slice self.old.world }
         requires fuel { steps_of self.old.history.list + slice.steps ≤ self.old.fuel }
-        ensures ok { IfOk result (λ over. MatchOption over (Appended (entry.Local slice.tid slice.steps) self.old self.new) (λ kind. (kind ≡ limit.Frames) × Same self.old self.new × WouldExceed kind (entry.Local slice.tid slice.steps) self.old)) }
+        ensures ok { IfOk result (λ over. IsAccepted slice over self.old self.new) }
         ensures err { OnErr result (Same self.old self.new) }
     {
         self.room()?;

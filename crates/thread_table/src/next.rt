@@ -139,7 +139,7 @@ impl Threads {
     /// at which it waited.
     pub fn strand(&mut self) -> Option<(u32, u32)>
         requires room { length self.old.stuck.items ≤ work_room self.old }
-        ensures some { IfSome result (λ w. (waits_open (slice_get self.old.list.items w.0) ≡ true) × IsAt w.0 (λ th. WaitsAtCell w.1 th.stack.control) self.old.list.items × ((b : CodeBody) → slots_of b self.new.list.items ≡ resumed w.0 (throw BlockedIndefinitely) (slots_of b self.old.list.items))) }
+        ensures some { IfSome result (λ w. IsStranded w.0 w.1 self.old.list.items self.new.list.items) }
         ensures none { IfNone result (((t : ℕ) → waits_open (slice_get self.old.list.items t) ≡ false) × ((b : CodeBody) → slots_of b self.new.list.items ≡ slots_of b self.old.list.items)) }
         ensures flight { self.new.flight ≡ self.old.flight }
         ensures less { OnSome result (length self.new.stuck.items < length self.old.stuck.items) }

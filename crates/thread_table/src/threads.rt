@@ -188,7 +188,7 @@ impl Threads {
         requires few { self.old.frames < 2 ^ 62 }
         requires work { 1 ≤ work_room self.old }
         requires ready { 1 ≤ ready_room self.old }
-        ensures list { (k : Stacked) × (self.new.list.items ≡ changed t (with_stack k) self.old.list.items) × ((th : Thread) → slice_get self.old.list.items t ≡ Some th → (b : CodeBody) → local (funs_of b) Unmasked (part_of b th.stack.control) (frames_of b th.stack.frames) ≡ Some (term_of b k)) }
+        ensures list { HasMoved t IsNextStack self.old.list.items self.new.list.items }
         ensures flight { self.new.flight ≡ self.old.flight }
         ensures spends { Spends 1 1 0 0 self.old self.new }
     {
@@ -210,7 +210,7 @@ impl Threads {
         requires few { self.old.frames < 2 ^ 62 }
         requires work { 1 ≤ work_room self.old }
         requires ready { 1 ≤ ready_room self.old }
-        ensures ok { OnOk result ((k : Stacked) × (self.new.list.items ≡ changed slice.tid (with_stack k) self.old.list.items) × (k.control ≡ slice.end) × ((th : Thread) → slice_get self.old.list.items slice.tid ≡ Some th → (k.frames ≡ slice.pushed.list ++ th.stack.frames) × ∥ locals (funs_of slice.of.value) Unmasked slice.steps (term_of slice.of.value th.stack) ≡ Some (term_of slice.of.value k) ∥₁)) }
+        ensures ok { OnOk result (IsTaken slice self.old.list.items self.new.list.items) }
         ensures err { OnErr result (self.new.list.items ≡ self.old.list.items) }
         ensures back { IfErr result (λ s. s ≡ slice) }
         ensures flight { self.new.flight ≡ self.old.flight }
@@ -236,8 +236,8 @@ impl Threads {
         requires few { self.old.frames < 2 ^ 62 }
         requires work { 1 ≤ work_room self.old }
         requires ready { 1 ≤ ready_room self.old }
-        ensures moved { IfOk result (λ done. IsTrue done → (s : Stacked) × (self.new.list.items ≡ changed t (with_stack s) self.old.list.items) × ((th : Thread) → slice_get self.old.list.items t ≡ Some th → locals (funs_of (body_of code.now)) Unmasked k (term_of (body_of code.now) th.stack) ≡ Some (term_of (body_of code.now) s))) }
-        ensures stuck { IfOk result (λ done. (done ≡ false) → (self.new.list.items ≡ self.old.list.items) × ((th : Thread) → slice_get self.old.list.items t ≡ Some th → locals (funs_of (body_of code.now)) Unmasked k (term_of (body_of code.now) th.stack) ≡ None)) }
+        ensures moved { IfOk result (λ done. IsTrue done → HasMoved t (λ old new. rules_of (body_of code.now) k old ≡ Some (term_of (body_of code.now) new)) self.old.list.items self.new.list.items) }
+        ensures stuck { IfOk result (λ done. (done ≡ false) → IsStuck t (body_of code.now) k self.old.list.items self.new.list.items) }
         ensures err { OnErr result (self.new.list.items ≡ self.old.list.items) }
         ensures flight { self.new.flight ≡ self.old.flight }
         ensures spends { Spends 1 1 0 0 self.old self.new }

@@ -1,7 +1,7 @@
 //! The calls on an inbox.
 ghost use Rattle.std.specs.Prelude.{◌≡◌, ◌-◌, ◌<◌, ◌↔◌, ◌∷◌, ◌++◌, [], Some, IfOk, OnOk, IfErr, IsNone, MatchOption};
 ghost use Rattle.ticket_queues.specs.QueueRule.{view_with, untold, spent, both_of, MetEmpty, SameTickets};
-ghost use Rattle.ticket_queues.specs.Inboxes.{IsInboxPass, inbox_view};
+ghost use Rattle.ticket_queues.specs.Inboxes.{IsInboxPass, IsTakenOut, inbox_view};
 
 use crate::inbox::{Inbox, InboxPass};
 use crate::inbox_rule::{PutOne, TakeOne};
@@ -81,7 +81,7 @@ impl<S: Ticketed + Drop> Inbox<S> {
     pub fn take<R: Wait>(&self, rt: &R, pass: &mut InboxPass<S>) -> Option<S>
         requires { IsInboxPass self.now pass.old × (0 < (inbox_view pass.old).shares) }
         ensures pass { IsInboxPass self.now pass.new }
-        ensures slice { let v = inbox_view pass.old in MatchOption result ((inbox_view pass.new ≡ v) × MetEmpty S.number S.belongs v) (λ x. (Some (S.belongs x) ≡ v.code) × (inbox_view pass.new ≡ view_with v.code v.shares v.put (v.taken ++ S.number x ∷ []))) }
+        ensures slice { let v = inbox_view pass.old in MatchOption result ((inbox_view pass.new ≡ v) × MetEmpty S.number S.belongs v) (IsTakenOut S.number S.belongs v (inbox_view pass.new)) }
         ensures alone { let v = inbox_view pass.old in v.shares ≡ 16 → IsNone result ↔ SameTickets v.put v.taken }
     {
         self.queue.pop_as::<TakeOne, R>(rt, &mut pass.pass)

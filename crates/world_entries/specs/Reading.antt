@@ -4,6 +4,7 @@ use Rattle.hs_base.specs.declared.value.Value.{Value}
 use Rattle.rules_waiting.specs.OneCell.{stands_in, readers}
 use Rattle.mvar_cell.specs.Mvars.{Mvars}
 use Rattle.mvar_cell.specs.Calls.{cell_at}
+use Rattle.mvar_cell.specs.Readers.{AreAllReaders}
 use Rattle.frame_stack.specs.declared.control.Control.TheVariants as c
 use Rattle.frame_stack.specs.Parts.{IsOp}
 use Rattle.thread_table.specs.declared.thread.Thread.{Thread}
@@ -28,6 +29,12 @@ ReadersStand m w = (t : ℕ) → stands_in t (cell_at m w.cells).line ≡ true �
 abbrev pub all_answered : Value → List ℕ → List Thread → List Thread
 all_answered v [] ths = ths
 all_answered v (t ∷ ts) ths = all_answered v ts (changed t (with_control (c.Ret v)) ths)
+
+-- all who waited to read cell m were answered this value, in order, and left its line
+abbrev pub AllShown : Value → ℕ → World → World → Type 0
+AllShown v m old new =
+    AreAllReaders (readers (cell_at m old.cells).line) m old.cells new.cells
+    × (new.threads.list.items ≡ all_answered v (readers (cell_at m old.cells).line) old.threads.list.items)
 
 -- all but the list of threads and the cells is as it was, with as much room but for work
 pub record Rest (old new : World) : Type 0 where

@@ -7,7 +7,7 @@ ghost use Rattle.mvar_cell.specs.Calls.{cell_at};
 ghost use Rattle.mvar_cell.specs.Readers.{AreAllReaders};
 ghost use Rattle.thread_table.specs.Rooms.{work_room};
 ghost use Rattle.world_entries.specs.Worlds.{SameState, HasRoom};
-ghost use Rattle.world_entries.specs.Reading.{FullUnread, Are, ReadersStand, Rest, all_answered};
+ghost use Rattle.world_entries.specs.Reading.{AllShown, FullUnread, Are, ReadersStand, Rest, all_answered};
 
 use crate::world::World;
 use hs_base::{NoMemory, Value};
@@ -62,7 +62,7 @@ impl World {
         requires count { length copies.items ≡ length (readers (cell_at m self.old.cells).line) }
         requires stand { ReadersStand m self.old }
         requires room { length copies.items ≤ work_room self.old.threads }
-        ensures shown { (v : Value) → Are v copies.items → AreAllReaders (readers (cell_at m self.old.cells).line) m self.old.cells self.new.cells × (self.new.threads.list.items ≡ all_answered v (readers (cell_at m self.old.cells).line) self.old.threads.list.items) }
+        ensures shown { (v : Value) → Are v copies.items → AllShown v m self.old self.new }
         ensures room { work_room self.old.threads ≤ work_room self.new.threads + length copies.items }
         ensures spare { self.old.cells.spare ≤ self.new.cells.spare }
         ensures rest { Rest self.old self.new }
