@@ -25,17 +25,15 @@ pub(crate) fn run_program<
     rt: &R,
     program: Program,
     gate: &G,
-    out: O,
-    err: E,
-    clock: K,
+    parts: Parts<O, E, K>,
 ) -> Result<Closed<O, E, K>, Parts<O, E, K>>
     requires fuel { 1 ≤ program.fuel }
     requires capabilities { (1 ≤ program.capabilities) × (program.capabilities ≤ 16) }
     ensures run { IfOk result (λ closed. HasRun program.fuel (body_of program.code).of.value closed.end closed.history.list
-        (record { output = O.told out; errors = E.told err; out_faults = O.faults out; err_faults = E.faults err; last = K.last clock; early = K.early_waits clock })
+        (record { output = O.told parts.out; errors = E.told parts.err; out_faults = O.faults parts.out; err_faults = E.faults parts.err; last = K.last parts.clock; early = K.early_waits parts.clock })
         (record { output = O.told closed.parts.out; errors = E.told closed.parts.err; out_faults = O.faults closed.parts.out; err_faults = E.faults closed.parts.err; last = K.last closed.parts.clock; early = K.early_waits closed.parts.clock })) }
     ensures choice { IfOk result (λ closed. K.choice closed.parts.clock ≡ Some program.clock) }
-    ensures err { IfErr result (λ parts. (parts.out ≡ out) × (parts.err ≡ err) × (K.choice parts.clock ≡ Some program.clock) × (K.early_waits parts.clock ≡ K.early_waits clock)) }
+    ensures err { IfErr result (λ back. (back.out ≡ parts.out) × (back.err ≡ parts.err) × (K.choice back.clock ≡ Some program.clock) × (K.early_waits back.clock ≡ K.early_waits parts.clock)) }
 {
     let Program {
         code,
@@ -43,6 +41,7 @@ pub(crate) fn run_program<
         fuel,
         clock: choice,
     } = program;
+    let Parts { out, err, clock } = parts;
     let mut clock = clock;
     clock.choose(choice);
     match Desk::begin(alloc, code, fuel, Limits::shipped(), out, err, clock) {

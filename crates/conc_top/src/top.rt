@@ -119,10 +119,11 @@ pub fn run<
     ensures choice { IsChosen (command_by words.now) (K.choice clock) (K.choice result.clock) }
 {
     match task_of(alloc, words, source) {
-        Ok(Task::Run(program)) => play(alloc, rt, program, gate, out, err, clock),
+        Ok(Task::Run(program)) => play(alloc, rt, program, gate, Parts { out, err, clock }),
         Ok(Task::Accept) => tell_accepted(alloc, out, err, clock),
         Ok(Task::Trace(program, bytes)) => {
-            trace(alloc, rt, program, &bytes, gate, out, err, clock)
+            let parts = Parts { out, err, clock };
+            trace(alloc, rt, program, &bytes, gate, parts)
         }
         Ok(Task::Explore(sought)) => list(alloc, &sought, out, err, clock),
         Ok(Task::Ask(question, claim)) => answer(alloc, question, &claim, out, err, clock),
@@ -136,22 +137,20 @@ fn play<O: Sink + Send, E: Sink + Send, K: Clock + Send, G: Gate + Sync, R: Thre
     rt: &R,
     program: Program,
     gate: &G,
-    out: O,
-    err: E,
-    clock: K,
+    parts: Parts<O, E, K>,
 ) -> Done<O, E, K>
     requires fuel { 1 ≤ program.fuel }
     requires capabilities { (1 ≤ program.capabilities) × (program.capabilities ≤ 16) }
     ensures status { result.status ≡ status_of result.ending }
-    ensures cause { IsPlayed (Rose (O.faults out) (O.faults result.out) ⊎ Rose (E.faults err) (E.faults result.err)) result.ending }
+    ensures cause { IsPlayed (Rose (O.faults parts.out) (O.faults result.out) ⊎ Rose (E.faults parts.err) (E.faults result.err)) result.ending }
     ensures plays { (bytes : List ℕ) → IsAccepted bytes (body_of program.code).of.value → ∥ Plays program.fuel bytes result.ending result.history.list
-        (record { output = O.told out; errors = E.told err; out_faults = O.faults out; err_faults = E.faults err; last = K.last clock; early = K.early_waits clock })
+        (record { output = O.told parts.out; errors = E.told parts.err; out_faults = O.faults parts.out; err_faults = E.faults parts.err; last = K.last parts.clock; early = K.early_waits parts.clock })
         (record { output = O.told result.out; errors = E.told result.err; out_faults = O.faults result.out; err_faults = E.faults result.err; last = K.last result.clock; early = K.early_waits result.clock }) ∥₁ }
-    ensures counts { (O.faults out ≤ O.faults result.out) × (E.faults err ≤ E.faults result.err) × (K.early_waits clock ≤ K.early_waits result.clock) }
-    ensures calm { (result.status ≡ 8 → ⊥) → (O.faults result.out ≡ O.faults out) × (E.faults result.err ≡ E.faults err) }
+    ensures counts { (O.faults parts.out ≤ O.faults result.out) × (E.faults parts.err ≤ E.faults result.err) × (K.early_waits parts.clock ≤ K.early_waits result.clock) }
+    ensures calm { (result.status ≡ 8 → ⊥) → (O.faults result.out ≡ O.faults parts.out) × (E.faults result.err ≡ E.faults parts.err) }
     ensures choice { K.choice result.clock ≡ Some program.clock }
 {
-    match run_program(alloc, rt, program, gate, out, err, clock) {
+    match run_program(alloc, rt, program, gate, parts) {
         Ok(closed) => end(closed),
         Err(Parts { out, err, clock }) => tell(alloc, Ending::Memory, out, err, clock),
     }

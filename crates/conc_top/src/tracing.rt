@@ -33,23 +33,27 @@ pub(crate) fn trace<
     program: Program,
     bytes: &[u8],
     gate: &G,
-    out: O,
-    err: E,
-    clock: K,
+    parts: Parts<O, E, K>,
 ) -> Done<O, E, K>
     requires fuel { 1 ≤ program.fuel }
     requires capabilities { (1 ≤ program.capabilities) × (program.capabilities ≤ 16) }
     ensures status { result.status ≡ status_of result.ending }
-    ensures cause { IsPlayed (Rose (O.faults out) (O.faults result.out) ⊎ Rose (E.faults err) (E.faults result.err)) result.ending }
+    ensures cause { IsPlayed (Rose (O.faults parts.out) (O.faults result.out) ⊎ Rose (E.faults parts.err) (E.faults result.err)) result.ending }
     ensures writes { IsAccepted bytes.now (body_of program.code).of.value → ∥ Writes program.fuel bytes.now result.ending result.history.list
-        (record { output = O.told out; errors = E.told err; out_faults = O.faults out; err_faults = E.faults err; last = K.last clock; early = K.early_waits clock })
+        (record { output = O.told parts.out; errors = E.told parts.err; out_faults = O.faults parts.out; err_faults = E.faults parts.err; last = K.last parts.clock; early = K.early_waits parts.clock })
         (record { output = O.told result.out; errors = E.told result.err; out_faults = O.faults result.out; err_faults = E.faults result.err; last = K.last result.clock; early = K.early_waits result.clock }) ∥₁ }
-    ensures written { IsWritten (document_of result.history.list bytes.now) result.ending (O.told out) (O.told result.out) }
-    ensures counts { (O.faults out ≤ O.faults result.out) × (E.faults err ≤ E.faults result.err) × (K.early_waits clock ≤ K.early_waits result.clock) }
-    ensures calm { (result.status ≡ 8 → ⊥) → (O.faults result.out ≡ O.faults out) × (E.faults result.err ≡ E.faults err) }
+    ensures written { IsWritten (document_of result.history.list bytes.now) result.ending (O.told parts.out) (O.told result.out) }
+    ensures counts { (O.faults parts.out ≤ O.faults result.out) × (E.faults parts.err ≤ E.faults result.err) × (K.early_waits parts.clock ≤ K.early_waits result.clock) }
+    ensures calm { (result.status ≡ 8 → ⊥) → (O.faults result.out ≡ O.faults parts.out) × (E.faults result.err ≡ E.faults parts.err) }
     ensures choice { K.choice result.clock ≡ Some program.clock }
 {
-    match run_program(alloc, rt, program, gate, NullSink, NullSink, clock) {
+    let Parts { out, err, clock } = parts;
+    let silent = Parts {
+        out: NullSink,
+        err: NullSink,
+        clock,
+    };
+    match run_program(alloc, rt, program, gate, silent) {
         Ok(closed) => write_closed(alloc, closed, bytes, out, err),
         Err(Parts { clock, .. }) => tell(alloc, Ending::Memory, out, err, clock),
     }

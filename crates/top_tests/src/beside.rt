@@ -9,9 +9,10 @@ use std::sync::Wait;
 use std::test::Fail;
 use std::thread::Threads;
 
+// Each of the two threads is waited for, so a held slice of either is committed before the run ends.
 const TWO_COUNTS: &[u8] =
     b"count (n :: Int) :: IO () = { if n == 5000 then { return () } else { count (n + 1) } };
-main :: IO () = { _ <- forkIO { count 0 }; count 0 };";
+main :: IO () = { d <- newEmptyMVar @(); _ <- forkIO { count 0; putMVar d () }; count 0; takeMVar d };";
 
 const SIX_SLEEPERS: &[u8] =
     b"nap (d :: MVar ()) :: IO () = { threadDelay 10; n <- clockMicros; putMVar d () };

@@ -14,14 +14,14 @@ returns-in-Ok-clause-run g c =
     let handed = c.in-Ok.ensures.lent in
     let limits = c.shipped.ensures in
     let same = same_shown g.O.Sink.told g.O.Sink.faults g.E.Sink.told g.E.Sink.faults g.K.Clock.last g.K.Clock.early_waits
-    c.args.out desk.course.out_lent.value c.args.err desk.course.err_lent.value c.choose.new.self desk.course.clocked.lent.value
+    c.args.parts.out desk.course.out_lent.value c.args.parts.err desk.course.err_lent.value c.choose.new.self desk.course.clocked.lent.value
     (kept.output ∙ ap g.O.Sink.told handed.0) (kept.errors ∙ ap g.E.Sink.told handed.1)
     (ap (λ p. p.out_faults) plan ∙ ap g.O.Sink.faults handed.0) (ap (λ p. p.err_faults) plan ∙ ap g.E.Sink.faults handed.1)
     (kept.last ∙ ap g.K.Clock.last handed.2) (ap (λ p. p.early) plan ∙ ap g.K.Clock.early_waits handed.2) in
     has_run g.O.Sink.told g.O.Sink.faults g.E.Sink.told g.E.Sink.faults g.K.Clock.last g.K.Clock.early_waits
     _ c.args.program.fuel (body_of c.args.program.code).of.value c.close.result.end c.close.result.history.list
-    c.args.out desk.course.out_lent.value parts.out c.args.err desk.course.err_lent.value parts.err
-    c.args.clock c.choose.new.self desk.course.clocked.lent.value parts.clock
+    c.args.parts.out desk.course.out_lent.value parts.out c.args.parts.err desk.course.err_lent.value parts.err
+    c.args.parts.clock c.choose.new.self desk.course.clocked.lent.value parts.clock
     same c.choose.ensures.counted
     (ap (λ p. p.body.of.value) plan ∙ ap (λ b. b.of.value) c.in-Ok.ensures.code.1)
     (ap (λ p. p.fuel) plan ∙ c.in-Ok.ensures.plan.0)

@@ -15,9 +15,9 @@ returns-in-Ok g c =
       cause = closing_cause _ _ _ _ _ _ _ _ _ closing;
       plays = closing_plays _ _ _ _ _ _ _ _ _ closing;
       counts = (
-        subst (λ o. g.O.Sink.faults c.args.out ≤ g.O.Sink.faults o) (sym kept.0) has.out_counted,
+        subst (λ o. g.O.Sink.faults c.args.parts.out ≤ g.O.Sink.faults o) (sym kept.0) has.out_counted,
         omega (arith, closing.err_counted, closing.line_counted),
-        subst (λ k. g.K.Clock.early_waits c.args.clock ≤ g.K.Clock.early_waits k) (sym kept.1) has.waited,
+        subst (λ k. g.K.Clock.early_waits c.args.parts.clock ≤ g.K.Clock.early_waits k) (sym kept.1) has.waited,
       );
       calm = λ other. closing_calm _ _ _ _ _ _ _ _ _ closing (λ is. other (c.end.ensures.status ∙ is));
       choice = ap g.K.Clock.choice kept.1 ∙ c.in-Ok.ensures.choice;
@@ -26,5 +26,5 @@ returns-in-Ok g c =
 pub returns-in-Err-clause-plays : goal.returns-in-Err-clause-plays
 returns-in-Err-clause-plays g c = λ bytes accepted.
     ∣ gave_up g.O.Sink.told g.O.Sink.faults g.E.Sink.told g.E.Sink.faults g.K.Clock.last g.K.Clock.early_waits
-    c.args.program.fuel bytes c.tell.result.ending c.tell.result.history.list c.args.out c.tell.result.out c.args.err c.in-Err.field-0.err c.tell.result.err c.args.clock c.tell.result.clock
+    c.args.program.fuel bytes c.tell.result.ending c.tell.result.history.list c.args.parts.out c.tell.result.out c.args.parts.err c.in-Err.field-0.err c.tell.result.err c.args.parts.clock c.tell.result.clock
     (c.tell.ensures.kept.0 ∙ c.in-Err.ensures.err.0) c.in-Err.ensures.err.1 (ap g.K.Clock.early_waits c.tell.ensures.kept.1 ∙ c.in-Err.ensures.err.3) c.tell.ensures.history c.tell.ensures.tells ∣₁

@@ -10,7 +10,7 @@ returns-in-Ok g c =
     let has = c.in-Ok.ensures.run in
     let put = c.write_closed.ensures.writes in
     let same = c.write_closed.ensures.clock in
-    let lent = shown g.O.Sink.told g.O.Sink.faults g.E.Sink.told g.E.Sink.faults g.K.Clock.last g.K.Clock.early_waits c.args.out c.args.err c.args.clock in
+    let lent = shown g.O.Sink.told g.O.Sink.faults g.E.Sink.told g.E.Sink.faults g.K.Clock.last g.K.Clock.early_waits c.args.parts.out c.args.parts.err c.args.parts.clock in
     let now = shown g.O.Sink.told g.O.Sink.faults g.E.Sink.told g.E.Sink.faults g.K.Clock.last g.K.Clock.early_waits c.write_closed.result.out c.write_closed.result.err c.in-Ok.closed.parts.clock in
     let counts = wrote_counts _ _ _ _ _ _ _ _ _ _ _ _ c.in-Ok.closed.end has.ended put in
     record {
@@ -20,7 +20,7 @@ returns-in-Ok g c =
           subst (λ k. ∥ Writes c.args.program.fuel c.args.bytes.now c.write_closed.result.ending c.write_closed.result.history.list lent (shown g.O.Sink.told g.O.Sink.faults g.E.Sink.told g.E.Sink.faults g.K.Clock.last g.K.Clock.early_waits c.write_closed.result.out c.write_closed.result.err k) ∥₁) (sym same)
           (writes c.args.program.fuel _ c.args.bytes.now c.write_closed.result.ending c.in-Ok.closed.history.list c.write_closed.result.history.list lent now c.in-Ok.closed.end has accepted put);
       written = wrote _ _ _ _ _ _ _ _ _ _ _ _ c.in-Ok.closed.end has.ended put;
-      counts = (counts.0, counts.1, subst (λ k. g.K.Clock.early_waits c.args.clock ≤ g.K.Clock.early_waits k) (sym same) has.waited);
+      counts = (counts.0, counts.1, subst (λ k. g.K.Clock.early_waits c.args.parts.clock ≤ g.K.Clock.early_waits k) (sym same) has.waited);
       calm = λ other. wrote_calm _ _ _ _ _ _ _ _ _ _ _ _ c.in-Ok.closed.end has.ended put (λ is. other (c.write_closed.ensures.status ∙ is));
       choice = ap g.K.Clock.choice same ∙ c.in-Ok.ensures.choice;
     }
