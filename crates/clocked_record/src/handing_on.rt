@@ -2,8 +2,6 @@
 ghost use Rattle.std.specs.Prelude.{◌≡◌, ◌<◌, ◌≤◌, ◌+◌, ℕ, None, OnErr, IfOk, IfSome, IfNone, IsSome, MatchOption, nat_eq};
 ghost use Rattle.std.specs.HashMap.{get};
 ghost use Rattle.hs_rules.specs.Histories.{steps_of};
-ghost use Rattle.hs_rules.specs.declared.entry.Entry.TheVariants as entry;
-ghost use Rattle.hs_rules.specs.declared.entry.LimitKind.TheVariants as limit;
 ghost use Rattle.thread_table.specs.Listing as at;
 ghost use Rattle.thread_table.specs.Table.{IsAt};
 ghost use Rattle.world_entries.specs.Worlds.{Goes, Starts};

@@ -20,6 +20,12 @@ use rules_code::{Code, CodeBody};
 use std::alloc::{AllocError, Global};
 use ticket_queues::{Deque, DequePass, Inbox, InboxPass};
 
+/// All shares of the inbox and of the flags.
+struct Shares<S: Ticketed> {
+    post: InboxPass<S>,
+    pen: Pen,
+}
+
 impl<J: Ticketed + Drop, S: Ticketed + Drop> Hands<J, S> {
     /// The hands of so many capabilities, for jobs and slices of this code. The list has the hands in order of number,
     /// and is full.
@@ -45,7 +51,7 @@ impl<J: Ticketed + Drop, S: Ticketed + Drop> Hands<J, S> {
             inbox,
             flags,
         };
-        let list = shared.hand_out(alloc, caps, deques, rows, post, pen)?;
+        let list = shared.hand_out(alloc, caps, deques, rows, Shares { post, pen })?;
         Ok((shared, list))
     }
 
@@ -56,15 +62,15 @@ impl<J: Ticketed + Drop, S: Ticketed + Drop> Hands<J, S> {
         caps: u32,
         mut deques: Vec<Deque<J>>,
         mut rows: Vec<Vec<DequePass<J>>>,
-        mut post: InboxPass<S>,
-        mut pen: Pen,
+        shares: Shares<S>,
     ) -> Result<HandList<J, S>, NoMemory>
         requires caps { (0 < caps) × (caps ≤ 16) × (hands_count self.now ≡ caps) }
         requires dealt { IsLaidOut (hands_code self.now) caps deques.items self.now.doors.items rows.items }
-        requires post { IsInboxPass self.now.inbox post × (inbox_view post ≡ view_with (Some (hands_code self.now)) 16 [] []) }
-        requires pen { IsPenOf self.now.flags pen × (view_of pen ≡ pen_view caps [] []) }
+        requires post { IsInboxPass self.now.inbox shares.post × (inbox_view shares.post ≡ view_with (Some (hands_code self.now)) 16 [] []) }
+        requires pen { IsPenOf self.now.flags shares.pen × (view_of shares.pen ≡ pen_view caps [] []) }
         ensures { IfOk result (λ list. (length (hands_in list) ≡ caps) × AreFresh self.now (hands_in list)) }
     {
+        let Shares { mut post, mut pen } = shares;
         let mut hands = Vec::with_capacity(alloc, caps as usize)?;
         let mut number = 0;
         while number + 1 < caps {

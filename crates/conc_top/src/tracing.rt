@@ -1,5 +1,5 @@
 //! `trace`: a script runs, and its history is written in place of what it prints.
-ghost use Rattle.std.specs.Prelude.{◌≡◌, ◌≤◌, ◌⊎◌, IfOk, IfSome, IsSome, Some};
+ghost use Rattle.std.specs.Prelude.{◌≡◌, ◌≤◌, ◌⊎◌, IfSome, IsSome, Some};
 ghost use Rattle.hs_io.specs.Causes.{Rose};
 ghost use Rattle.rules_code.specs.Codes.{body_of};
 ghost use Rattle.rules_traces.specs.Traces.{document_of};

@@ -1,5 +1,5 @@
 //! Jobs that are made, and that are overtaken.
-ghost use Rattle.std.specs.Prelude.{◌≡◌, ◌<◌, ◌≤◌, ◌+◌, ◌^◌, ◌↔◌, ◌⊎◌, ℕ, None, Some, IfOk, IfSome, IfNone, OnOk, OnErr, IsTrue, length, slice_get};
+ghost use Rattle.std.specs.Prelude.{◌≡◌, ◌<◌, ◌≤◌, ◌+◌, ◌^◌, ◌↔◌, ◌⊎◌, ℕ, None, Some, IfOk, IfSome, IfNone, OnOk, OnErr, IsTrue, length};
 ghost use Rattle.hs_rules.specs.declared.entry.Entry.TheVariants as entry;
 ghost use Rattle.frame_stack.specs.Slicing.{IsDoing};
 ghost use Rattle.thread_table.specs.Listing.{Goes};

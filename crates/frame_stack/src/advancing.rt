@@ -2,7 +2,7 @@
 //!
 //! The stack stays as it is until all of them are done: they are tried on a copy of its control and on copies of the few frames
 //! that they use up, one at a time, so the cost goes by the rules and not by the depth of the stack.
-ghost use Rattle.std.specs.Prelude.{◌≡◌, ◌<◌, ◌++◌, [], false, drop, ◌↔◌, IsTrue, IfOk, OnOk, OnErr, MatchOption, Some, None};
+ghost use Rattle.std.specs.Prelude.{◌≡◌, ◌<◌, [], false, drop, ◌↔◌, IsTrue, IfOk, OnOk, OnErr, MatchOption, Some, None};
 ghost use Rattle.hs_base.specs.declared.mask.Mask.TheVariants.{Unmasked};
 ghost use Rattle.rules_code.specs.declared.code.CodeBody.{CodeBody};
 ghost use Rattle.rules_code.specs.Codes.{body_of};

@@ -1,7 +1,6 @@
 //! How far a control goes alone.
-ghost use Rattle.std.specs.Prelude.{◌≡◌, ◌<◌, ◌≤◌, ◌⊎◌, [], ◌↔◌, IsTrue, IfOk, IfErr, OnOk, Some, List};
+ghost use Rattle.std.specs.Prelude.{◌≡◌, ◌<◌, ◌≤◌, ◌⊎◌, [], ◌↔◌, IsTrue, IfOk, IfErr, OnOk, Some};
 ghost use Rattle.rules_code.specs.declared.code.CodeBody.{CodeBody};
-ghost use Rattle.rules_meaning.specs.Values.{values_of};
 ghost use Rattle.slot_laws.specs.SlotRules.{at, local, locals};
 ghost use Rattle.local_steps.specs.Machine.{active_of, frames_of, funs_of};
 ghost use Rattle.frame_stack.specs.Parts.{part_of};

@@ -1,11 +1,10 @@
 //! One local rule.
-ghost use Rattle.std.specs.Prelude.{◌≡◌, ◌++◌, ◌∷◌, [], IfOk, OnErr, take, slice_get, Some, None, MatchOption, List};
+ghost use Rattle.std.specs.Prelude.{◌≡◌, ◌++◌, ◌∷◌, [], IfOk, OnErr, slice_get, Some, None, MatchOption, List};
 ghost use Rattle.hs_base.specs.declared.mask.Mask.TheVariants as mask;
 ghost use Rattle.rules_meaning.specs.Values as val;
 ghost use Rattle.rules_meaning.specs.Values.{V, value_of, values_of};
-ghost use Rattle.rules_code.specs.Slots.{trees};
 ghost use Rattle.rules_code.specs.declared.code.CodeBody.{CodeBody};
-ghost use Rattle.rules_code.specs.CodeTrees.{Sa, act_decode, act_trees};
+ghost use Rattle.rules_code.specs.CodeTrees.{Sa};
 ghost use Rattle.slot_laws.specs.SlotRules as rules;
 ghost use Rattle.slot_laws.specs.SlotRules.{at, just_part, performs, forks, forks_unmask, on_top, first_step, bind_to, then_to, catch_by, mask_in, doing, local};
 ghost use Rattle.local_steps.specs.declared.active.StepResult.TheVariants as next;

@@ -3,12 +3,11 @@ ghost use Rattle.std.specs.Prelude.{◌≡◌, ◌<◌, ◌≤◌, ◌+◌, ◌�
 ghost use Rattle.std.specs.HashMap.{get};
 ghost use Rattle.hs_rules.specs.Histories.{steps_of};
 ghost use Rattle.hs_rules.specs.declared.entry.Entry.TheVariants as entry;
-ghost use Rattle.hs_rules.specs.declared.entry.LimitKind.TheVariants as limit;
 ghost use Rattle.thread_table.specs.Listing as at;
 ghost use Rattle.thread_table.specs.Table.{IsAt};
 ghost use Rattle.world_entries.specs.Worlds.{Goes, Starts};
 ghost use Rattle.run_record.specs.declared.acts.Next.TheVariants as next;
-ghost use Rattle.run_record.specs.Records.{IsAccepted, IsNext, Same, Appended, WouldExceed};
+ghost use Rattle.run_record.specs.Records.{IsAccepted, IsNext, Same, Appended};
 ghost use Rattle.clocked_record.specs.Clocks.{work, Looked};
 ghost use Rattle.run_course.specs.declared.ends.RunEnd.TheVariants as end;
 ghost use Rattle.run_course.specs.Endings.{EndsBy, IsConcluded, IsOpen};

@@ -3,7 +3,6 @@ ghost use Rattle.std.specs.Prelude.{◌≡◌, ◌<◌, ◌≤◌, ◌+◌, OnEr
 ghost use Rattle.rules_code.specs.declared.code.CodeBody.{CodeBody};
 ghost use Rattle.hs_rules.specs.Histories.{steps_of};
 ghost use Rattle.hs_rules.specs.declared.entry.Entry.TheVariants as entry;
-ghost use Rattle.hs_rules.specs.declared.entry.LimitKind.TheVariants as limit;
 ghost use Rattle.world_entries.specs.Worlds.{Goes, HasRoom, IsLive, Makes, SameState, Starts};
 ghost use Rattle.run_record.specs.Acts.{entry_of};
 ghost use Rattle.run_record.specs.Records.{Can, IsAccepted, Same, Appended, Prints, PrintsIn, WouldExceed};

@@ -1,13 +1,11 @@
 //! Which thread is next, whether some thread is to do an action, and which may be stranded.
 ghost use Rattle.std.specs.Prelude.{◌≡◌, ◌<◌, ◌≤◌, ◌∷◌, ◌++◌, ℕ, length, drop, Some, None, true, false, nat_eq, IsSome, IfSome, IfNone, OnSome, MatchBool, List, option_to_list, slice_get};
 ghost use Rattle.std.specs.HashMap.{get};
-ghost use Rattle.hs_base.specs.declared.exn.Exn.TheVariants.{BlockedIndefinitely};
-ghost use Rattle.slot_laws.specs.SlotRules.{throw};
-ghost use Rattle.slot_states.specs.SlotStates.{resumed};
 ghost use Rattle.rules_code.specs.declared.code.CodeBody.{CodeBody};
 ghost use Rattle.thread_table.specs.declared.thread.Thread.{Thread};
 ghost use Rattle.thread_table.specs.Table.{slots_of, changed, with_listed, unqueued, unlisted, IsAt};
-ghost use Rattle.thread_table.specs.Listing.{wants as wants_by, waits_open, WaitsAtCell, NobodyWants, Goes};
+ghost use Rattle.thread_table.specs.Moving.{IsStranded};
+ghost use Rattle.thread_table.specs.Listing.{wants as wants_by, waits_open, NobodyWants, Goes};
 
 use crate::kinds::EntryKind;
 use crate::listing::{cell_of, goes_at, has_own, waits_open, wants};

@@ -1,17 +1,14 @@
-ghost use Rattle.std.specs.Prelude.{◌≡◌, ◌<◌, ◌≤◌, ◌+◌, ◌++◌, ◌∷◌, ◌^◌, [], length, Some, None, true, false, IsTrue, IfOk, IfErr, OnOk, OnErr, Bool, slice_get};
+ghost use Rattle.std.specs.Prelude.{◌≡◌, ◌<◌, ◌≤◌, ◌+◌, ◌++◌, ◌∷◌, ◌^◌, [], length, Some, true, false, IsTrue, IfOk, IfErr, OnOk, OnErr, Bool};
 ghost use Rattle.rules_waiting.specs.Waiting.{flying_to, withdrawn, is_throwing, first_thrown};
 ghost use Rattle.exn_flight.specs.Flights.{after_delivery};
 ghost use Rattle.hs_base.specs.declared.mask.Mask.TheVariants.{Unmasked};
 ghost use Rattle.rules_code.specs.Codes.{body_of};
 ghost use Rattle.local_steps.specs.Frames.{mask_inside};
-ghost use Rattle.local_steps.specs.Machine.{funs_of, frames_of};
-ghost use Rattle.slot_laws.specs.SlotRules.{local, locals};
 ghost use Rattle.frame_stack.specs.declared.control.Control.TheVariants as control;
-ghost use Rattle.frame_stack.specs.Parts.{IsOp, IsThrow, Meets, Stacked, part_of, term_of};
+ghost use Rattle.frame_stack.specs.Parts.{IsOp, IsThrow, Meets, term_of};
 ghost use Rattle.frame_stack.specs.Advancing.{MayAdvance};
-ghost use Rattle.rules_code.specs.declared.code.CodeBody.{CodeBody};
-ghost use Rattle.thread_table.specs.declared.thread.Thread.{Thread};
-ghost use Rattle.thread_table.specs.Table.{changed, with_control, finishing, with_stack, with_queued, new_thread, IsAt, frames_over};
+ghost use Rattle.thread_table.specs.Table.{changed, with_control, finishing, with_queued, new_thread, IsAt, frames_over};
+ghost use Rattle.thread_table.specs.Moving.{HasMoved, IsNextStack, IsStuck, IsTaken, rules_of};
 ghost use Rattle.thread_table.specs.Listing.{Listed, Queued, Kept, queued_after, going_over};
 
 use crate::listing::{counted_frames, counted_going, may_strand};

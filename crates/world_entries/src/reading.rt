@@ -1,13 +1,12 @@
 //! Those who wait to read a cell: each is answered a copy of the value that comes to it.
-ghost use Rattle.std.specs.Prelude.{◌≡◌, ◌≤◌, ◌<◌, ◌+◌, length, OnOk, OnErr, IfOk, ℕ, List};
+ghost use Rattle.std.specs.Prelude.{◌≡◌, ◌≤◌, ◌<◌, ◌+◌, length, IfOk};
 ghost use Rattle.hs_base.specs.declared.value.Value.{Value};
 ghost use Rattle.rules_meaning.specs.Values.{Just, value_of};
 ghost use Rattle.rules_waiting.specs.OneCell.{readers};
 ghost use Rattle.mvar_cell.specs.Calls.{cell_at};
-ghost use Rattle.mvar_cell.specs.Readers.{AreAllReaders};
 ghost use Rattle.thread_table.specs.Rooms.{work_room};
 ghost use Rattle.world_entries.specs.Worlds.{SameState, HasRoom};
-ghost use Rattle.world_entries.specs.Reading.{AllShown, FullUnread, Are, ReadersStand, Rest, all_answered};
+ghost use Rattle.world_entries.specs.Reading.{AllShown, FullUnread, Are, ReadersStand, Rest};
 
 use crate::world::World;
 use hs_base::{NoMemory, Value};
