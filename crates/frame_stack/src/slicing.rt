@@ -6,7 +6,7 @@ ghost use Rattle.frame_stack.specs.Slicing.{Cuts, Stops};
 
 use crate::fault::SliceFault;
 use crate::job::Job;
-use crate::running::{SliceBounds, Ran, active, control, run};
+use crate::running::{Ran, SliceBounds, active, control, run};
 use crate::sliced::Slice;
 use hs_io::Cutter;
 use rules_code::{Code, CodeBody};

@@ -33,7 +33,7 @@ abbrev pub IsTaken : Slice → List Thread → List Thread → Type 0
 IsTaken slice old new =
     (k : Stacked) × (new ≡ changed slice.tid (with_stack k) old) × (k.control ≡ slice.end)
     × ((th : Thread) → slice_get old slice.tid ≡ Some th
-        → (k.frames ≡ slice.pushed.list ++ th.stack.frames) × ∥ rules_of slice.of.value slice.steps th.stack ≡ Some (term_of slice.of.value k) ∥₁)
+    → (k.frames ≡ slice.pushed.list ++ th.stack.frames) × ∥ rules_of slice.of.value slice.steps th.stack ≡ Some (term_of slice.of.value k) ∥₁)
 
 -- thread t, which waited at the cell m and could be stranded, throws, and is blocked no more
 abbrev pub IsStranded : ℕ → ℕ → List Thread → List Thread → Type 0
