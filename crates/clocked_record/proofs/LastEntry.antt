@@ -1,5 +1,6 @@
 -- The last entry of a history, as it is read by its place.
 use Rattle.std.proofs.Common.{◌≡◌, ℕ, zero, suc, ◌+◌, List, [], ◌∷◌, ◌++◌, length, length-append, slice_get, Bool, true, Some, refl, sym, ap, ◌∙◌, subst, arith}
+use Rattle.plain_laws.proofs.Lists.{get_last}
 use Rattle.hs_rules.specs.declared.entry.Entry.{Entry}
 use Rattle.hs_rules.specs.declared.entry.Entry.TheVariants as entry
 use Rattle.hs_rules.specs.Endings.{IsTick}
@@ -10,10 +11,6 @@ last_is [] n x e is = absurd (cc is)
 last_is (y ∷ []) zero x e is = ([], ap (λ z. z ∷ []) (cc is))
 last_is (y ∷ z ∷ ys) zero x e is = absurd (omega arith)
 last_is (y ∷ ys) (suc n) x e is = let k = last_is ys n x (omega arith) is in (y ∷ k.0, ap (λ zs. y ∷ zs) k.1)
-
-at_last : {A : Type 0} (front : List A) (x : A) → slice_get (front ++ x ∷ []) (length front) ≡ Some x
-at_last [] x = refl
-at_last (y ∷ front) x = at_last front x
 
 tick_of : (e : Entry) → IsTick e → (at : ℕ) × (e ≡ entry.Tick at)
 tick_of (entry.Tick at) h = (at, refl)
@@ -37,7 +34,7 @@ module _ (es : List Entry) (n : ℕ) (last : n + 1 ≡ length es) where
   ends_tick e is h =
       let x : Entry = entry.Tick h.1 in
       let long : n ≡ length h.0 = omega (arith, last, ap length h.2, length-append h.0 (x ∷ [])) in
-      let there : slice_get es n ≡ Some x = ap (λ zs. slice_get zs n) h.2 ∙ (ap (slice_get (h.0 ++ x ∷ [])) long ∙ at_last h.0 x) in
+      let there : slice_get es n ≡ Some x = ap (λ zs. slice_get zs n) h.2 ∙ (ap (slice_get (h.0 ++ x ∷ [])) long ∙ get_last h.0 x) in
       let same : x ≡ e = let z : Some x ≡ Some e = sym there ∙ is in cc z in
       subst IsTick same tt
 

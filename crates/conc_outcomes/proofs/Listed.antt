@@ -3,6 +3,8 @@ use Rattle.std.proofs.Common.{◌≡◌, ◌<◌, ◌≤◌, ◌+◌, ℕ, zero,
 use Rattle.std.specs.Prelude.{◌⊎◌}
 use Rattle.std.specs.List.{AllByRecursion, Contains}
 use Rattle.std.proofs.lemmas.Option.{same_Some, slice_get_within}
+use Rattle.plain_laws.proofs.Numbers.{below_or_last}
+use Rattle.plain_laws.proofs.Lists.{mapped_there}
 use Rattle.rules_code.specs.declared.code.CodeBody.{CodeBody}
 use Rattle.outcome_laws.specs.Outcomes as laws
 use Rattle.outcome_listing.specs.declared.explored.Final.{Final}
@@ -16,7 +18,7 @@ use Rattle.state_search.specs.declared.found.Found.{Found}
 use Rattle.state_search.specs.Meaning.{states_of, kind_of}
 use Rattle.state_search.specs.Searching.{Shows}
 use Rattle.conc_outcomes.specs.Exploring.{IsBefore, AreRising}
-use Rattle.conc_outcomes.proofs.Lists.{take_next, map_next, mapped_there}
+use Rattle.conc_outcomes.proofs.Lists.{take_next, map_next}
 
 -- ---- the outcomes of endings
 
@@ -54,9 +56,6 @@ AreThere f n es = (b : CodeBody) (o : laws.Outcome) (s : Shows b f o) → s.numb
 abbrev pub IsEndingAt : Found → ℕ → Final → Ended → Type 0
 IsEndingAt f n end e = (b : CodeBody) (d : Shown) → slice_get (states_of b f) n ≡ Some d → outcome_by e ≡ record { end = final_of end; output = d.output; errors = d.errors }
 
-last_or_below : (i n : ℕ) → i < n + 1 → (i < n) ⊎ (i ≡ n)
-last_or_below i n h = grind arith
-
 still_has : (old new : List Ended) → ((e : Ended) → Holds old e → Holds new e) → (o : laws.Outcome) → Has old o → Has new o
 still_has old new keeps o h = (h.0, keeps h.0 h.1, h.2)
 
@@ -76,7 +75,7 @@ kind_there b f o s n k at is =
 
 pub there_none : (f : Found) (n : ℕ) (es : List Ended) → slice_get f.kinds.items n ≡ Some None → AreThere f n es → AreThere f (n + 1) es
 there_none f n es at h b o s below =
-    ⊎_elim (λ (lt : s.number < n). h b o s lt) (λ (is : s.number ≡ n). absurd (let k = kind_there b f o s n None at is in let r : ⊥ = cc in r)) (last_or_below s.number n below)
+    ⊎_elim (λ (lt : s.number < n). h b o s lt) (λ (is : s.number ≡ n). absurd (let k = kind_there b f o s n None at is in let r : ⊥ = cc in r)) (below_or_last s.number n below)
 
 pub there_more : (f : Found) (n : ℕ) (end : Final) (e : Ended) (old new : List Ended) → slice_get f.kinds.items n ≡ Some (Some end) → IsEndingAt f n end e → ((a : Ended) → Holds old a → Holds new a) → Has new (outcome_by e) → AreThere f n old → AreThere f (n + 1) new
 there_more f n end e old new at is keeps has h b o s below =
@@ -85,7 +84,7 @@ there_more f n end e old new at is keeps has h b o s below =
     let k = kind_there b f o s n (Some end) at same in
     let ended : final_of end ≡ o.end = same_Some (final_of end) o.end k in
     let shown = is b s.state (ap (slice_get (states_of b f)) (sym same) ∙ s.is) in
-    subst (Has new) (shown ∙ same_parts (final_of end) s.state.output s.state.errors o ended s.output s.errors) has) (last_or_below s.number n below)
+    subst (Has new) (shown ∙ same_parts (final_of end) s.state.output s.state.errors o ended s.output s.errors) has) (below_or_last s.number n below)
 
 pub there_all : (f : Found) (n : ℕ) (es : List Ended) → length f.kinds.items ≤ n → AreThere f n es → (b : CodeBody) (o : laws.Outcome) → Shows b f o → Has es o
 there_all f n es all h b o s =

@@ -26,12 +26,6 @@ pub map_next : {A B : Type 0} → (f : A → B) (xs : List A) (x : A) → map f 
 map_next f [] x = refl
 map_next f (y ∷ xs) x = ap (λ zs. f y ∷ zs) (map_next f xs x)
 
-pub mapped_there : {A B : Type 0} → (g : A → B) (xs : List A) (i : ℕ) (y : B) → slice_get (map g xs) i ≡ Some y → (x : A) × (slice_get xs i ≡ Some x) × (g x ≡ y)
-mapped_there g [] zero y e = absurd (cc e)
-mapped_there g [] (suc i) y e = absurd (cc e)
-mapped_there g (x ∷ xs) zero y e = (x, refl, same_Some (g x) y e)
-mapped_there g (x ∷ xs) (suc i) y e = mapped_there g xs i y e
-
 -- one more has been taken
 pub moved : {A : Type 0} → (old new whole xs : List A) (n : ℕ) (x : A) → slice_get xs n ≡ Some x → new ≡ old ++ x ∷ [] → old ++ drop n xs ≡ whole → new ++ drop (n + 1) xs ≡ whole
 moved old new whole xs n x at is h = ap (λ ys. ys ++ drop (n + 1) xs) is ∙ append_assoc old (x ∷ []) (drop (n + 1) xs) ∙ ap (λ ys. old ++ ys) (sym (drop_next xs n x at)) ∙ h

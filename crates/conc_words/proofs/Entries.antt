@@ -4,9 +4,10 @@ use Rattle.std.specs.Prelude.{encode_utf8, option_and_then, option_map, slice_ge
 use Rattle.std.specs.Option.{option_map_or, unwrap_or}
 use Rattle.std.specs.List.{AllByRecursion, find}
 use Rattle.std.specs.Str.{bytes_eq, chars}
-use Rattle.std.proofs.lemmas.Bool.{leb-true}
+use Rattle.std.proofs.lemmas.Bool.{leb-true, and_parts}
 use Rattle.std.proofs.lemmas.List.Folds.{list_all-append}
 use Rattle.std.proofs.lemmas.Slice.Eq.{bytes_eq-Decides}
+use Rattle.plain_laws.proofs.Lists.{all_append}
 use Rattle.clap.specs.Lexer.{long_of, short_of}
 use Rattle.clap.specs.Facts.{unwrap_or_range}
 use Rattle.clap.specs.Values.{read_as}
@@ -17,7 +18,6 @@ use Rattle.clap.specs.declared.builder.action.ArgAction.TheVariants.{Set}
 use Rattle.clap.specs.declared.builder.value_parser.Reading.{Reading}
 use Rattle.clap.specs.declared.parser.matches.ValueSource.{ValueSource}
 use Rattle.clap.specs.declared.parser.matches.ValueSource.TheVariants.{CommandLine, DefaultValue}
-use Rattle.conc_words.proofs.Tests.{both}
 
 some_same : {X : Type 0} (x y : X) → Some x ≡ Some y → x ≡ y
 some_same x y e = ap (λ o. unwrap_or o x) e
@@ -33,10 +33,6 @@ found_has P q (y ∷ ys) x all found = go (q y) found (found_has P q ys x all.1)
     go : (b : Bool) → cond b (Some y) (find q ys) ≡ Some x → (find q ys ≡ Some x → P x) → P x
     go true e later = subst P (some_same y x e) all.0
     go false e later = later e
-
-has_both : {X : Type 0} (P : X → Type 0) (xs ys : List X) → AllByRecursion P xs → AllByRecursion P ys → AllByRecursion P (xs ++ ys)
-has_both P [] ys a b = b
-has_both P (x ∷ xs) ys a b = (a.0, has_both P xs ys a.1 b)
 
 module _ (c : List Rule) where
   -- a row has a value, its values pass, and they are read as the argument of its id says
@@ -55,7 +51,7 @@ module _ (c : List Rule) where
   at_keeps id change missing f m (r ∷ rs) good = go (bytes_eq r.id id) refl (at_keeps id change missing f m rs good.1)
     where
       go : (b : Bool) → bytes_eq r.id id ≡ b → AllByRecursion IsGood (at_row id change missing rs) → AllByRecursion IsGood (cond b (change r ++ rs) (r ∷ at_row id change missing rs))
-      go true e later = has_both IsGood (change r) rs (f r good.0 ((bytes_eq-Decides r.id id).0 e)) good.1
+      go true e later = all_append IsGood (change r) rs (f r good.0 ((bytes_eq-Decides r.id id).0 e)) good.1
       go false e later = (good.0, later)
 
   without_keeps : (id : Text) (rows : List Row) → AllByRecursion IsGood rows → AllByRecursion IsGood (without id rows)
@@ -87,11 +83,11 @@ module _ (c : List Rule) where
   used_keeps : (again : Bool) (a : Rule) → TakesOne a → (vs : List Text) (rows : List Row) → use_passes again a vs rows ≡ true → AllByRecursion IsGood rows
       → AllByRecursion IsGood (used a vs rows)
   used_keeps again a one vs rows e good =
-      let parts = both _ _ e in
+      let parts = and_parts _ _ e in
       let enough : (unwrap_or_range a.range).start_inclusive ≤ length vs = leb-true _ _ parts.0 in
       let some : 1 ≤ length vs = omega (arith, one.1) in
-      let action = (both _ _ parts.1).1 in
-      let set = both _ _ (subst (λ x. action_passes x again a (values_or_missing a vs) rows ≡ true) one.0 action) in
+      let action = (and_parts _ _ parts.1).1 in
+      let set = and_parts _ _ (subst (λ x. action_passes x again a (values_or_missing a vs) rows ≡ true) one.0 action) in
       subst (λ x. AllByRecursion IsGood (used_as x a.id (reading_by a) (values_or_missing a vs) rows)) (sym one.0)
       (with_keeps a one CommandLine (values_or_missing a vs) set.1 (given a vs some) (without a.id rows) (without_keeps a.id rows good))
 
@@ -131,7 +127,7 @@ module _ (c : List Rule) where
 
     react_keeps : (a : Rule) → TakesOne a → (vs : List Text) (h : Held) → react_passes c again a vs h ≡ true → Holds h → Holds (reacted c a vs h)
     react_keeps a one vs h e good =
-        let parts = both _ _ e in
+        let parts = and_parts _ _ e in
         used_keeps again a one vs (settled c h).rows parts.1 (settle_keeps h parts.0 good)
 
     option_keeps : (a : Rule) → TakesOne a → (v : Option Text) (h : Held) → option_passes c again a v h ≡ true → Holds h → Holds (option_met c a v h).0
@@ -159,7 +155,7 @@ module _ (c : List Rule) where
             → Holds (cond b (option_met c a (attached_value rest) h) (then (reacted c a [] h))).0
         go true e = option_keeps a (one a refl) (attached_value rest) h e good
         go false e =
-            let parts = both _ _ e in
+            let parts = and_parts _ _ e in
             keeps _ parts.1 (react_keeps a (one a refl) [] h parts.0 good)
 
     bundle_step_keeps : (o : Option ℕ) (flags : Text) (skip : ℕ) (so_far : Outcome) (h : Held) (then : Text → ℕ → Outcome → Held → Held × Outcome) (passes : Text → ℕ → Held → Bool)
@@ -244,7 +240,7 @@ module _ (s : Shape) (ones : AllByRecursion (TakesOne s.rules) s.rules) (names :
           → Holds s.rules (walked_from s.rules names o w word).held
       go (Some p) e = good
       go None e =
-          let parts = both (word_passes s names w.is_trailing w.waiting word w.held) _ e in
+          let parts = and_parts (word_passes s names w.is_trailing w.waiting word w.held) _ e in
           step_keeps word w (word_met s.rules names w.is_trailing w.waiting w.position word w.held).0 (word_met s.rules names w.is_trailing w.waiting w.position word w.held).1 parts.1
           (word_keeps w.is_trailing w.waiting w.position word w.held parts.0 good)
 
@@ -252,15 +248,15 @@ module _ (s : Shape) (ones : AllByRecursion (TakesOne s.rules) s.rules) (names :
   unfolding walk_passes
   walk_keeps [] w e good = good
   walk_keeps (word ∷ rest) w e good =
-      let parts = both (turn_passes s names w word) _ e in
+      let parts = and_parts (turn_passes s names w word) _ e in
       walk_keeps rest (walked s.rules names w word) parts.1 (turn_keeps w word parts.0 good)
 
   -- the rows that a level leaves
   pub level_keeps : (words : List Text) (has : Bool) → level_passes s names nothing_held words has ≡ true → AllByRecursion (IsGood s.rules) (rows_after s.rules names words)
   level_keeps words has e =
       let end = (walk s.rules names nothing_held words).held in
-      let parts = both (walk_passes s names (walk_from nothing_held) words) _ e in
-      let settle = both (settle_passes s.rules s.args_override_self end) _ parts.1 in
+      let parts = and_parts (walk_passes s names (walk_from nothing_held) words) _ e in
+      let settle = and_parts (settle_passes s.rules s.args_override_self end) _ parts.1 in
       defaults_keep s.rules s.rules (settled s.rules end).rows ones
       (settle_keeps s.rules ones s.args_override_self end settle.0 (walk_keeps words (walk_from nothing_held) parts.0 tt))
 
@@ -329,7 +325,7 @@ no_entry id (r ∷ rs) has = go (bytes_eq r.id id) has (no_entry id rs)
 -- the first value of a list that passes
 first_passes : (a : Rule) (vs : List Text) → values_pass a vs ≡ true → 0 < length vs → (v : Text) × (value_passes a v ≡ true) × (slice_get vs 0 ≡ Some v)
 first_passes a [] e lt = absurd (omega arith)
-first_passes a (v ∷ vs) e lt = (v, (both _ _ e).0, refl)
+first_passes a (v ∷ vs) e lt = (v, (and_parts _ _ e).0, refl)
 
 -- what an entry that is there has: a value that passes
 pub entry_passes : (c : List Rule) (id : Text) (a : Rule) → arg_by_id c id ≡ Some a → (rows : List Row) → AllByRecursion (IsGood c) rows → has_row id rows ≡ true

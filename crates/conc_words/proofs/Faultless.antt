@@ -4,7 +4,7 @@ use Rattle.std.specs.Prelude.{encode_utf8, nat_le, slice_get}
 use Rattle.std.specs.Option.{option_map_or}
 use Rattle.std.specs.List.{find, list_all, list_any}
 use Rattle.std.specs.Str.{bytes_eq, chars}
-use Rattle.std.proofs.lemmas.Bool.{eqb-true, le-leb, ltb-false}
+use Rattle.std.proofs.lemmas.Bool.{eqb-true, le-leb, ltb-false, and_parts, and_from}
 use Rattle.clap.specs.Lexer.{long_of, short_of}
 use Rattle.clap.specs.ValueTests.{accepts}
 use Rattle.clap.specs.Facts.{parser_of_value, unwrap_or_range}
@@ -17,7 +17,7 @@ use Rattle.clap.specs.declared.builder.action.ArgAction.{ArgAction}
 use Rattle.clap.specs.declared.builder.action.ArgAction.TheVariants as action
 use Rattle.clap.specs.declared.builder.value_parser.ValueParser.{ValueParser}
 use Rattle.clap.specs.declared.error.kind.ErrorKind.{ErrorKind}
-use Rattle.conc_words.proofs.Tests.{both, found_passes, joined}
+use Rattle.conc_words.proofs.Tests.{found_passes}
 
 -- ---- lists of kinds
 
@@ -46,7 +46,7 @@ values_ok : (ignore_case : Bool) (parser : ValueParser) (vs : List Text) → val
 values_ok ignore_case parser [] e = refl
 values_ok ignore_case parser (v ∷ vs) e =
     let parts = neither (value_kinds ignore_case parser v) (values_kinds ignore_case parser vs) e in
-    joined _ _ (unless _ _ parts.0) (values_ok ignore_case parser vs parts.1)
+    and_from _ _ (unless _ _ parts.0) (values_ok ignore_case parser vs parts.1)
 
 rule_values_ok : (a : Rule) (vs : List Text) → values_fault a vs ≡ [] → values_pass a vs ≡ true
 rule_values_ok a vs e = values_ok a.ignore_case (parser_of_value a.parser) vs e
@@ -67,7 +67,7 @@ set_ok : (again : Bool) (a : Rule) (vs : List Text) (rows : List Row) → or_els
     → ((not (has_row a.id rows) || again) && values_pass a vs) ≡ true
 set_ok again a vs rows e =
     let parts = neither _ _ e in
-    joined _ _ (repeat_ok again (has_row a.id rows) _ parts.0) (rule_values_ok a vs parts.1)
+    and_from _ _ (repeat_ok again (has_row a.id rows) _ parts.0) (rule_values_ok a vs parts.1)
 
 action_ok : (x : ArgAction) (again : Bool) (a : Rule) (vs : List Text) (rows : List Row) → action_fault x again a vs rows ≡ [] → action_passes x again a vs rows ≡ true
 action_ok action.Set again a vs rows e = set_ok again a vs rows e
@@ -101,7 +101,7 @@ use_ok : (again : Bool) (a : Rule) (vs : List Text) (rows : List Row) → use_fa
 use_ok again a vs rows e =
     let parts = neither _ _ e in
     let range = range_ok (unwrap_or_range a.range).start_inclusive (most_values a) (length vs) parts.0 in
-    joined _ _ range.0 (joined _ _ range.1 (action_ok (action_of a) again a (values_or_missing a vs) rows parts.1))
+    and_from _ _ range.0 (and_from _ _ range.1 (action_ok (action_of a) again a (values_or_missing a vs) rows parts.1))
 
 -- ---- the walk
 
@@ -121,7 +121,7 @@ module _ (c : List Rule) (again : Bool) where
   react_ok : (a : Rule) (vs : List Text) (h : Held) → react_fault c again a vs h ≡ [] → react_passes c again a vs h ≡ true
   react_ok a vs h e =
       let parts = neither _ _ e in
-      joined _ _ (settle_ok h parts.0) (use_ok again a vs (settled c h).rows parts.1)
+      and_from _ _ (settle_ok h parts.0) (use_ok again a vs (settled c h).rows parts.1)
 
   option_ok : (a : Rule) (v : Option Text) (h : Held) → option_fault c again a v h ≡ [] → option_passes c again a v h ≡ true
   option_ok a (Some v) h e = react_ok a (v ∷ []) h e
@@ -147,7 +147,7 @@ module _ (c : List Rule) (again : Bool) where
       go true e = option_ok a (attached_value rest) h e
       go false e =
           let parts = neither _ _ e in
-          joined _ _ (react_ok a [] h parts.0) (ok _ parts.1)
+          and_from _ _ (react_ok a [] h parts.0) (ok _ parts.1)
 
   bundle_step_ok : (o : Option ℕ) (flags : Text) (skip : ℕ) (h : Held) (fault : Text → ℕ → Held → Kinds) (passes : Text → ℕ → Held → Bool)
       → ((t : Text) (n : ℕ) (g : Held) → fault t n g ≡ [] → passes t n g ≡ true)
@@ -222,14 +222,14 @@ module _ (s : Shape) where
       go true met e = refl
       go false met e =
           let parts = neither (word_fault s names w.is_trailing w.waiting word w.held) (step_fault s w.position met.0 met.1) e in
-          joined _ _ (word_ok names w.is_trailing w.waiting word w.held parts.0) (step_ok w.position met.0 met.1 parts.1)
+          and_from _ _ (word_ok names w.is_trailing w.waiting word w.held parts.0) (step_ok w.position met.0 met.1 parts.1)
 
   walk_ok : (names : Names) (w : Walk) (words : List Text) → walk_fault s names w words ≡ [] → walk_passes s names w words ≡ true
   unfolding walk_fault walk_passes
   walk_ok names w [] e = refl
   walk_ok names w (word ∷ rest) e =
       let parts = neither _ _ e in
-      joined _ _ (turn_ok names w word parts.0) (walk_ok names (walked s.rules names w word) rest parts.1)
+      and_from _ _ (turn_ok names w word parts.0) (walk_ok names (walked s.rules names w word) rest parts.1)
 
 -- ---- after the walk
 
@@ -270,8 +270,8 @@ required_ok false wants given xs e = given_ok wants given xs e
 valid_ok : (s : Shape) (rows : List Row) (has : Bool) → has_free_rules s ≡ true → check_fault s rows has ≡ [] → is_valid s rows has ≡ true
 valid_ok s rows has free e =
     let tests = check_tests _ _ _ _ _ _ e in
-    joined _ _ (help_ok has s.arg_required_else_help _ tests.0) (joined _ _ (subcommand_ok has s.subcommand_required tests.1)
-    (joined _ _ free (required_ok (s.subcommand_negates_reqs && has) (λ a. a.required) (λ a. is_given a.id rows) s.rules tests.2)))
+    and_from _ _ (help_ok has s.arg_required_else_help _ tests.0) (and_from _ _ (subcommand_ok has s.subcommand_required tests.1)
+    (and_from _ _ free (required_ok (s.subcommand_negates_reqs && has) (λ a. a.required) (λ a. is_given a.id rows) s.rules tests.2)))
 
 abbrev pub has_sound_rules : Shape → Bool
 has_sound_rules s = has_free_rules s && list_all default_passes s.rules
@@ -279,15 +279,15 @@ has_sound_rules s = has_free_rules s && list_all default_passes s.rules
 level_ok : (s : Shape) (names : Names) (h : Held) (words : List Text) (has : Bool) (below : Kinds) → has_sound_rules s ≡ true
     → level_fault s names h words has below ≡ [] → (below ≡ []) × (level_passes s names h words has ≡ true)
 level_ok s names h words has below sound e =
-    let rules = both (has_free_rules s) _ sound in
+    let rules = and_parts (has_free_rules s) _ sound in
     let first = neither (walk_fault s names (walk_from h) words) _ e in
     let second = neither below _ first.1 in
     let end = (walk s.rules names h words).held in
     let third = neither (settle_fault s.rules s.args_override_self end) _ second.1 in
     let fourth = neither (defaults_fault (settled s.rules end).rows s.rules) _ third.1 in (
       second.0,
-      joined _ _ (walk_ok s names (walk_from h) words first.0) (joined _ _ (settle_ok s.rules s.args_override_self end third.0)
-          (joined _ _ rules.1 (valid_ok s (finished s.rules end) has rules.0 fourth.1))),
+      and_from _ _ (walk_ok s names (walk_from h) words first.0) (and_from _ _ (settle_ok s.rules s.args_override_self end third.0)
+          (and_from _ _ rules.1 (valid_ok s (finished s.rules end) has rules.0 fourth.1))),
     )
 
 entered_ok : (a : App) (stop : Option (Text × List Text)) → list_all has_sound_rules a.subs ≡ true → entered_fault a stop ≡ [] → entered_passes a stop ≡ true
@@ -305,4 +305,4 @@ pub takes_ok : (a : App) (words : List Text) → is_simple a ≡ true → has_so
 takes_ok a words simple top subs e =
     let stop = (walk (built a).top.rules (names_of (built a)) nothing_held (argument_words a words)).stopped in
     let level = level_ok (built a).top (names_of (built a)) nothing_held (argument_words a words) (is_some (entered (built a) stop)) (entered_fault (built a) stop) top e in
-    joined _ _ simple (joined _ _ (entered_ok (built a) stop subs level.0) level.1)
+    and_from _ _ simple (and_from _ _ (entered_ok (built a) stop subs level.0) level.1)

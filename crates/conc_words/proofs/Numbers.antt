@@ -4,13 +4,13 @@ use Rattle.std.specs.Prelude.{option_and_then, pos}
 use Rattle.std.specs.List.{list_all}
 use Rattle.std.specs.Char.{digit_value}
 use Rattle.std.specs.Str.Parse.{AllDigits, IsNumeral, ParsesUnsigned, digits_value, without_leading_plus}
+use Rattle.std.proofs.lemmas.Bool.{and_parts}
 use Rattle.clap.specs.Words.{ReadsOne, without_minus}
 use Rattle.clap.specs.ValueTests.{accepts, is_numeral}
 use Rattle.clap.specs.declared.builder.value_parser.ValueParser.TheVariants as parser
 use Rattle.clap.proofs.CallerReads.{signed_reads}
 use Rattle.clap.proofs.ValueTestLemmas.{accepts-Accepts}
 use Rattle.conc_words.specs.Commands.{written}
-use Rattle.conc_words.proofs.Tests.{both}
 
 digits_pass : (ds : List ℕ) → AllDigits 10 ds → list_all (λ d. nat_lt (digit_value d) 10) ds ≡ true
 digits_pass [] h = refl
@@ -19,7 +19,7 @@ digits_pass (d ∷ ds) h = rw (lt-ltb (digit_value d) 10 h.0) (digits_pass ds h.
 digits_from : (ds : List ℕ) → list_all (λ d. nat_lt (digit_value d) 10) ds ≡ true → AllDigits 10 ds
 digits_from [] e = tt
 digits_from (d ∷ ds) e =
-    let parts = both _ _ e in
+    let parts = and_parts _ _ e in
     (ltb-true _ _ parts.0, digits_from ds parts.1)
 
 pub numeral_passes : (ds : List ℕ) → IsNumeral 10 ds → is_numeral ds ≡ true
@@ -27,7 +27,7 @@ numeral_passes ds h = rw (lt-ltb 0 (length ds) h.0) (digits_pass ds h.1)
 
 pub numeral_from : (ds : List ℕ) → is_numeral ds ≡ true → IsNumeral 10 ds
 numeral_from ds e =
-    let parts = both _ _ e in
+    let parts = and_parts _ _ e in
     (ltb-true _ _ parts.0, digits_from ds parts.1)
 
 -- a text read at an unsigned type is the number that it writes
@@ -41,7 +41,7 @@ read_err bits text e h = go (is_numeral (without_leading_plus text) && nat_lt (d
     go : (b : Bool) → (is_numeral (without_leading_plus text) && nat_lt (digits_value 10 (without_leading_plus text)) (2 ^ bits)) ≡ b → None ≡ written bits text
     go false t = rw t refl
     go true t =
-        let parts = both _ _ t in
+        let parts = and_parts _ _ t in
         absurd (h (numeral_from _ parts.0, ltb-true _ _ parts.1))
 
 -- and so `get_one` gives the number that an entry writes
@@ -71,6 +71,6 @@ range_is bits low high ignore_case text fits e =
         go : (b : Bool) → (is_numeral (without_leading_plus t) && nat_lt (digits_value 10 (without_leading_plus t)) (2 ^ bits)) ≡ b
             → ReadsOne {E = ℕ} (λ u r. ParsesUnsigned bits 10 u r) t (cond b (Some (digits_value 10 (without_leading_plus t))) None)
         go true e =
-            let parts = both _ _ e in
+            let parts = and_parts _ _ e in
             ((numeral_from _ parts.0, ltb-true _ _ parts.1), refl)
         go false e = (0, λ h. true≢false (sym (none h) ∙ e))

@@ -4,6 +4,7 @@ use Rattle.std.specs.Prelude.{option_and_then, option_map}
 use Rattle.std.specs.Option.{option_map_or, unwrap_or}
 use Rattle.std.specs.List.{AllByRecursion, find, list_all}
 use Rattle.std.specs.Str.{bytes_eq}
+use Rattle.std.proofs.lemmas.Bool.{and_parts}
 use Rattle.clap.specs.Facts.{explicit_source, parser_of_value}
 use Rattle.clap.specs.Values.{read_as, reading_of}
 use Rattle.clap.specs.ValueTests.{accepts}
@@ -16,7 +17,6 @@ use Rattle.conc_words.specs.declared.command.Command.TheVariants.{Run, Check, Be
 use Rattle.conc_words.specs.declared.command.Question.TheVariants.{Verify, Report, Picture}
 use Rattle.conc_words.specs.Program.{bench, capabilities_option, check, clock_option, from_to, fuel_option, outcomes, picture, program, report, run, runner, states_option, threads_place, trace, verify, witness_option}
 use Rattle.conc_words.specs.Commands.{ChoosesClock, IsNumbered, IsRefused, IsWithin, clock_of, command_in, command_of, number_of, runner_of, written}
-use Rattle.conc_words.proofs.Tests.{both}
 use Rattle.conc_words.proofs.Numbers.{range_is}
 use Rattle.conc_words.proofs.Entries.{IsGood, TakesOne, default_stays, default_there, entry_passes, level_keeps, no_entry}
 
@@ -27,12 +27,12 @@ level_asks : (s : Shape) (names : Names) (words : List Text) (has : Bool) → le
     × (((s.subcommand_negates_reqs && has) || list_all (λ a. not a.required || is_given a.id (rows_after s.rules names words)) s.rules) ≡ true)
 level_asks s names words has e =
     let end = (walk s.rules names nothing_held words).held in
-    let first = both (walk_passes s names (walk_from nothing_held) words) _ e in
-    let second = both (settle_passes s.rules s.args_override_self end) _ first.1 in
-    let third = both (list_all default_passes s.rules) _ second.1 in
-    let fourth = both _ _ third.1 in
-    let fifth = both (not s.subcommand_required || has) _ fourth.1 in
-    let sixth = both (list_all (λ a. a.is_free) s.rules) _ fifth.1 in
+    let first = and_parts (walk_passes s names (walk_from nothing_held) words) _ e in
+    let second = and_parts (settle_passes s.rules s.args_override_self end) _ first.1 in
+    let third = and_parts (list_all default_passes s.rules) _ second.1 in
+    let fourth = and_parts _ _ third.1 in
+    let fifth = and_parts (not s.subcommand_required || has) _ fourth.1 in
+    let sixth = and_parts (list_all (λ a. a.is_free) s.rules) _ fifth.1 in
     (fifth.0, sixth.1)
 
 takes_asks : (a : App) (words : List Text) → takes a words ≡ true → (built a).top.subcommand_required ≡ true
@@ -40,8 +40,8 @@ takes_asks : (a : App) (words : List Text) → takes a words ≡ true → (built
     (entered_passes (built a) stop ≡ true) × (is_some (entered (built a) stop) ≡ true)
 takes_asks a words e required =
     let stop = (walk (built a).top.rules (names_of (built a)) nothing_held (argument_words a words)).stopped in
-    let parts = both (is_simple a) _ e in
-    let inner = both (entered_passes (built a) stop) _ parts.1 in
+    let parts = and_parts (is_simple a) _ e in
+    let inner = and_parts (entered_passes (built a) stop) _ parts.1 in
     let has = is_some (entered (built a) stop) in
     (inner.0, subst (λ b. (not b || has) ≡ true) required (level_asks (built a).top (names_of (built a)) (argument_words a words) has inner.1).0)
 
@@ -166,7 +166,7 @@ bench_reads words e =
     let start = (settled (leaf bench).rules (walk (leaf bench).rules [] nothing_held words).held).rows in
     let good = level_keeps (leaf bench) bench_ones [] words false e in
     let threads_there : has_row (codes "threads") rows ≡ true =
-    given_there (codes "threads") rows (both (is_given (codes "threads") rows) _ (level_asks (leaf bench) [] words false e).1).0 in
+    given_there (codes "threads") rows (and_parts (is_given (codes "threads") rows) _ (level_asks (leaf bench) [] words false e).1).0 in
     let first = with_default start threads_rule in
     let second = with_default first capabilities_rule in
     let caps_there : has_row (codes "caps") rows ≡ true =

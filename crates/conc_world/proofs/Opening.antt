@@ -13,10 +13,7 @@ use Rattle.hs_rules.specs.Histories.{steps_of}
 use Rattle.hs_rules.specs.Endings.{RunEnding}
 use Rattle.hs_laws.specs.HistoryEndings.{HasEnding}
 use Rattle.slot_states.specs.SlotStates.{SlotState, SlotThread}
-use Rattle.frame_stack.specs.declared.control.Control.{Control}
-use Rattle.frame_stack.specs.declared.control.Control.TheVariants as control
 use Rattle.frame_stack.specs.declared.sliced.Slice.{Slice}
-use Rattle.frame_stack.specs.Slicing.{IsDoing}
 use Rattle.thread_table.specs.declared.thread.Thread.{Thread}
 use Rattle.thread_table.specs.Table.{slot_of, slots_of}
 use Rattle.thread_table.proofs.Table.{slots_at, slots_is}
@@ -100,10 +97,3 @@ module _ (s : Slice) (ended : Option RunEnd) (old new : Record) where
   pub history_after : (result : Result Unit NoMemory) → OnOk result (Accepted s ended old new) → OnErr result (Same old new × (ended ≡ None)) → (more : List Entry) × (new.history.list ≡ old.history.list ++ more)
   history_after (Ok u) ok err = accepted_history ok
   history_after (Err x) ok err = ([], err.0.history ∙ sym (append-nil old.history.list))
-
--- what a slice starts with is an action
-pub doing_shown : (x : Control) → ∥ IsDoing x ∥₁ → IsDoing x
-doing_shown (control.Doing i vs) h = tt
-doing_shown (control.Ret v) h = ∥∥₁_elim h (λ x y. absurd x) (λ d. d)
-doing_shown (control.Throw e) h = ∥∥₁_elim h (λ x y. absurd x) (λ d. d)
-doing_shown (control.Op p) h = ∥∥₁_elim h (λ x y. absurd x) (λ d. d)

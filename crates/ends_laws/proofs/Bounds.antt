@@ -5,7 +5,6 @@ use Rattle.hs_base.specs.declared.clock_choice.ClockChoice.{ClockChoice}
 use Rattle.hs_base.specs.declared.limits.Limits.{Limits}
 use Rattle.hs_base.specs.declared.tree.script.Script.{Script}
 use Rattle.hs_rules.specs.declared.entry.Entry.{Entry}
-use Rattle.hs_rules.specs.declared.entry.Entry.TheVariants as entry
 use Rattle.rules_trees.specs.Programs.{Fn, script_of}
 use Rattle.rules_meaning.specs.CoreMeaning.{Code, code_of}
 use Rattle.rules_typing.specs.TypingScripts.{Accepted}
@@ -19,15 +18,12 @@ use Rattle.reduction_laws.specs.EagerRules.{EagerSteps}
 use Rattle.reduction_laws.specs.Paths as paths
 use Rattle.reduction_laws.specs.Paths.{IsTaken}
 use Rattle.reduction_laws.proofs.Closed.{clock_stable, ranks_bound}
+use Rattle.reduction_laws.proofs.Ranks.{at_most_one}
 use Rattle.slot_states.specs.SlotStates.{SlotState}
 use Rattle.search_laws.specs.Shown.{Shown, IsFirst}
 use Rattle.search_laws.specs.Found.{Edge, AreTrueEdges, AreGone}
 use Rattle.search_laws.proofs.Following.{Follows, Visited, tick_or, follow, stays, begun}
 use Rattle.ends_laws.specs.Rounds.{HaveBound, RanksFall}
-
-at_most_one : (e : Entry) → length (without_ticks (e ∷ [])) ≤ 1
-at_most_one (entry.Tick at) = omega arith
-at_most_one _ = omega arith
 
 module _ (script : Script) (accepted : Accepted script) (clock : ClockChoice) (limits : Limits) (first : SlotState) (states : List Shown) (edges : List Edge) where
   abbrev ds : List Fn

@@ -1,6 +1,7 @@
 -- No round is of Ticks alone: each goes on to a later time.
 use Rattle.std.proofs.Common.{◌≡◌, ◌⊎◌, ◌≤◌, ◌<◌, ◌+◌, ℕ, zero, suc, nat_le, Bool, true, false, cond, List, [], ◌∷◌, length, Option, Some, None, slice_get, refl, sym, ap, ◌∙◌, subst, arith, inl, inr, ⊎_elim, eq-eqb}
 use Rattle.std.proofs.lemmas.Option.{same_Some}
+use Rattle.std.proofs.lemmas.Bool.{leb-false}
 use Rattle.hs_base.specs.declared.clock_choice.ClockChoice.{ClockChoice}
 use Rattle.hs_base.specs.declared.limits.Limits.{Limits}
 use Rattle.hs_rules.specs.declared.entry.Entry.{Entry}
@@ -17,9 +18,6 @@ use Rattle.search_laws.specs.Going.{EagerEntries, IsStill, Takes}
 use Rattle.search_laws.specs.Found.{Edge, AreTrueEdges}
 use Rattle.ends_laws.specs.Rounds.{LeadOn, IsRound, HasWork}
 use Rattle.ends_laws.proofs.Going.{worth, work}
-
-later : (due now : ℕ) → nat_le due now ≡ false → now < due
-later due now h = grind arith
 
 ticks_alone : (e : Entry) → worth e ≡ 0 → (at : ℕ) × (e ≡ entry.Tick at)
 ticks_alone (entry.Tick at) h = (at, refl)
@@ -42,7 +40,7 @@ module _ (funs : List SlottedFunction) where
   -- the first sleeper isn't due where nothing but a Tick can be entered
   none_due : (x : SlotState) (main : SlotThread) → slice_get x.threads 0 ≡ Some main → main.finished ≡ false → IsStill funs x → (at : ℕ) (ss : List Sleeper) → x.sleepers ≡ ss → earliest ss ≡ Some at → (b : Bool) → nat_le at x.clock ≡ b → x.clock < at
   none_due x main is f still at [] e h b n = absurd (cc h)
-  none_due x main is f still at (r ∷ rs) e h false n = later at x.clock n
+  none_due x main is f still at (r ∷ rs) e h false n = leb-false at x.clock n
   none_due x main is f still at (r ∷ rs) e h true n =
       let due : due_of r.thread x.sleepers ≡ Some at = ap (due_of r.thread) e ∙ (ap (λ b. cond b (Some r.due) (due_of r.thread rs)) (eq-eqb r.thread r.thread refl) ∙ h) in
       let wakes_is : next funs x (entry.Wake r.thread) ≡ Some (wakes r.thread x) =

@@ -1,5 +1,5 @@
 -- A run with one entry more leads on, where the entry may stand.
-use Rattle.std.proofs.Common.{◌≡◌, ◌≢◌, ◌<◌, ℕ, Bool, false, List, [], ◌∷◌, ◌++◌, Option, Some, None, refl, sym, ap, ◌∙◌, subst, arith, inl, ⊎_elim}
+use Rattle.std.proofs.Common.{◌≡◌, ◌<◌, ℕ, Bool, false, List, [], ◌∷◌, ◌++◌, Some, refl, sym, ap, ◌∙◌, subst, arith, inl, ⊎_elim}
 use Rattle.hs_base.specs.declared.clock_choice.ClockChoice.{ClockChoice}
 use Rattle.hs_base.specs.declared.clock_choice.ClockChoice.TheVariants.{Real, Virtual}
 use Rattle.hs_base.specs.declared.limits.Limits.{Limits}
@@ -10,7 +10,7 @@ use Rattle.rules_trees.specs.Programs.{Fn, script_of}
 use Rattle.rules_meaning.specs.CoreMeaning.{Code, code_of}
 use Rattle.rules_typing.specs.TypingScripts.{Accepted}
 use Rattle.rules_code.specs.CodeTrees.{SlottedFunction, code_trees}
-use Rattle.rules_waiting.specs.Waiting.{Sleeper, sleepers_of, sorted_sleepers, earliest}
+use Rattle.rules_waiting.specs.Waiting.{sleepers_of}
 use Rattle.hs_rules.specs.State.{State}
 use Rattle.hs_rules.specs.Entries.{Leads}
 use Rattle.hs_rules.specs.Endings.{IsWithin}
@@ -20,6 +20,7 @@ use Rattle.hs_laws.specs.ClockLaw as law
 use Rattle.hs_laws.proofs.Ticking.{last_or, clock_works, clock_ticks}
 use Rattle.hs_laws.proofs.RunParts.{is_after, same_after}
 use Rattle.outcome_laws.specs.Timings.{MayTick, TickFits, RunWithTicks}
+use Rattle.outcome_laws.proofs.Clocked.{none_due}
 use Rattle.slot_states.specs.SlotStates.{SlotState, Represents}
 use Rattle.slot_states.specs.Printing.{output_by, errors_by}
 use Rattle.slot_states.proofs.Printed.{next_adds}
@@ -46,9 +47,6 @@ before_more limits ds es e s run within before front back x u split a =
     (last_or es e front x back split)
 
 -- ---- the clock
-
-none_due : (at : ℕ) (ss : List Sleeper) → earliest (sorted_sleepers ss) ≡ Some at → ss ≢ []
-none_due at ss h e = let z : ◌≡◌ {A = Option ℕ} None (Some at) = ap (λ rs. earliest (sorted_sleepers rs)) (sym e) ∙ h in cc z
 
 module _ (script : Script) (accepted : Accepted script) (limits : Limits) (es : List Entry) (s : State) (run : IsRun (script_of script) es s) (x : SlotState) (r : Represents (script_of script) x s) (ticked : Bool)
     (fresh : ticked ≡ false → ¬ EndsInTick es) where

@@ -11,16 +11,16 @@ use Rattle.rules_code.specs.declared.code.CodeBody.{CodeBody}
 use Rattle.rules_code.specs.CodeTrees.{code_trees}
 use Rattle.rules_waiting.specs.Waiting.{Flying, flying_to, first_thrown, first_awake, earliest}
 use Rattle.exn_flight.specs.Asleep.{due_of}
-use Rattle.slot_laws.specs.SlotRules.{SlotOp, SlotPart, ret, throw, performs, SlotFrame, SlotTerm, at, locals}
+use Rattle.slot_laws.specs.SlotRules.{SlotPart, ret, throw, SlotFrame, SlotTerm, at, locals}
 use Rattle.slot_states.specs.SlotStates.{SlotThread, SlotState, StandsAt, StandsBare}
 use Rattle.slot_states.specs.Resting as rest
 use Rattle.slot_states.specs.Resting.{AllRest, WaitsOpen}
 use Rattle.entry_demands.specs.Demands.{Asks}
-use Rattle.local_steps.specs.declared.active.Frame.{Frame}
-use Rattle.local_steps.specs.Machine.{frames_of, funs_of}
+use Rattle.local_steps.specs.Machine.{funs_of}
 use Rattle.frame_stack.specs.declared.control.Control.{Control}
 use Rattle.frame_stack.specs.declared.control.Control.TheVariants as c
-use Rattle.frame_stack.specs.Parts.{IsOp, Stacked, part_of, term_of}
+use Rattle.frame_stack.specs.Parts.{Stacked, part_of, term_of}
+use Rattle.frame_stack.proofs.Progress.{no_frames}
 use Rattle.thread_table.specs.declared.thread.Thread.{Thread}
 use Rattle.thread_table.specs.declared.kinds.EntryKind.TheVariants as kind
 use Rattle.thread_table.specs.Kinds.{IsEnd, IsBare, IsKind, Own, Hears}
@@ -30,6 +30,7 @@ use Rattle.thread_table.proofs.Slots.{slot_back, receptive_same, hit_is}
 use Rattle.thread_table.proofs.Table.{slots_is}
 use Rattle.world_entries.specs.declared.world.World.{World}
 use Rattle.world_entries.specs.Worlds.{state_of, Goes, SameState}
+use Rattle.world_entries.proofs.Waiters.{op_of_part}
 use Rattle.run_record.specs.declared.acts.NextEntry.TheVariants as act
 use Rattle.run_record.specs.declared.acts.Next.{Next}
 use Rattle.run_record.specs.declared.acts.Next.TheVariants as next
@@ -37,11 +38,6 @@ use Rattle.run_record.specs.Records.{Can, IsNextOf}
 use Rattle.history_player.specs.Entering.{IsFree, is_strand}
 
 -- ---- controls of parts
-performs_op : (b : CodeBody) (k : Control) (p : SlotOp) → part_of b k ≡ performs p → IsOp k
-performs_op b (c.Doing i vs) p e = absurd (cc e)
-performs_op b (c.Ret v) p e = absurd (cc e)
-performs_op b (c.Throw x) p e = absurd (cc e)
-performs_op b (c.Op o) p e = tt
 
 ret_end : (b : CodeBody) (k : Control) (v : V) → part_of b k ≡ ret v → IsEnd k
 ret_end b (c.Doing i vs) v e = absurd (cc e)
@@ -54,10 +50,6 @@ throw_end b (c.Doing i vs) x e = absurd (cc e)
 throw_end b (c.Ret w) x e = tt
 throw_end b (c.Throw y) x e = tt
 throw_end b (c.Op o) x e = absurd (cc e)
-
-no_frames : (b : CodeBody) (fs : List Frame) → frames_of b fs ≡ [] → fs ≡ []
-no_frames b [] e = refl
-no_frames b (f ∷ fs) e = absurd (cc e)
 
 hit_there : (o : Option (ℕ × Exn)) (w : ℕ × Exn) → o ≡ Some w → is_some o ≡ true
 hit_there None w e = absurd (cc e)
@@ -83,7 +75,7 @@ module _ (b : CodeBody) (w : World) where
         is = k.1;
         unfinished = ap (λ (z : SlotThread). z.finished) k.2 ∙ s.unfinished;
         free = ap (λ (z : SlotThread). z.blocked) k.2 ∙ s.free;
-        holds = performs_op b k.0.stack.control p (ap (λ (z : SlotThread). z.term.part) k.2 ∙ s.part);
+        holds = op_of_part b k.0.stack.control p (ap (λ (z : SlotThread). z.term.part) k.2 ∙ s.part);
       }
 
   bare_asked : (t : ℕ) (p : SlotPart) → ((k : Control) → part_of b k ≡ p → IsEnd k) → StandsBare x t p → IsKind kind.Finish t w.threads

@@ -28,7 +28,7 @@ use Rattle.run_record.specs.Acts.{entry_of, is_value}
 use Rattle.run_record.specs.Records.{IsNextOf}
 use Rattle.run_record.proofs.Finished.{ended}
 use Rattle.run_record.proofs.GoingOn.{still_live}
-use Rattle.run_record.proofs.HowItEnds.{act_no_tick}
+use Rattle.run_record.proofs.HowItEnds.{act_no_tick, one_result}
 use Rattle.run_record.proofs.Legal.{acts_are_legal, goers_are_legal}
 use Rattle.history_player.specs.declared.player.Player.{Player}
 use Rattle.history_player.specs.declared.player.Reached.{Reached}
@@ -48,9 +48,6 @@ reached_prop reached.Deadlock code s = hlevel props
 reached_prop reached.Open code s = hlevel props
 
 -- ---- main has finished
-one_result : (o : Option Part) → ended_by o true → ended_by o false → ⊥
-one_result None d u = d
-one_result (Some p) d u = let z : true ≡ false = sym d ∙ u in cc z
 
 by_value : (k : Control) (code : Code) (s : State) → ended_by (result_of (slice_get s.threads 0)) (is_value k) → ReachedAs (ended_as k) code s
 by_value (c.Doing i vs) code s h = (λ d. one_result (result_of (slice_get s.threads 0)) d h, h)

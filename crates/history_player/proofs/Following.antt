@@ -9,7 +9,7 @@ use Rattle.hs_rules.specs.declared.entry.Entry.TheVariants as entry
 use Rattle.hs_rules.specs.Entries.{IsLegal}
 use Rattle.hs_rules.specs.Runs.{IsRun}
 use Rattle.hs_rules.specs.State.{State}
-use Rattle.hs_laws.proofs.RunParts.{is_after, same_after, run_more}
+use Rattle.hs_laws.proofs.RunParts.{is_after, same_after}
 use Rattle.rules_meaning.specs.CoreMeaning.{code_of}
 use Rattle.rules_trees.specs.Programs.{Fn, script_of}
 use Rattle.rules_code.specs.declared.code.CodeBody.{CodeBody}
@@ -24,7 +24,7 @@ use Rattle.thread_table.specs.Table.{slot_of}
 use Rattle.thread_table.proofs.Slots.{slot_back}
 use Rattle.world_entries.specs.declared.world.World.{World}
 use Rattle.world_entries.specs.Worlds.{state_of, Live, IsLive, MakesOf, SameState, Goes}
-use Rattle.run_record.proofs.GoingOn.{still_live}
+use Rattle.run_record.proofs.GoingOn.{still_live, more_live}
 use Rattle.history_player.specs.declared.player.Player.{Player}
 use Rattle.history_player.specs.Playing.{script, Played, CanFollow}
 use Rattle.history_player.specs.Entering.{IsFree, Tried, TriedOf}
@@ -36,14 +36,6 @@ Stood b w = ∥ ((es : List Entry) × Live b es w) ∥₁
 
 pub still_stood : (b : CodeBody) (old new : World) → SameState old new → Stood b old → Stood b new
 still_stood b old new same h = ∥∥₁_elim h ∥∥₁_prop (λ k. ∥∥₁_map (still_live b k.0 old new same ∣ k.1 ∣₁) (λ l. (k.0, l)))
-
-live_more : (b : CodeBody) (es : List Entry) (e : Entry) (old new : World) → MakesOf b e old new → Live b es old → Live b (es ++ e ∷ []) new
-live_more b es e old new makes l =
-    let k = makes l.accepted l.code es l.state l.run l.represents in
-    record { accepted = l.accepted; code = l.code; state = k.0; run = run_more (script_of b.of.value) es e l.state k.0 l.run k.1; represents = k.2 }
-
-more_live : (b : CodeBody) (es : List Entry) (e : Entry) (old new : World) → MakesOf b e old new → ∥ Live b es old ∥₁ → ∥ Live b (es ++ e ∷ []) new ∥₁
-more_live b es e old new makes h = ∥∥₁_map h (live_more b es e old new makes)
 
 more_stood : (b : CodeBody) (e : Entry) (old new : World) → MakesOf b e old new → Stood b old → Stood b new
 more_stood b e old new makes h = ∥∥₁_elim h ∥∥₁_prop (λ k. ∥∥₁_map (more_live b k.0 e old new makes ∣ k.1 ∣₁) (λ l. (k.0 ++ e ∷ [], l)))

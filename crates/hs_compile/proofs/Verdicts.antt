@@ -7,7 +7,7 @@ use Rattle.rules_tokens.specs.declared.token.Tokens.{Tokens}
 use Rattle.rules_tokens.specs.Tokens.{BadChar, BigNumber, Faulty, HasTokens, Lexed, LexesTo, NotUtf8, OpenText, Outcome}
 use Rattle.rules_typing.specs.TypingScripts as typing
 use Rattle.hs_grammar.proofs.Main.{one_script}
-use Rattle.hs_lex.proofs.Outcomes.{outcome_same}
+use Rattle.hs_lex.proofs.Outcomes.{outcome_same, lexed_same}
 use Rattle.hs_lex.specs.declared.fault.LexFault.{LexFault}
 use Rattle.hs_lex.specs.declared.fault.LexFault.TheVariants as lex
 use Rattle.hs_parse.specs.declared.fault.ParseFault.{ParseFault}
@@ -21,9 +21,6 @@ use Rattle.hs_compile.specs.Verdicts.{depth_limit, IsAccepted, IsFirstFault, IsM
 
 -- ---- one list of tokens
 
-same_tokens : (bytes : List ℕ) (ts us : Tokens) → HasTokens bytes ts → HasTokens bytes us → ts ≡ us
-same_tokens bytes ts us h k = let e = outcome_same bytes (Lexed ts) (Lexed us) h k in cc e
-
 no_fault : (bytes : List ℕ) (ts : Tokens) (f : LexFault) → HasTokens bytes ts → IsFirstFault f bytes → ⊥
 no_fault bytes ts (lex.NotUtf8 at) h k = let e = outcome_same bytes (Lexed ts) (NotUtf8 at) h k in cc e
 no_fault bytes ts (lex.BadChar at) h k = let e = outcome_same bytes (Lexed ts) (Faulty BadChar at) h k in cc e
@@ -35,7 +32,7 @@ no_fault bytes ts lex.NoMemory h k = k
 
 spelled_same : (bytes : List ℕ) (s t : Script) → IsSpelled bytes s → IsSpelled bytes t → s ≡ t
 spelled_same bytes s t h k =
-    let e = same_tokens bytes k.1 h.1 k.2 h.2 in
+    let e = lexed_same bytes k.1 h.1 k.2 h.2 in
     one_script s t h.1.list (depth_limit, h.3) (depth_limit, subst (λ (z : Tokens). SpellsWithin depth_limit t z.list) e k.3)
 
 no_parse_fault : (s : Script) (ts : Tokens) (f : ParseFault) → SpellsWithin depth_limit s ts.list → IsParseFault f ts → ⊥
@@ -47,7 +44,7 @@ no_parse_fault s ts parse.NoMemory h k = k
 
 not_misspelled : (bytes : List ℕ) (s : Script) (f : ParseFault) → IsSpelled bytes s → IsMisspelled f bytes → ⊥
 not_misspelled bytes s f h k =
-    let e = same_tokens bytes h.1 k.0 h.2 k.1 in
+    let e = lexed_same bytes h.1 k.0 h.2 k.1 in
     no_parse_fault s k.0 f (subst (λ (z : Tokens). SpellsWithin depth_limit s z.list) e h.3) k.2
 
 not_mistyped : (s : Script) (f : TypeFault) → typing.Accepted s → types.Refused f s → (f ≡ fault.NoMemory → ⊥) → ⊥

@@ -8,15 +8,12 @@ use Rattle.rules_code.specs.declared.act.ActId.{ActId}
 use Rattle.rules_code.specs.declared.act.Act.{Act}
 use Rattle.rules_code.specs.Slots.{Sx, Sxs, s_none, s_more, trees}
 use Rattle.rules_code.specs.CodeTrees.{Sa, a_bad, act_decode, act_trees_onto, act_trees, act_tree_at}
+use Rattle.rules_code.proofs.ActTrees.{act_trees-length}
 use Rattle.hs_nodes.specs.Standing.{Stands, AllStand, Known}
 use Rattle.hs_nodes.proofs.Emitted.{stands_more, known_more}
 use Rattle.hs_core.specs.declared.defs.Defs.{Defs}
 use Rattle.hs_core.specs.Defining.{Knows, roots}
 use Rattle.hs_core.specs.Emits.{Grows, Done}
-
-onto-length : (ts : List Sx) (ks : List Act) (us : List Sa) → length (act_trees_onto ts ks us) ≡ length us + length ks
-onto-length ts [] us = omega arith
-onto-length ts (k ∷ ks) us = let h = onto-length ts ks (us ++ act_decode ts us k ∷ []) in let l = length-append us (act_decode ts us k ∷ []) in omega (arith, h, l)
 
 onto-push : (ts : List Sx) (ks : List Act) (k : Act) (us : List Sa) → act_trees_onto ts (ks ++ k ∷ []) us ≡ act_trees_onto ts ks us ++ act_decode ts (act_trees_onto ts ks us) k ∷ []
 onto-push ts [] k us = refl
@@ -24,9 +21,6 @@ onto-push ts (x ∷ ks) k us = onto-push ts ks k (us ++ act_decode ts us x ∷ [
 
 pub act_trees-push : (ns : List Node) (ks : List Act) (k : Act) → act_trees ns (ks ++ k ∷ []) ≡ act_trees ns ks ++ act_decode (trees ns) (act_trees ns ks) k ∷ []
 act_trees-push ns ks k = onto-push (trees ns) ks k []
-
-pub act_trees-length : (ns : List Node) (ks : List Act) → length (act_trees ns ks) ≡ length ks
-act_trees-length ns ks = let h = onto-length (trees ns) ks [] in omega (arith, h)
 
 -- more nodes change no tree of the earlier ones
 pub act_tree_at-more : (ns : List Node) (ks ls : List Act) (i : ActId) → i.0 < length ks → act_tree_at ns (ks ++ ls) i ≡ act_tree_at ns ks i

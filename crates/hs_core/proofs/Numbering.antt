@@ -2,18 +2,9 @@
 use Rattle.std.proofs.Common.{◌≡◌, ℕ, suc, ◌+◌, ◌<◌, List, [], ◌∷◌, ◌++◌, length, take, get_or, Bool, true, false, cond, Option, Some, None, bytes_eq, refl, ap, ◌∙◌, sym, arith}
 use Rattle.std.specs.Option.{unwrap_or}
 use Rattle.std.proofs.Math.Seq.{take-suc}
-use Rattle.std.proofs.lemmas.Slice.Eq.{bytes_eq-Decides}
+use Rattle.plain_laws.proofs.Lists.{bytes_eq_sym}
 use Rattle.hs_index.specs.Indexing.{next, first_among}
 use Rattle.hs_core.specs.Numbering.{index_among}
-
-same_bool : (a b : Bool) → (a ≡ true → b ≡ true) → (b ≡ true → a ≡ true) → a ≡ b
-same_bool true true f g = refl
-same_bool true false f g = sym (f refl)
-same_bool false true f g = g refl
-same_bool false false f g = refl
-
-pub bytes_sym : (x y : List ℕ) → bytes_eq x y ≡ bytes_eq y x
-bytes_sym x y = same_bool (bytes_eq x y) (bytes_eq y x) (λ h. (bytes_eq-Decides y x).1 (sym ((bytes_eq-Decides x y).0 h))) (λ h. (bytes_eq-Decides x y).1 (sym ((bytes_eq-Decides y x).0 h)))
 
 one_more : (b : Bool) (o : Option ℕ) (n : ℕ) → cond b 0 (1 + unwrap_or o n) ≡ unwrap_or (cond b (Some 0) (next o)) (suc n)
 one_more true o n = refl
@@ -25,7 +16,7 @@ pub among_is : (xs : List (List ℕ)) (f : List ℕ) → index_among xs f ≡ un
 among_is [] f = refl
 among_is (x ∷ xs) f =
     ap (λ z. cond (bytes_eq f x) 0 (1 + z)) (among_is xs f)
-    ∙ (ap (λ b. cond b 0 (1 + unwrap_or (first_among xs f) (length xs))) (bytes_sym f x) ∙ one_more (bytes_eq x f) (first_among xs f) (length xs))
+    ∙ (ap (λ b. cond b 0 (1 + unwrap_or (first_among xs f) (length xs))) (bytes_eq_sym f x) ∙ one_more (bytes_eq x f) (first_among xs f) (length xs))
 
 -- one name more of those in front
 pub take_more : (xs : List (List ℕ)) (i j : ℕ) (x : List ℕ) → j ≡ i + 1 → i < length xs → x ≡ get_or xs i x → take i xs ++ x ∷ [] ≡ take j xs

@@ -3,6 +3,7 @@ use Rattle.std.specs.Prelude.{slice_get, bytes_eq, codes}
 use Rattle.std.proofs.Common.{◌≡◌, ℕ, suc, ◌+◌, ◌<◌, List, [], ◌∷◌, ◌++◌, map, length, take, get_or, Bool, true, false, cond, Option, Some, None, refl, ap, ◌∙◌, sym, subst, arith, append_assoc}
 use Rattle.std.proofs.lemmas.List.{append-nil}
 use Rattle.std.proofs.Math.Seq.{take-suc}
+use Rattle.plain_laws.proofs.Lists.{bytes_eq_sym}
 use Rattle.hs_base.specs.declared.tree.script.Param.{Param}
 use Rattle.hs_base.specs.declared.tree.script.Def.{Def}
 use Rattle.hs_base.specs.declared.tree.script.Script.{Script}
@@ -36,8 +37,8 @@ use Rattle.hs_core.specs.Defining.{Knows, roots, functions}
 use Rattle.hs_core.specs.Emits.{Grows, DoneIn, Emits}
 use Rattle.hs_core.specs.Opening.{block_tree}
 use Rattle.hs_core.specs.Placing.{written, Places, FunsStand, Functions, main_id, PureBody}
-use Rattle.hs_core.proofs.Numbering.{bytes_sym}
 use Rattle.hs_core.proofs.ActArena.{grows_same, grows_by, grows_on, done_on, knows_on}
+use Rattle.hs_core.proofs.Steps.{index_is}
 
 -- ---- parameters
 
@@ -147,7 +148,7 @@ found_by n f ps (io_body w a) ls o false k q h r =
 
 main_found : (n : List ℕ) (ds : List Fn) (k : ℕ) → main_by (find (sigs_from k ds) n) ≡ true → Found n (actions_of ds)
 main_found n [] k h = let z : false ≡ true = h in cc
-main_found n (d ∷ ds) k h = found_by n d.name.text d.params d.body (actions_of ds) (find (sigs_from (k + 1) ds) n) (bytes_eq d.name.text n) k (bytes_sym d.name.text n) h (main_found n ds (k + 1))
+main_found n (d ∷ ds) k h = found_by n d.name.text d.params d.body (actions_of ds) (find (sigs_from (k + 1) ds) n) (bytes_eq d.name.text n) k (bytes_eq_sym d.name.text n) h (main_found n ds (k + 1))
 
 -- the function at the place of a name
 abbrev At : ActEmitter → List Root → List ActionFunction → List ℕ → List ActionFunction → Option Fun → Type 0
@@ -179,10 +180,6 @@ main_tree_of e script (Some f) g h =
     let none : h.0.params ≡ [] = ap (λ z. z.params) (sym same) ∙ g.2 in
     at_once e f.body (slotted_core (roots_of script) (actions_of script) (scope_of_names [] h.0.params) h.0.body) h.2
     ∙ (ap (λ z. slotted_core (roots_of script) (actions_of script) (scope_of_names [] z) h.0.body) none ∙ sym (ap (λ z. tree_or_bad script (body_of z)) h.1))
-
-index_is : (fs : List ActionFunction) (f : List ℕ) → index_among (names_of fs) f ≡ place_among fs f
-index_is [] f = refl
-index_is (d ∷ fs) f = ap (λ z. cond (bytes_eq f d.name) 0 (1 + z)) (index_is fs f)
 
 -- the nodes, the functions and the body of `main` stand for the script
 pub all_stand : (d : Defs) (old new : ActEmitter) (funs : List Fun) (main : ActId) (script : Script) → Accepted script → d.of.value ≡ script → Knows old.emitter.nodes d → old.emitter.scope ≡ []

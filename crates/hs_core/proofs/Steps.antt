@@ -275,7 +275,7 @@ of_exprs old mid ids d es h =
 
 -- ---- calls
 
-index_is : (fs : List ActionFunction) (f : List ℕ) → index_among (names_of fs) f ≡ place_among fs f
+pub index_is : (fs : List ActionFunction) (f : List ℕ) → index_among (names_of fs) f ≡ place_among fs f
 index_is [] f = refl
 index_is (d ∷ fs) f = ap (λ z. cond (bytes_eq f d.name) 0 (1 + z)) (index_is fs f)
 

@@ -14,6 +14,7 @@ use Rattle.rules_expansion.specs.Expansion.{derived}
 use Rattle.rules_expansion.specs.Templates.{Filling, named, template, steps}
 use Rattle.rules_code.specs.Slots.{Sx, s_empty, Scope, slot_of, tree_in, trees}
 use Rattle.rules_code.specs.CodeTrees.{Sa, a_bad, a_restore, slot_or_end, act_in, act_decode, act_trees, act_tree_at}
+use Rattle.rules_code.proofs.ActTrees.{act_trees-length}
 use Rattle.hs_nodes.specs.declared.names.ScopedName.{ScopedName}
 use Rattle.hs_nodes.specs.Names.{name_of, scope_of}
 use Rattle.hs_nodes.proofs.Scopes.{scope-push}
@@ -25,7 +26,7 @@ use Rattle.hs_core.specs.Emits.{Grows, DoneIn, StandsIn, Emits, EmitsEx, Nothing
 use Rattle.hs_core.specs.Opening.{core_tree}
 use Rattle.hs_core.specs.Making.{Trees, above, behind, last_operand, last_act, of_none, of_operand, of_operands, of_act, of_acts, of_operand_act, of_operand_acts, pushing, leaving, restoring, after, run, nothing_waits}
 use Rattle.hs_core.specs.Waiting.{put_on, OperandsWait, ActsWait, ReadsAs, OperandOff, ActOff, Put, Named, Waits, Stepped, Moves}
-use Rattle.hs_core.proofs.ActArena.{grows_same, grows_on, stands_on, done_on, knows_on, act_trees-length}
+use Rattle.hs_core.proofs.ActArena.{grows_same, grows_on, stands_on, done_on, knows_on}
 use Rattle.hs_core.proofs.Steps.{Goes, goes_on, goes_push, kept_ex, pushed, stays, read_at, at_scope}
 use Rattle.hs_core.proofs.Made.{makes}
 

@@ -59,7 +59,6 @@ quiet_is_idle code s q e w = by (next code s e) refl
 -- ---- there is no work
 
 module _ (code : Code) (s : State) (m : MainRuns s) (i : IsIdle code s) where
-
   not_now : (e : Entry) (u : State) → IsWork e → entries.entered code s e ≡ Some u → ⊥
   not_now e u w l = isnt_state u (sym (i e w) ∙ (on_running (slice_get s.threads 0) m.main (λ th. entries.entered code s e) m.there m.unfinished ∙ l))
 

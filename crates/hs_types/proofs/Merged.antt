@@ -4,6 +4,7 @@ use Rattle.std.proofs.lemmas.Bool.{ltb-true, ltb-false, lt-ltb, le-ltb}
 use Rattle.rules_typing.specs.Typing.{Fault}
 use Rattle.rules_typing.specs.TypingFaults.{place, rank}
 use Rattle.typing_judge.specs.Least.{lower, before, lesser, least}
+use Rattle.typing_judge.proofs.Least.{lower_true, lower_false, none_some}
 
 lower_less : (m n : ℕ) (b : Bool) → m < n → lower m n b ≡ true
 lower_less m n b h = ap (λ t. t || cond (ltb n m) false b) (lt-ltb m n h)
@@ -13,24 +14,6 @@ lower_more m n b h = ap (λ t. t || cond (ltb n m) false b) (le-ltb m n (omega a
 
 lower_same : (m n : ℕ) (b : Bool) → m ≡ n → lower m n b ≡ b
 lower_same m n b h = ap (λ t. t || cond (ltb n m) false b) (le-ltb m n (omega arith)) ∙ ap (λ t. cond t false b) (le-ltb n m (omega arith))
-
-lower_true : (m n : ℕ) (b : Bool) → lower m n b ≡ true → (m < n) ⊎ ((m ≡ n) × (b ≡ true))
-lower_true m n b h = elim (ltb m n) as (λ t. ltb m n ≡ t → (m < n) ⊎ ((m ≡ n) × (b ≡ true))) [
-  | true ↦ λ w. inl (ltb-true m n w)
-  | false ↦ λ w. elim (ltb n m) as (λ t. ltb n m ≡ t → (m < n) ⊎ ((m ≡ n) × (b ≡ true))) [
-    | true ↦ λ v. let z = lower_more m n b (ltb-true n m v) in cc
-    | false ↦ λ v. let e : m ≡ n = omega (arith, ltb-false m n w, ltb-false n m v) in inr (e, sym (lower_same m n b e) ∙ h)
-  ] refl
-] refl
-
-lower_false : (m n : ℕ) (b : Bool) → lower m n b ≡ false → (n < m) ⊎ ((n ≡ m) × (b ≡ false))
-lower_false m n b h = elim (ltb n m) as (λ t. ltb n m ≡ t → (n < m) ⊎ ((n ≡ m) × (b ≡ false))) [
-  | true ↦ λ w. inl (ltb-true n m w)
-  | false ↦ λ w. elim (ltb m n) as (λ t. ltb m n ≡ t → (n < m) ⊎ ((n ≡ m) × (b ≡ false))) [
-    | true ↦ λ v. let z = lower_less m n b (ltb-true m n v) in cc
-    | false ↦ λ v. let e : m ≡ n = omega (arith, ltb-false m n v, ltb-false n m w) in inr (sym e, sym (lower_same m n b e) ∙ h)
-  ] refl
-] refl
 
 less_by : (m n k : ℕ) (b c d : Bool) → (b ≡ true → c ≡ true → d ≡ true) → (m < n) ⊎ ((m ≡ n) × (b ≡ true)) → (n < k) ⊎ ((n ≡ k) × (c ≡ true)) → lower m k d ≡ true
 less_by m n k b c d f (inl p) (inl q) = lower_less m k d (omega arith)
@@ -80,10 +63,6 @@ merged [] o f h = cc
 merged (x ∷ fs) None f h = h
 merged (x ∷ fs) (Some g) f h = merged_from fs g x f h
 
-some_kept : (fs : List Fault) (x : Fault) → least (Some x) fs ≡ None → ⊥
-some_kept [] x h = cc
-some_kept (y ∷ fs) x h = some_kept fs (lesser (Some x) y) h
-
 pub none_noted : (fs : List Fault) → least None fs ≡ None → fs ≡ []
 none_noted [] h = refl
-none_noted (x ∷ fs) h = absurd (some_kept fs x h)
+none_noted (x ∷ fs) h = absurd (none_some fs x h)

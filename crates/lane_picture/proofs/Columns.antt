@@ -1,6 +1,6 @@
 -- The spans of a lane with one more column.
 use Rattle.std.proofs.Common.{◌≡◌, ℕ, ◌+◌, ◌==◌, cond, ◌&&◌, Bool, true, false, List, [], ◌∷◌, ◌++◌, length, map, take, Option, Some, None, refl, sym, ap, ◌∙◌, arith, ◌<◌, get_or, length-take}
-use Rattle.std.proofs.lemmas.Bool.{eqb-true}
+use Rattle.std.proofs.lemmas.Bool.{eqb-true, and_parts}
 use Rattle.std.proofs.lemmas.List.{map-append, length-map, take_more}
 use Rattle.hs_base.specs.declared.mask.Mask.{Mask}
 use Rattle.hs_base.specs.declared.mask.Mask.TheVariants.{Unmasked, Masked, Uninterruptible}
@@ -19,9 +19,6 @@ next_behind n l (r ∷ []) s = refl
 next_behind n l (r ∷ q ∷ qs) s = ap (λ z. r ∷ z) (next_behind n l (q ∷ qs) s)
 
 -- ---- what the tests say
-both : (a b : Bool) → (a && b) ≡ true → (a ≡ true) × (b ≡ true)
-both true b e = (refl, e)
-both false b e = absurd (cc e)
 
 doing_is : (a b : Doing) → same_doing a b ≡ true → a ≡ b
 doing_is Running Running e = refl
@@ -45,7 +42,7 @@ bool_is false false e = refl
 
 pub look_is : (a b : Look) → same_look a b ≡ true → a ≡ b
 look_is (look.Thread p) (look.Thread q) e =
-    let h = both (same_doing p.doing q.doing) (same_mask p.mask q.mask) e in
+    let h = and_parts (same_doing p.doing q.doing) (same_mask p.mask q.mask) e in
     let d = doing_is p.doing q.doing h.0 in
     let m = mask_is p.mask q.mask h.1 in
     λ i. look.Thread (record { doing = d i; mask = m i })
@@ -57,7 +54,7 @@ look_is (look.Cell a) (look.Thread q) e = absurd (cc e)
 module _ (k n : ℕ) (a l : Look) where
   first : (b : Bool) → (((n == k + 1) && same_look a l) ≡ b) →
       cond {A = List Span} b (span k (n + 1) l ∷ []) (span k (k + 1) a ∷ span n (n + 1) l ∷ []) ≡ cond b (span k (n + 1) a ∷ []) (span k (k + 1) a ∷ span n (n + 1) l ∷ [])
-  first true e = let same = look_is a l (both (n == k + 1) (same_look a l) e).1 in ap (λ z. span k (n + 1) z ∷ []) (sym same)
+  first true e = let same = look_is a l (and_parts (n == k + 1) (same_look a l) e).1 in ap (λ z. span k (n + 1) z ∷ []) (sym same)
   first false e = refl
 
   one : (s : Span) (e b : Bool) → e ≡ ((n == s.to) && same_look s.look l) → b ≡ ((s.from == k + 1) && same_look a s.look) →

@@ -1,8 +1,8 @@
 -- What a throw makes.
-use Rattle.std.proofs.Common.{ℕ, ◌≡◌, ◌≢◌, ◌<◌, ◌==◌, true, false, List, [], ◌∷◌, ◌++◌, Some, length, slice_get, ap, ap₂, ◌∙◌, ⊎_elim}
+use Rattle.std.proofs.Common.{ℕ, ◌≡◌, ◌≢◌, ◌<◌, ◌==◌, true, false, List, [], ◌∷◌, ◌++◌, Some, length, slice_get, ap, ap₂, ◌∙◌, ne_eqb}
 use Rattle.std.proofs.lemmas.Option.{slice_get_within}
 use Rattle.hs_base.specs.declared.exn.Exn.{Exn}
-use Rattle.hs_laws.proofs.Lists.{equal_or, cond_true, cond_false}
+use Rattle.hs_laws.proofs.Lists.{cond_true, cond_false}
 use Rattle.rules_meaning.specs.Values.{UnitValue}
 use Rattle.rules_code.specs.declared.code.CodeBody.{CodeBody}
 use Rattle.rules_waiting.specs.Waiting.{Flying}
@@ -55,14 +55,11 @@ module _ (g h : Stock) (grown : HasGrown g h) (x : NumberState) (all : AreIn g x
 
 -- ---- which throw it is
 
-pub unequal : (u t : ℕ) → u ≢ t → (u == t) ≡ false
-unequal u t n = ⊎_elim (λ k. absurd (n k.1)) (λ k. k.0) (equal_or u t)
-
 module _ (t u : ℕ) (e : Exn) (other : u ≢ t) (g : Stock) (b : CodeBody) (x : NumberState) (th : NumberThread) (there : slice_get x.threads.items u ≡ Some th) where
   at_other : thrown t u e (slots g b x) ≡ thrown_at t u e (Some (thread_of g b th)) (slots g b x)
   at_other =
       let s = slots g b x in
-      cond_false (u == t) (Some (throws t e s)) (thrown_at t u e (slice_get s.threads u) s) (unequal u t other) ∙ ap (λ o. thrown_at t u e o s) (got_mapped (thread_of g b) x.threads.items u th there)
+      cond_false (u == t) (Some (throws t e s)) (thrown_at t u e (slice_get s.threads u) s) (ne_eqb u t other) ∙ ap (λ o. thrown_at t u e o s) (got_mapped (thread_of g b) x.threads.items u th there)
 
   pub at_finished : th.finished ≡ true → thrown t u e (slots g b x) ≡ Some (answer t UnitValue (slots g b x))
   at_finished f = let s = slots g b x in at_other ∙ cond_true th.finished (Some (answer t UnitValue s)) (Some (throws_at t u e s)) f

@@ -1,5 +1,5 @@
 -- Threads that stand at an operation.
-use Rattle.std.proofs.Common.{◌≡◌, ℕ, zero, suc, ◌<◌, ◌==◌, false, List, [], ◌∷◌, ◌++◌, length, Option, Some, None, Result, slice_get, refl, sym, ap, ap₂, ◌∙◌, subst, arith}
+use Rattle.std.proofs.Common.{◌≡◌, ℕ, zero, suc, ◌<◌, ◌==◌, false, List, [], ◌∷◌, ◌++◌, length, Option, Some, None, Result, slice_get, refl, sym, ap, ap₂, ◌∙◌, subst, arith, ne_eqb}
 use Rattle.std.specs.Prelude.{MatchOption, OnOk}
 use Rattle.std.proofs.lemmas.List.{length-map}
 use Rattle.std.proofs.lemmas.Option.{slice_get_within}
@@ -35,7 +35,6 @@ use Rattle.number_operations.specs.Standing.{IsIdle, Stands, HasTarget}
 use Rattle.number_operations.proofs.Refused.{refused}
 use Rattle.number_changes.proofs.Made.{makes, on_acting, acting_term}
 use Rattle.number_changes.proofs.Written.{on_ok}
-use Rattle.number_changes.proofs.Thrown.{unequal}
 
 -- ---- the operation of a part
 
@@ -108,7 +107,7 @@ past (x ∷ xs) (suc n) h = past xs n (λ l. h (omega (arith, l)))
 
 nobody_there : (t u : ℕ) (e : Exn) (x : SlotState) → t < length x.threads → (u < length x.threads → ⊥) → thrown t u e x ≡ None
 nobody_there t u e x acts n =
-    cond_false (u == t) (Some (throws t e x)) (thrown_at t u e (slice_get x.threads u) x) (unequal u t (λ same. n (subst (λ k. k < length x.threads) (sym same) acts)))
+    cond_false (u == t) (Some (throws t e x)) (thrown_at t u e (slice_get x.threads u) x) (ne_eqb u t (λ same. n (subst (λ k. k < length x.threads) (sym same) acts)))
     ∙ ap (λ o. thrown_at t u e o x) (past x.threads u n)
 
 no_target : (b : CodeBody) (t : ℕ) (m : Mask) (o : Operation) (x : SlotState) (count : ℕ) → length x.threads ≡ count → t < count → (HasTarget count o → ⊥) → operated t m (op_of b o) x ≡ None

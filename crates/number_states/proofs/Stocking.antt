@@ -2,11 +2,12 @@
 use Rattle.std.proofs.Common.{◌≡◌, ℕ, List, [], ◌++◌, Some, slice_get, map, ap, ◌∙◌}
 use Rattle.hs_base.specs.declared.exn.Exn.{Exn}
 use Rattle.hs_base.specs.declared.value.Value.{Value}
-use Rattle.rules_meaning.specs.Values.{V, Text, value_of}
+use Rattle.rules_meaning.specs.Values.{Text, value_of}
 use Rattle.value_keys.specs.Keys.{value_key, exn_key}
-use Rattle.value_keys.proofs.Exact.{exact_value, exact_exn}
+use Rattle.value_keys.proofs.Exact.{exact_exn}
 use Rattle.number_tables.specs.Tables.{Grows, IsNumberOf}
 use Rattle.term_tables.specs.Numbered.{Numbered}
+use Rattle.term_tables.proofs.Exact.{whole_value}
 use Rattle.term_graph.proofs.Growth.{grows_same, grown_same}
 use Rattle.number_states.specs.declared.held.HeldValue.{HeldValue}
 use Rattle.number_states.specs.declared.held.HeldExn.{HeldExn}
@@ -14,12 +15,9 @@ use Rattle.number_states.specs.declared.held.HeldText.{HeldText}
 use Rattle.number_states.specs.Stocks.{stock, HasGrown, IsValue}
 use Rattle.number_states.proofs.Changes.{got_mapped}
 
-same_value : (v w : V) → value_key v ≡ value_key w → v ≡ w
-same_value v w e = (exact_value v w [] [] (ap (λ k. k ++ []) e)).0
-
 pub value_number : (t : Numbered) (hs : List HeldValue) (es : List Exn) (ts : List (List ℕ)) (n : ℕ) (v : Value) → IsNumberOf (λ (h : HeldValue). value_key (value_of h.value)) hs n (record { value = v })
     → IsValue (stock t (map (λ (h : HeldValue). h.value) hs) es ts) n (value_of v)
-value_number t hs es ts n v is = (is.0.value, got_mapped (λ (h : HeldValue). h.value) hs n is.0 is.1, same_value (value_of is.0.value) (value_of v) is.2)
+value_number t hs es ts n v is = (is.0.value, got_mapped (λ (h : HeldValue). h.value) hs n is.0 is.1, whole_value (value_of is.0.value) (value_of v) is.2)
 
 pub exception_number : (hs : List HeldExn) (n : ℕ) (e : Exn) → IsNumberOf (λ (h : HeldExn). exn_key h.exn) hs n (record { exn = e }) → slice_get (map (λ (h : HeldExn). h.exn) hs) n ≡ Some e
 exception_number hs n e is =
@@ -27,7 +25,7 @@ exception_number hs n e is =
 
 pub text_number : (hs : List HeldText) (n : ℕ) (t : List ℕ) → IsNumberOf (λ (h : HeldText). value_key (Text h.text)) hs n (record { text = t }) → slice_get (map (λ (h : HeldText). h.text) hs) n ≡ Some t
 text_number hs n t is =
-    let same : Text is.0.text ≡ Text t = same_value (Text is.0.text) (Text t) is.2 in
+    let same : Text is.0.text ≡ Text t = whole_value (Text is.0.text) (Text t) is.2 in
     let is_text : is.0.text ≡ t = cc same in
     got_mapped (λ (h : HeldText). h.text) hs n is.0 is.1 ∙ ap (λ x. Some x) is_text
 

@@ -125,8 +125,6 @@ told_nothing r none a b c d x y =
     )
 
 -- ---- a limit, and a failed put
-pub on_some : {A : Type 0} (P : Type 0) (Q : A → Type 0) (o : Option A) (x : A) → o ≡ Some x → MatchOption o P Q → Q x
-on_some P Q o x e h = subst (λ z. MatchOption z P Q) e h
 
 pub on_none : {A : Type 0} (P : Type 0) (Q : A → Type 0) (o : Option A) → o ≡ None → MatchOption o P Q → P
 on_none P Q o e h = subst (λ z. MatchOption z P Q) e h

@@ -11,6 +11,7 @@ use Rattle.hs_rules.specs.Entries.{Leads}
 use Rattle.hs_rules.specs.Runs.{IsRun}
 use Rattle.hs_rules.specs.Histories.{cost_of, steps_of}
 use Rattle.hs_rules.specs.Endings.{IsWithin}
+use Rattle.hs_rules.proofs.Histories.{steps_of_last}
 use Rattle.hs_laws.specs.HistoryEndings.{StaysWithin}
 use Rattle.hs_laws.proofs.RunParts.{is_after, run_more, same_after}
 use Rattle.hs_laws.proofs.HowItEnds.{within_more}
@@ -37,7 +38,7 @@ live_more b es e old new makes l =
     let k = makes l.accepted l.code es l.state l.run l.represents in
     record { accepted = l.accepted; code = l.code; state = k.0; run = run_more (script_of b.of.value) es e l.state k.0 l.run k.1; represents = k.2 }
 
-more_live : (b : CodeBody) (es : List Entry) (e : Entry) (old new : World) → MakesOf b e old new → ∥ Live b es old ∥₁ → ∥ Live b (es ++ e ∷ []) new ∥₁
+pub more_live : (b : CodeBody) (es : List Entry) (e : Entry) (old new : World) → MakesOf b e old new → ∥ Live b es old ∥₁ → ∥ Live b (es ++ e ∷ []) new ∥₁
 more_live b es e old new makes h = ∥∥₁_map h (live_more b es e old new makes)
 
 -- every state that the entry leaves after the history is within the limits
@@ -71,10 +72,6 @@ relisted_stays limits ds es fs e h = subst (λ zs. ∥ StaysWithin limits ds zs 
 pub relisted_steps : (es fs : List Entry) (fuel : ℕ) → fs ≡ es → steps_of es ≤ fuel → steps_of fs ≤ fuel
 relisted_steps es fs fuel e h = subst (λ zs. steps_of zs ≤ fuel) (sym e) h
 
-more_steps : (es : List Entry) (e : Entry) → steps_of (es ++ e ∷ []) ≡ steps_of es + cost_of e
-more_steps [] e = omega arith
-more_steps (x ∷ es) e = let k = more_steps es e in omega (arith, k)
-
 -- ---- a record after a change that nobody sees, and after one more entry
 module _ (r : Record) (fs : List Entry) (w : World) where
   module _ (list : fs ≡ r.history.list) where
@@ -92,7 +89,7 @@ module _ (r : Record) (fs : List Entry) (w : World) where
     grown_live makes = relisted_live r.of.value (r.history.list ++ e ∷ []) fs w list (more_live r.of.value r.history.list e r.world w makes r.after)
 
     pub grown_steps : steps_of r.history.list + cost_of e ≤ r.fuel → steps_of fs ≤ r.fuel
-    grown_steps h = relisted_steps (r.history.list ++ e ∷ []) fs r.fuel list (let k = more_steps r.history.list e in omega (arith, k, h))
+    grown_steps h = relisted_steps (r.history.list ++ e ∷ []) fs r.fuel list (let k = steps_of_last r.history.list e in omega (arith, k, h))
 
     pub grown_stays : MakesOf r.of.value e r.world w → Fits e r → ∥ StaysWithin r.limits (script r) fs ∥₁
     grown_stays makes fits = relisted_stays r.limits (script r) (r.history.list ++ e ∷ []) fs list (more_within r.of.value r.limits r.history.list e r.world w makes fits r.after r.limited)

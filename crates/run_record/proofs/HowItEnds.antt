@@ -28,7 +28,7 @@ use Rattle.run_record.proofs.Legal.{acts_are_legal, goers_are_legal}
 pub done_ends : (r : Record) → HasFinished true r → EndsAs Done r
 done_ends r h = ∥∥₁_map h (λ k. record { state = k.0; run = k.1; ends = k.2 })
 
-one_result : (o : Option Part) → ended_by o true → ended_by o false → ⊥
+pub one_result : (o : Option Part) → ended_by o true → ended_by o false → ⊥
 one_result None d u = d
 one_result (Some p) d u = let z : true ≡ false = sym d ∙ u in cc z
 

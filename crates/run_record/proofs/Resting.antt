@@ -1,7 +1,7 @@
 -- What is left where no thread has anything of its own to do and nobody is due.
-use Rattle.std.proofs.Common.{Vec, Global, ◌≡◌, ℕ, List, [], ◌∷◌, Bool, true, false, cond, not, ◌&&◌, Some, None, refl, sym, ap, ◌∙◌, subst, slice_get}
+use Rattle.std.proofs.Common.{Vec, Global, ◌≡◌, ℕ, Bool, true, false, cond, not, ◌&&◌, Some, None, refl, sym, ap, ◌∙◌, subst, slice_get}
 use Rattle.rules_code.specs.declared.code.CodeBody.{CodeBody}
-use Rattle.rules_waiting.specs.Waiting.{Sleeper, first_awake, earliest}
+use Rattle.rules_waiting.specs.Waiting.{first_awake}
 use Rattle.slot_states.specs.SlotStates.{SlotThread}
 use Rattle.slot_states.specs.Resting as rest
 use Rattle.slot_states.specs.Resting.{IsDoing, WaitsOpen, AllRest, NobodyActs}
@@ -58,9 +58,6 @@ pub at_rest : (w : World) → NobodyWants w.threads.list.items w.threads.flight.
 at_rest w none awake stopped b = all_rest (state_of b w) (nobody_acts w none b awake) (none_goes w stopped b)
 
 -- ---- sleepers
-pub none_sleep : (ss : List Sleeper) → earliest ss ≡ None → ss ≡ []
-none_sleep [] e = refl
-none_sleep (s ∷ ss) e = absurd (cc e)
 
 -- ---- worlds that are the same but for lists of what is to be done
 abbrev pub with_threads : World → Threads → World

@@ -3,6 +3,7 @@ use Rattle.std.proofs.Common.{◌≡◌, ◌+◌, ◌==◌, ℕ, zero, suc, Bool
 use Rattle.std.specs.List.{Contains}
 use Rattle.std.proofs.lemmas.Option.{same_Some}
 use Rattle.std.proofs.lemmas.List.Elements.{Contains-append_left, Contains-append_right}
+use Rattle.std.proofs.lemmas.Bool.{eqb-true}
 use Rattle.hs_base.specs.declared.clock_choice.ClockChoice.{ClockChoice}
 use Rattle.hs_base.specs.declared.mask.Mask.TheVariants.{Unmasked}
 use Rattle.hs_rules.specs.declared.entry.Entry.{Entry}
@@ -66,9 +67,6 @@ receive_by t th false f b = rw f (rw b (2, omega arith, refl))
 
 -- ---- by sleepers
 
-equal_is : (a b : ℕ) → (a == b) ≡ true → a ≡ b
-equal_is a b h = grind arith
-
 contains_more : (y e : Entry) (es : List Entry) → Contains es e → Contains (y ∷ es) e
 contains_more y e es c = Contains-append_right (y ∷ []) es e c
 
@@ -76,7 +74,7 @@ contains_here : (e : Entry) (es : List Entry) → Contains (e ∷ es) e
 contains_here e es = (0, omega arith, refl)
 
 wake_at : (t due : ℕ) (r : Sleeper) (rs : List Sleeper) (b : Bool) → (r.thread == t) ≡ b → (due_of t rs ≡ Some due → Contains (map wake_of rs) (entry.Wake t)) → cond b (Some r.due) (due_of t rs) ≡ Some due → Contains (map wake_of (r ∷ rs)) (entry.Wake t)
-wake_at t due r rs true same rest h = subst (λ u. Contains (entry.Wake r.thread ∷ map wake_of rs) (entry.Wake u)) (equal_is r.thread t same) (contains_here (entry.Wake r.thread) (map wake_of rs))
+wake_at t due r rs true same rest h = subst (λ u. Contains (entry.Wake r.thread ∷ map wake_of rs) (entry.Wake u)) (eqb-true r.thread t same) (contains_here (entry.Wake r.thread) (map wake_of rs))
 wake_at t due r rs false other rest h = contains_more (wake_of r) (entry.Wake t) (map wake_of rs) (rest h)
 
 wake_contains : (t due : ℕ) (rs : List Sleeper) → due_of t rs ≡ Some due → Contains (map wake_of rs) (entry.Wake t)

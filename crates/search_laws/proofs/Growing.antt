@@ -10,7 +10,7 @@ use Rattle.rules_code.specs.CodeTrees.{SlottedFunction}
 use Rattle.slot_states.specs.SlotStates.{SlotState}
 use Rattle.slot_states.specs.Resting.{used}
 pub use Rattle.hs_laws.proofs.Lists.{item_append as there_before}
-pub use Rattle.slot_laws.proofs.Building.{last_item as there_last}
+pub use Rattle.plain_laws.proofs.Lists.{get_last as there_last}
 use Rattle.slot_rests.specs.Rests.{EagerMove}
 use Rattle.search_laws.specs.Shown.{Shown}
 use Rattle.search_laws.specs.Going.{EagerEntries}

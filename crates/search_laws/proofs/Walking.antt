@@ -17,6 +17,7 @@ use Rattle.hs_rules.specs.State.{State}
 use Rattle.hs_rules.specs.Endings.{IsTick, IsQuiet, IsWithin, allowed}
 use Rattle.hs_rules.specs.Histories.{cost_of, steps_of}
 use Rattle.hs_rules.specs.Runs.{first_of, IsRun}
+use Rattle.hs_rules.proofs.Histories.{steps_of_last}
 use Rattle.hs_laws.specs.HistoryEndings.{StaysWithin}
 use Rattle.hs_laws.proofs.RunParts.{is_after, run_more}
 use Rattle.hs_laws.proofs.HowItEnds.{within_more}
@@ -36,12 +37,6 @@ use Rattle.slot_rests.specs.Rests.{EagerMove}
 use Rattle.search_laws.specs.Shown.{forget, FitsIn}
 use Rattle.search_laws.specs.Going.{EagerEntries, IsStill, MayTake, steps_by, Leaves}
 use Rattle.search_laws.proofs.Cited.{entered, legal, reads, same_output, same_errors, back, ticked, move_enters}
-
--- ---- runs
-
-steps_more : (es : List Entry) (e : Entry) → steps_of (es ++ e ∷ []) ≡ steps_of es + cost_of e
-steps_more [] e = omega arith
-steps_more (x ∷ xs) e = omega (arith, steps_more xs e)
 
 -- ---- limits
 
@@ -153,7 +148,7 @@ module _ (clock : ClockChoice) (script : Script) (accepted : Accepted script) (l
         entries = a.entries ++ e ∷ [];
         state = k.0;
         run = timed_join (code_of ds) T a.entries (e ∷ []) a.begin a.state k.0 a.run (k.0, k.1, ticks a, refl);
-        steps_are = steps_more a.entries e ∙ ap (λ m. m + cost_of e) a.steps_are;
+        steps_are = steps_of_last a.entries e ∙ ap (λ m. m + cost_of e) a.steps_are;
         within = within_more limits ds a.entries e k.0 a.within (is_after ds (a.entries ++ e ∷ []) k.0 more) (within_by script limits y k.0 k.2 fits);
         represents = k.2;
         output_is = adds.0 ∙ ap (λ z. z ++ output_by x e) a.output_is;

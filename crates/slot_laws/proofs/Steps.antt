@@ -34,7 +34,6 @@ use Rattle.hs_progress.proofs.Moves.{binds_read, binds_fits, AllAre}
 -- ---- names that are bound
 
 module _ (cells : ℕ → T → Type 0) where
-
   pub more_fits : (g : List SortedName) (env : Env) (vs : List V) (y : Name) (k : Sort) (v : V) → Binds y k → OfSort cells k v → SlotsFit cells g env vs → SlotsFit cells (with_bound y k g) (with_name y v env) (vs ++ v ∷ [])
   more_fits g env vs y k v b h f = fits_with cells g env vs y k v (binds_read y k b) (binds_fits cells y k v b h) f
 
@@ -62,7 +61,6 @@ module _ (cells : ℕ → T → Type 0) where
   -- ---- expressions of a primitive
 
   module _ (script : Script) (accepted : Accepted script) (here : ℕ) where
-
     pub exs_slots : {g : List SortedName} {es : List CoreEx} {ks : List Sort} (env : Env) (vs : List V) → SlotsFit cells g env vs → CoreAllHave (ctx_of (script_of script) here) g es ks
         → run_all (slotted_core_exs (roots_of (script_of script)) (names_of g) es) vs ≡ values_of_core (functions_of (script_of script)) env es
     exs_slots env vs f no_more = refl

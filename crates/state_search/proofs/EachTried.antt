@@ -2,6 +2,7 @@
 use Rattle.std.proofs.Common.{◌≡◌, ◌≤◌, ◌<◌, ◌+◌, ℕ, zero, suc, Bool, true, false, cond, List, [], ◌∷◌, ◌++◌, length, map, get_or, Option, Some, None, slice_get, refl, sym, ◌∙◌, subst, arith, below_more}
 use Rattle.std.proofs.lemmas.Option.{same_Some}
 use Rattle.std.specs.List.{AllByRecursion, Contains}
+use Rattle.plain_laws.proofs.Lists.{all_append}
 use Rattle.hs_rules.specs.declared.entry.Entry.{Entry}
 use Rattle.hs_rules.specs.declared.entry.Entry.TheVariants as entry
 use Rattle.rules_code.specs.declared.code.CodeBody.{CodeBody}
@@ -31,10 +32,6 @@ there_or (x ∷ xs) (suc i) d h = there_or xs i d (omega arith)
 
 -- ---- candidates
 
-all_both : {A : Type 0} (P : A → Type 0) (xs ys : List A) → AllByRecursion P xs → AllByRecursion P ys → AllByRecursion P (xs ++ ys)
-all_both P [] ys h k = k
-all_both P (x ∷ xs) ys h k = (h.0, all_both P xs ys h.1 k)
-
 always_by : (t : ℕ) (finished blocked : Bool) → AllByRecursion MayAlways (cond finished [] (cond blocked (entry.Receive t ∷ []) (entry.Local t 1 ∷ entry.Op t ∷ entry.Receive t ∷ entry.Finish t ∷ [])))
 always_by t true blocked = tt
 always_by t false true = (record { may = λ clock funs x. tt; plain = λ q. q }, tt)
@@ -47,7 +44,7 @@ always_by t false false =
 
 always_from : (t : ℕ) (ths : List SlotThread) → AllByRecursion MayAlways (entries_from t ths)
 always_from t [] = tt
-always_from t (th ∷ ths) = all_both MayAlways (entries_at t th) (entries_from (suc t) ths) (always_by t th.finished th.blocked) (always_from (suc t) ths)
+always_from t (th ∷ ths) = all_append MayAlways (entries_at t th) (entries_from (suc t) ths) (always_by t th.finished th.blocked) (always_from (suc t) ths)
 
 always_wakes : (rs : List Sleeper) → AllByRecursion MayAlways (map wake_of rs)
 always_wakes [] = tt
@@ -64,8 +61,8 @@ always_where (Some main) es all = always_unless main.finished es all
 pub always_candidates : (x : SlotState) → AllByRecursion MayAlways (candidates x)
 always_candidates x =
     always_where (slice_get x.threads 0) ((entries_from 0 x.threads ++ map wake_of x.sleepers) ++ entry.Stranded ∷ [])
-    (all_both MayAlways (entries_from 0 x.threads ++ map wake_of x.sleepers) (entry.Stranded ∷ [])
-    (all_both MayAlways (entries_from 0 x.threads) (map wake_of x.sleepers) (always_from 0 x.threads) (always_wakes x.sleepers))
+    (all_append MayAlways (entries_from 0 x.threads ++ map wake_of x.sleepers) (entry.Stranded ∷ [])
+    (all_append MayAlways (entries_from 0 x.threads) (map wake_of x.sleepers) (always_from 0 x.threads) (always_wakes x.sleepers))
     (record { may = λ clock funs y. tt; plain = λ q. q }, tt))
 
 -- ---- one more entry

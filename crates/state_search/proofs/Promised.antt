@@ -1,6 +1,7 @@
 -- What was found says what is promised of runs.
 use Rattle.std.proofs.Common.{◌≡◌, ◌<◌, ℕ, zero, suc, List, [], ◌∷◌, length, map, Option, Some, None, slice_get, refl, sym, ap, ◌∙◌, subst, arith}
 use Rattle.std.proofs.lemmas.Option.{same_Some}
+use Rattle.plain_laws.proofs.Lists.{mapped_there}
 use Rattle.hs_base.specs.declared.clock_choice.ClockChoice.{ClockChoice}
 use Rattle.hs_base.specs.declared.limits.Limits.{Limits}
 use Rattle.hs_base.specs.declared.tree.script.Script.{Script}
@@ -41,12 +42,6 @@ use Rattle.state_search.specs.Meaning.{states_of, sources_of, edges_of, shown, k
 use Rattle.state_search.specs.Searching.{ExceedsFirst, MeetsBy, ReadsBy, HasCause, GapIs, Searched, IsClosed, IsCodeOf, AreReached, Shows, ShowsAll, ReadsHere, ShowsCause, ShowsGap}
 
 -- ---- lists
-
-mapped_there : {A B : Type 0} → (g : A → B) (xs : List A) (i : ℕ) (y : B) → slice_get (map g xs) i ≡ Some y → (x : A) × (slice_get xs i ≡ Some x) × (g x ≡ y)
-mapped_there g [] zero y e = absurd (cc e)
-mapped_there g [] (suc i) y e = absurd (cc e)
-mapped_there g (x ∷ xs) zero y e = (x, refl, same_Some (g x) y e)
-mapped_there g (x ∷ xs) (suc i) y e = mapped_there g xs i y e
 
 there_mapped : {A B : Type 0} → (g : A → B) (xs : List A) (i : ℕ) (x : A) → slice_get xs i ≡ Some x → slice_get (map g xs) i ≡ Some (g x)
 there_mapped g [] zero x e = absurd (cc e)

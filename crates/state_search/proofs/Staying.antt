@@ -3,6 +3,7 @@ use Rattle.std.proofs.Common.{◌≡◌, ◌<◌, ◌+◌, ℕ, zero, suc, List,
 use Rattle.std.proofs.lemmas.List.{length-set, set-get_or}
 use Rattle.std.specs.Option.{is_some}
 use Rattle.std.proofs.lemmas.Option.{same_Some}
+use Rattle.plain_laws.proofs.Numbers.{below_or_last}
 use Rattle.hs_base.specs.declared.clock_choice.ClockChoice.{ClockChoice}
 use Rattle.hs_base.specs.declared.clock_choice.ClockChoice.TheVariants.{Real, Virtual}
 use Rattle.hs_rules.specs.declared.entry.Entry.{Entry}
@@ -27,11 +28,9 @@ use Rattle.state_search.specs.Searching.{Searched}
 use Rattle.state_search.specs.Working.{Going, Extends, IsTried, MayBeTaken, IsStillAt, settled}
 use Rattle.state_search.proofs.Keeping.{gap_more}
 use Rattle.state_search.proofs.Trying.{here_on}
+use Rattle.hs_laws.proofs.Later.{none_earliest}
 
 -- ---- done with one more
-
-last_or_below : (i n : ℕ) → i < n + 1 → (i < n) ⊎ (i ≡ n)
-last_or_below i n h = grind arith
 
 -- the search has gone on from the state of this number too, and knows how it has ended
 pub going_next : (bounds : Bounds) (b : CodeBody) (n : ℕ) (f : Found) → Going bounds b n f → (f.gap ≡ None → (c : Shown) → slice_get (states_of b f) n ≡ Some c → IsGone bounds.clock (funs_of b) (edges_of f) n c)
@@ -41,9 +40,9 @@ going_next bounds b n f going gone kind = record {
   rules = going.rules;
   up_to = λ k g at. let h = going.up_to k g at in omega arith;
   gone = λ none i c below at.
-      ⊎_elim (λ lt. going.gone none i c lt at) (λ is. subst (λ m. IsGone bounds.clock (funs_of b) (edges_of f) m c) (sym is) (gone none c (subst (λ m. slice_get (states_of b f) m ≡ Some c) is at))) (last_or_below i n below);
+      ⊎_elim (λ lt. going.gone none i c lt at) (λ is. subst (λ m. IsGone bounds.clock (funs_of b) (edges_of f) m c) (sym is) (gone none c (subst (λ m. slice_get (states_of b f) m ≡ Some c) is at))) (below_or_last i n below);
   looked = λ i c k below at bt.
-      ⊎_elim (λ lt. going.looked i c k lt at bt) (λ is. kind c k (subst (λ m. slice_get (states_of b f) m ≡ Some c) is at) (subst (λ m. slice_get (kinds_of f) m ≡ Some k) is bt)) (last_or_below i n below);
+      ⊎_elim (λ lt. going.looked i c k lt at bt) (λ is. kind c k (subst (λ m. slice_get (states_of b f) m ≡ Some c) is at) (subst (λ m. slice_get (kinds_of f) m ≡ Some k) is bt)) (below_or_last i n below);
   early = λ i c k above at bt. going.early i c k (omega arith) at bt;
 }
 
@@ -77,11 +76,6 @@ still_gone clock funs edges i c still tick (entry.Receive t) m z h = let no = st
 still_gone clock funs edges i c still tick (entry.Wake t) m z h = let no = still (entry.Wake t) (λ q. q) in absurd (cc (no, h))
 still_gone clock funs edges i c still tick (entry.Finish t) m z h = let no = still (entry.Finish t) (λ q. q) in absurd (cc (no, h))
 still_gone clock funs edges i c still tick entry.Stranded m z h = let no = still entry.Stranded (λ q. q) in absurd (cc (no, h))
-
--- who sleeps first, if anybody
-nobody_sleeps : (ss : List Sleeper) → earliest ss ≡ None → ss ≡ []
-nobody_sleeps [] e = refl
-nobody_sleeps (s ∷ ss) e = absurd (cc e)
 
 pub somebody_sleeps : (ss : List Sleeper) (due : ℕ) → earliest ss ≡ Some due → ss ≡ [] → ⊥
 somebody_sleeps [] due e is = cc e
@@ -154,10 +148,10 @@ module _ (bounds : Bounds) (b : CodeBody) (n : ℕ) (f h : Found) (k : Option Fi
     rules = going.rules;
     up_to = λ l g at. let q = going.up_to l g at in omega arith;
     gone = λ none i c below at.
-        ⊎_elim (λ lt. going.gone none i c lt at) (λ is. subst (λ m. IsGone bounds.clock (funs_of b) (edges_of f) m c) (sym is) (stuck_gone c (subst (λ m. slice_get (states_of b f) m ≡ Some c) is at))) (last_or_below i n below);
+        ⊎_elim (λ lt. going.gone none i c lt at) (λ is. subst (λ m. IsGone bounds.clock (funs_of b) (edges_of f) m c) (sym is) (stuck_gone c (subst (λ m. slice_get (states_of b f) m ≡ Some c) is at))) (below_or_last i n below);
     looked = λ i c q below at bt.
         ⊎_elim (λ e. kind_here i c q e.0 e.1 at)
-        (λ e. ⊎_elim (λ lt. going.looked i c q lt at e.1) (λ is. absurd (e.0 is)) (last_or_below i n below)) (kind_there i q bt);
+        (λ e. ⊎_elim (λ lt. going.looked i c q lt at e.1) (λ is. absurd (e.0 is)) (below_or_last i n below)) (kind_there i q bt);
     early = λ i c q above at bt. ⊎_elim (λ e. absurd (omega (arith, e.0))) (λ e. going.early i c q (omega arith) at e.1) (kind_there i q bt);
   })
 
@@ -179,7 +173,7 @@ module _ (bounds : Bounds) (b : CodeBody) (n : ℕ) (f : Found) (state : NumberS
   is_one c at = same_Some one c (sym here ∙ at)
 
   pub stays_stuck : earliest one.slots.sleepers ≡ None → (c : Shown) → slice_get (states_of b f) n ≡ Some c → IsStuck (funs_of b) c.slots
-  stays_stuck nobody c at = subst (λ (z : Shown). IsStuck (funs_of b) z.slots) (is_one c at) (still one here, nobody_sleeps one.slots.sleepers nobody)
+  stays_stuck nobody c at = subst (λ (z : Shown). IsStuck (funs_of b) z.slots) (is_one c at) (still one here, none_earliest one.slots.sleepers nobody)
 
   module _ (due : ℕ) (sleeps : earliest one.slots.sleepers ≡ Some due) where
     free : (c : Shown) → one ≡ c → IsStuck (funs_of b) c.slots → ⊥

@@ -3,6 +3,7 @@ use Rattle.std.proofs.Common.{◌≡◌, ℕ, slice_get, Bool, true, false, not,
 use Rattle.std.proofs.lemmas.List.{append-nil}
 use Rattle.std.specs.Prelude.{MatchBool}
 use Rattle.hs_base.specs.declared.mask.Mask.{Mask}
+use Rattle.std.proofs.Math.Bool.{or-false}
 use Rattle.hs_base.specs.declared.mask.Mask.TheVariants.{Unmasked}
 use Rattle.rules_code.specs.declared.code.CodeBody.{CodeBody}
 use Rattle.rules_code.specs.CodeTrees.{SlottedFunction}
@@ -84,19 +85,15 @@ module _ (old new : Numbered) (b : CodeBody) (p : SlotPart) (fs : List SlotFrame
 
 -- ---- whether it is eager
 
-or_false : (x : Bool) → (x || false) ≡ x
-or_false true = refl
-or_false false = refl
-
 pub whole : (funs : List SlottedFunction) (p : SlotPart) (fs : List SlotFrame) (at_once does adds : Bool) → at_once ≡ eager_at_once p fs → MatchBool does (IsDoing p) (IsDoing p → ⊥)
     → (IsDoing p → adds ≡ adds_eagerly funs p fs) → (at_once || (does && adds)) ≡ is_eager funs (at p fs)
 whole funs (ret v) fs at_once true adds e d h = absurd d
-whole funs (ret v) fs at_once false adds e d h = or_false at_once ∙ e
+whole funs (ret v) fs at_once false adds e d h = or-false at_once ∙ e
 whole funs (throw x) fs at_once true adds e d h = absurd d
-whole funs (throw x) fs at_once false adds e d h = or_false at_once ∙ e
+whole funs (throw x) fs at_once false adds e d h = or-false at_once ∙ e
 whole funs (performs o) fs at_once true adds e d h = absurd d
-whole funs (performs o) fs at_once false adds e d h = or_false at_once ∙ e
-whole funs (doing a vs) fs at_once true adds e d h = ap₂ (λ x y. x || y) (e ∙ or_false (receives_nothing (doing a vs) fs)) (h tt)
+whole funs (performs o) fs at_once false adds e d h = or-false at_once ∙ e
+whole funs (doing a vs) fs at_once true adds e d h = ap₂ (λ x y. x || y) (e ∙ or-false (receives_nothing (doing a vs) fs)) (h tt)
 whole funs (doing a vs) fs at_once false adds e d h = absurd (d tt)
 
 -- ---- a part that is begun

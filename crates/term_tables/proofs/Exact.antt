@@ -35,7 +35,7 @@ exact_primitive q r e = tag_one p.the_type tt q r e
 
 -- ---- values, alone
 
-whole_value : (v w : V) → value_key v ≡ value_key w → v ≡ w
+pub whole_value : (v w : V) → value_key v ≡ value_key w → v ≡ w
 whole_value v w e = (exact_value v w [] [] (append-nil (value_key v) ∙ e ∙ sym (append-nil (value_key w)))).0
 
 whole_values : (vs ws : List V) → values_key vs ≡ values_key ws → vs ≡ ws

@@ -1,5 +1,6 @@
 -- The lists have each thread that has something to do.
 use Rattle.std.proofs.Common.{◌≡◌, ◌≢◌, ℕ, zero, suc, ◌==◌, List, [], ◌∷◌, ◌++◌, length, Bool, true, false, cond, ◌&&◌, drop, is_some, Option, Some, None, slice_get, slice_set, refl, sym, ap, ◌∙◌, subst, ⊎_elim}
+use Rattle.std.proofs.lemmas.Bool.{false_from_ne_true}
 use Rattle.hs_base.specs.declared.exn.Exn.{Exn}
 use Rattle.rules_waiting.specs.Waiting.{Flying, flying_to, first_thrown, withdrawn}
 use Rattle.hs_rules.specs.Entries.{is_interruptible}
@@ -31,10 +32,6 @@ in_more_of t q u h = in_more u t q h
 
 in_rest : (u t : ℕ) (q : List ℕ) → u ≢ t → is_in u (t ∷ q) ≡ true → is_in u q ≡ true
 in_rest u t q n h = ⊎_elim (λ e. absurd (n (sym e.1))) (λ e. sym (cond_false (t == u) true (is_in u q) e.0) ∙ h) (equal_or t u)
-
-pub not_true : (b : Bool) → (b ≡ true → ⊥) → b ≡ false
-not_true true h = absurd (h refl)
-not_true false h = refl
 
 pub both_cannot : {b : Bool} → b ≡ false → b ≡ true → ⊥
 both_cannot {b} e h = let k : false ≡ true = sym e ∙ h in cc k
@@ -78,7 +75,7 @@ pub has_taken : (p : ℕ → Option Thread → Bool) (ths : List Thread) (q : Li
 has_taken p ths q t th y h e k = at_each (λ u o. p u o ≡ true → is_in u q ≡ true) ths t th y h (λ i. absurd (both_cannot e i)) (λ u n i. in_rest u t q n (k u i))
 
 pub has_none : (p : ℕ → Option Thread → Bool) (ths : List Thread) → Has p ths [] → (t : ℕ) → p t (slice_get ths t) ≡ false
-has_none p ths k t = not_true (p t (slice_get ths t)) (λ i. cc (k t i))
+has_none p ths k t = false_from_ne_true (p t (slice_get ths t)) (λ i. cc (k t i))
 
 -- the first goes to the end
 pub has_turned : (p : ℕ → Option Thread → Bool) (ths : List Thread) (q q' : List ℕ) (t : ℕ) → q' ≡ q ++ t ∷ [] → Has p ths (t ∷ q) → Has p ths q'

@@ -1,7 +1,6 @@
 -- What the lists say of the threads with slots.
-use Rattle.std.proofs.Common.{◌≡◌, ◌≢◌, ℕ, suc, ◌+◌, List, [], ◌∷◌, length, Bool, true, false, cond, not, ◌&&◌, is_some, Option, Some, None, option_map, slice_get, refl, sym, ap, ◌∙◌, subst}
-use Rattle.hs_base.specs.declared.mask.Mask.{Mask}
-use Rattle.hs_base.specs.declared.mask.Mask.TheVariants.{Unmasked, Uninterruptible}
+use Rattle.std.proofs.Common.{◌≡◌, ℕ, suc, ◌+◌, List, [], ◌∷◌, length, Bool, true, false, cond, not, ◌&&◌, is_some, Option, Some, None, option_map, slice_get, refl, sym, ap, ◌∙◌, subst}
+use Rattle.hs_base.specs.declared.mask.Mask.TheVariants.{Unmasked}
 use Rattle.hs_base.specs.declared.exn.Exn.{Exn}
 use Rattle.rules_expansion.specs.declared.primitive.Primitive.{Primitive}
 use Rattle.rules_expansion.specs.declared.primitive.Primitive.TheVariants.{TakeMVar, PutMVar, ReadMVar}
@@ -25,6 +24,7 @@ use Rattle.thread_table.specs.declared.thread.Thread.{Thread}
 use Rattle.thread_table.specs.Table.{slot_of, slots_of, frames_over}
 use Rattle.thread_table.specs.Listing.{mask_of, is_throw, has_own, is_receptive, is_hit, wanted, NobodyWants, is_at_cell, WaitsAtCell, waits_open}
 use Rattle.thread_table.proofs.Table.{slots_at}
+use Rattle.hs_cases.proofs.Entering.{not_hard, interruptible}
 
 -- ---- the thread that stands at a number
 back_from : (b : CodeBody) (o : Option Thread) (y : SlotThread) → option_map (slot_of b) o ≡ Some y → (th : Thread) × (o ≡ Some th) × (slot_of b th ≡ y)
@@ -113,14 +113,6 @@ three_are true true false h = absurd (cc h)
 three_are true false z h = absurd (cc h)
 three_are false y z h = absurd (cc h)
 
-open_is : (m : Mask) → is_interruptible m ≡ true → m ≢ Uninterruptible
-open_is m h e = let k : true ≡ false = sym h ∙ ap is_interruptible e in cc k
-
-is_open_there : (m : Mask) → m ≢ Uninterruptible → is_interruptible m ≡ true
-is_open_there Unmasked n = refl
-is_open_there Uninterruptible n = absurd (n refl)
-is_open_there _ n = refl
-
 open_from : (b : CodeBody) (x : SlotState) (t : ℕ) (o : Option Thread) → slice_get x.threads t ≡ option_map (slot_of b) o → waits_open o ≡ true → WaitsOpen x t
 open_from b x t None e h = absurd (cc h)
 open_from b x t (Some th) e h =
@@ -132,7 +124,7 @@ open_from b x t (Some th) e h =
       blocked = are.0;
       cell = cell.0;
       at = waits_part b cell.0 th.stack.control cell.1;
-      open_now = open_is (mask_from Unmasked (frames_of b th.stack.frames)) (sym (ap is_interruptible (masks_inside b Unmasked th.stack.frames)) ∙ are.2);
+      open_now = not_hard (mask_from Unmasked (frames_of b th.stack.frames)) (sym (ap is_interruptible (masks_inside b Unmasked th.stack.frames)) ∙ are.2);
     }
 
 -- those who may be stranded are the same
@@ -145,7 +137,7 @@ waits_are_open b ths x t e w =
     let th = back.0 in
     let at_cell = sym (cell_same b th.stack.control) ∙ (ap (λ (y : SlotThread). cell_part y.term.part) back.2 ∙ cell_waits w.cell w.thread.term.part w.at) in
     let mask = masks_inside b Unmasked th.stack.frames ∙ ap (λ (y : SlotThread). mask_from Unmasked y.term.frames) back.2 in
-    ap waits_open back.1 ∙ three th.blocked (is_at_cell th.stack.control) (is_interruptible (mask_of th)) (ap (λ (y : SlotThread). y.blocked) back.2 ∙ w.blocked) at_cell (is_open_there (mask_of th) (λ m. w.open_now (sym mask ∙ m)))
+    ap waits_open back.1 ∙ three th.blocked (is_at_cell th.stack.control) (is_interruptible (mask_of th)) (ap (λ (y : SlotThread). y.blocked) back.2 ∙ w.blocked) at_cell (interruptible (mask_of th) (λ m. w.open_now (sym mask ∙ m)))
 
 -- ---- where nobody has anything to do
 unheard_from : (f o r h : Bool) → f ≡ false → r ≡ true → cond f false (cond o true (cond r h false)) ≡ false → h ≡ false

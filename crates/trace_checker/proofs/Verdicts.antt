@@ -16,6 +16,7 @@ use Rattle.rules_trees.specs.Programs.{Fn}
 use Rattle.rules_traces.specs.Traces.{Fits, header, line_of, BeginsNoLine, Reads, HasNoHeader}
 use Rattle.trace_text.proofs.EntryLines.{one_line}
 use Rattle.trace_text.proofs.Readings.{one_reading, none_more}
+use Rattle.trace_text.proofs.Faults.{fit_behind}
 use Rattle.history_player.specs.declared.player.Reached.{Reached}
 use Rattle.history_player.specs.declared.player.Reached.TheVariants as reached
 use Rattle.history_player.specs.Playing.{ReachedAs}
@@ -172,10 +173,6 @@ not_further ds es rest (Err (fault.Long n)) o (e, next, line, more) f =
 not_further ds es rest (Err (fault.Illegal n)) o (e, next, line, within, none) f =
     none f.state (subst (λ x. IsRun ds (es ++ x ∷ []) f.state) (sym (same_line rest e o next f.next)) f.run)
 not_further ds es rest (Err fault.NoMemory) o h f = h
-
-fit_behind : (es fs : List Entry) → AllByRecursion Fits (es ++ fs) → AllByRecursion Fits fs
-fit_behind [] fs p = p
-fit_behind (e ∷ es) fs p = fit_behind es fs p.1
 
 front : (es os : List Entry) (o : Entry) → es ++ o ∷ os ≡ (es ++ o ∷ []) ++ os
 front es os o = sym (append_assoc es (o ∷ []) os)

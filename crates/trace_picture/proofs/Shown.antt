@@ -38,9 +38,9 @@ use Rattle.frame_stack.specs.Parts.{op_of, part_of}
 use Rattle.thread_table.specs.declared.thread.Thread.{Thread}
 use Rattle.thread_table.specs.Table.{slot_of}
 use Rattle.thread_table.proofs.Table.{slots_at, slots_count}
-use Rattle.world_entries.proofs.CellsOf.{cells_count}
+use Rattle.world_entries.proofs.CellsOf.{cells_count, cells_at}
 use Rattle.world_entries.specs.declared.world.World.{World}
-use Rattle.world_entries.specs.Worlds.{state_of, slot_cells}
+use Rattle.world_entries.specs.Worlds.{state_of}
 use Rattle.lane_picture.specs.declared.film.Deed.{Deed}
 use Rattle.lane_picture.specs.declared.film.Deed.TheVariants as deed
 use Rattle.lane_picture.specs.declared.film.Doing.{Doing}
@@ -257,10 +257,6 @@ module _ (ds : List Fn) (b : CodeBody) (w : World) (s : State) (r : Represents d
   event_shown entry.Stranded = refl
 
 -- ---- cells
-cells_at : (cs : List (Cell Value)) (m : ℕ) → slice_get (slot_cells cs) m ≡ option_map (map_cell value_of) (slice_get cs m)
-cells_at [] m = refl
-cells_at (x ∷ xs) zero = refl
-cells_at (x ∷ xs) (suc m) = cells_at xs m
 
 full_mapped : (x : Option Value) → is_some x ≡ is_some (map_some value_of x)
 full_mapped None = refl

@@ -1,12 +1,13 @@
 -- What is seen of an entry is so.
-use Rattle.std.proofs.Common.{◌≡◌, ◌==◌, ℕ, List, [], ◌∷◌, ◌++◌, Bool, true, false, cond, Option, Some, None, slice_get, refl, sym, ap, ◌∙◌, ⊎_elim}
+use Rattle.std.proofs.Common.{◌≡◌, ℕ, List, [], ◌∷◌, ◌++◌, Bool, true, false, cond, Option, Some, None, slice_get, refl, sym, ap, ◌∙◌}
+use Rattle.std.proofs.lemmas.Bool.{eqb-true}
 use Rattle.hs_rules.specs.declared.entry.Entry.{Entry}
 use Rattle.hs_rules.specs.declared.entry.Entry.TheVariants as entry
 use Rattle.rules_trees.specs.Programs.{Fn}
 use Rattle.rules_code.specs.declared.code.CodeBody.{CodeBody}
 use Rattle.rules_meaning.specs.Values.{V}
 use Rattle.rules_meaning.specs.CoreMeaning.{code_of}
-use Rattle.rules_waiting.specs.Waiting.{Reason, Waiting, is_blocked, reason_of}
+use Rattle.rules_waiting.specs.Waiting.{Reason, is_blocked}
 use Rattle.hs_rules.specs.State as rules
 use Rattle.hs_rules.specs.State.{State}
 use Rattle.hs_rules.specs.Entries.{Leads}
@@ -14,8 +15,8 @@ use Rattle.hs_rules.specs.Runs.{IsRun}
 use Rattle.hs_cases.proofs.Entering.{case_of}
 use Rattle.hs_laws.specs.Standing.{Standing}
 use Rattle.hs_laws.proofs.Expanded.{standing_of}
-use Rattle.hs_laws.proofs.Lists.{equal_or}
 use Rattle.hs_laws.proofs.RunParts.{run_more}
+use Rattle.hs_laws.proofs.Stranding.{blocked_reason}
 use Rattle.slot_states.specs.SlotStates.{Represents}
 use Rattle.world_entries.specs.declared.world.World.{World}
 use Rattle.world_entries.specs.Worlds.{state_of}
@@ -32,10 +33,6 @@ reason_first : (b : Bool) (r : Reason V) (o : Option (Reason V)) (x : Bool) → 
 reason_first true r o x k e = (r, refl)
 reason_first false r o x k e = k e
 
-blocked_reason : (t : ℕ) (ws : List (Waiting V)) → is_blocked t ws ≡ true → (r : Reason V) × (reason_of t ws ≡ Some r)
-blocked_reason t [] e = absurd (cc e)
-blocked_reason t (w ∷ ws) e = reason_first (w.thread == t) w.reason (reason_of t ws) (is_blocked t ws) (blocked_reason t ws) e
-
 absent_free : (t : ℕ) (u : State) → Standing u → slice_get u.threads t ≡ None → is_blocked t u.blocked ≡ false
 absent_free t u h none = by (is_blocked t u.blocked) refl
   where
@@ -44,16 +41,14 @@ absent_free t u h none = by (is_blocked t u.blocked) refl
     by true e = let r = blocked_reason t u.blocked e in let z : ◌≡◌ {A = Option rules.Thread} None (Some (h.blocked t r.0 r.1).thread) = sym none ∙ (h.blocked t r.0 r.1).is in absurd (cc z)
 
 -- ---- at the cell that is touched
-number : (a b : ℕ) → (a == b) ≡ true → a ≡ b
-number a b e = ⊎_elim (λ same. same.1) (λ other. let z : true ≡ false = sym e ∙ other.0 in absurd (cc z)) (equal_or a b)
 
 full_touched : (w : World) (o : Option ℕ) (m : ℕ) → is_at m o ≡ true → touched_full o w ≡ full_at (slice_get w.cells.cells m)
 full_touched w None m e = absurd (cc e)
-full_touched w (Some k) m e = ap (λ x. full_at (slice_get w.cells.cells x)) (number k m e)
+full_touched w (Some k) m e = ap (λ x. full_at (slice_get w.cells.cells x)) (eqb-true k m e)
 
 line_touched : (w : World) (o : Option ℕ) (m : ℕ) → is_at m o ≡ true → touched_line o w ≡ line_at (slice_get w.cells.cells m)
 line_touched w None m e = absurd (cc e)
-line_touched w (Some k) m e = ap (λ x. line_at (slice_get w.cells.cells x)) (number k m e)
+line_touched w (Some k) m e = ap (λ x. line_at (slice_get w.cells.cells x)) (eqb-true k m e)
 
 module _ (ds : List Fn) (b : CodeBody) (old new : World) (es : List Entry) (s u : State) (run : IsRun ds es s) (before : Represents ds (state_of b old) s) (after : Represents ds (state_of b new) u) where
   blocked_now : (t : ℕ) → IsRun ds (es ++ entry.Op t ∷ []) u → blocked_at (slice_get new.threads.list.items t) ≡ is_blocked t u.blocked

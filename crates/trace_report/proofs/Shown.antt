@@ -1,5 +1,5 @@
 -- What is seen of a world is so of the state that it stands for.
-use Rattle.std.proofs.Common.{◌≡◌, ℕ, zero, suc, List, [], ◌∷◌, length, Bool, true, false, cond, Option, Some, None, option_map, slice_get, is_some, refl, sym, ap, ◌∙◌, subst}
+use Rattle.std.proofs.Common.{◌≡◌, ℕ, suc, List, [], ◌∷◌, length, Bool, true, false, cond, Option, Some, None, option_map, slice_get, is_some, refl, sym, ap, ◌∙◌, subst}
 use Rattle.hs_base.specs.declared.value.Value.{Value}
 use Rattle.rules_trees.specs.Trees.{T}
 use Rattle.rules_trees.specs.Programs.{Fn}
@@ -24,7 +24,8 @@ use Rattle.thread_table.specs.declared.thread.Thread.{Thread}
 use Rattle.thread_table.specs.Table.{slot_of}
 use Rattle.thread_table.proofs.Table.{slots_at}
 use Rattle.world_entries.specs.declared.world.World.{World}
-use Rattle.world_entries.specs.Worlds.{state_of, slot_cells}
+use Rattle.world_entries.specs.Worlds.{state_of}
+use Rattle.world_entries.proofs.CellsOf.{cells_at}
 use Rattle.report_tally.specs.declared.touch.Touch.{Touch}
 use Rattle.report_tally.specs.declared.touch.Touch.TheVariants as touch
 use Rattle.report_tally.specs.declared.writing.Word.TheVariants as word
@@ -137,10 +138,6 @@ module _ (ds : List Fn) (b : CodeBody) (w : World) (s : State) (r : Represents d
   absent_shown e = absent_by (slice_get w.threads.list.items t) (slice_get s.threads t) e stood
 
 -- ---- a cell
-cells_at : (cs : List (Cell Value)) (m : ℕ) → slice_get (slot_cells cs) m ≡ option_map (map_cell value_of) (slice_get cs m)
-cells_at [] m = refl
-cells_at (x ∷ xs) zero = refl
-cells_at (x ∷ xs) (suc m) = cells_at xs m
 
 full_mapped : (x : Option Value) → is_some x ≡ is_full (Some (map_some value_of x))
 full_mapped None = refl

@@ -1,21 +1,16 @@
 -- How often a position stands in a list.
 use Rattle.std.proofs.Common.{◌≡◌, ◌≢◌, ℕ, zero, suc, ◌+◌, ◌<◌, ◌≤◌, ◌&&◌, Bool, true, false, cond, List, [], ◌∷◌, ◌++◌, length, refl, sym, ap, ◌∙◌, subst, arith, eqb}
 use Rattle.std.specs.Prelude.{AllPairs, Contains, slice_index_or}
-use Rattle.std.proofs.lemmas.Bool.{eqb-true, eq-eqb}
+use Rattle.std.proofs.lemmas.Bool.{eqb-true, eq-eqb, and_parts}
 use Rattle.std.proofs.lemmas.List.Kept.{AllPairs-cons}
 use Rattle.hs_base.specs.declared.pos.Pos.{Pos}
 
 abbrev pub same_pos : Pos → Pos → Bool
 same_pos q p = eqb q.line p.line && eqb q.col p.col
 
-both_true : (a b : Bool) → (a && b) ≡ true → (a ≡ true) × (b ≡ true)
-both_true true true h = (refl, refl)
-both_true true false h = cc
-both_true false b h = cc
-
 pub same_pos_true : (q p : Pos) → same_pos q p ≡ true → q ≡ p
 same_pos_true q p h =
-    let k = both_true (eqb q.line p.line) (eqb q.col p.col) h in
+    let k = and_parts (eqb q.line p.line) (eqb q.col p.col) h in
     ap (λ z. record { line = z; col = q.col }) (eqb-true q.line p.line k.0) ∙ ap (λ z. record { line = p.line; col = z }) (eqb-true q.col p.col k.1)
 
 pub same_pos_self : (p : Pos) → same_pos p p ≡ true

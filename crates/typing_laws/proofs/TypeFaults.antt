@@ -1,5 +1,6 @@
 -- What the checker answers stands for one broken rule: the answer is fixed by the rule.
 use Rattle.std.proofs.Common.{◌≡◌, ◌≢◌, List, Some, refl, sym, ap, ◌∙◌, subst, ◌⊎◌, inl, inr, true, false}
+use Rattle.std.proofs.lemmas.Option.{same_Some}
 use Rattle.hs_base.specs.declared.tree.script.Script.{Script}
 use Rattle.hs_base.specs.declared.tree.ty.Ty.{Ty}
 use Rattle.hs_base.specs.declared.tree.ty.Ty.TheVariants as t
@@ -109,21 +110,18 @@ refusal_back (large p) = x.Large p
 true_false : true ≡ false → ⊥
 true_false e = cc
 
-some_is : (y z : Fault) → Some y ≡ Some z → y ≡ z
-some_is y z e = cc
-
 -- the answer that names a broken rule is fixed by it
 told_comes : (c : TypeFault) (y : Fault) → told c ≡ Some y → c ≡ refusal_back y
-told_comes (x.Twice p) y e = ap refusal_back (some_is (twice p) y e)
-told_comes (x.Unknown p) y e = ap refusal_back (some_is (unknown p) y e)
-told_comes (x.Kind p) y e = ap refusal_back (some_is (kind p) y e)
-told_comes (x.Forward p) y e = ap refusal_back (some_is (forward p) y e)
-told_comes (x.Arity p m n) y e = ap refusal_back (some_is (arity p m n) y e)
+told_comes (x.Twice p) y e = ap refusal_back (same_Some (twice p) y e)
+told_comes (x.Unknown p) y e = ap refusal_back (same_Some (unknown p) y e)
+told_comes (x.Kind p) y e = ap refusal_back (same_Some (kind p) y e)
+told_comes (x.Forward p) y e = ap refusal_back (same_Some (forward p) y e)
+told_comes (x.Arity p m n) y e = ap refusal_back (same_Some (arity p m n) y e)
 told_comes (x.Mismatch p m c) y e =
-    sym (ap (λ z. x.Mismatch p z (ty_back (ty_of c))) (want_comes m) ∙ ap (λ z. x.Mismatch p m z) (ty_comes c)) ∙ ap refusal_back (some_is (mismatch p (wanted_of m) (ty_of c)) y e)
-told_comes (x.Scope p) y e = ap refusal_back (some_is (scope p) y e)
-told_comes (x.Wide p) y e = ap refusal_back (some_is (wide p) y e)
-told_comes (x.Large p) y e = ap refusal_back (some_is (large p) y e)
+    sym (ap (λ z. x.Mismatch p z (ty_back (ty_of c))) (want_comes m) ∙ ap (λ z. x.Mismatch p m z) (ty_comes c)) ∙ ap refusal_back (same_Some (mismatch p (wanted_of m) (ty_of c)) y e)
+told_comes (x.Scope p) y e = ap refusal_back (same_Some (scope p) y e)
+told_comes (x.Wide p) y e = ap refusal_back (same_Some (wide p) y e)
+told_comes (x.Large p) y e = ap refusal_back (same_Some (large p) y e)
 told_comes x.NoMain y e = cc
 told_comes x.NoMemory y e = cc
 

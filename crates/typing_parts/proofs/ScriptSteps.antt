@@ -1,6 +1,7 @@
 -- The rules by which heads and scripts are checked.
 use Rattle.std.proofs.Common.{◌≡◌, List, [], ◌∷◌, ◌++◌, ◌&&◌, Bool, true, false, Option, Some, None, refl, append_assoc, ⊎_elim}
 use Rattle.std.proofs.lemmas.List.{append-nil}
+use Rattle.std.proofs.Math.Bool.{and-true}
 use Rattle.rules_typing.specs.Typing.{Fault}
 use Rattle.rules_typing.specs.TypingFaults.{In, Precedes}
 use Rattle.rules_typing.specs.TypingScripts.{none_of}
@@ -17,14 +18,10 @@ pub and_assoc : (a b c : Bool) → ((a && b) && c) ≡ (a && (b && c))
 and_assoc true b c = refl
 and_assoc false b c = refl
 
-pub and_true : (a : Bool) → (a && true) ≡ a
-and_true true = refl
-and_true false = refl
-
 pub first_is : (fs : List Fault) (f : Fault) → least None fs ≡ Some f → In fs f × ((g : Fault) → In fs g → Precedes f g)
 first_is fs f h = let r = least_is fs None f h in (⊎_elim (λ e. let z : None ≡ Some f = e in cc) (λ w. w) r.0, r.2)
 
 pub first_none : (fs : List Fault) → least None fs ≡ None → (f : Fault) → In fs f → ⊥
 first_none fs h f w = least_none fs None h f w
 
-pub ruleset script_rules = (noted_rules, find_sigs, none-append, and_assoc, and_true, append_assoc, append-nil)
+pub ruleset script_rules = (noted_rules, find_sigs, none-append, and_assoc, and-true, append_assoc, append-nil)

@@ -1,5 +1,6 @@
 -- What the cells of a world stand for, and what a call on one of them makes of that.
-use Rattle.std.proofs.Common.{◌≡◌, ℕ, zero, suc, ◌==◌, Bool, true, false, cond, List, [], ◌∷◌, ◌++◌, length, None, slice_set, slice_index_or, refl, sym, ap, ◌∙◌}
+use Rattle.std.proofs.Common.{◌≡◌, ℕ, zero, suc, ◌==◌, true, false, cond, List, [], ◌∷◌, ◌++◌, length, None, slice_set, slice_index_or, refl, sym, ap, ◌∙◌, option_map, slice_get}
+use Rattle.plain_laws.proofs.Booleans.{both_false}
 use Rattle.hs_base.specs.declared.value.Value.{Value}
 use Rattle.rules_meaning.specs.Values.{V, value_of}
 use Rattle.rules_waiting.specs.OneCell.{Place, Cell, Call, Leave, After, Reply, made, call, stands_in}
@@ -20,6 +21,11 @@ at_number (suc m) (c ∷ cs) = at_number m cs
 
 pub cell_stands_for : (m : ℕ) (cs : Mvars) → cell_at m (slot_cells cs.cells) ≡ map_cell value_of (mvar.cell_at m cs)
 cell_stands_for m cs = at_number m cs.cells
+
+pub cells_at : (cs : List (Cell Value)) (m : ℕ) → slice_get (slot_cells cs) m ≡ option_map (map_cell value_of) (slice_get cs m)
+cells_at [] m = refl
+cells_at (x ∷ cs) zero = refl
+cells_at (x ∷ cs) (suc m) = cells_at cs m
 
 pub cells_set : (cs : List (Cell Value)) (m : ℕ) (c : Cell Value) → slot_cells (slice_set cs m c) ≡ slice_set (slot_cells cs) m (map_cell value_of c)
 cells_set [] m c = refl
@@ -69,20 +75,16 @@ among_none t (c ∷ cs) h = ap (λ b. cond b true (stands_among t cs)) (sym (lin
 pub stands_nowhere : (t : ℕ) (cs : Mvars) → ((m : ℕ) → stands_in t (cell_at m (slot_cells cs.cells)).line ≡ false) → StandsNowhere t cs
 stands_nowhere t cs h = among_none t cs.cells h
 
-neither : (a b : Bool) → cond a true b ≡ false → (a ≡ false) × (b ≡ false)
-neither true b h = absurd (cc h)
-neither false b h = (refl, h)
-
 -- and the other way round, in the code's cells
 pub among_none_at : (t m : ℕ) (cs : List (Cell Value)) → stands_among t cs ≡ false → stands_in t (slice_index_or cs m (made None)).line ≡ false
 among_none_at t m [] h = refl
-among_none_at t zero (c ∷ cs) h = (neither (stands_in t c.line) (stands_among t cs) h).0
-among_none_at t (suc m) (c ∷ cs) h = among_none_at t m cs (neither (stands_in t c.line) (stands_among t cs) h).1
+among_none_at t zero (c ∷ cs) h = (both_false (stands_in t c.line) (stands_among t cs) h).0
+among_none_at t (suc m) (c ∷ cs) h = among_none_at t m cs (both_false (stands_in t c.line) (stands_among t cs) h).1
 
 -- one cell changed to another in whose line the thread doesn't stand
 pub among_none_set : (t m : ℕ) (cs : List (Cell Value)) (c : Cell Value) → stands_among t cs ≡ false → stands_in t c.line ≡ false → stands_among t (slice_set cs m c) ≡ false
 among_none_set t m [] c h k = refl
-among_none_set t zero (x ∷ cs) c h k = ap (λ b. cond b true (stands_among t cs)) k ∙ (neither (stands_in t x.line) (stands_among t cs) h).1
+among_none_set t zero (x ∷ cs) c h k = ap (λ b. cond b true (stands_among t cs)) k ∙ (both_false (stands_in t x.line) (stands_among t cs) h).1
 among_none_set t (suc m) (x ∷ cs) c h k =
-    let each = neither (stands_in t x.line) (stands_among t cs) h in
+    let each = both_false (stands_in t x.line) (stands_among t cs) h in
     ap (λ b. cond b true (stands_among t (slice_set cs m c))) each.0 ∙ among_none_set t m cs c each.1 k

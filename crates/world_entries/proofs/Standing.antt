@@ -1,5 +1,5 @@
 -- Which threads of a live world stand where, and that the machine of cells may be called.
-use Rattle.std.proofs.Common.{◌≡◌, ◌≢◌, ℕ, ◌<◌, true, false, List, length, Option, Some, None, option_map, slice_get, refl, sym, ap, ◌∙◌, subst}
+use Rattle.std.proofs.Common.{◌≡◌, ◌≢◌, ℕ, ◌<◌, true, false, List, length, Some, slice_get, sym, ap, ◌∙◌, subst}
 use Rattle.std.proofs.Props.{props}
 use Rattle.std.proofs.Math.Bool.{Bool-set}
 use Rattle.std.proofs.Math.Logic.{∥∥₁_elim, ∥∥₁_map}
@@ -21,8 +21,9 @@ use Rattle.frame_stack.specs.declared.control.Control.{Control}
 use Rattle.frame_stack.specs.declared.control.Control.TheVariants as c
 use Rattle.frame_stack.specs.Parts.{IsOp, part_of, op_of}
 use Rattle.thread_table.specs.declared.thread.Thread.{Thread}
-use Rattle.thread_table.specs.Table.{slot_of, slots_of, IsAt}
-use Rattle.thread_table.proofs.Table.{slots_at, slots_is}
+use Rattle.thread_table.specs.Table.{slot_of, IsAt}
+use Rattle.thread_table.proofs.Table.{slots_is}
+use Rattle.thread_table.proofs.Slots.{slot_back}
 use Rattle.world_entries.specs.declared.world.World.{World}
 use Rattle.world_entries.specs.Worlds.{state_of, Live, IsLive, Stands}
 use Rattle.world_entries.specs.Reading.{ReadersStand}
@@ -30,13 +31,6 @@ use Rattle.world_entries.proofs.Making.{stands_at, op_shown}
 use Rattle.world_entries.proofs.CellsOf.{cells_count, stands_same, stands_nowhere}
 
 -- ---- a thread by what it stands for
-
-slotted_from : (b : CodeBody) (q : Option Thread) (f : SlotThread) → option_map (slot_of b) q ≡ Some f → (th : Thread) × (q ≡ Some th) × (slot_of b th ≡ f)
-slotted_from b None f h = absurd (cc h)
-slotted_from b (Some th) f h = (th, refl, cc h)
-
-pub thread_of_slot : (b : CodeBody) (ths : List Thread) (t : ℕ) (f : SlotThread) → slice_get (slots_of b ths) t ≡ Some f → (th : Thread) × (slice_get ths t ≡ Some th) × (slot_of b th ≡ f)
-thread_of_slot b ths t f h = slotted_from b (slice_get ths t) f (sym (slots_at b ths t) ∙ h)
 
 -- who waits at a cell stands at an operation
 pub waits_op : (b : CodeBody) (m : ℕ) (k : Control) → WaitsAt m (part_of b k) → IsOp k
@@ -57,7 +51,7 @@ module _ (w : World) where
   line_of_live : (u m : ℕ) → stands_in u (cell_at m w.cells).line ≡ true → ((b : CodeBody) × (es : List Entry) × Live b es w) → InLineOf w u
   line_of_live u m h (b, es, l) =
       let f = line_is_of_threads b.of.value es l.state l.run (state_of b w) l.represents u m (stands_same u m w.cells ∙ h) in
-      let th = thread_of_slot b w.threads.list.items u f.0 f.1 in
+      let th = slot_back b w.threads.list.items u f.0 f.1 in
       record {
         thread = th.0;
         is = th.1;

@@ -4,6 +4,7 @@ use Rattle.std.proofs.Math.Bool.{Bool-set}
 use Rattle.std.proofs.Math.Bridge.{le_prop}
 use Rattle.std.proofs.Math.Logic.{∥∥₁_elim}
 use Rattle.std.specs.Prelude.{Contains}
+use Rattle.std.proofs.lemmas.Bool.{and_parts}
 use Rattle.hs_base.specs.declared.exn.Exn.TheVariants.{BlockedIndefinitely}
 use Rattle.hs_base.specs.declared.mask.Mask.TheVariants.{Unmasked}
 use Rattle.hs_rules.specs.declared.entry.Entry.{Entry}
@@ -20,7 +21,7 @@ use Rattle.slot_states.specs.Resting.{InLine, WaitsOpen}
 use Rattle.slot_states.proofs.Following.{changed_other}
 use Rattle.slot_states.proofs.Places.{is_among, stands_among, contains_stands, stands_contains, some_stands, all_left_count}
 use Rattle.slot_states.proofs.CellThreads.{thread_is_in_line}
-use Rattle.slot_states.proofs.StrandedAlike.{strand_entered}
+use Rattle.slot_states.proofs.StrandedAlike.{strand_entered, resumed_other}
 use Rattle.local_steps.specs.Machine.{frames_of}
 use Rattle.local_steps.proofs.Codes.{masks_inside}
 use Rattle.exn_flight.specs.Flights.{InFlight}
@@ -42,7 +43,7 @@ use Rattle.world_entries.proofs.Making.{main_goes}
 use Rattle.world_entries.proofs.Entered.{same_state, SameCounts, made_from}
 use Rattle.thread_table.proofs.Slots.{waits_part, open_waits, waits_are_open}
 use Rattle.world_entries.proofs.CellsOf.{cells_count, stands_same, leave_same}
-use Rattle.world_entries.proofs.Lined.{not_among, stands_still, NotElsewhere, not_elsewhere, still_alone, leaves_alone, left_last}
+use Rattle.world_entries.proofs.Lined.{stands_still, NotElsewhere, not_elsewhere, still_alone, leaves_alone, left_last}
 
 -- ---- who may be stranded, among threads with slots
 abbrev is_at_line : SlotPart → Bool
@@ -70,15 +71,7 @@ same_open b (Some th) =
 open_at : (b : CodeBody) (ths : List Thread) (t : ℕ) → is_open (slice_get (slots_of b ths) t) ≡ waits_open (slice_get ths t)
 open_at b ths t = ap is_open (slots_at b ths t) ∙ same_open b (slice_get ths t)
 
-both_true : (x y : Bool) → x && y ≡ true → (x ≡ true) × (y ≡ true)
-both_true true true e = (refl, refl)
-both_true true false e = absurd (cc e)
-both_true false y e = absurd (cc e)
-
 -- ---- some threads with slots get a part
-resumed_other : (ts : List ℕ) (p : SlotPart) (ths : List SlotThread) (t : ℕ) → is_among t ts ≡ false → slice_get (all_resumed ts p ths) t ≡ slice_get ths t
-resumed_other [] p ths t a = refl
-resumed_other (u ∷ us) p ths t a = let k = not_among t u us a in resumed_other us p (resumed u p ths) t k.1 ∙ changed_other ths u t (resumed_by p) (λ q. k.0 (sym q))
 
 -- who threw isn't blocked any more
 abbrev IsFree : Option SlotThread → Type 0
@@ -161,7 +154,7 @@ module _ (ts : List ℕ) (old now : World) (g : Stranding ts old now) where
       was_in_line =
           thread_is_in_line b.of.value es l.state l.run (state_of b old) l.represents t m (slot_of b at.thread)
           (sym (others b t (not_yet b)) ∙ slots_is b now.threads.list.items t at.thread at.is)
-          (both_true at.thread.blocked (is_at_cell at.thread.stack.control) (both_true (at.thread.blocked && is_at_cell at.thread.stack.control) (is_interruptible (mask_of at.thread)) (ap waits_open (sym at.is) ∙ waits)).0).0
+          (and_parts at.thread.blocked (is_at_cell at.thread.stack.control) (and_parts (at.thread.blocked && is_at_cell at.thread.stack.control) (is_interruptible (mask_of at.thread)) (ap waits_open (sym at.is) ∙ waits)).0).0
           (waits_part b m at.thread.stack.control at.holds)
 
       now_below : m < length now.cells.cells

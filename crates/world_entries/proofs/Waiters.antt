@@ -1,5 +1,5 @@
 -- Who waits in a world that stands for the state of a run, and where.
-use Rattle.std.proofs.Common.{◌≡◌, ◌≤◌, ℕ, List, true, Option, Some, None, option_map, refl, sym, ap, ◌∙◌, arith, slice_get}
+use Rattle.std.proofs.Common.{◌≡◌, ◌≤◌, ℕ, List, true, Option, Some, None, refl, sym, ap, ◌∙◌, arith, slice_get}
 use Rattle.std.proofs.Math.Bridge.{le_prop}
 use Rattle.std.proofs.Math.Logic.{∥∥₁_elim, ∥∥₁_map}
 use Rattle.std.proofs.lemmas.Option.{same_Some}
@@ -17,19 +17,13 @@ use Rattle.frame_stack.specs.declared.control.Control.{Control}
 use Rattle.frame_stack.specs.declared.control.Control.TheVariants as c
 use Rattle.frame_stack.specs.Parts.{IsOp, part_of}
 use Rattle.thread_table.specs.declared.thread.Thread.{Thread}
-use Rattle.thread_table.specs.Table.{slot_of, slots_of, IsAt}
-use Rattle.thread_table.proofs.Table.{slots_at}
+use Rattle.thread_table.specs.Table.{slots_of, IsAt}
+use Rattle.thread_table.proofs.Slots.{slot_back}
 use Rattle.world_entries.specs.declared.world.World.{World}
 use Rattle.world_entries.specs.Worlds.{state_of, Live, IsLive}
 use Rattle.world_entries.proofs.Making.{op_shown}
 
 -- ---- a thread with slots is one of memory
-some_of : (b : CodeBody) (o : Option Thread) (h : SlotThread) → option_map (slot_of b) o ≡ Some h → (th : Thread) × (o ≡ Some th) × (slot_of b th ≡ h)
-some_of b None h e = absurd (cc e)
-some_of b (Some th) h e = (th, refl, cc e)
-
-pub slot_there : (b : CodeBody) (ths : List Thread) (t : ℕ) (h : SlotThread) → slice_get (slots_of b ths) t ≡ Some h → (th : Thread) × (slice_get ths t ≡ Some th) × (slot_of b th ≡ h)
-slot_there b ths t h e = some_of b (slice_get ths t) h (sym (slots_at b ths t) ∙ e)
 
 -- one that performs an operation stands at one
 pub op_of_part : (b : CodeBody) (k : Control) (op : SlotOp) → part_of b k ≡ performs op → IsOp k
@@ -40,7 +34,7 @@ op_of_part b (c.Op q) op e = tt
 
 pub op_there : (b : CodeBody) (ths : List Thread) (t : ℕ) (h : SlotThread) → slice_get (slots_of b ths) t ≡ Some h → (op : SlotOp) × (h.term.part ≡ performs op) → IsAt t (λ (x : Thread). IsOp x.stack.control) ths
 op_there b ths t h e p =
-    let th = slot_there b ths t h e in
+    let th = slot_back b ths t h e in
     record { thread = th.0; is = th.1; holds = op_of_part b th.0.stack.control p.0 (ap (λ (z : SlotThread). z.term.part) th.2 ∙ p.1) }
 
 -- ---- in a world that stands for the state of a run

@@ -1,7 +1,7 @@
 use Rattle.std.proofs.Common.{All, subst}
 use Rattle.std.proofs.lemmas.List.Elements.{All-head}
+use Rattle.plain_laws.proofs.Options.{said_of}
 use Rattle.conc_hands.specs.Hands.{IsHandOf}
-use Rattle.caps_loop.proofs.Places.{said_of}
 use Rattle.caps_loop.proofs.halves.run_one.Goals as goal
 
 pub work-seat-requires-clause-hand : goal.work-seat-requires-clause-hand

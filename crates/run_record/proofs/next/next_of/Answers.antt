@@ -1,7 +1,8 @@
 use Rattle.std.proofs.Common.{sym, ap}
 use Rattle.exn_flight.specs.Flights.{InFlight}
-use Rattle.run_record.proofs.Resting.{none_waits_open, with_threads, same_state, goes_alike, goes_unlisted, rest_alike, nobody_acts, some_goes, at_rest, none_sleep}
+use Rattle.run_record.proofs.Resting.{none_waits_open, with_threads, same_state, goes_alike, goes_unlisted, rest_alike, nobody_acts, some_goes, at_rest}
 use Rattle.run_record.proofs.next.next_of.Goals as goal
+use Rattle.hs_laws.proofs.Later.{none_earliest}
 
 pub returns-then-some_goes-clause-next : goal.returns-then-some_goes-clause-next
 returns-then-some_goes-clause-next c =
@@ -30,7 +31,7 @@ returns-then-may_strand-clause-next c =
       goes_unlisted before c.may_strand.new.self c.may_strand.ensures.others (goes_alike w c.next.new.self c.next.ensures.list c.requires.goes),
       (
         rest_alike before now same (at_rest before c.in_default.ensures.none (sym c.in_default-due.ensures) c.if-some_goes.ensures),
-        none_sleep w.sleepers.list (sym c.in_default-first_due.ensures),
+        none_earliest w.sleepers.list (sym c.in_default-first_due.ensures),
         c.if-may_strand.ensures.found,
       ),
     )
@@ -43,6 +44,6 @@ returns-clause-next c =
     let same = same_state before c.may_strand.new.self c.may_strand.ensures.slots (ap (λ (f : InFlight). f.list) c.may_strand.ensures.flight) in (
       goes_unlisted before c.may_strand.new.self c.may_strand.ensures.others (goes_alike w c.next.new.self c.next.ensures.list c.requires.goes),
       rest_alike before now same (at_rest before c.in_default.ensures.none (sym c.in_default-due.ensures) c.if-some_goes.ensures),
-      none_sleep w.sleepers.list (sym c.in_default-first_due.ensures),
+      none_earliest w.sleepers.list (sym c.in_default-first_due.ensures),
       λ b. none_waits_open b now c.if-may_strand.ensures.found,
     )

@@ -1,8 +1,9 @@
 use Rattle.std.proofs.Common.{arith, refl, sym, subst, Some}
+use Rattle.plain_laws.proofs.Options.{said_of}
 use Rattle.run_record.specs.Acts.{entry_of}
 use Rattle.run_record.specs.Records.{WouldExceed}
 use Rattle.run_course.specs.declared.ends.RunEnd.TheVariants as end
-use Rattle.run_course.proofs.Kept.{calm_ends, calm_put, ended_none, limit_same, on_err, on_none, on_ok, on_some, rose_since, told_ends, told_failed, told_put, told_same}
+use Rattle.run_course.proofs.Kept.{calm_ends, calm_put, ended_none, limit_same, on_err, on_none, on_ok, rose_since, told_ends, told_failed, told_put, told_same}
 use Rattle.run_course.proofs.course.Course.act.Goals as goal
 
 pub invariant_of-self-in-Some : goal.invariant_of-self-in-Some
@@ -11,7 +12,7 @@ invariant_of-self-in-Some g c =
     let old = s.clocked.«record» in
     let new = c.act.new.self.«record» in
     let kind = c.in-Some.kind in
-    let over = on_some _ _ c.in_ok-kind.field-0 kind c.in-Some.is c.in_ok-kind.ensures.ok in
+    let over = said_of _ _ c.in_ok-kind.field-0 kind c.in-Some.is c.in_ok-kind.ensures.ok in
     let after = Some (end.Limit kind c.entry.result) in
     record {
       told = told_same old new over.0 after _ _ _ _ (told_ends s.end after c.requires.none refl _ _ _ _ _ _ s.told);

@@ -1,4 +1,5 @@
 use Rattle.std.proofs.Common.{◌<◌, refl, sym, ap, ◌∙◌, subst, false, slice_get, cond, length}
+use Rattle.std.proofs.lemmas.Bool.{false_from_ne_true}
 use Rattle.hs_base.specs.declared.exn.Exn.TheVariants.{BlockedIndefinitely}
 use Rattle.hs_laws.proofs.Lists.{item_below}
 use Rattle.slot_laws.specs.SlotRules.{throw}
@@ -9,13 +10,13 @@ use Rattle.thread_table.specs.declared.thread.Thread.{Thread}
 use Rattle.thread_table.specs.Listing.{is_doing, goes_at, is_queued, is_at_cell, waits_open, is_listed, WaitsAtCell, Kept, counted_going}
 use Rattle.thread_table.specs.Table.{slots_of, with_listed, with_control, counted_frames}
 use Rattle.thread_table.proofs.Table.{lent_is, written_through, slots_changed, thread_alike}
-use Rattle.thread_table.proofs.Queues.{wanted_in, has_pushed, not_waiting, not_true, both_cannot, flagged_not, flagged_taken, front_waits, who_waits, waits_alike, at_cell_throws_not}
+use Rattle.thread_table.proofs.Queues.{wanted_in, has_pushed, not_waiting, both_cannot, flagged_not, flagged_taken, front_waits, who_waits, waits_alike, at_cell_throws_not}
 use Rattle.thread_table.proofs.Counts.{count_same, not_doing, still_control, still_blocked}
 use Rattle.thread_table.proofs.threads.Threads.strand.Goals as goal
 
 pub returns-then-not-may_strand-clause-none : goal.returns-then-not-may_strand-clause-none
 returns-then-not-may_strand-clause-none c = (
-  λ t. not_true (waits_open (slice_get c.args.self.now.list.items t)) (λ h. both_cannot (c.if-not-may_strand.ensures.found t) (waits_alike _ _ t (sym c.may_strand.ensures.others) h)),
+  λ t. false_from_ne_true (waits_open (slice_get c.args.self.now.list.items t)) (λ h. both_cannot (c.if-not-may_strand.ensures.found t) (waits_alike _ _ t (sym c.may_strand.ensures.others) h)),
   c.may_strand.ensures.slots,
 )
 
