@@ -56,13 +56,8 @@ impl ActEmitter {
                 Ok(id)
             }
             Action::ModifyMVar(_, e, x, _) => {
-                self.derived(
-                    alloc,
-                    defs,
-                    Derived::ModifyMVar,
-                    parts(Some(e), Some(&x.text)),
-                    a,
-                )
+                let own = parts(Some(e), Some(&x.text));
+                self.derived(alloc, defs, Derived::ModifyMVar, own, a)
             }
             Action::Scoped(word, _, b) => match block_row(*word) {
                 BlockRow::Fork => self.fork_form(alloc, defs, b),
@@ -84,13 +79,8 @@ impl ActEmitter {
                 self.derived(alloc, defs, Derived::Timeout, parts(Some(e), None), a)
             }
             Action::WithAsync(_, _, x, _) => {
-                self.derived(
-                    alloc,
-                    defs,
-                    Derived::WithAsync,
-                    parts(None, Some(&x.text)),
-                    a,
-                )
+                let own = parts(None, Some(&x.text));
+                self.derived(alloc, defs, Derived::WithAsync, own, a)
             }
         }
     }
