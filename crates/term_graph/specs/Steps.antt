@@ -44,6 +44,10 @@ pub record Begins (g : Numbered) (b : CodeBody) (p : SlotPart) (fs : List SlotFr
   pub none : IsDoing p → frames_of b begun.frames.list ≡ []
   pub some : NeedsFrame p → frames_of b begun.frames.list ≡ [] → ⊥
 
+-- What is found to begin with, for a part inside these frames: nothing where it has no local rule.
+abbrev pub FindsBegun : Numbered → CodeBody → SlotPart → List SlotFrame → Option Begun → Type 0
+FindsBegun g b p fs found = MatchOption found (local (funs_of b) Unmasked p fs ≡ None) (Begins g b p fs)
+
 -- whether a rule is eager, but for the first step of an action
 abbrev pub leaves_eagerly : SlotPart → List SlotFrame → Bool
 leaves_eagerly (ret v) fs = leaving_is_eager fs

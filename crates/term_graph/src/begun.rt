@@ -1,11 +1,9 @@
 //! A term that is about to move: its part, and its innermost frame where the rule needs it.
-ghost use Rattle.std.specs.Prelude.{◌≡◌, ◌<◌, ◌∷◌, [], List, IfOk, IfSome, MatchOption, length, slice_get, Some, None};
+ghost use Rattle.std.specs.Prelude.{◌≡◌, ◌<◌, ◌∷◌, [], List, IfOk, IfSome, MatchOption, length, slice_get, Some};
 ghost use Rattle.rules_code.specs.declared.code.CodeBody.{CodeBody};
-ghost use Rattle.slot_laws.specs.SlotRules.{local};
 ghost use Rattle.local_steps.specs.declared.active.Frame.{Frame};
-ghost use Rattle.local_steps.specs.Machine.{active_of, frame_of, frames_of, funs_of};
-ghost use Rattle.hs_base.specs.declared.mask.Mask.TheVariants.{Unmasked};
-ghost use Rattle.term_graph.specs.Steps.{Begins, NeedsFrame};
+ghost use Rattle.local_steps.specs.Machine.{active_of, frame_of, frames_of};
+ghost use Rattle.term_graph.specs.Steps.{Begins, FindsBegun, NeedsFrame};
 
 use hs_base::{Mask, NoMemory};
 use local_steps::{Active, Frame, Frames};
@@ -68,7 +66,7 @@ pub fn begin(
 ) -> Result<Option<Begun>, NoMemory>
     requires { stack < length terms.now.stacks }
     ensures there { IfOk result (λ found. IfSome found (λ x. x.outer < length terms.now.stacks)) }
-    ensures is { IfOk result (λ found. (b : CodeBody) (fs : List Frame) → slice_get terms.now.stacks stack ≡ Some fs → MatchOption found (local (funs_of b) Unmasked (active_of b part.now) (frames_of b fs) ≡ None) (Begins terms.now b (active_of b part.now) (frames_of b fs))) }
+    ensures is { IfOk result (λ found. (b : CodeBody) (fs : List Frame) → slice_get terms.now.stacks stack ≡ Some fs → FindsBegun terms.now b (active_of b part.now) (frames_of b fs) found) }
 {
     match part {
         Active::Doing(at, env) => Ok(Some(Begun {
