@@ -16,6 +16,8 @@ mod throwing;
 
 pub use calling::{CellCall, call, make, put, try_put};
 pub use printing::{print, print_error, print_line};
-pub use telling::{acquire, delay, fork, fork_unmask, new_timeout, tell_clock, tell_masking};
+pub use telling::{
+    Child, acquire, delay, fork, fork_unmask, new_timeout, tell_clock, tell_masking,
+};
 pub use threads::acting;
 pub use throwing::throw;

@@ -139,21 +139,28 @@ fn begin(
     state.spawn(numbers, begun)
 }
 
-/// A thread with the term of this number forks one that is to do this action.
+/// What a forked thread is to do: an action, and the values of its slots.
+#[derive(Drop)]
+pub struct Child {
+    pub action: ActId,
+    pub env: Env,
+}
+
+/// A thread with the term of this number forks one that is to do this.
 pub fn fork(
     alloc: Global,
     numbers: &mut Numbers,
     state: &mut NumberState,
     thread: u32,
     term: u32,
-    action: ActId,
-    env: Env,
+    child: Child,
 ) -> Result<(), NoMemory>
     requires state { AreIn numbers.old state.old }
     requires term { IsTerm numbers.old term }
-    ensures is { OnOk result (Becomes (λ b. forks_to thread (at (doing (act_of b action) (values_of env)) (mask_in (mask_from Unmasked (term_at numbers.old b term).frames) ∷ []))) numbers.old state.old numbers.new state.new) }
+    ensures is { OnOk result (Becomes (λ b. forks_to thread (at (doing (act_of b child.action) (values_of child.env)) (mask_in (mask_from Unmasked (term_at numbers.old b term).frames) ∷ []))) numbers.old state.old numbers.new state.new) }
     ensures grows { HasGrown numbers.old numbers.new }
 {
+    let Child { action, env } = child;
     begin(
         alloc,
         numbers,
@@ -171,15 +178,14 @@ pub fn fork_unmask(
     state: &mut NumberState,
     thread: u32,
     term: u32,
-    action: ActId,
-    env: Env,
+    child: Child,
 ) -> Result<(), NoMemory>
     requires state { AreIn numbers.old state.old }
     requires term { IsTerm numbers.old term }
-    ensures is { OnOk result (Becomes (λ b. forks_to thread (at (doing (act_of b action) (values_of env ++ Restore Unmasked ∷ [])) (mask_in (mask_from Unmasked (term_at numbers.old b term).frames) ∷ []))) numbers.old state.old numbers.new state.new) }
+    ensures is { OnOk result (Becomes (λ b. forks_to thread (at (doing (act_of b child.action) (values_of child.env ++ Restore Unmasked ∷ [])) (mask_in (mask_from Unmasked (term_at numbers.old b term).frames) ∷ []))) numbers.old state.old numbers.new state.new) }
     ensures grows { HasGrown numbers.old numbers.new }
 {
-    let mut env = env;
+    let Child { action, mut env } = child;
     env.push(alloc, Value::Restore(Mask::Unmasked))?;
     begin(
         alloc,

@@ -18,7 +18,7 @@ use frame_stack::{Prim, asked};
 use hs_base::{NoMemory, Value, Values};
 use local_steps::Active;
 use number_changes::{
-    CellCall, acquire, acting, call, delay, fork, fork_unmask, make, new_timeout, print,
+    CellCall, Child, acquire, acting, call, delay, fork, fork_unmask, make, new_timeout, print,
     print_error, print_line, put, tell_clock, tell_masking, throw, try_put,
 };
 use number_states::{NumberState, Numbers};
@@ -130,9 +130,9 @@ fn perform(
         Prim::NewTimeout => new_timeout(alloc, numbers, next, thread),
         Prim::Acquired => acquire(alloc, numbers, next, thread),
         Prim::Release(_) => next.answer(alloc, numbers, thread, Value::Unit),
-        Prim::Fork(action, env) => fork(alloc, numbers, next, thread, term, action, env),
+        Prim::Fork(action, env) => fork(alloc, numbers, next, thread, term, Child { action, env }),
         Prim::ForkUnmask(action, env) => {
-            fork_unmask(alloc, numbers, next, thread, term, action, env)
+            fork_unmask(alloc, numbers, next, thread, term, Child { action, env })
         }
     }
 }

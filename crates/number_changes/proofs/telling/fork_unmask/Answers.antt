@@ -18,7 +18,7 @@ pub returns-clause-is : goal.returns-clause-is
 returns-clause-is c =
     let g = c.args.numbers.now in
     let x = c.args.state.now in
-    let env = c.args.env in
+    let env = c.args.child.env in
     let holds = ap values_of c.in_ok-push.ensures.ok ∙ values-append env (raw.Restore Unmasked ∷ []) ∙ ap (λ v. values_of env ++ v ∷ []) (value_of-Restore Unmasked) in
     on_ok _ _ (becomes_as _ _ g c.begin.new.numbers x c.begin.new.state
-    (λ b. ap (λ vs. forks_to c.args.thread (at (doing (act_of b c.args.action) vs) (mask_in (mask_from Unmasked (term_at g b c.args.term).frames) ∷ [])) (slots g b x)) holds)) c.begin.result c.begin.ensures.is
+    (λ b. ap (λ vs. forks_to c.args.thread (at (doing (act_of b c.args.child.action) vs) (mask_in (mask_from Unmasked (term_at g b c.args.term).frames) ∷ [])) (slots g b x)) holds)) c.begin.result c.begin.ensures.is
