@@ -9,15 +9,14 @@ ghost use Rattle.exact_walks.specs.Walking.{ComesBack};
 ghost use Rattle.exact_walks.specs.Entering.{IsAt};
 ghost use Rattle.conc_outcomes.specs.Parts.{IsEndOf};
 
-use crate::paths::walk_to;
+use crate::paths::{Bounded, Paths, walk_to};
 use exact_walks::{Walk, are_alike, works};
 use hs_base::NoMemory;
 use hs_rules::History;
 use number_states::Numbers;
-use outcome_listing::{Bounds, Endless};
-use rules_code::CodeBody;
+use outcome_listing::Endless;
 use search_ends::Ends;
-use state_search::{Gap, Move, Origin};
+use state_search::{Gap, Move};
 use std::alloc::Global;
 
 /// The entries of a history from a place on.
@@ -36,22 +35,21 @@ fn entries_from(alloc: Global, history: &History, place: usize) -> Result<Histor
 /// Takes the moves at these places, one after another, and the eager rules behind each.
 fn go_round(
     alloc: Global,
-    body: &CodeBody,
-    bounds: &Bounds,
+    code: Bounded,
     numbers: &mut Numbers,
     moves: &[Move],
     places: &[usize],
     walk: &mut Walk,
 ) -> Result<(), NoMemory>
-    requires { IsAt bounds.now body.now numbers.old walk.old }
-    ensures at { OnOk result (IsAt bounds.now body.now numbers.new walk.new) }
+    requires { IsAt code.entry.bounds.now code.entry.body.now numbers.old walk.old }
+    ensures at { OnOk result (IsAt code.entry.bounds.now code.entry.body.now numbers.new walk.new) }
     ensures history { OnOk result (Grows walk.old.history.list walk.new.history.list) }
     ensures grows { HasGrown numbers.old numbers.new }
 {
     for place in places {
         if let Some(one) = moves.get(*place) {
-            walk.take(alloc, body, bounds, numbers, one.entry)?;
-            walk.settle(alloc, body, bounds, numbers)?;
+            walk.take(alloc, code.body, code.bounds, numbers, one.entry)?;
+            walk.settle(alloc, code.body, code.bounds, numbers)?;
         }
     }
     Ok(())
@@ -61,25 +59,23 @@ fn go_round(
 /// not promised: where they can't, the answer is want of memory.
 fn round(
     alloc: Global,
-    body: &CodeBody,
-    bounds: &Bounds,
+    code: Bounded,
     numbers: &mut Numbers,
-    origins: &[Origin],
-    moves: &[Move],
+    paths: Paths,
     at: u32,
     places: &[usize],
 ) -> Result<(History, History), NoMemory>
-    ensures { IfOk result (λ r. (script : Script) → IsCodeOf body.now script → ComesBack bounds.now.clock (script_of script) r.0.list r.1.list) }
+    ensures { IfOk result (λ r. (script : Script) → IsCodeOf code.entry.body.now script → ComesBack code.entry.bounds.now.clock (script_of script) r.0.list r.1.list) }
 {
-    let mut walk = walk_to(alloc, body, bounds, numbers, origins, at)?;
+    let mut walk = walk_to(alloc, code.body, code.bounds, numbers, paths.origins, at)?;
     let to = entries_from(alloc, &walk.history, 0)?;
     let begin = walk.state.copy(alloc)?;
-    go_round(alloc, body, bounds, numbers, moves, places, &mut walk)?;
+    go_round(alloc, code, numbers, paths.moves, places, &mut walk)?;
     let round = entries_from(alloc, &walk.history, to.len())?;
     if !works(&round) {
         return Err(NoMemory);
     }
-    if !are_alike(alloc, bounds.clock, numbers, &begin, &walk.state)? {
+    if !are_alike(alloc, code.bounds.clock, numbers, &begin, &walk.state)? {
         return Err(NoMemory);
     }
     Ok((to, round))
@@ -88,21 +84,19 @@ fn round(
 /// Whether every schedule ends, by the ends of the moves of a search that has this gap.
 pub fn endless(
     alloc: Global,
-    body: &CodeBody,
-    bounds: &Bounds,
+    code: Bounded,
     numbers: &mut Numbers,
-    origins: &[Origin],
-    moves: &[Move],
+    paths: Paths,
     gap: &Option<Gap>,
     ends: &Ends,
 ) -> Result<Endless, NoMemory>
-    ensures { IfOk result (λ e. (script : Script) → IsCodeOf body.now script → IsEndOf bounds.now.clock (script_of script) gap.now ends.now e) }
+    ensures { IfOk result (λ e. (script : Script) → IsCodeOf code.entry.body.now script → IsEndOf code.entry.bounds.now.clock (script_of script) gap.now ends.now e) }
 {
     match ends {
         Ends::Never if gap.is_none() => Ok(Endless::Never),
         Ends::Never => Ok(Endless::Unknown),
         Ends::Round { at, moves: places } => {
-            let (to, round) = round(alloc, body, bounds, numbers, origins, moves, *at, places)?;
+            let (to, round) = round(alloc, code, numbers, paths, *at, places)?;
             Ok(Endless::Round { to, round })
         }
     }

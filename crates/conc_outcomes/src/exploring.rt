@@ -8,6 +8,7 @@ ghost use Rattle.conc_outcomes.specs.Exploring.{Explores};
 use crate::ends::endless;
 use crate::extent::extent;
 use crate::listing::{endings, outcomes};
+use crate::paths::{Bounded, Paths};
 use hs_base::NoMemory;
 use hs_rules::Code;
 use outcome_listing::{Bounds, Explored};
@@ -47,17 +48,13 @@ pub fn explore(alloc: Global, code: &Code, bounds: &Bounds) -> Result<Explored, 
     } = found;
     endings.are_rising();
     let outcomes = outcomes(alloc, body, bounds, &mut numbers, &origins, &endings)?;
-    let extent = extent(alloc, body, bounds, &mut numbers, &origins, &gap, states)?;
-    let endless = endless(
-        alloc,
-        body,
-        bounds,
-        &mut numbers,
-        &origins,
-        &moves,
-        &gap,
-        &ends,
-    )?;
+    let bounded = Bounded { body, bounds };
+    let extent = extent(alloc, bounded, &mut numbers, &origins, &gap, states)?;
+    let paths = Paths {
+        origins: &origins,
+        moves: &moves,
+    };
+    let endless = endless(alloc, bounded, &mut numbers, paths, &gap, &ends)?;
     Ok(Explored {
         outcomes,
         extent,

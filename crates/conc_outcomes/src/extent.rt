@@ -9,7 +9,7 @@ ghost use Rattle.exact_walks.specs.Entering.{IsAt, Exceeds};
 ghost use Rattle.conc_outcomes.specs.Exploring.{HasGap};
 ghost use Rattle.conc_outcomes.specs.Parts.{IsExtentOf};
 
-use crate::paths::{walk_by, walk_to};
+use crate::paths::{Bounded, walk_by, walk_to};
 use exact_walks::Walk;
 use hs_base::{ClockChoice, NoMemory};
 use hs_rules::{History, LimitKind};
@@ -83,15 +83,15 @@ fn shows(
 /// can't, the answer is want of memory.
 fn evidence(
     alloc: Global,
-    body: &CodeBody,
-    bounds: &Bounds,
+    code: Bounded,
     numbers: &mut Numbers,
     origins: &[Origin],
     gap: &Gap,
     states: u32,
 ) -> Result<History, NoMemory>
-    ensures { IfOk result (λ h. (script : Script) → IsCodeOf body.now script → HasGap bounds.now (script_of script) states gap.now.cause h.list) }
+    ensures { IfOk result (λ h. (script : Script) → IsCodeOf code.entry.body.now script → HasGap code.entry.bounds.now (script_of script) states gap.now.cause h.list) }
 {
+    let Bounded { body, bounds } = code;
     match gap.cause {
         Cause::Clock => reading(alloc, body, bounds, numbers, origins, &gap.by),
         cause => {
@@ -108,19 +108,18 @@ fn evidence(
 /// Whether each outcome is listed, where a search has this gap and so many states; and the evidence where not.
 pub fn extent(
     alloc: Global,
-    body: &CodeBody,
-    bounds: &Bounds,
+    code: Bounded,
     numbers: &mut Numbers,
     origins: &[Origin],
     gap: &Option<Gap>,
     states: u32,
 ) -> Result<Extent, NoMemory>
-    ensures { IfOk result (λ x. (script : Script) → IsCodeOf body.now script → IsExtentOf bounds.now (script_of script) states gap.now x) }
+    ensures { IfOk result (λ x. (script : Script) → IsCodeOf code.entry.body.now script → IsExtentOf code.entry.bounds.now (script_of script) states gap.now x) }
 {
     match gap {
         None => Ok(Extent::All),
         Some(gap) => {
-            let run = evidence(alloc, body, bounds, numbers, origins, gap, states)?;
+            let run = evidence(alloc, code, numbers, origins, gap, states)?;
             Ok(Extent::NotAll(gap.cause, run))
         }
     }

@@ -9,8 +9,22 @@ use hs_rules::Entry;
 use number_states::Numbers;
 use outcome_listing::Bounds;
 use rules_code::CodeBody;
-use state_search::Origin;
+use state_search::{Move, Origin};
 use std::alloc::Global;
+
+/// A code, and the bounds within which it is looked at.
+#[derive(Clone, Copy)]
+pub struct Bounded<'a> {
+    pub body: &'a CodeBody,
+    pub bounds: &'a Bounds,
+}
+
+/// How a search came to each state, and what it found to lead on from each.
+#[derive(Clone, Copy)]
+pub struct Paths<'a> {
+    pub origins: &'a [Origin],
+    pub moves: &'a [Move],
+}
 
 /// The most steps of a Local.
 const MOST_STEPS: u32 = 1_024;

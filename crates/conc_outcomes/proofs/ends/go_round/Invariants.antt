@@ -4,4 +4,4 @@ use Rattle.exact_walks.specs.Entering.{IsAt}
 use Rattle.conc_outcomes.proofs.ends.go_round.Given as goal
 
 abbrev pub invariant-loop-place : goal.invariant-loop-place
-invariant-loop-place l = record { at : IsAt l.bounds l.body l.numbers l.walk; history : Grows l.fn.walk.history.list l.walk.history.list; grows : HasGrown l.fn.numbers l.numbers }
+invariant-loop-place l = record { at : IsAt l.fn.code.bounds.now l.fn.code.body.now l.numbers l.walk; history : Grows l.fn.walk.history.list l.walk.history.list; grows : HasGrown l.fn.numbers l.numbers }

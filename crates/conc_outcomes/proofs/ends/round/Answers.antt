@@ -12,5 +12,5 @@ returns c =
     let v = c.go_round.new.walk in
     let rest = c.in_ok-round.ensures ∙ ap (λ n. drop n v.history.list) c.len.ensures in
     let yes : IsTrue c.in_ok-are_alike.field-0 = search rules in
-    comes_back c.args.bounds.now c.args.body.now c.walk_to.new.numbers c.go_round.new.numbers c.in_ok-walk.walk v c.in_ok-begin.begin c.in_ok-to.to.list c.in_ok-round.round.list
+    comes_back c.args.code.bounds.now c.args.code.body.now c.walk_to.new.numbers c.go_round.new.numbers c.in_ok-walk.walk v c.in_ok-begin.begin c.in_ok-to.to.list c.in_ok-round.round.list
     c.in_ok-walk.ensures go.at c.in_ok-begin.ensures go.grows go.history c.in_ok-to.ensures rest (search rules) (c.in_ok-are_alike.ensures yes)
