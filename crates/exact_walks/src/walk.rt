@@ -38,23 +38,22 @@ fn may_stand(
     body: &CodeBody,
     clock: ClockChoice,
     numbers: &mut Numbers,
-    state: &NumberState,
-    ticked: bool,
+    walk: &Walk,
     entry: Entry,
 ) -> Result<bool, NoMemory>
-    requires { AreIn numbers.old state.now }
-    ensures may { IfOk result (λ yes. IsTrue yes → EntryMay clock (funs_of body.now) (slots numbers.old body.now state.now) ticked entry) }
+    requires { AreIn numbers.old walk.now.state }
+    ensures may { IfOk result (λ yes. IsTrue yes → EntryMay clock (funs_of body.now) (slots numbers.old body.now walk.now.state) walk.now.ticked entry) }
     ensures grows { HasGrown numbers.old numbers.new }
 {
     let Entry::Tick { at } = entry else {
         return Ok(true);
     };
-    let Some(due) = first_due(state.sleepers.as_slice()) else {
+    let Some(due) = first_due(walk.state.sleepers.as_slice()) else {
         return Ok(false);
     };
     match clock {
-        ClockChoice::Real => Ok(due <= at && state.clock < at && !ticked),
-        ClockChoice::Virtual => Ok(due == at && is_still(alloc, body, numbers, state)?),
+        ClockChoice::Real => Ok(due <= at && walk.state.clock < at && !walk.ticked),
+        ClockChoice::Virtual => Ok(due == at && is_still(alloc, body, numbers, &walk.state)?),
     }
 }
 
@@ -103,15 +102,7 @@ impl Walk {
         if exceeded(numbers, &self.state, &bounds.limits)?.is_some() {
             return Err(NoMemory);
         }
-        if !may_stand(
-            alloc,
-            body,
-            bounds.clock,
-            numbers,
-            &self.state,
-            self.ticked,
-            entry,
-        )? {
+        if !may_stand(alloc, body, bounds.clock, numbers, self, entry)? {
             return Err(NoMemory);
         }
         let Some(left) = next(alloc, body, numbers, &self.state, entry)? else {
