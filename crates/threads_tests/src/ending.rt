@@ -13,7 +13,7 @@ use std::hint;
 use std::sync::atomic::{AtomicBool, Ordering};
 
 /// How often a slice looks before it gives up.
-const LOOKS: u32 = 20_000_000;
+const LOOKS: u32 = 1_000_000_000;
 
 /// What the slices tell each other, and the test.
 #[derive(Debug, Drop)]
