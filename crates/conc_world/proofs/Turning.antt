@@ -101,7 +101,7 @@ accepted_more s ended old new (inr h) = inl (has_end ended _ h.1)
 begins_again : (a b c : List Entry) → Begins a b → Begins b c → Begins a c
 begins_again a b c x y = (x.0 ++ y.0, y.1 ∙ (ap (λ z. z ++ y.0) x.1 ∙ append_assoc a x.0 y.0))
 
-begins_alike : (old new : List Entry) → new ≡ old → Begins old new
+pub begins_alike : (old new : List Entry) → new ≡ old → Begins old new
 begins_alike old new e = ([], e ∙ sym (append-nil old))
 
 -- ---- the calls of a turn, one after the other

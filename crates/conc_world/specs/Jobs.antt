@@ -40,9 +40,9 @@ pub record Added (k t since : ℕ) (old new : Tickets) : Type 0 where
   pub out : job new k ≡ Some (record { thread = t; since = since })
   pub others : (j : ℕ) → j ≢ k → job new j ≡ job old j
 
--- a new job of this record: it has the next ticket, which is out for its thread from now on
-abbrev pub IsHandedOut : Job → Record → ℕ → ℕ → ℕ → Tickets → Tickets → Type 0
-IsHandedOut j r given now since old new = IsJob j r × (j.ticket ≡ given + 1) × (now ≡ j.ticket) × Added j.ticket j.tid since old new
+-- a new job, of a record as it is now: it has the next ticket, which is out for its thread from now on
+abbrev pub IsHandedOut : Job → Record → Record → ℕ → ℕ → Tickets → Tickets → Type 0
+IsHandedOut j r s given now old new = IsJob j s × (j.ticket ≡ given + 1) × (now ≡ j.ticket) × Added j.ticket j.tid (length r.history.list) old new
 
 -- the ticket isn't out; all others are as they were
 pub record TakenBack (k : ℕ) (old new : Tickets) : Type 0 where

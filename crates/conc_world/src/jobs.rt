@@ -66,7 +66,7 @@ impl<O: Sink, E: Sink, K: Clock> Desk<O, E, K> {
     /// A job of a thread that is to do an action and has no job out, in turn; or nothing where there is an ending or no such
     /// thread. Where memory runs out the ending is Memory.
     pub fn next_job(&mut self) -> Result<Option<Job>, NoMemory>
-        ensures some { IfOk result (λ found. IfSome found (λ j. (self.old.course.end ≡ None) × IsHandedOut j self.new.course.clocked.record self.old.given self.new.given (length self.old.course.clocked.record.history.list) self.old.tickets self.new.tickets)) }
+        ensures some { IfOk result (λ found. IfSome found (λ j. (self.old.course.end ≡ None) × IsHandedOut j self.old.course.clocked.record self.new.course.clocked.record self.old.given self.new.given self.old.tickets self.new.tickets)) }
         ensures none { IfOk result (λ found. IfNone found ((self.old.course.end ≡ None → AllOut self.old.tickets self.new.course.clocked.record) × SameJobs self.old.tickets self.new.tickets × (self.new.given ≡ self.old.given))) }
         ensures err { OnErr result ((self.new.given ≡ self.old.given) × (self.old.course.end ≡ None) × (self.new.course.end ≡ Some end.Memory) × SameJobs self.old.tickets self.new.tickets) }
         ensures end { OnOk result (self.new.course.end ≡ self.old.course.end) }
@@ -90,7 +90,7 @@ impl<O: Sink, E: Sink, K: Clock> Desk<O, E, K> {
     /// The same where there is no ending, but that want of memory is left to the caller.
     fn make_job(&mut self) -> Result<Option<Job>, NoMemory>
         requires none { self.old.course.end ≡ None }
-        ensures some { IfOk result (λ found. IfSome found (λ j. IsHandedOut j self.new.course.clocked.record self.old.given self.new.given (length self.old.course.clocked.record.history.list) self.old.tickets self.new.tickets)) }
+        ensures some { IfOk result (λ found. IfSome found (λ j. IsHandedOut j self.old.course.clocked.record self.new.course.clocked.record self.old.given self.new.given self.old.tickets self.new.tickets)) }
         ensures none { IfOk result (λ found. IfNone found (AllOut self.old.tickets self.new.course.clocked.record × SameJobs self.old.tickets self.new.tickets × (self.new.given ≡ self.old.given))) }
         ensures err { OnErr result (SameJobs self.old.tickets self.new.tickets × (self.new.given ≡ self.old.given)) }
         ensures end { self.new.course.end ≡ None }

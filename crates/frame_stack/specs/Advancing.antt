@@ -1,5 +1,5 @@
 -- What a thread on its way over the frames of a stack is (own).
-use Rattle.std.specs.Prelude.{◌≡◌, ℕ, ◌≤◌, List, [], ◌++◌, length, drop, Option}
+use Rattle.std.specs.Prelude.{◌≡◌, ℕ, ◌≤◌, List, [], ◌++◌, length, drop, Option, Some, None, MatchOption}
 use Rattle.hs_base.specs.declared.mask.Mask.{Mask}
 use Rattle.rules_trees.specs.Programs.{script_of}
 use Rattle.rules_sorts.specs.TypedMeaning.{any_cell}
@@ -9,7 +9,7 @@ use Rattle.slot_laws.specs.Standing.{Stands}
 use Rattle.slot_laws.specs.SlotRules.{SlotPart, ret, throw, doing, performs, SlotTerm, at, local, locals}
 use Rattle.local_steps.specs.declared.active.Active.{Active}
 use Rattle.local_steps.specs.declared.active.Frame.{Frame}
-use Rattle.local_steps.specs.Frames.{mask_inside}
+use Rattle.local_steps.specs.Frames.{Framed, mask_inside}
 use Rattle.local_steps.specs.Machine.{active_of, frames_of, funs_of}
 use Rattle.frame_stack.specs.declared.advancing.Walk.{Walk}
 use Rattle.frame_stack.specs.Parts.{Stacked, term_of}
@@ -45,3 +45,9 @@ rules_from b s k p fs = locals (funs_of b) s k (at (active_of b p) (frames_of b 
 pub record IsOver (s : Mask) (fs : List Frame) (w : Walk) : Type 0 where
   pub below : w.own.below ≡ mask_inside s (drop w.gone fs)
   pub few : w.gone ≤ length fs
+
+-- what came of so many rules over these frames: a walk that has done them, or nothing, as there are no so many
+abbrev pub HasWalked : CodeBody → Framed → ℕ → Active → Option Walk → Type 0
+HasWalked b frames k p found =
+    MatchOption found (rules_from b frames.below k p frames.list ≡ None)
+    (λ w. IsOver frames.below frames.list w × (rules_from b frames.below k p frames.list ≡ Some (walk_term b w frames.list)))

@@ -10,7 +10,7 @@ ghost use Rattle.slot_laws.specs.SlotRules.{at, local, locals};
 ghost use Rattle.local_steps.specs.Machine.{active_of, frames_of, funs_of};
 ghost use Rattle.frame_stack.specs.Parts.{part_of, term_of, IsOp};
 ghost use Rattle.frame_stack.specs.Slicing.{Fits};
-ghost use Rattle.frame_stack.specs.Advancing.{MayAdvance, IsBare, IsOver, over_frames, rules_from, walk_step, walk_term};
+ghost use Rattle.frame_stack.specs.Advancing.{HasWalked, MayAdvance, IsBare, IsOver, over_frames, walk_step, walk_term};
 
 use crate::control::Control;
 use crate::running::control;
@@ -160,7 +160,7 @@ fn walked(
     frames: &Frames,
     k: u32,
 ) -> Result<Option<Walk>, NoMemory>
-    ensures { IfOk result (λ found. MatchOption found (rules_from body.now frames.now.below k start frames.now.list ≡ None) (λ w. IsOver frames.now.below frames.now.list w × (rules_from body.now frames.now.below k start frames.now.list ≡ Some (walk_term body.now w frames.now.list)))) }
+    ensures { IfOk result (λ found. HasWalked body.now frames.now k start found) }
 {
     let mut walk = Walk {
         part: start,

@@ -3,14 +3,14 @@ ghost use Rattle.std.specs.Prelude.{◌≡◌, ◌++◌, ◌∷◌, [], suc, pos
 ghost use Rattle.hs_base.specs.declared.mask.Mask.TheVariants.{Unmasked};
 ghost use Rattle.hs_base.specs.declared.exn.Exn.TheVariants.{Timeout};
 ghost use Rattle.rules_meaning.specs.Values.{values_of, Int, Text, Exception, Inst, Restore};
-ghost use Rattle.rules_code.specs.declared.code.CodeBody.{CodeBody};
 ghost use Rattle.hs_rules.specs.Primitives.{masking_text};
-ghost use Rattle.slot_laws.specs.SlotRules.{SlotTerm, at, doing, mask_in, mask_from};
-ghost use Rattle.slot_states.specs.SlotStates.{SlotState, answer, forks_to};
+ghost use Rattle.slot_laws.specs.SlotRules.{at, mask_in, mask_from};
+ghost use Rattle.slot_states.specs.SlotStates.{answer, forks_to};
 ghost use Rattle.slot_entries.specs.Operating.{delayed};
-ghost use Rattle.local_steps.specs.Machine.{act_of, active_of};
+ghost use Rattle.local_steps.specs.Machine.{active_of};
 ghost use Rattle.number_states.specs.Stocks.{HasGrown, IsTerm, term_at};
 ghost use Rattle.number_states.specs.States.{AreIn, Becomes};
+ghost use Rattle.number_changes.specs.Moves.{child_term};
 
 use hs_base::{Exn, Mask, NoMemory, Txt, Value};
 use local_steps::Active;
@@ -157,7 +157,7 @@ pub fn fork(
 ) -> Result<(), NoMemory>
     requires state { AreIn numbers.old state.old }
     requires term { IsTerm numbers.old term }
-    ensures is { OnOk result (Becomes (λ b. forks_to thread (at (doing (act_of b child.action) (values_of child.env)) (mask_in (mask_from Unmasked (term_at numbers.old b term).frames) ∷ []))) numbers.old state.old numbers.new state.new) }
+    ensures is { OnOk result (Becomes (λ b. forks_to thread (child_term numbers.old term b child.action (values_of child.env))) numbers.old state.old numbers.new state.new) }
     ensures grows { HasGrown numbers.old numbers.new }
 {
     let Child { action, env } = child;
@@ -182,7 +182,7 @@ pub fn fork_unmask(
 ) -> Result<(), NoMemory>
     requires state { AreIn numbers.old state.old }
     requires term { IsTerm numbers.old term }
-    ensures is { OnOk result (Becomes (λ b. forks_to thread (at (doing (act_of b child.action) (values_of child.env ++ Restore Unmasked ∷ [])) (mask_in (mask_from Unmasked (term_at numbers.old b term).frames) ∷ []))) numbers.old state.old numbers.new state.new) }
+    ensures is { OnOk result (Becomes (λ b. forks_to thread (child_term numbers.old term b child.action (values_of child.env ++ Restore Unmasked ∷ []))) numbers.old state.old numbers.new state.new) }
     ensures grows { HasGrown numbers.old numbers.new }
 {
     let Child { action, mut env } = child;

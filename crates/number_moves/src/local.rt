@@ -1,12 +1,10 @@
 //! A Local: so many local rules of a thread in turn.
 ghost use Rattle.std.specs.Prelude.{◌≡◌, IfOk, IfSome, MatchOption, Some, None};
-ghost use Rattle.hs_base.specs.declared.mask.Mask.TheVariants.{Unmasked};
 ghost use Rattle.hs_rules.specs.declared.entry.Entry.TheVariants as entry;
-ghost use Rattle.slot_laws.specs.SlotRules.{locals};
-ghost use Rattle.local_steps.specs.Machine.{funs_of};
 ghost use Rattle.number_states.specs.Stocks.{HasGrown, IsTerm, term_at};
 ghost use Rattle.number_states.specs.States.{AreIn};
 ghost use Rattle.number_changes.specs.Moves.{Enters};
+ghost use Rattle.number_moves.specs.Going.{rules_at};
 
 use hs_base::NoMemory;
 use number_changes::acting;
@@ -23,7 +21,7 @@ fn steps(
     k: u32,
 ) -> Result<Option<u32>, NoMemory>
     requires { IsTerm numbers.old term }
-    ensures is { IfOk result (λ found. MatchOption found (locals (funs_of body.now) Unmasked k (term_at numbers.old body.now term) ≡ None) (λ n. locals (funs_of body.now) Unmasked k (term_at numbers.old body.now term) ≡ Some (term_at numbers.new body.now n))) }
+    ensures is { IfOk result (λ found. MatchOption found (rules_at body.now numbers.old k term ≡ None) (λ n. rules_at body.now numbers.old k term ≡ Some (term_at numbers.new body.now n))) }
     ensures there { IfOk result (λ found. IfSome found (λ n. IsTerm numbers.new n)) }
     ensures grows { HasGrown numbers.old numbers.new }
 {

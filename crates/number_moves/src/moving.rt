@@ -1,10 +1,9 @@
 ghost use Rattle.std.specs.Prelude.{◌≡◌, ◌++◌, IfOk, IfSome, MatchOption, Some, None};
-ghost use Rattle.local_steps.specs.Machine.{funs_of};
 ghost use Rattle.slot_states.specs.Printing.{output_by, errors_by};
-ghost use Rattle.slot_entries.specs.Entering as entering;
 ghost use Rattle.number_states.specs.Stocks.{HasGrown, text_at};
 ghost use Rattle.number_states.specs.States.{AreIn, slots};
 ghost use Rattle.number_changes.specs.Moves.{Enters};
+ghost use Rattle.number_moves.specs.Going.{next_at};
 
 use crate::ending::finish;
 use crate::local::local;
@@ -29,7 +28,7 @@ pub fn next(
     entry: Entry,
 ) -> Result<Option<NumberState>, NoMemory>
     requires { AreIn numbers.old state.now }
-    ensures is { IfOk result (λ found. MatchOption found (entering.next (funs_of body.now) (slots numbers.old body.now state.now) entry ≡ None) (λ y. entering.next (funs_of body.now) (slots numbers.old body.now state.now) entry ≡ Some (slots numbers.new body.now y))) }
+    ensures is { IfOk result (λ found. MatchOption found (next_at body.now numbers.old state.now entry ≡ None) (λ y. next_at body.now numbers.old state.now entry ≡ Some (slots numbers.new body.now y))) }
     ensures output { IfOk result (λ found. IfSome found (λ y. text_at numbers.new y.output ≡ text_at numbers.old state.now.output ++ output_by (slots numbers.old body.now state.now) entry)) }
     ensures errors { IfOk result (λ found. IfSome found (λ y. text_at numbers.new y.errors ≡ text_at numbers.old state.now.errors ++ errors_by (slots numbers.old body.now state.now) entry)) }
     ensures there { IfOk result (λ found. IfSome found (λ y. AreIn numbers.new y)) }

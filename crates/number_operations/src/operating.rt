@@ -1,18 +1,15 @@
 //! The operation that a thread stands at.
 ghost use Rattle.std.specs.Prelude.{◌≡◌, ◌<◌, IfOk, OnOk, MatchOption, MatchBool, None, length};
-ghost use Rattle.hs_base.specs.declared.mask.Mask.TheVariants.{Unmasked};
 ghost use Rattle.hs_rules.specs.declared.entry.Entry.TheVariants as entry;
 ghost use Rattle.rules_code.specs.declared.code.CodeBody.{CodeBody};
-ghost use Rattle.slot_laws.specs.SlotRules.{mask_from, performs};
-ghost use Rattle.slot_states.specs.Printing.{op_output, op_errors};
+ghost use Rattle.slot_laws.specs.SlotRules.{performs};
 ghost use Rattle.slot_entries.specs.Entering.{entered};
-ghost use Rattle.slot_entries.specs.Operating.{operated};
 ghost use Rattle.local_steps.specs.Machine.{funs_of, active_of};
 ghost use Rattle.frame_stack.specs.Parts.{op_of};
-ghost use Rattle.number_states.specs.Stocks.{HasGrown, IsTerm, term_at};
+ghost use Rattle.number_states.specs.Stocks.{HasGrown, IsTerm};
 ghost use Rattle.number_states.specs.States.{AreIn, slots};
-ghost use Rattle.number_changes.specs.Moves.{Makes, Enters};
-ghost use Rattle.number_operations.specs.Standing.{IsIdle, Stands, HasTarget};
+ghost use Rattle.number_changes.specs.Moves.{Enters};
+ghost use Rattle.number_operations.specs.Standing.{HasDone, IsIdle, Stands, HasTarget};
 
 use frame_stack::{Prim, asked};
 use hs_base::{NoMemory, Value, Values};
@@ -108,7 +105,7 @@ fn perform(
     requires state { AreIn numbers.old next.old }
     requires term { IsTerm numbers.old term }
     requires target { HasTarget (length next.old.threads.items) operation }
-    ensures is { OnOk result ((b : CodeBody) → Makes (operated thread (mask_from Unmasked (term_at numbers.old b term).frames) (op_of b operation)) b numbers.old next.old (op_output (op_of b operation)) (op_errors (op_of b operation)) numbers.new next.new) }
+    ensures is { OnOk result (HasDone thread term operation numbers.old next.old numbers.new next.new) }
     ensures grows { HasGrown numbers.old numbers.new }
 {
     match operation {

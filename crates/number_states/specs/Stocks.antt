@@ -1,14 +1,18 @@
 -- Tables of a search (own): what its numbers stand for.
-use Rattle.std.specs.Prelude.{◌≡◌, ℕ, ◌<◌, List, [], Option, Some, None, length, slice_get}
+use Rattle.std.specs.Prelude.{◌≡◌, ℕ, ◌<◌, List, [], Option, Some, None, MatchOption, length, slice_get}
+use Rattle.hs_base.specs.declared.mask.Mask.TheVariants.{Unmasked}
 use Rattle.hs_base.specs.declared.exn.Exn.{Exn}
 use Rattle.hs_base.specs.declared.exn.Exn.TheVariants.{ThreadKilled}
 use Rattle.hs_base.specs.declared.value.Value.{Value}
 use Rattle.rules_meaning.specs.Values.{V, UnitValue, value_of}
 use Rattle.rules_code.specs.declared.code.CodeBody.{CodeBody}
-use Rattle.slot_laws.specs.SlotRules.{SlotTerm, ret, at}
+use Rattle.slot_laws.specs.SlotRules.{SlotTerm, ret, at, local}
+use Rattle.local_steps.specs.Machine.{funs_of}
 use Rattle.number_tables.specs.Tables.{Grows}
 use Rattle.term_tables.specs.Numbered.{Numbered, term_in}
 use Rattle.term_tables.specs.Numbered as terms
+use Rattle.term_graph.specs.declared.stepping.LocalStep.{LocalStep}
+use Rattle.term_graph.specs.Eager.{is_eager}
 
 -- terms with their stacks, values, exceptions and texts, each by number
 pub record Stock : Type 0 where
@@ -67,3 +71,10 @@ IsValue g n v = (one : Value) × (slice_get g.values n ≡ Some one) × (value_o
 pub record IsTerm (g : Stock) (n : ℕ) : Type 0 where
   pub there : n < length g.terms.terms
   pub term : (b : CodeBody) → (st : SlotTerm) × (term_in g.terms b n ≡ Some st)
+
+-- the term of a number after its next local rule, and whether the next one of that is eager; or nothing, as it has none
+abbrev pub HasStepped : CodeBody → Stock → Stock → ℕ → Option LocalStep → Type 0
+HasStepped b g h n found =
+    let st = term_at g b n in
+    MatchOption found (local (funs_of b) Unmasked st.part st.frames ≡ None)
+    (λ s. (local (funs_of b) Unmasked st.part st.frames ≡ Some (term_at h b s.term)) × (s.eager ≡ is_eager (funs_of b) st))

@@ -1,11 +1,10 @@
 //! Terms by number, whose stacks are there.
-ghost use Rattle.std.specs.Prelude.{◌≡◌, ◌<◌, ◌∷◌, [], IfOk, IfSome, MatchOption, Some, None, length};
+ghost use Rattle.std.specs.Prelude.{◌≡◌, ◌<◌, ◌∷◌, [], IfOk, IfSome, Some, None, length};
 ghost use Rattle.hs_base.specs.declared.mask.Mask.TheVariants.{Unmasked};
 ghost use Rattle.rules_code.specs.declared.code.CodeBody.{CodeBody};
-ghost use Rattle.slot_laws.specs.SlotRules.{at, doing, mask_in, mask_from, local};
-ghost use Rattle.local_steps.specs.Machine.{act_of, active_of, funs_of};
-ghost use Rattle.term_graph.specs.Eager.{is_eager};
-ghost use Rattle.number_states.specs.Stocks.{HasGrown, term_at, IsTerm};
+ghost use Rattle.slot_laws.specs.SlotRules.{at, doing, mask_in, mask_from};
+ghost use Rattle.local_steps.specs.Machine.{act_of, active_of};
+ghost use Rattle.number_states.specs.Stocks.{HasGrown, HasStepped, term_at, IsTerm};
 
 use crate::numbers::Numbers;
 use hs_base::{Mask, NoMemory};
@@ -96,7 +95,7 @@ impl Numbers {
         term: u32,
     ) -> Result<Option<LocalStep>, NoMemory>
         requires { IsTerm self.old term }
-        ensures is { IfOk result (λ found. let st = term_at self.old body.now term in MatchOption found (local (funs_of body.now) Unmasked st.part st.frames ≡ None) (λ s. (local (funs_of body.now) Unmasked st.part st.frames ≡ Some (term_at self.new body.now s.term)) × (s.eager ≡ is_eager (funs_of body.now) st))) }
+        ensures is { IfOk result (λ found. HasStepped body.now self.old self.new term found) }
         ensures there { IfOk result (λ found. IfSome found (λ s. IsTerm self.new s.term)) }
         ensures grows { HasGrown self.old self.new }
     {
