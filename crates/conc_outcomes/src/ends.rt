@@ -41,7 +41,7 @@ fn go_round(
     places: &[usize],
     walk: &mut Walk,
 ) -> Result<(), NoMemory>
-    requires { IsAt code.entry.bounds.now code.entry.body.now numbers.old walk.old }
+    requires { IsAt code.bounds.now code.body.now numbers.old walk.old }
     ensures at { OnOk result (IsAt code.entry.bounds.now code.entry.body.now numbers.new walk.new) }
     ensures history { OnOk result (Grows walk.old.history.list walk.new.history.list) }
     ensures grows { HasGrown numbers.old numbers.new }

@@ -144,7 +144,7 @@ witness ds s w es f h =
 
 -- ---- runs in virtual timing
 
-none_due : (at : ℕ) (ss : List Sleeper) → earliest (sorted_sleepers ss) ≡ Some at → ss ≢ []
+pub none_due : (at : ℕ) (ss : List Sleeper) → earliest (sorted_sleepers ss) ≡ Some at → ss ≢ []
 none_due at ss h e = let z : ◌≡◌ {A = Option ℕ} None (Some at) = ap (λ rs. earliest (sorted_sleepers rs)) (sym e) ∙ h in cc z
 
 module _ (ds : List Fn) (s : State) (first : first_of ds ≡ Some s) where
