@@ -1,3 +1,6 @@
+ghost use Rattle.conc_world.specs.Runs.{Shown};
+
+use hs_io::{Clock, Sink};
 use hs_rules::History;
 use run_course::RunEnd;
 
@@ -40,6 +43,22 @@ pub struct Parts<O, E, K> {
     pub out: O,
     pub err: E,
     pub clock: K,
+}
+
+/// Sinks and a clock, by what they show: the bytes that they were told, their faults, and the clock's readings.
+pub trait Shows {
+    ghost shown: { Self → Shown };
+}
+
+impl<O: Sink, E: Sink, K: Clock> Shows for Parts<O, E, K> {
+    ghost shown = { λ p. record {
+      output = O.told p.out;
+      errors = E.told p.err;
+      out_faults = O.faults p.out;
+      err_faults = E.faults p.err;
+      last = K.last p.clock;
+      early = K.early_waits p.clock;
+    } };
 }
 
 /// What a run leaves.

@@ -11,7 +11,7 @@ ghost use Rattle.job_tickets.specs.Out.{IsIdle};
 ghost use Rattle.conc_world.specs.Committing.{Unfinished, Anything};
 ghost use Rattle.conc_world.specs.Runs.{IsRunOf};
 
-use crate::answers::{Closed, Parts};
+use crate::answers::{Closed, Parts, Shows};
 use clocked_record::Clocked;
 use frame_stack::Control;
 use hs_base::{Limits, NoMemory};
@@ -53,6 +53,18 @@ impl<O: Sink, E: Sink, K: Clock> Kept for Desk<O, E, K> {
     } };
 
     ghost history = { λ d. d.course.clocked.record.history.list };
+}
+
+/// By what a desk was lent.
+impl<O: Sink, E: Sink, K: Clock> Shows for Desk<O, E, K> {
+    ghost shown = { λ d. record {
+      output = O.told d.course.out_lent.value;
+      errors = E.told d.course.err_lent.value;
+      out_faults = O.faults d.course.out_lent.value;
+      err_faults = E.faults d.course.err_lent.value;
+      last = K.last d.course.clocked.lent.value;
+      early = K.early_waits d.course.clocked.lent.value;
+    } };
 }
 
 impl<O: Sink, E: Sink, K: Clock> Desk<O, E, K> {
@@ -164,29 +176,7 @@ impl<O: Sink, E: Sink, K: Clock> Desk<O, E, K> {
         ensures parts { (result.parts.out ≡ self.course.out) × (result.parts.err ≡ self.course.err) × (result.parts.clock ≡ self.course.clocked.clock) }
         ensures choice { K.choice result.parts.clock ≡ K.choice self.course.clocked.lent.value }
         ensures faults { (O.faults self.course.out_lent.value ≤ O.faults result.parts.out) × (E.faults self.course.err_lent.value ≤ E.faults result.parts.err) × (K.early_waits self.course.clocked.lent.value ≤ K.early_waits result.parts.clock) }
-        ensures run { ∥ IsRunOf (record {
-          body = self.course.clocked.record.of.value;
-          fuel = self.course.clocked.record.fuel;
-          limits = self.course.clocked.record.limits;
-          out_faults = O.faults self.course.out_lent.value;
-          err_faults = E.faults self.course.err_lent.value;
-          choice = K.choice self.course.clocked.lent.value;
-          early = K.early_waits self.course.clocked.lent.value;
-        }) result.end result.history.list (record {
-          output = O.told self.course.out_lent.value;
-          errors = E.told self.course.err_lent.value;
-          out_faults = O.faults self.course.out_lent.value;
-          err_faults = E.faults self.course.err_lent.value;
-          last = K.last self.course.clocked.lent.value;
-          early = K.early_waits self.course.clocked.lent.value;
-        }) (record {
-          output = O.told result.parts.out;
-          errors = E.told result.parts.err;
-          out_faults = O.faults result.parts.out;
-          err_faults = E.faults result.parts.err;
-          last = K.last result.parts.clock;
-          early = K.early_waits result.parts.clock;
-        }) ∥₁ }
+        ensures run { ∥ IsRunOf (⟦<Desk<O, E, K> as Kept>⟧.plan self) result.end result.history.list (⟦<Desk<O, E, K> as Shows>⟧.shown self) (⟦<Parts<O, E, K> as Shows>⟧.shown result.parts) ∥₁ }
     {
         let Desk {
             code: _code,

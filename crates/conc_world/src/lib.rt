@@ -19,7 +19,7 @@ mod jobs;
 mod redoing;
 mod running;
 
-pub use answers::{Closed, Committed, Made, Parts, Why};
+pub use answers::{Closed, Committed, Made, Parts, Shows, Why};
 pub use desk::Desk;
 pub use jobs::MOST_STEPS;
 pub use run_course::RunEnd;
