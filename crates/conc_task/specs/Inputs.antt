@@ -43,6 +43,10 @@ HadBytes before now s bytes = (had : HadScript before now s) × (had.bytes ≡ b
 abbrev pub IsWhole : (limit : ℕ) → List ℕ → (now : Option (List ℕ)) → Type 0
 IsWhole limit bytes now = ((length bytes ≤ limit) × IsAtEnd now) ⊎ (length bytes ≡ limit + 1)
 
+-- these bytes were taken, and they are such
+abbrev pub TakesWhole : (limit : ℕ) → (before now : Option (List ℕ)) → List ℕ → Type 0
+TakesWhole limit before now bytes = Consumes before now bytes × IsWhole limit bytes now
+
 -- these bytes were taken, at most one more than the limit
 pub record Took (limit : ℕ) (before now : Option (List ℕ)) (taken : List ℕ) : Type 0 where
   pub consumed : Consumes before now taken

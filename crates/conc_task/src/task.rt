@@ -1,5 +1,4 @@
 ghost use Rattle.std.specs.Prelude.{◌≡◌, ◌≤◌, IfOk, MatchResult, Some};
-ghost use Rattle.std.specs.Io.KnownBytes.{Consumes};
 ghost use Rattle.hs_io.specs.Causes.{Rose};
 ghost use Rattle.rules_code.specs.Codes.{body_of};
 ghost use Rattle.hs_compile.specs.Verdicts.{IsAccepted};
@@ -8,7 +7,7 @@ ghost use Rattle.conc_words.specs.declared.command.Command.TheVariants.{Ask};
 ghost use Rattle.conc_words.specs.declared.command.Question.{Question as AQuestion};
 ghost use Rattle.conc_words.specs.Commands.{command_by, IsWithin};
 ghost use Rattle.conc_task.specs.Commands.{ReadsSource};
-ghost use Rattle.conc_task.specs.Inputs.{HadBytes, HadScript, HadSome, IsScript, IsWhole};
+ghost use Rattle.conc_task.specs.Inputs.{HadBytes, HadScript, HadSome, IsScript, TakesWhole};
 ghost use Rattle.conc_task.specs.Stops.{Counted, HadNone, HasNone, IsDenied, IsUnclaimed, IsUnclear, IsUnread, stop_of};
 ghost use Rattle.conc_task.specs.Tasks.{HasCapabilities, HasClaim, HasFuel, HasNumber, HasStates, HasTask, IsClaimed};
 
@@ -203,8 +202,8 @@ fn read_traced<S: Source>(alloc: Global, source: &mut S) -> Result<(Code, Vec<u8
 
 // The claim of the document that the source has, whatever is asked of it.
 fn read_claim<S: Source>(alloc: Global, source: &mut S) -> Result<Claim, Stop>
-    ensures comes { (question : AQuestion) → MatchResult result (HasClaim (Some (Ask question)) (S.left source.old) (S.left source.new) question)
-        (HasNone (Some (Ask question)) (Rose (S.faults source.old) (S.faults source.new)) (S.left source.old) (S.left source.new)) }
+    ensures comes { (q : AQuestion) → MatchResult result (HasClaim (Some (Ask q)) (S.left source.old) (S.left source.new) q)
+        (HasNone (Some (Ask q)) (Rose (S.faults source.old) (S.faults source.new)) (S.left source.old) (S.left source.new)) }
     ensures counts { MatchResult result (λ claim. S.faults source.new ≡ S.faults source.old) (λ stop. Counted stop (S.faults source.old) (S.faults source.new)) }
 {
     let document = read_bytes(alloc, source, DOCUMENT_LIMIT)?;
@@ -223,7 +222,7 @@ fn read_checked<S: Source>(alloc: Global, source: &mut S) -> Result<(), Stop>
 
 // All that the source has left, or the first bytes where there are more than the limit.
 fn read_bytes<S: Source>(alloc: Global, source: &mut S, limit: u32) -> Result<Vec<u8>, Stop>
-    ensures read { MatchResult result (λ bytes. Consumes (S.left source.old) (S.left source.new) bytes.items × IsWhole limit bytes.items (S.left source.new))
+    ensures read { MatchResult result (λ bytes. TakesWhole limit (S.left source.old) (S.left source.new) bytes.items)
         (IsUnread limit (Rose (S.faults source.old) (S.faults source.new)) (S.left source.old) (S.left source.new)) }
     ensures counts { MatchResult result (λ bytes. S.faults source.new ≡ S.faults source.old) (λ stop. Counted stop (S.faults source.old) (S.faults source.new)) }
 {

@@ -1,5 +1,5 @@
 -- What a call of the top call keeps and tells (own).
-use Rattle.std.specs.Prelude.{◌≡◌, ◌≢◌, ◌⊎◌, ◌≤◌, ◌++◌, ℕ, Bool, true, false, List, [], take, Option, Some, None, IfSome, IsSome, Ok, Err, ⊤}
+use Rattle.std.specs.Prelude.{◌≡◌, ◌≢◌, ◌⊎◌, ◌<◌, ◌≤◌, ◌++◌, ℕ, Bool, true, false, List, [], take, Option, Some, None, IfSome, IsSome, Ok, Err, ⊤}
 use Rattle.std.specs.Io.KnownBytes.{Appends}
 use Rattle.hs_base.specs.declared.clock_choice.ClockChoice.{ClockChoice}
 use Rattle.hs_base.specs.declared.tree.script.Script.{Script}
@@ -27,9 +27,13 @@ use Rattle.conc_words.specs.declared.command.Command.TheVariants.{Run, Check, Be
 use Rattle.conc_words.specs.declared.command.Command.TheVariants as commands
 use Rattle.conc_words.specs.declared.command.Question.{Question}
 use Rattle.conc_words.specs.declared.command.Question.TheVariants.{Verify, Report, Picture}
-use Rattle.hs_compile.specs.Verdicts.{IsAccepted}
+use Rattle.hs_compile.specs.declared.refusal.Refusal.{Refusal}
+use Rattle.hs_compile.specs.Verdicts.{IsAccepted, IsRefused}
+use Rattle.rules_code.specs.Codes.{body_of}
+use Rattle.conc_task.specs.declared.task.Claim.{Claim}
 use Rattle.conc_task.specs.declared.task.Search.{Search}
-use Rattle.conc_task.specs.Commands.{IsInput, ReadsSource, RunsWith, source_limit, Traces}
+use Rattle.conc_task.specs.Commands.{Asks, IsInput, ReadsSource, RunsWith, source_limit, Traces}
+use Rattle.conc_task.specs.Inputs.{IsScript}
 use Rattle.outcome_listing.specs.declared.explored.Extent.{Extent}
 use Rattle.trace_checker.specs.declared.verdict.Verified.{Verified as VerifiedRun}
 use Rattle.trace_picture.specs.declared.fault.PictureFault.{PictureFault}
@@ -39,7 +43,7 @@ use Rattle.report_tally.specs.Reporting.{report_of}
 use Rattle.conc_top.specs.declared.ending.Ending.{Ending}
 use Rattle.conc_top.specs.declared.ending.Ending.TheVariants.{Ran, Accepted, Words, Refused, Read, Memory, Write, Verified, Reported, Pictured, NotRun, NotDrawn, Outcomes, NoOutcome}
 use Rattle.conc_top.specs.Searches.{HasListing, IsListingOf, IsUnlisted, limits}
-use Rattle.conc_top.specs.Causes.{HasFault, HasIn, HasTelling, HasTooMany, IsDue, IsPictureOf, IsReadThrough, unfound}
+use Rattle.conc_top.specs.Causes.{HasFault, HasIn, HasTelling, HasTooMany, IsDue, IsExpected, IsPictureOf, IsReadThrough, IsRefusal, IsVerdict, unfound}
 use Rattle.conc_top.specs.Lines.{accepted_line, HasPlace, line_of, run_line, verified_line}
 
 -- the laws of every history hold of this one, which leaves this state; among them that each bracket of a finished thread was
@@ -271,6 +275,10 @@ abbrev pub IsUnfound : Question → List Fn → (trace : List ℕ) → PictureFa
 IsUnfound question ds trace (picture.Run f) = Judges ds trace (Err f)
 IsUnfound question ds trace (picture.Large n) = (question ≡ Picture) × HasTooMany n ds trace
 
+-- the script that a claim says was run
+abbrev pub claimed_script : Claim → List Fn
+claimed_script claim = script_of (body_of claim.code).of.value
+
 -- What is told where something is asked of a trace: the text of the answer on the output sink, or the line of why it has none on
 -- the error sink.
 abbrev pub TellsAsked : Question → List Fn → (trace : List ℕ) → (given : Ending) → (told told_now : Option (List ℕ)) → (faults faults_now : ℕ)
@@ -285,3 +293,40 @@ abbrev pub TellsSearch : Search → (given : Ending) → (told told_now : Option
 TellsSearch sought given told told_now faults faults_now errors errors_now err_faults err_faults_now =
     ((extent : Extent) × (text : List ℕ) × IsListingOf sought extent text × TellsLine text (Outcomes extent) given told told_now faults faults_now × (errors_now ≡ errors) × (err_faults_now ≡ err_faults))
     ⊎ ((came : Ending) × IsUnlisted sought came × (told_now ≡ told) × (faults_now ≡ faults) × TellsAnswer came given errors errors_now err_faults err_faults_now)
+
+-- ---- the clauses of the call
+
+-- one answer that is due of the input, by its cause
+abbrev pub HasCause : Option Command → (before : Option (List ℕ)) → (read_fault write_fault : Type 0) → (given : Ending) → Type 0
+HasCause command before read_fault write_fault given = (bytes : List ℕ) × IsInput command before bytes × IsDue command before bytes read_fault write_fault given
+
+-- a law of where no read and no put failed: no count of faults rose
+abbrev pub Unfailing : (read read_now out out_now err err_now : ℕ) → Type 0 → Type 0
+Unfailing read read_now out out_now err err_now law = ¬ Rose read read_now → ¬ Rose out out_now → ¬ Rose err err_now → law
+
+-- Where the input is an accepted script and nothing fails, the answer is one that is expected of it.
+abbrev pub AnswersScripts : Option Command → (before : Option (List ℕ)) → (unfailing : Type 0 → Type 0) → (given : Ending) → Type 0
+AnswersScripts command before unfailing given =
+    (bytes : List ℕ) → IsSome command → (ReadsSource command → IsSome before) → IsInput command before bytes → IsScript bytes
+    → unfailing (IsExpected command before bytes given)
+
+-- Where the input is refused and nothing fails, the answer is a refusal of it.
+abbrev pub AnswersRefused : Option Command → (before : Option (List ℕ)) → (unfailing : Type 0 → Type 0) → (given : Ending) → Type 0
+AnswersRefused command before unfailing given =
+    (bytes : List ℕ) (r : Refusal) → IsSome command → (ReadsSource command → IsSome before) → IsInput command before bytes → IsRefused r bytes
+    → unfailing (IsRefusal command before bytes given)
+
+-- Where something is asked of a document and nothing fails, the answer is what the document comes to.
+abbrev pub AnswersQuestions : Option Command → (before : Option (List ℕ)) → (unfailing : Type 0 → Type 0) → (given : Ending) → Type 0
+AnswersQuestions command before unfailing given =
+    (question : Question) (document : List ℕ) → Asks command question → before ≡ Some document → unfailing (IsVerdict question document given)
+
+-- The call, where the source's count of faults went from one number to another.
+abbrev pub IsCall : Option Command → (read read_now : ℕ) → (before left_now : Option (List ℕ)) → Option ClockChoice → (given : Ending) → List Entry → (lent now : Shown) → Type 0
+IsCall command read read_now before left_now choice given es lent now = ∥ Call command (Rose read read_now) (read < read_now) before left_now choice given es lent now ∥₁
+
+-- What writing the run came to that ended so.
+abbrev pub WritesEnded : (bytes : List ℕ) → Option RunEnd → (given : Ending) → (es es_now : List Entry) → (told told_now : Option (List ℕ)) → (faults faults_now : ℕ)
+    → (errors errors_now : Option (List ℕ)) → (err_faults err_faults_now : ℕ) → Type 0
+WritesEnded bytes ended given es es_now told told_now faults faults_now errors errors_now err_faults err_faults_now =
+    IfSome ended (λ end. WritesRun bytes end given es es_now told told_now faults faults_now errors errors_now err_faults err_faults_now)

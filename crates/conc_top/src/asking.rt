@@ -1,8 +1,6 @@
 //! What is asked of a document: whether it is a run of the script beside its trace, what that run did, and its picture.
 ghost use Rattle.std.specs.Prelude.{◌≡◌, ◌≤◌, MatchResult, []};
-ghost use Rattle.rules_code.specs.Codes.{body_of};
-ghost use Rattle.rules_trees.specs.Programs.{script_of};
-ghost use Rattle.conc_top.specs.Answers.{IsFound, IsUnfound, TellsAsked};
+ghost use Rattle.conc_top.specs.Answers.{claimed_script, IsFound, IsUnfound, TellsAsked};
 ghost use Rattle.conc_top.specs.Causes.{unfound, unverified};
 ghost use Rattle.conc_top.specs.Lines.{status_of};
 
@@ -27,7 +25,7 @@ pub(crate) fn answer<O: Sink, E: Sink, K: Clock>(
     clock: K,
 ) -> Done<O, E, K>
     ensures status { result.status ≡ status_of result.ending }
-    ensures tells { TellsAsked question (script_of (body_of claim.now.code).of.value) claim.now.trace.items result.ending
+    ensures tells { TellsAsked question (claimed_script claim.now) claim.now.trace.items result.ending
         (O.told out) (O.told result.out) (O.faults out) (O.faults result.out) (E.told err) (E.told result.err) (E.faults err) (E.faults result.err) }
     ensures history { result.history.list ≡ [] }
     ensures clock { result.clock ≡ clock }
@@ -43,8 +41,8 @@ pub(crate) fn answer<O: Sink, E: Sink, K: Clock>(
 // The answer and its text, or why there is none.
 fn found(alloc: Global, question: Question, claim: &Claim) -> Result<(Ending, Txt), PictureFault>
     ensures { MatchResult result
-        (λ found. IsFound question (script_of (body_of claim.now.code).of.value) claim.now.trace.items found.0 found.1)
-        (IsUnfound question (script_of (body_of claim.now.code).of.value) claim.now.trace.items) }
+        (λ found. IsFound question (claimed_script claim.now) claim.now.trace.items found.0 found.1)
+        (IsUnfound question (claimed_script claim.now) claim.now.trace.items) }
 {
     match question {
         Question::Verify => {

@@ -1,9 +1,10 @@
 ghost use Rattle.std.specs.Prelude.{◌≡◌, IfOk, OnErr, string_bytes};
 ghost use Rattle.conc_top.specs.Lines.{absent_line, extent_status, HasPlace, line_of, norun_line, numbered_line, NumbersALine, placed_line, PlacesTypeFault, reached_word, refusal_line, RefusesAPlace, run_line, run_status, status_of, text_of, types_line, undrawn_line, verified_line};
 
-use conc_world::RunEnd;
+use conc_world::{RunEnd, Shows};
 use hs_base::{NoMemory, Pos};
 use hs_compile::Refusal;
+use hs_io::{Clock, Sink};
 use hs_lex::LexFault;
 use hs_parse::ParseFault;
 use hs_rules::{History, LimitKind};
@@ -84,6 +85,17 @@ pub struct Done<O, E, K> {
     pub out: O,
     pub err: E,
     pub clock: K,
+}
+
+impl<O: Sink, E: Sink, K: Clock> Shows for Done<O, E, K> {
+    ghost shown = { λ d. record {
+      output = O.told d.out;
+      errors = E.told d.err;
+      out_faults = O.faults d.out;
+      err_faults = E.faults d.err;
+      last = K.last d.clock;
+      early = K.early_waits d.clock;
+    } };
 }
 
 impl Ending {

@@ -5,7 +5,7 @@ ghost use Rattle.conc_top.specs.Answers.{HasRun};
 
 use conc_caps::run_caps;
 use conc_task::Program;
-use conc_world::{Closed, Desk, Parts, alone};
+use conc_world::{Closed, Desk, Parts, Shows, alone};
 use hs_base::Limits;
 use hs_io::{Clock, Gate, Sink};
 use hs_rules::Kept;
@@ -30,8 +30,8 @@ pub(crate) fn run_program<
     requires fuel { 1 ≤ program.fuel }
     requires capabilities { (1 ≤ program.capabilities) × (program.capabilities ≤ 16) }
     ensures run { IfOk result (λ closed. HasRun program.fuel (body_of program.code).of.value closed.end closed.history.list
-        (record { output = O.told parts.out; errors = E.told parts.err; out_faults = O.faults parts.out; err_faults = E.faults parts.err; last = K.last parts.clock; early = K.early_waits parts.clock })
-        (record { output = O.told closed.parts.out; errors = E.told closed.parts.err; out_faults = O.faults closed.parts.out; err_faults = E.faults closed.parts.err; last = K.last closed.parts.clock; early = K.early_waits closed.parts.clock })) }
+        (⟦<Parts<O, E, K> as Shows>⟧.shown parts)
+        (⟦<Parts<O, E, K> as Shows>⟧.shown closed.parts)) }
     ensures choice { IfOk result (λ closed. K.choice closed.parts.clock ≡ Some program.clock) }
     ensures err { IfErr result (λ back. (back.out ≡ parts.out) × (back.err ≡ parts.err) × (K.choice back.clock ≡ Some program.clock) × (K.early_waits back.clock ≡ K.early_waits parts.clock)) }
 {

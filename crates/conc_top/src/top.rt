@@ -1,17 +1,14 @@
 ghost use Rattle.std.specs.Prelude.{◌≡◌, ◌<◌, ◌≤◌, ◌⊎◌, ℕ, List, Some, IfSome, IsSome};
 ghost use Rattle.hs_io.specs.Causes.{Rose};
 ghost use Rattle.rules_code.specs.Codes.{body_of};
-ghost use Rattle.hs_compile.specs.declared.refusal.Refusal.{Refusal};
-ghost use Rattle.hs_compile.specs.Verdicts.{IsAccepted, IsRefused};
-ghost use Rattle.conc_words.specs.declared.command.Question.{Question};
+ghost use Rattle.hs_compile.specs.Verdicts.{IsAccepted};
 ghost use Rattle.conc_words.specs.Commands.{command_by};
-ghost use Rattle.conc_task.specs.Commands.{Asks, IsChosen, IsInput, ReadsSource, Runs, Traces};
-ghost use Rattle.conc_task.specs.Inputs.{IsScript};
+ghost use Rattle.conc_task.specs.Commands.{IsChosen, ReadsSource, Runs, Traces};
 ghost use Rattle.rules_traces.specs.Traces.{document_of};
 ghost use Rattle.outcome_listing.specs.declared.explored.Extent.{Extent};
 ghost use Rattle.conc_top.specs.declared.ending.Ending.TheVariants.{Outcomes, Ran};
-ghost use Rattle.conc_top.specs.Answers.{Call, IsPlayed, IsWritten, Plays, TellsLine, TellsListing, WasToldNothing};
-ghost use Rattle.conc_top.specs.Causes.{ending_of, IsDue, IsExpected, IsFault, IsRefusal, IsUnrun, IsVerdict};
+ghost use Rattle.conc_top.specs.Answers.{AnswersQuestions, AnswersRefused, AnswersScripts, HasCause, IsCall, IsPlayed, IsWritten, Plays, TellsLine, TellsListing, Unfailing, WasToldNothing};
+ghost use Rattle.conc_top.specs.Causes.{ending_of, IsFault, IsUnrun};
 ghost use Rattle.conc_top.specs.Lines.{line_of, status_of};
 
 use crate::asking::answer;
@@ -21,7 +18,7 @@ use crate::running::run_program;
 use crate::telling::{put_line, tell, tell_accepted};
 use crate::tracing::trace;
 use conc_task::{Program, Stop, Task, task_of};
-use conc_world::{Closed, Parts};
+use conc_world::{Closed, Parts, Shows};
 use hs_io::{Clock, Gate, Sink, Source};
 use std::alloc::Global;
 use std::sync::Wait;
@@ -62,30 +59,22 @@ pub fn run<
     ensures status { result.status ≡ status_of result.ending }
 
     // The table of answers and their causes. Want of memory alone is free.
-    ensures cause { (bytes : List ℕ) × IsInput (command_by words.now) (S.left source.old) bytes
-        × IsDue (command_by words.now) (S.left source.old) bytes
+    ensures cause { HasCause (command_by words.now) (S.left source.old)
         (Rose (S.faults source.old) (S.faults source.new))
         (Rose (O.faults out) (O.faults result.out) ⊎ Rose (E.faults err) (E.faults result.err)) result.ending }
 
     // Where nothing fails and the input is an accepted script, the answer is the run's ending, or `accepted`, or what the document
     // comes to, or want of memory.
-    ensures complete { (bytes : List ℕ) → IsSome (command_by words.now)
-        → (ReadsSource (command_by words.now) → IsSome (S.left source.old))
-        → IsInput (command_by words.now) (S.left source.old) bytes → IsScript bytes
-        → ¬ Rose (S.faults source.old) (S.faults source.new) → ¬ Rose (O.faults out) (O.faults result.out) → ¬ Rose (E.faults err) (E.faults result.err)
-        → IsExpected (command_by words.now) (S.left source.old) bytes result.ending }
+    ensures complete { AnswersScripts (command_by words.now) (S.left source.old)
+        (Unfailing (S.faults source.old) (S.faults source.new) (O.faults out) (O.faults result.out) (E.faults err) (E.faults result.err)) result.ending }
 
     // Where nothing fails and the input is refused, the answer is a refusal of it, or want of memory.
-    ensures refusal { (bytes : List ℕ) (r : Refusal) → IsSome (command_by words.now)
-        → (ReadsSource (command_by words.now) → IsSome (S.left source.old))
-        → IsInput (command_by words.now) (S.left source.old) bytes → IsRefused r bytes
-        → ¬ Rose (S.faults source.old) (S.faults source.new) → ¬ Rose (O.faults out) (O.faults result.out) → ¬ Rose (E.faults err) (E.faults result.err)
-        → IsRefusal (command_by words.now) (S.left source.old) bytes result.ending }
+    ensures refusal { AnswersRefused (command_by words.now) (S.left source.old)
+        (Unfailing (S.faults source.old) (S.faults source.new) (O.faults out) (O.faults result.out) (E.faults err) (E.faults result.err)) result.ending }
 
     // Where nothing fails, what is asked of a document is answered by what it comes to, or there is want of memory.
-    ensures verdict { (question : Question) (document : List ℕ) → Asks (command_by words.now) question → S.left source.old ≡ Some document
-        → ¬ Rose (S.faults source.old) (S.faults source.new) → ¬ Rose (O.faults out) (O.faults result.out) → ¬ Rose (E.faults err) (E.faults result.err)
-        → IsVerdict question document result.ending }
+    ensures verdict { AnswersQuestions (command_by words.now) (S.left source.old)
+        (Unfailing (S.faults source.old) (S.faults source.new) (O.faults out) (O.faults result.out) (E.faults err) (E.faults result.err)) result.ending }
 
     // What `trace` writes: the document of the history and of the bytes that the source had.
     ensures written { (bytes : List ℕ) → Traces (command_by words.now) → S.left source.old ≡ Some bytes
@@ -97,10 +86,10 @@ pub fn run<
         → TellsListing (command_by words.now) bytes extent (O.told out) (O.told result.out) (E.told err) (E.told result.err) }
 
     // The answer that the call came to, the run that it kept, and what it told.
-    ensures call { ∥ Call (command_by words.now) (Rose (S.faults source.old) (S.faults source.new)) (S.faults source.old < S.faults source.new)
+    ensures call { IsCall (command_by words.now) (S.faults source.old) (S.faults source.new)
         (S.left source.old) (S.left source.new) (K.choice result.clock) result.ending result.history.list
-        (record { output = O.told out; errors = E.told err; out_faults = O.faults out; err_faults = E.faults err; last = K.last clock; early = K.early_waits clock })
-        (record { output = O.told result.out; errors = E.told result.err; out_faults = O.faults result.out; err_faults = E.faults result.err; last = K.last result.clock; early = K.early_waits result.clock }) ∥₁ }
+        (⟦<Parts<O, E, K> as Shows>⟧.shown (record { out = out; err = err; clock = clock }))
+        (⟦<Done<O, E, K> as Shows>⟧.shown result) }
 
     // A failed read is told, unless the put of its line fails too, and nothing else raises the source's count of faults.
     ensures rose { S.faults source.old < S.faults source.new → IsFault result.ending }
@@ -144,8 +133,8 @@ fn play<O: Sink + Send, E: Sink + Send, K: Clock + Send, G: Gate + Sync, R: Thre
     ensures status { result.status ≡ status_of result.ending }
     ensures cause { IsPlayed (Rose (O.faults parts.out) (O.faults result.out) ⊎ Rose (E.faults parts.err) (E.faults result.err)) result.ending }
     ensures plays { (bytes : List ℕ) → IsAccepted bytes (body_of program.code).of.value → ∥ Plays program.fuel bytes result.ending result.history.list
-        (record { output = O.told parts.out; errors = E.told parts.err; out_faults = O.faults parts.out; err_faults = E.faults parts.err; last = K.last parts.clock; early = K.early_waits parts.clock })
-        (record { output = O.told result.out; errors = E.told result.err; out_faults = O.faults result.out; err_faults = E.faults result.err; last = K.last result.clock; early = K.early_waits result.clock }) ∥₁ }
+        (⟦<Parts<O, E, K> as Shows>⟧.shown parts)
+        (⟦<Done<O, E, K> as Shows>⟧.shown result) ∥₁ }
     ensures counts { (O.faults parts.out ≤ O.faults result.out) × (E.faults parts.err ≤ E.faults result.err) × (K.early_waits parts.clock ≤ K.early_waits result.clock) }
     ensures calm { (result.status ≡ 8 → ⊥) → (O.faults result.out ≡ O.faults parts.out) × (E.faults result.err ≡ E.faults parts.err) }
     ensures choice { K.choice result.clock ≡ Some program.clock }

@@ -1,17 +1,17 @@
 //! `trace`: a script runs, and its history is written in place of what it prints.
-ghost use Rattle.std.specs.Prelude.{◌≡◌, ◌≤◌, ◌⊎◌, IfSome, IsSome, Some};
+ghost use Rattle.std.specs.Prelude.{◌≡◌, ◌≤◌, ◌⊎◌, IsSome, Some};
 ghost use Rattle.hs_io.specs.Causes.{Rose};
 ghost use Rattle.rules_code.specs.Codes.{body_of};
 ghost use Rattle.rules_traces.specs.Traces.{document_of};
 ghost use Rattle.hs_compile.specs.Verdicts.{IsAccepted};
-ghost use Rattle.conc_top.specs.Answers.{IsPlayed, IsWritten, PutsDocument, Writes, WritesRun};
+ghost use Rattle.conc_top.specs.Answers.{IsPlayed, IsWritten, PutsDocument, Writes, WritesEnded};
 ghost use Rattle.conc_top.specs.Lines.{status_of};
 
 use crate::ending::{Done, Ending, run_line};
 use crate::running::run_program;
 use crate::telling::{put_line, put_piece, tell};
 use conc_task::Program;
-use conc_world::{Closed, Parts, RunEnd};
+use conc_world::{Closed, Parts, RunEnd, Shows};
 use hs_base::NoMemory;
 use hs_io::{Clock, Failed, Gate, NullSink, Sink};
 use hs_rules::History;
@@ -40,8 +40,8 @@ pub(crate) fn trace<
     ensures status { result.status ≡ status_of result.ending }
     ensures cause { IsPlayed (Rose (O.faults parts.out) (O.faults result.out) ⊎ Rose (E.faults parts.err) (E.faults result.err)) result.ending }
     ensures writes { IsAccepted bytes.now (body_of program.code).of.value → ∥ Writes program.fuel bytes.now result.ending result.history.list
-        (record { output = O.told parts.out; errors = E.told parts.err; out_faults = O.faults parts.out; err_faults = E.faults parts.err; last = K.last parts.clock; early = K.early_waits parts.clock })
-        (record { output = O.told result.out; errors = E.told result.err; out_faults = O.faults result.out; err_faults = E.faults result.err; last = K.last result.clock; early = K.early_waits result.clock }) ∥₁ }
+        (⟦<Parts<O, E, K> as Shows>⟧.shown parts)
+        (⟦<Done<O, E, K> as Shows>⟧.shown result) ∥₁ }
     ensures written { IsWritten (document_of result.history.list bytes.now) result.ending (O.told parts.out) (O.told result.out) }
     ensures counts { (O.faults parts.out ≤ O.faults result.out) × (E.faults parts.err ≤ E.faults result.err) × (K.early_waits parts.clock ≤ K.early_waits result.clock) }
     ensures calm { (result.status ≡ 8 → ⊥) → (O.faults result.out ≡ O.faults parts.out) × (E.faults result.err ≡ E.faults parts.err) }
@@ -69,8 +69,8 @@ fn write_closed<O: Sink, E: Sink, K: Clock>(
 ) -> Done<O, E, K>
     requires ended { IsSome closed.end }
     ensures status { result.status ≡ status_of result.ending }
-    ensures writes { IfSome closed.end (λ end. WritesRun bytes.now end result.ending closed.history.list result.history.list
-        (O.told out) (O.told result.out) (O.faults out) (O.faults result.out) (E.told err) (E.told result.err) (E.faults err) (E.faults result.err)) }
+    ensures writes { WritesEnded bytes.now closed.end result.ending closed.history.list result.history.list
+        (O.told out) (O.told result.out) (O.faults out) (O.faults result.out) (E.told err) (E.told result.err) (E.faults err) (E.faults result.err) }
     ensures clock { result.clock ≡ closed.parts.clock }
 {
     let Closed {
