@@ -1,7 +1,7 @@
 ghost use Rattle.std.specs.Prelude.{◌≡◌, IfOk, OnErr, string_bytes};
 ghost use Rattle.conc_top.specs.Lines.{absent_line, extent_status, HasPlace, line_of, norun_line, numbered_line, NumbersALine, placed_line, PlacesTypeFault, reached_word, refusal_line, RefusesAPlace, run_line, run_status, status_of, text_of, types_line, undrawn_line, verified_line};
 
-use conc_world::{RunEnd, Shows};
+use conc_world::{Parts, RunEnd, Shows};
 use hs_base::{NoMemory, Pos};
 use hs_compile::Refusal;
 use hs_io::{Clock, Sink};
@@ -88,14 +88,7 @@ pub struct Done<O, E, K> {
 }
 
 impl<O: Sink, E: Sink, K: Clock> Shows for Done<O, E, K> {
-    ghost shown = { λ d. record {
-      output = O.told d.out;
-      errors = E.told d.err;
-      out_faults = O.faults d.out;
-      err_faults = E.faults d.err;
-      last = K.last d.clock;
-      early = K.early_waits d.clock;
-    } };
+    ghost shown = { λ d. ⟦<Parts<O, E, K> as Shows>⟧.shown (record { out = d.out; err = d.err; clock = d.clock }) };
 }
 
 impl Ending {
