@@ -9,8 +9,12 @@ use std::sync::Wait;
 use std::test::Fail;
 use std::thread::Threads;
 
-// Each of the two threads is waited for, so a held slice of either is committed before the run ends.
 const TWO_COUNTS: &[u8] =
+    b"count (n :: Int) :: IO () = { if n == 5000 then { return () } else { count (n + 1) } };
+main :: IO () = { _ <- forkIO { count 0 }; count 0 };";
+
+// Each of the two threads is waited for, so a held slice of either is committed before the run ends.
+const WAITED_COUNTS: &[u8] =
     b"count (n :: Int) :: IO () = { if n == 5000 then { return () } else { count (n + 1) } };
 main :: IO () = { d <- newEmptyMVar @(); _ <- forkIO { count 0; putMVar d () }; count 0; takeMVar d };";
 
@@ -71,6 +75,24 @@ fn a_slice_is_committed_while_another_is_held(rt: HostRuntime) -> Result<(), Fai
     for holds in [Holds::Second, Holds::First] {
         let gate = Holder::of(holds);
         let status = run_on(rt.alloc(), &rt, "2", TWO_COUNTS, VirtualClock::new(), &gate)?;
+        assert_eq!(rt; status, 0);
+        assert!(rt; gate.was_in_time(), "{holds:?}");
+    }
+    Ok(())
+}
+
+#[test]
+fn a_slice_that_was_held_is_committed_too(rt: HostRuntime) -> Result<(), Fail> {
+    for holds in [Holds::Second, Holds::First] {
+        let gate = Holder::of(holds);
+        let status = run_on(
+            rt.alloc(),
+            &rt,
+            "2",
+            WAITED_COUNTS,
+            VirtualClock::new(),
+            &gate,
+        )?;
         assert_eq!(rt; status, 0);
         assert!(rt; gate.went_well(), "{holds:?}");
     }

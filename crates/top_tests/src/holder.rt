@@ -34,6 +34,11 @@ impl Holder {
         }
     }
 
+    /// Whether no wait gave up.
+    pub fn was_in_time(&self) -> bool {
+        !self.late.is_set()
+    }
+
     /// Whether a slice was held, both were committed, and the wait didn't give up.
     pub fn went_well(&self) -> bool {
         self.held.is_set() && self.second.is_set() && self.third.is_set() && !self.late.is_set()

@@ -4,7 +4,7 @@ use std::hint;
 use std::sync::atomic::{AtomicBool, AtomicU64, Ordering};
 
 /// How often a wait looks before it gives up.
-const LOOKS: u32 = 1_000_000_000;
+const LOOKS: u32 = 100_000_000;
 
 /// A flag that is set once.
 #[derive(Debug, Drop)]
