@@ -2,8 +2,8 @@
 use Rattle.std.proofs.Common.{◌≡◌, ℕ, zero, suc, List, [], ◌∷◌, map, length, slice_get, Some, refl, ◌∙◌, ap, subst, arith}
 use Rattle.std.proofs.Props.{props}
 use Rattle.crossbeam_queue.specs.SegTies.{IsSegPassOf}
-use Rattle.ticket_queues.specs.declared.deque.Door.{Door}
-use Rattle.ticket_queues.specs.Deques.{door_id, IsDequePass}
+use Rattle.conc_hands.specs.declared.queues.deque.Door.{Door}
+use Rattle.conc_hands.specs.queues.Deques.{door_id, IsDequePass}
 use Rattle.conc_hands.specs.declared.hand.Hand.{Hand}
 use Rattle.conc_hands.specs.declared.hands.Hands.{Hands}
 use Rattle.conc_hands.specs.Ends.{IsDealt}

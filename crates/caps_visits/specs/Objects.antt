@@ -5,7 +5,7 @@ use Rattle.atomic_blocks.specs.Lent.{RowsId}
 use Rattle.atomic_table.specs.Seated.{TableId}
 use Rattle.crossbeam_queue.specs.SegTies.{SegId}
 use Rattle.rules_code.specs.declared.code.CodeBody.{CodeBody}
-use Rattle.ticket_queues.specs.Deques.{door_id}
+use Rattle.conc_hands.specs.queues.Deques.{door_id}
 use Rattle.conc_hands.specs.declared.hands.Hands.{Hands}
 use Rattle.conc_hands.specs.Hands.{hands_code, hands_count}
 

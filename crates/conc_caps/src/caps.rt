@@ -3,11 +3,10 @@ ghost use Rattle.std.specs.Prelude.{◌≡◌, ◌≤◌, IsSome};
 ghost use mathlib.Core.List.{IsPrefix};
 
 use caps_loop::run_caps as run_loop;
-use conc_world::Desk;
 use frame_stack::{Job, Slice};
 use hs_io::{Clock, Gate, Sink};
 use hs_rules::Kept;
-use lent_desk::{LentAs, LentDesk};
+use lent_desk::{Desk, LentAs, LentDesk};
 use std::alloc::{AllocFailed, Global};
 use std::marker::Brand;
 use std::sync::Wait;

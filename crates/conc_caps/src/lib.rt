@@ -11,3 +11,5 @@
 mod caps;
 
 pub use caps::run_caps;
+// a desk and what it leaves, for those who run one
+pub use lent_desk::{Closed, Desk, Parts, RunEnd, Shows, alone};

@@ -3,12 +3,12 @@ use Rattle.std.proofs.Common.{◌≡◌, ◌≢◌, ◌⊎◌, ℕ, zero, suc, �
 use Rattle.std.specs.declared.alloc.Global.{Global}
 use Rattle.atomic_blocks.specs.Lent.{RowsId}
 use Rattle.rules_code.specs.declared.code.CodeBody.{CodeBody}
-use Rattle.ticket_queues.specs.declared.view.QueueView.{QueueView}
-use Rattle.ticket_queues.specs.declared.deque.Door.{Door}
-use Rattle.ticket_queues.specs.declared.deque.DequePass.{DequePass}
-use Rattle.ticket_queues.specs.QueueRule.{weigh, spent, both_of}
-use Rattle.ticket_queues.specs.Deques.{deque_view, deque_id, door_id, pass_view, IsDequePass}
-use Rattle.ticket_queues.proofs.Weights.{weigh_append}
+use Rattle.conc_hands.specs.declared.queues.view.QueueView.{QueueView}
+use Rattle.conc_hands.specs.declared.queues.deque.Door.{Door}
+use Rattle.conc_hands.specs.declared.queues.deque.DequePass.{DequePass}
+use Rattle.conc_hands.specs.queues.QueueRule.{weigh, spent, both_of}
+use Rattle.conc_hands.specs.queues.Deques.{deque_view, deque_id, door_id, pass_view, IsDequePass}
+use Rattle.conc_hands.proofs.queues_lemmas.Weights.{weigh_append}
 use Rattle.conc_hands.specs.declared.hand.JobsEnd.{JobsEnd}
 use Rattle.conc_hands.specs.Ends.{IsClean, IsEndOf, end_code, end_pushed, end_taken, stolen_by}
 use Rattle.conc_hands.specs.Gathering.{if_same, total_over, share_of_pass, shares_of_deque, pushed_weight, taken_weight, number_at, AreEnds, AreDealt, AreWhole, IsSpentAt, IsConserved, Swapped}

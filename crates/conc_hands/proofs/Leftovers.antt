@@ -2,10 +2,10 @@
 use Rattle.std.proofs.Common.{◌≡◌, ◌≢◌, ◌⊎◌, ◌↔◌, ℕ, suc, ◌+◌, ◌<◌, ◌≤◌, List, [], ◌∷◌, ◌++◌, length, map, set, slice_get, Option, Some, None, IsNone, MatchOption, append-nil, refl, ap, sym, ◌∙◌, subst, ⊎_elim, arith}
 use mathlib.Core.Logic.{dite}
 use native.Mathlib.Decide.{ℕ_discrete}
-use Rattle.ticket_queues.specs.declared.view.QueueView.{QueueView}
-use Rattle.ticket_queues.specs.QueueRule.{weigh, SameTickets, view_with}
-use Rattle.ticket_queues.specs.Deques.{deque_view}
-use Rattle.ticket_queues.proofs.Weights.{weigh_append}
+use Rattle.conc_hands.specs.declared.queues.view.QueueView.{QueueView}
+use Rattle.conc_hands.specs.queues.QueueRule.{weigh, SameTickets, view_with}
+use Rattle.conc_hands.specs.queues.Deques.{deque_view}
+use Rattle.conc_hands.proofs.queues_lemmas.Weights.{weigh_append}
 use Rattle.conc_hands.specs.declared.hand.JobsEnd.{JobsEnd}
 use Rattle.conc_hands.specs.Ends.{stolen_by, end_pushed, end_taken}
 use Rattle.conc_hands.specs.Gathering.{total_over, pushed_weight, taken_weight, AreWhole, AreEmptyBelow, IsEmptyAt, SameTotals, TotalsTaken, AreJobsIn}

@@ -6,3 +6,5 @@ pub mod Gathers
 pub mod Rights
 pub mod Leftovers
 pub mod Closes
+pub mod flags_lemmas
+pub mod queues_lemmas

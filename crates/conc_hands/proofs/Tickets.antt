@@ -2,11 +2,11 @@
 use Rattle.std.proofs.Common.{◌≡◌, ◌≢◌, ◌⊎◌, ◌↔◌, ℕ, zero, suc, ◌+◌, ◌<◌, ◌≤◌, List, [], ◌∷◌, ◌++◌, length, set, slice_get, Option, Some, None, IsNone, MatchOption, refl, ap, sym, ◌∙◌, subst, inl, inr, ⊎_elim, arith, append-nil, Bool, true, false, ◌==◌}
 use Rattle.std.proofs.lemmas.Bool.Decides.{nat_tests}
 use Rattle.rules_code.specs.declared.code.CodeBody.{CodeBody}
-use Rattle.ticket_queues.specs.declared.view.QueueView.{QueueView}
-use Rattle.ticket_queues.specs.declared.deque.DequePass.{DequePass}
-use Rattle.ticket_queues.specs.QueueRule.{weigh, SameTickets, MetEmpty, view_with}
-use Rattle.ticket_queues.specs.Deques.{pass_view}
-use Rattle.ticket_queues.proofs.Weights.{weigh_append}
+use Rattle.conc_hands.specs.declared.queues.view.QueueView.{QueueView}
+use Rattle.conc_hands.specs.declared.queues.deque.DequePass.{DequePass}
+use Rattle.conc_hands.specs.queues.QueueRule.{weigh, SameTickets, MetEmpty, view_with}
+use Rattle.conc_hands.specs.queues.Deques.{pass_view}
+use Rattle.conc_hands.proofs.queues_lemmas.Weights.{weigh_append}
 use Rattle.conc_hands.specs.Ends.{stolen_by, share_if, share_at}
 
 share_case : (number k : ℕ) (b : Bool) → (number == k) ≡ b → k ≢ number → share_if b ≡ 1

@@ -2,7 +2,7 @@
 use Rattle.std.proofs.Common.{◌≡◌, ◌≢◌, ℕ, zero, suc, ◌+◌, ◌≤◌, List, [], ◌∷◌, map, set, slice_get, Some, refl, ap, sym, ◌∙◌, arith}
 use mathlib.Core.Logic.{dite}
 use native.Mathlib.Decide.{ℕ_discrete}
-use Rattle.ticket_queues.specs.QueueRule.{weigh}
+use Rattle.conc_hands.specs.queues.QueueRule.{weigh}
 use Rattle.conc_hands.specs.Gathering.{if_same, total_over, number_in}
 
 pub if_same_plus : (m n j k : ℕ) → if_same m n (j + k) ≡ if_same m n j + if_same m n k

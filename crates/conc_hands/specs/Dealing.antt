@@ -4,12 +4,12 @@ use Rattle.std.specs.declared.alloc.Global.{Global}
 use Rattle.std.specs.declared.vec.Vec.{Vec}
 use Rattle.std.specs.Int.{IsNextPowerOfTwo}
 use Rattle.rules_code.specs.declared.code.CodeBody.{CodeBody}
-use Rattle.ticket_queues.specs.declared.view.QueueView.{QueueView}
-use Rattle.ticket_queues.specs.declared.deque.Deque.{Deque}
-use Rattle.ticket_queues.specs.declared.deque.Door.{Door}
-use Rattle.ticket_queues.specs.declared.deque.DequePass.{DequePass}
-use Rattle.ticket_queues.specs.QueueRule.{view_with, spent}
-use Rattle.ticket_queues.specs.Deques.{deque_view, deque_id, door_id, room_of, pass_view, IsDequePass}
+use Rattle.conc_hands.specs.declared.queues.view.QueueView.{QueueView}
+use Rattle.conc_hands.specs.declared.queues.deque.Deque.{Deque}
+use Rattle.conc_hands.specs.declared.queues.deque.Door.{Door}
+use Rattle.conc_hands.specs.declared.queues.deque.DequePass.{DequePass}
+use Rattle.conc_hands.specs.queues.QueueRule.{view_with, spent}
+use Rattle.conc_hands.specs.queues.Deques.{deque_view, deque_id, door_id, room_of, pass_view, IsDequePass}
 use Rattle.conc_hands.specs.declared.hand.Hand.{Hand}
 use Rattle.conc_hands.specs.declared.hands.Hands.{Hands}
 use Rattle.conc_hands.specs.Hands.{HasInboxShares, IsHandOf, number_of, pushed_by, taken_by, handed_in_by, collected_by, raised_by, read_by}

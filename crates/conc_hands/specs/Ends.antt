@@ -1,11 +1,11 @@
 -- What a hand has for jobs: its own deque, and a pass for each deque.
 use Rattle.std.specs.Prelude.{◌≡◌, ◌≢◌, ℕ, zero, suc, ◌+◌, ◌<◌, ◌≤◌, List, [], ◌∷◌, ◌++◌, length, slice_get, Option, Some, Bool, true, false, ◌==◌}
 use Rattle.rules_code.specs.declared.code.CodeBody.{CodeBody}
-use Rattle.ticket_queues.specs.declared.view.QueueView.{QueueView}
-use Rattle.ticket_queues.specs.declared.deque.Door.{Door}
-use Rattle.ticket_queues.specs.declared.deque.DequePass.{DequePass}
-use Rattle.ticket_queues.specs.QueueRule.{MetEmpty}
-use Rattle.ticket_queues.specs.Deques.{deque_view, deque_id, door_id, room_of, pass_view, IsDequePass}
+use Rattle.conc_hands.specs.declared.queues.view.QueueView.{QueueView}
+use Rattle.conc_hands.specs.declared.queues.deque.Door.{Door}
+use Rattle.conc_hands.specs.declared.queues.deque.DequePass.{DequePass}
+use Rattle.conc_hands.specs.queues.QueueRule.{MetEmpty}
+use Rattle.conc_hands.specs.queues.Deques.{deque_view, deque_id, door_id, room_of, pass_view, IsDequePass}
 use Rattle.conc_hands.specs.declared.hand.JobsEnd.{JobsEnd}
 
 -- a pass has put nothing. One with a share names the code, and one without has taken nothing

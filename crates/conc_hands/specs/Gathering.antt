@@ -2,14 +2,14 @@
 use Rattle.std.specs.Prelude.{◌≡◌, ℕ, zero, suc, ◌+◌, ◌<◌, List, [], ◌∷◌, length, map, set, slice_get, Some}
 use Rattle.std.specs.declared.alloc.Global.{Global}
 use Rattle.atomic_blocks.specs.Lent.{RowsId}
-use Rattle.ticket_queues.specs.declared.deque.Door.{Door}
-use Rattle.ticket_queues.specs.declared.deque.DequePass.{DequePass}
-use Rattle.ticket_queues.specs.declared.inbox.Inbox.{Inbox}
-use Rattle.ticket_queues.specs.QueueRule.{weigh, SameTickets, spent}
-use Rattle.ticket_queues.specs.Deques.{deque_view, pass_view, IsDequePass}
-use Rattle.ticket_queues.specs.Inboxes.{IsInboxPass}
-use Rattle.cut_flags.specs.declared.flags.Flags.{Flags}
-use Rattle.cut_flags.specs.Pens.{IsPenOf, view_of}
+use Rattle.conc_hands.specs.declared.queues.deque.Door.{Door}
+use Rattle.conc_hands.specs.declared.queues.deque.DequePass.{DequePass}
+use Rattle.conc_hands.specs.declared.queues.inbox.Inbox.{Inbox}
+use Rattle.conc_hands.specs.queues.QueueRule.{weigh, SameTickets, spent}
+use Rattle.conc_hands.specs.queues.Deques.{deque_view, pass_view, IsDequePass}
+use Rattle.conc_hands.specs.queues.Inboxes.{IsInboxPass}
+use Rattle.conc_hands.specs.declared.flags.flags.Flags.{Flags}
+use Rattle.conc_hands.specs.flags.Pens.{IsPenOf, view_of}
 use Rattle.conc_hands.specs.declared.hand.Hand.{Hand}
 use Rattle.conc_hands.specs.declared.hand.JobsEnd.{JobsEnd}
 use Rattle.conc_hands.specs.Ends.{IsEndOf, stolen_by, end_pushed, end_taken}

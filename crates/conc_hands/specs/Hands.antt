@@ -1,12 +1,12 @@
 -- What a clause says of the hands and of one hand.
 use Rattle.std.specs.Prelude.{◌≡◌, ℕ, ◌+◌, ◌<◌, List, [], ◌∷◌, ◌++◌, length, Option, Some, if◌then◌else◌, ◌==◌}
 use Rattle.rules_code.specs.declared.code.CodeBody.{CodeBody}
-use Rattle.ticket_queues.specs.declared.view.QueueView.{QueueView}
-use Rattle.ticket_queues.specs.QueueRule.{SameTickets}
-use Rattle.ticket_queues.specs.Deques.{deque_view}
-use Rattle.ticket_queues.specs.Inboxes.{IsInboxPass, inbox_view}
-use Rattle.cut_flags.specs.declared.view.Reading.{Reading}
-use Rattle.cut_flags.specs.Pens.{IsPenOf, view_of, flags_hands, flags_code}
+use Rattle.conc_hands.specs.declared.queues.view.QueueView.{QueueView}
+use Rattle.conc_hands.specs.queues.QueueRule.{SameTickets}
+use Rattle.conc_hands.specs.queues.Deques.{deque_view}
+use Rattle.conc_hands.specs.queues.Inboxes.{IsInboxPass, inbox_view}
+use Rattle.conc_hands.specs.declared.flags.view.Reading.{Reading}
+use Rattle.conc_hands.specs.flags.Pens.{IsPenOf, view_of, flags_hands, flags_code}
 use Rattle.conc_hands.specs.declared.hand.Hand.{Hand}
 use Rattle.conc_hands.specs.declared.hands.Hands.{Hands}
 use Rattle.conc_hands.specs.Ends.{IsEndOf, IsDealt, end_code, end_room, end_pushed, end_taken, EmptyAt}

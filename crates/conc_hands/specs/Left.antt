@@ -1,8 +1,8 @@
 -- What a clause says of the end, and of what is left.
 use Rattle.std.specs.Prelude.{◌≡◌, ℕ, zero, suc, List, [], ◌∷◌, ◌++◌, map, slice_get, Some}
 use Rattle.hs_rules.specs.declared.kept.Ticketed.{Ghosts}
-use Rattle.ticket_queues.specs.QueueRule.{SameTickets}
-use Rattle.ticket_queues.specs.Inboxes.{inbox_view}
+use Rattle.conc_hands.specs.queues.QueueRule.{SameTickets}
+use Rattle.conc_hands.specs.queues.Inboxes.{inbox_view}
 use Rattle.conc_hands.specs.declared.hand.Hand.{Hand}
 use Rattle.conc_hands.specs.declared.hands.Hands.{Hands}
 use Rattle.conc_hands.specs.declared.left.JobsLeft.{JobsLeft}

@@ -4,3 +4,5 @@ pub mod Lists
 pub mod Dealing
 pub mod Gathering
 pub mod Left
+pub mod flags
+pub mod queues

@@ -1,7 +1,7 @@
 -- What a clause says of a list of hands.
 use Rattle.std.specs.Prelude.{◌≡◌, ℕ, ◌-◌, List, [], ◌∷◌, ◌++◌, All}
 use Rattle.std.specs.Vec.{vec_len, vec_capacity}
-use Rattle.cut_flags.specs.declared.view.Reading.{Reading}
+use Rattle.conc_hands.specs.declared.flags.view.Reading.{Reading}
 use Rattle.conc_hands.specs.declared.hand.Hand.{Hand}
 use Rattle.conc_hands.specs.declared.list.HandList.{HandList}
 use Rattle.conc_hands.specs.Hands.{pushed_by, taken_by, handed_in_by, collected_by, raised_by, read_by}

@@ -1,7 +1,7 @@
 //! The end of the hands.
 ghost use Rattle.std.specs.Prelude.{◌≡◌, ◌++◌, List, ℕ, length};
-ghost use Rattle.ticket_queues.specs.QueueRule.{SameTickets};
-ghost use Rattle.cut_flags.specs.FlagsRule.{OnlyRaised};
+ghost use Rattle.conc_hands.specs.queues.QueueRule.{SameTickets};
+ghost use Rattle.conc_hands.specs.flags.FlagsRule.{OnlyRaised};
 ghost use Rattle.conc_hands.specs.Lists.{hands_in, all_pushed, all_taken, all_handed_in, all_collected, all_raised, all_read};
 ghost use Rattle.conc_hands.specs.Left.{AreJobs, AreSlices, AreAllHands};
 

@@ -1,6 +1,6 @@
 //! The calls on the cut flags.
 ghost use Rattle.std.specs.Prelude.{◌≡◌, ◌%◌, ◌∷◌, ◌++◌, []};
-ghost use Rattle.cut_flags.specs.FlagsRule.{reading};
+ghost use Rattle.conc_hands.specs.flags.FlagsRule.{reading};
 ghost use Rattle.conc_hands.specs.Hands.{IsHandOf, number_of, room_of, raised_by, read_by, SameJobs, SameSlices};
 
 use crate::hand::Hand;

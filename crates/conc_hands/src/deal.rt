@@ -1,15 +1,15 @@
 //! The deques, and a pass for each hand to each of them.
 ghost use Rattle.std.specs.Prelude.{◌≡◌, ◌⊎◌, ◌+◌, ◌-◌, ◌<◌, ◌≤◌, ℕ, true, length, Some, [], IfOk, OnOk, slice_get};
-ghost use Rattle.ticket_queues.specs.QueueRule.{view_with};
-ghost use Rattle.ticket_queues.specs.Deques.{deque_view, deque_id, room_of, door_id, pass_view, IsDequePass};
+ghost use Rattle.conc_hands.specs.queues.QueueRule.{view_with};
+ghost use Rattle.conc_hands.specs.queues.Deques.{deque_view, deque_id, room_of, door_id, pass_view, IsDequePass};
 ghost use Rattle.conc_hands.specs.Dealing.{IsLaidOut, AreRows, dealt_if};
 ghost use Rattle.conc_hands.specs.Ends.{share_if};
 
+use crate::queues::{Deque, DequePass, Door};
 use hs_base::NoMemory;
 use hs_rules::Ticketed;
 use rules_code::CodeBody;
 use std::alloc::{AllocError, Global};
-use ticket_queues::{Deque, DequePass, Door};
 
 /// The ends of all deques, before they are put into hands. A row is one hand's passes.
 pub(crate) struct Dealt<J: Ticketed> {

@@ -1,12 +1,12 @@
 //! What a hand does with the deques.
 ghost use Rattle.std.specs.Prelude.{◌≡◌, ◌≢◌, ◌<◌, ◌∷◌, ◌++◌, [], Some, length, MatchOption};
-ghost use Rattle.ticket_queues.specs.QueueRule.{SameTickets};
+ghost use Rattle.conc_hands.specs.queues.QueueRule.{SameTickets};
 ghost use Rattle.conc_hands.specs.Ends.{IsEndOf, IsDealt, end_code, end_room, end_pushed, end_taken, EmptyAt};
 
 use crate::hand::JobsEnd;
+use crate::queues::Door;
 use hs_rules::Ticketed;
 use std::sync::Wait;
-use ticket_queues::Door;
 
 // Takes the first job of the deque at `from`.
 pub(crate) fn steal_at<J: Ticketed, R: Wait>(

@@ -1,19 +1,19 @@
 //! Gathering what all hands know, for the end. None of it takes memory.
 ghost use Rattle.std.specs.Prelude.{◌≡◌, ◌+◌, ◌<◌, ◌++◌, ℕ, Some, length, slice_get};
-ghost use Rattle.ticket_queues.specs.Deques.{door_id};
-ghost use Rattle.ticket_queues.specs.QueueRule.{both_of};
-ghost use Rattle.ticket_queues.specs.Inboxes.{IsInboxPass, inbox_view};
-ghost use Rattle.cut_flags.specs.FlagsRule.{pen_view};
-ghost use Rattle.cut_flags.specs.Pens.{IsPenOf, view_of};
+ghost use Rattle.conc_hands.specs.queues.Deques.{door_id};
+ghost use Rattle.conc_hands.specs.queues.QueueRule.{both_of};
+ghost use Rattle.conc_hands.specs.queues.Inboxes.{IsInboxPass, inbox_view};
+ghost use Rattle.conc_hands.specs.flags.FlagsRule.{pen_view};
+ghost use Rattle.conc_hands.specs.flags.Pens.{IsPenOf, view_of};
 ghost use Rattle.conc_hands.specs.Gathering.{ends_in, AreEnds, AreDealt, AreWhole, IsConserved, IsSpentAt, number_at, Swapped, HasRights, HaveRights, shares_over};
 ghost use Rattle.conc_hands.specs.Hands.{inbox_view_of, raised_by, read_by};
 ghost use Rattle.conc_hands.specs.Lists.{all_raised, all_read, all_handed_in, all_collected};
 
+use crate::flags::{Flags, Pen};
 use crate::hand::{Hand, JobsEnd};
-use cut_flags::{Flags, Pen};
+use crate::queues::{DequePass, Door, Inbox, InboxPass};
 use hs_rules::Ticketed;
 use std::mem;
-use ticket_queues::{DequePass, Door, Inbox, InboxPass};
 
 /// Moves all passes of the inbox, and all pens, into one of each.
 pub(crate) fn gather_rights<J: Ticketed, S: Ticketed + Drop>(

@@ -1,6 +1,6 @@
-use cut_flags::Pen;
+use crate::flags::Pen;
+use crate::queues::{Deque, DequePass, InboxPass};
 use hs_rules::Ticketed;
-use ticket_queues::{Deque, DequePass, InboxPass};
 
 /// What a hand has for jobs.
 #[derive(Drop)]

@@ -1,6 +1,6 @@
-use cut_flags::Flags;
+use crate::flags::Flags;
+use crate::queues::{Door, Inbox};
 use hs_rules::Ticketed;
-use ticket_queues::{Door, Inbox};
 
 /// What all capabilities share.
 #[derive(Drop)]

@@ -1,6 +1,6 @@
 //! The calls on jobs.
 ghost use Rattle.std.specs.Prelude.{◌≡◌, ◌≢◌, ◌-◌, ◌<◌, ◌↔◌, ◌∷◌, ◌++◌, [], OnOk, IfErr, IsNone, MatchOption};
-ghost use Rattle.ticket_queues.specs.QueueRule.{SameTickets, MetEmpty};
+ghost use Rattle.conc_hands.specs.queues.QueueRule.{SameTickets, MetEmpty};
 ghost use Rattle.conc_hands.specs.Hands.{hands_code, hands_count, IsHandOf, number_of, room_of, pushed_by, taken_by, own_view, SameJobs, SameSlices, SameFlags, FoundEmpty, TookJob};
 
 use crate::ends::steal_at;

@@ -1,12 +1,12 @@
 //! What was never taken.
 ghost use Rattle.std.specs.Prelude.{◌≡◌, ◌<◌, ℕ, Some, slice_get};
-ghost use Rattle.ticket_queues.specs.QueueRule.{SameTickets};
-ghost use Rattle.ticket_queues.specs.Inboxes.{IsInboxPass, inbox_view};
+ghost use Rattle.conc_hands.specs.queues.QueueRule.{SameTickets};
+ghost use Rattle.conc_hands.specs.queues.Inboxes.{IsInboxPass, inbox_view};
 ghost use Rattle.conc_hands.specs.Gathering.{ends_in, AreWhole, AreEmptyBelow};
 
 use crate::hand::Hand;
+use crate::queues::{Inbox, InboxPass};
 use hs_rules::Ticketed;
-use ticket_queues::{Inbox, InboxPass};
 
 /// Jobs that were pushed and never taken.
 #[derive(Drop)]

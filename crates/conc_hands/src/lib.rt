@@ -11,12 +11,16 @@
 //!
 //! Running jobs, committing slices and waking capabilities are left to the caller. Nothing is said of order beyond what
 //! the queues do, of fairness, or of how long a call that may wait does wait.
+//!
+//! Parts with a head of their own: `flags`, words in which capabilities tell each other that a running job is to be
+//! cut; `queues`, deques and an inbox of things with tickets.
 #![tactic(auto)]
 
 mod close;
 mod cuts;
 mod deal;
 mod ends;
+pub mod flags;
 mod gather;
 mod hand;
 mod hands;
@@ -25,6 +29,7 @@ mod left;
 mod left_calls;
 mod list;
 mod make;
+pub mod queues;
 mod slices;
 
 pub use hand::Hand;

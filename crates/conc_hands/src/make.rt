@@ -1,24 +1,24 @@
 //! Making the hands.
 ghost use Rattle.std.specs.Prelude.{◌≡◌, ◌<◌, ◌≤◌, [], length, Some, IfOk};
 ghost use Rattle.rules_code.specs.Codes.{body_of};
-ghost use Rattle.ticket_queues.specs.QueueRule.{view_with};
-ghost use Rattle.ticket_queues.specs.Inboxes.{IsInboxPass, inbox_view};
-ghost use Rattle.cut_flags.specs.FlagsRule.{pen_view};
-ghost use Rattle.cut_flags.specs.Pens.{IsPenOf, view_of};
+ghost use Rattle.conc_hands.specs.queues.QueueRule.{view_with};
+ghost use Rattle.conc_hands.specs.queues.Inboxes.{IsInboxPass, inbox_view};
+ghost use Rattle.conc_hands.specs.flags.FlagsRule.{pen_view};
+ghost use Rattle.conc_hands.specs.flags.Pens.{IsPenOf, view_of};
 ghost use Rattle.conc_hands.specs.Dealing.{IsLaidOut, IsDequeOf, IsRowOf, IsDealtPost, IsFresh, AreFresh};
 ghost use Rattle.conc_hands.specs.Hands.{hands_code, hands_count, IsHandOf, number_of};
 ghost use Rattle.conc_hands.specs.Lists.{hands_in};
 
 use crate::deal::{Dealt, lay_out};
+use crate::flags::{Flags, Pen};
 use crate::hand::{Hand, JobsEnd};
 use crate::hands::Hands;
 use crate::list::HandList;
-use cut_flags::{Flags, Pen};
+use crate::queues::{Deque, DequePass, Inbox, InboxPass};
 use hs_base::NoMemory;
 use hs_rules::Ticketed;
 use rules_code::{Code, CodeBody};
 use std::alloc::{AllocError, Global};
-use ticket_queues::{Deque, DequePass, Inbox, InboxPass};
 
 /// All shares of the inbox and of the flags.
 struct Shares<S: Ticketed> {

@@ -1,6 +1,6 @@
 //! The calls on slices.
 ghost use Rattle.std.specs.Prelude.{◌≡◌, ◌↔◌, ◌∷◌, ◌++◌, [], OnOk, IfErr, IsNone, MatchOption};
-ghost use Rattle.ticket_queues.specs.QueueRule.{SameTickets, MetEmpty};
+ghost use Rattle.conc_hands.specs.queues.QueueRule.{SameTickets, MetEmpty};
 ghost use Rattle.conc_hands.specs.Hands.{hands_code, hands_count, IsHandOf, number_of, room_of, handed_in_by, collected_by, inbox_view_of, SameJobs, SameSlices, SameFlags, CollectedSlice};
 
 use crate::hand::Hand;

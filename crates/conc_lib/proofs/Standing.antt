@@ -5,9 +5,9 @@ use Rattle.hs_base.specs.declared.tree.forms.UnaryAction.{UnaryAction}
 use Rattle.hs_base.specs.declared.tree.forms.UnaryAction.TheVariants as u
 use Rattle.hs_base.specs.declared.tree.forms.GuardAction.{GuardAction}
 use Rattle.hs_base.specs.declared.tree.forms.GuardAction.TheVariants as g
-use Rattle.rules_trees.specs.Trees.{Ex}
-use Rattle.rules_trees.specs.Programs as tree
-use Rattle.rules_trees.specs.Programs.{SurfaceAction, Bl}
+use Rattle.rules_expansion.specs.trees.Trees.{Ex}
+use Rattle.rules_expansion.specs.trees.Programs as tree
+use Rattle.rules_expansion.specs.trees.Programs.{SurfaceAction, Bl}
 use Rattle.conc_lib.specs.Scopes.{IsOfForm, unary_form, guard_form, scope_form}
 
 unary_stands : (w : UnaryAction) (p : Pos) (e : Ex) → IfSome (unary_form w) (λ o. IsOfForm o (tree.unary_act w p e))

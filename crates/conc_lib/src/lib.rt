@@ -1,13 +1,13 @@
 //! What an action of async scopes stands for, as the table of expansions has it.
 //!
-//! To a contract an action is its mirror (`rules_trees`), and a row of the table the list of its steps (`rules_expansion`). Its
+//! To a contract an action is its mirror (`rules_expansion::trees`), and a row of the table the list of its steps (`rules_expansion`). Its
 //! promise: `scope` answers the row of the form that the action is, answers none exactly where it is no such form, and that
 //! form's template, with the action's own parts in it, is what the action comes to. Making nodes by a row is left to `hs_core`.
 #![tactic(auto)]
 
 ghost use Rattle.std.specs.Prelude.{◌≡◌, None, Some, IfSome, MatchOption};
 ghost use Rattle.std.specs.Option.{option_map};
-ghost use Rattle.rules_trees.specs.Programs.{act_of};
+ghost use Rattle.rules_expansion.specs.trees.Programs.{act_of};
 ghost use Rattle.rules_expansion.specs.Templates.{steps};
 ghost use Rattle.conc_lib.specs.Scopes.{IsOfForm, unary_form, guard_form, scope_form};
 
@@ -27,7 +27,7 @@ pub fn scope(action: &Action) -> Option<&'static [Step]>
 }
 
 /// The form of async scopes that an action is.
-#[tactic(auto, using(rules_trees::proofs::EquationsOfActions::act_rules))]
+#[tactic(auto, using(rules_expansion::proofs::trees_lemmas::EquationsOfActions::act_rules))]
 fn form_of(action: &Action) -> Option<Derived>
     ensures { result ≡ scope_form (act_of action.now) }
 {

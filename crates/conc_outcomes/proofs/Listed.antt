@@ -10,9 +10,9 @@ use Rattle.outcome_laws.specs.Outcomes as laws
 use Rattle.outcome_listing.specs.declared.explored.Final.{Final}
 use Rattle.outcome_listing.specs.declared.explored.Outcome.{Outcome}
 use Rattle.outcome_listing.specs.Finals.{final_of, outcome_of, outcomes_of}
-use Rattle.outcome_order.specs.declared.ended.Ended.{Ended}
-use Rattle.outcome_order.specs.Rising as order
-use Rattle.outcome_order.specs.Rising.{outcome_by, IsRising, Holds, Has}
+use Rattle.conc_outcomes.specs.declared.order.ended.Ended.{Ended}
+use Rattle.conc_outcomes.specs.order.Rising as order
+use Rattle.conc_outcomes.specs.order.Rising.{outcome_by, IsRising, Holds, Has}
 use Rattle.search_laws.specs.Shown.{Shown}
 use Rattle.state_search.specs.declared.found.Found.{Found}
 use Rattle.state_search.specs.Meaning.{states_of, kind_of}

@@ -6,9 +6,9 @@ use Rattle.hs_base.specs.declared.clock_choice.ClockChoice.TheVariants.{Virtual}
 use Rattle.hs_base.specs.declared.tree.script.Script.{Script}
 use Rattle.hs_rules.specs.declared.entry.Entry.{Entry}
 use Rattle.hs_rules.specs.State.{State}
-use Rattle.rules_trees.specs.Programs.{Fn, script_of}
+use Rattle.rules_expansion.specs.trees.Programs.{Fn, script_of}
 use Rattle.rules_code.specs.declared.code.CodeBody.{CodeBody}
-use Rattle.timing_laws.specs.WithoutTime.{without_ticks}
+use Rattle.outcome_laws.specs.timing.WithoutTime.{without_ticks}
 use Rattle.outcome_listing.specs.declared.bounds.Bounds.{Bounds}
 use Rattle.number_tables.specs.Tables.{Grows}
 use Rattle.number_states.specs.declared.state.NumberState.{NumberState}
@@ -19,9 +19,9 @@ use Rattle.search_laws.specs.Shown.{Shown, StandsAs, forget}
 use Rattle.state_search.specs.Meaning.{shown}
 use Rattle.state_search.specs.Searching.{IsCodeOf}
 use Rattle.state_search.proofs.Keeping.{shown_on}
-use Rattle.exact_walks.specs.declared.walk.Walk.{Walk}
-use Rattle.exact_walks.specs.Walking.{IsTimedRun, ComesBack}
-use Rattle.exact_walks.specs.Entering.{IsAt, AreAlike}
+use Rattle.conc_outcomes.specs.declared.walks.walk.Walk.{Walk}
+use Rattle.conc_outcomes.specs.walks.Walking.{IsTimedRun, ComesBack}
+use Rattle.conc_outcomes.specs.walks.Entering.{IsAt, AreAlike}
 
 -- what is kept of a state in a timing stands for what the state stands for
 stands_kept : (clock : ClockChoice) (ds : List Fn) (c d : Shown) (s : State) → StandsAs Virtual ds c s → forget clock c.slots ≡ d.slots → c.output ≡ d.output → c.errors ≡ d.errors → StandsAs clock ds d s

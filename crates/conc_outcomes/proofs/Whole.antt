@@ -2,7 +2,7 @@
 use Rattle.std.proofs.Common.{◌≡◌, ℕ, List, length, map, Option, Some, None, refl, sym, subst}
 use Rattle.std.specs.List.{AllByRecursion, Contains}
 use Rattle.hs_base.specs.declared.tree.script.Script.{Script}
-use Rattle.rules_trees.specs.Programs.{Fn, script_of}
+use Rattle.rules_expansion.specs.trees.Programs.{Fn, script_of}
 use Rattle.rules_code.specs.declared.code.CodeBody.{CodeBody}
 use Rattle.outcome_laws.specs.Outcomes as laws
 use Rattle.outcome_listing.specs.declared.bounds.Bounds.{Bounds}
@@ -13,14 +13,14 @@ use Rattle.outcome_listing.specs.declared.explored.Endless.TheVariants as endles
 use Rattle.outcome_listing.specs.declared.explored.Outcome.{Outcome}
 use Rattle.outcome_listing.specs.declared.explored.Explored.{Explored}
 use Rattle.outcome_listing.specs.Finals.{outcomes_of}
-use Rattle.outcome_order.specs.declared.ended.Ended.{Ended}
-use Rattle.outcome_order.specs.Rising.{outcome_by, IsRising, Has}
+use Rattle.conc_outcomes.specs.declared.order.ended.Ended.{Ended}
+use Rattle.conc_outcomes.specs.order.Rising.{outcome_by, IsRising, Has}
 use Rattle.state_search.specs.declared.found.Found.{Found}
 use Rattle.state_search.specs.declared.found.Gap.{Gap}
 use Rattle.state_search.specs.Searching.{Searched, IsClosed, IsCodeOf, AreReached, Shows, ShowsAll}
-use Rattle.search_ends.specs.declared.marks.Ends.{Ends}
-use Rattle.search_ends.specs.declared.marks.Ends.TheVariants as ends
-use Rattle.search_ends.specs.Ending.{IsRightOf}
+use Rattle.conc_outcomes.specs.declared.finiteness.marks.Ends.{Ends}
+use Rattle.conc_outcomes.specs.declared.finiteness.marks.Ends.TheVariants as ends
+use Rattle.conc_outcomes.specs.finiteness.Ending.{IsRightOf}
 use Rattle.conc_outcomes.specs.Exploring.{IsListed, AreRising, Lists, HasEnds, Explores}
 use Rattle.conc_outcomes.specs.Parts.{IsExtentOf, IsEndOf}
 use Rattle.conc_outcomes.proofs.Listed.{outcomes_rise, has_among}

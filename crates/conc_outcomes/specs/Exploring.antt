@@ -7,7 +7,7 @@ use Rattle.hs_base.specs.declared.tree.script.Script.{Script}
 use Rattle.hs_rules.specs.declared.entry.Entry.{Entry}
 use Rattle.hs_rules.specs.State.{State}
 use Rattle.hs_rules.specs.Histories.{steps_of}
-use Rattle.rules_trees.specs.Programs.{Fn, script_of}
+use Rattle.rules_expansion.specs.trees.Programs.{Fn, script_of}
 use Rattle.rules_code.specs.declared.code.CodeBody.{CodeBody}
 use Rattle.outcome_laws.specs.Timings.{IsEndless}
 use Rattle.outcome_laws.specs.Outcomes as laws
@@ -22,10 +22,10 @@ use Rattle.outcome_listing.specs.declared.explored.Endless.TheVariants.{Never, R
 use Rattle.outcome_listing.specs.declared.explored.Outcome.{Outcome}
 use Rattle.outcome_listing.specs.declared.explored.Explored.{Explored}
 use Rattle.outcome_listing.specs.Finals.{outcome_of, outcomes_of}
-use Rattle.ends_laws.specs.Rounds.{HaveBound}
+use Rattle.search_laws.specs.ends.Rounds.{HaveBound}
 use Rattle.state_search.specs.declared.found.Found.{Found}
 use Rattle.state_search.specs.Searching.{Searched, AreReached}
-use Rattle.exact_walks.specs.Walking.{IsTimedRun, IsWitness, ExceedsLast, ReadsLast, ComesBack}
+use Rattle.conc_outcomes.specs.walks.Walking.{IsTimedRun, IsWitness, ExceedsLast, ReadsLast, ComesBack}
 
 -- ---- each outcome that is listed
 

@@ -1,6 +1,6 @@
 -- What the parts of a listing promise each other (own).
 use Rattle.std.specs.Prelude.{◌≡◌, ℕ, List, Option, Some, None}
-use Rattle.rules_trees.specs.Programs.{Fn}
+use Rattle.rules_expansion.specs.trees.Programs.{Fn}
 use Rattle.hs_base.specs.declared.clock_choice.ClockChoice.{ClockChoice}
 use Rattle.outcome_listing.specs.declared.bounds.Bounds.{Bounds}
 use Rattle.outcome_listing.specs.declared.explored.Extent.{Extent}
@@ -8,9 +8,9 @@ use Rattle.outcome_listing.specs.declared.explored.Extent.TheVariants.{All, NotA
 use Rattle.outcome_listing.specs.declared.explored.Endless.{Endless}
 use Rattle.outcome_listing.specs.declared.explored.Endless.TheVariants as endless
 use Rattle.state_search.specs.declared.found.Gap.{Gap}
-use Rattle.search_ends.specs.declared.marks.Ends.{Ends}
-use Rattle.search_ends.specs.declared.marks.Ends.TheVariants as ends
-use Rattle.exact_walks.specs.Walking.{ComesBack}
+use Rattle.conc_outcomes.specs.declared.finiteness.marks.Ends.{Ends}
+use Rattle.conc_outcomes.specs.declared.finiteness.marks.Ends.TheVariants as ends
+use Rattle.conc_outcomes.specs.walks.Walking.{ComesBack}
 use Rattle.conc_outcomes.specs.Exploring.{HasGap}
 
 -- Where a search left no gap all is listed, and nowhere else: there a run shows why.

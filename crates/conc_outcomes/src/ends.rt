@@ -1,21 +1,21 @@
 //! A run that comes back to a state.
 ghost use Rattle.std.specs.Prelude.{◌≡◌, IfOk, OnOk, drop};
 ghost use Rattle.hs_base.specs.declared.tree.script.Script.{Script};
-ghost use Rattle.rules_trees.specs.Programs.{script_of};
+ghost use Rattle.rules_expansion.specs.trees.Programs.{script_of};
 ghost use Rattle.number_tables.specs.Tables.{Grows};
 ghost use Rattle.number_states.specs.Stocks.{HasGrown};
 ghost use Rattle.state_search.specs.Searching.{IsCodeOf};
-ghost use Rattle.exact_walks.specs.Walking.{ComesBack};
-ghost use Rattle.exact_walks.specs.Entering.{IsAt};
+ghost use Rattle.conc_outcomes.specs.walks.Walking.{ComesBack};
+ghost use Rattle.conc_outcomes.specs.walks.Entering.{IsAt};
 ghost use Rattle.conc_outcomes.specs.Parts.{IsEndOf};
 
+use crate::finiteness::Ends;
 use crate::paths::{Bounded, Paths, walk_to};
-use exact_walks::{Walk, are_alike, works};
+use crate::walks::{Walk, are_alike, works};
 use hs_base::NoMemory;
 use hs_rules::History;
 use number_states::Numbers;
 use outcome_listing::Endless;
-use search_ends::Ends;
 use state_search::{Gap, Move};
 use std::alloc::Global;
 

@@ -7,13 +7,13 @@ ghost use Rattle.conc_outcomes.specs.Exploring.{Explores};
 
 use crate::ends::endless;
 use crate::extent::extent;
+use crate::finiteness::ends;
 use crate::listing::{endings, outcomes};
 use crate::paths::{Bounded, Paths};
 use hs_base::NoMemory;
 use hs_rules::Code;
 use outcome_listing::{Bounds, Explored};
 use rules_code::CodeBody;
-use search_ends::ends;
 use state_search::{Found, search};
 use std::alloc::Global;
 

@@ -2,15 +2,15 @@
 ghost use Rattle.std.specs.Prelude.{◌≡◌, IfOk, IsTrue};
 ghost use Rattle.hs_base.specs.declared.clock_choice.ClockChoice.TheVariants.{Real};
 ghost use Rattle.hs_base.specs.declared.tree.script.Script.{Script};
-ghost use Rattle.rules_trees.specs.Programs.{script_of};
+ghost use Rattle.rules_expansion.specs.trees.Programs.{script_of};
 ghost use Rattle.state_search.specs.Searching.{IsCodeOf};
-ghost use Rattle.exact_walks.specs.Walking.{ReadsLast};
-ghost use Rattle.exact_walks.specs.Entering.{IsAt, Exceeds};
+ghost use Rattle.conc_outcomes.specs.walks.Walking.{ReadsLast};
+ghost use Rattle.conc_outcomes.specs.walks.Entering.{IsAt, Exceeds};
 ghost use Rattle.conc_outcomes.specs.Exploring.{HasGap};
 ghost use Rattle.conc_outcomes.specs.Parts.{IsExtentOf};
 
 use crate::paths::{Bounded, walk_by, walk_to};
-use exact_walks::Walk;
+use crate::walks::Walk;
 use hs_base::{ClockChoice, NoMemory};
 use hs_rules::{History, LimitKind};
 use number_states::Numbers;

@@ -1,9 +1,9 @@
 //! The walks along the entries that lead to what a search has found. Where those can't be walked, which is not promised, the answer
 //! is want of memory; of where a walk comes to nothing is promised either, and whoever asked for it looks.
 ghost use Rattle.std.specs.Prelude.{IfOk};
-ghost use Rattle.exact_walks.specs.Entering.{IsAt};
+ghost use Rattle.conc_outcomes.specs.walks.Entering.{IsAt};
 
-use exact_walks::Walk;
+use crate::walks::Walk;
 use hs_base::NoMemory;
 use hs_rules::Entry;
 use number_states::Numbers;

@@ -1,6 +1,6 @@
 //! A witness, written down.
 ghost use Rattle.std.specs.Prelude.{◌≡◌, IfOk};
-ghost use Rattle.rules_traces.specs.Traces.{document_of};
+ghost use Rattle.trace_text.specs.spelling.Traces.{document_of};
 
 use hs_base::{NoMemory, Txt};
 use outcome_listing::Outcome;

@@ -2,8 +2,8 @@
 #![tactic(auto)]
 
 use conc_top::{OUT_OF_MEMORY, run};
+use hs_io::retried::RetriedReads;
 use hs_io::{HostClock, OpenGate, Sink, StdSink, StdSource};
-use retried_reads::RetriedReads;
 use std::alloc::AllocError;
 use std::env;
 use std::io::ErrorKind;

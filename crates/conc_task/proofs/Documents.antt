@@ -9,9 +9,9 @@ use Rattle.std.proofs.lemmas.List.{length-take, length-drop}
 use Rattle.std.proofs.lemmas.Slice.Eq.{bytes_eq-Decides}
 use Rattle.std.proofs.Math.Seq.{take-length}
 use Rattle.rules_code.specs.Codes.{body_of}
-use Rattle.rules_traces.specs.Traces.{IsScriptLine, script_line}
-use Rattle.conc_words.specs.declared.command.Command.TheVariants.{Ask}
-use Rattle.conc_words.specs.declared.command.Question.{Question}
+use Rattle.trace_text.specs.spelling.Traces.{IsScriptLine, script_line}
+use Rattle.conc_task.specs.declared.words.command.Command.TheVariants.{Ask}
+use Rattle.conc_task.specs.declared.words.command.Question.{Question}
 use Rattle.hs_compile.specs.declared.refusal.Refusal.{Refusal}
 use Rattle.hs_compile.specs.declared.refusal.Refusal.TheVariants.{TooLong}
 use Rattle.hs_compile.specs.Verdicts.{IsAccepted, IsRefused}

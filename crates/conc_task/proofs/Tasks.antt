@@ -5,10 +5,10 @@ use Rattle.hs_base.specs.declared.clock_choice.ClockChoice.{ClockChoice}
 use Rattle.hs_base.specs.declared.clock_choice.ClockChoice.TheVariants.{Virtual}
 use Rattle.rules_code.specs.declared.code.Code.{Code}
 use Rattle.rules_code.specs.Codes.{body_of}
-use Rattle.conc_gen.specs.Ring.{ring_text}
-use Rattle.conc_words.specs.declared.command.Command.{Command}
-use Rattle.conc_words.specs.declared.command.Command.TheVariants.{Run, Check, Bench, Trace, Outcomes, Ask}
-use Rattle.conc_words.specs.declared.command.Question.{Question}
+use Rattle.conc_task.specs.ring.Ring.{ring_text}
+use Rattle.conc_task.specs.declared.words.command.Command.{Command}
+use Rattle.conc_task.specs.declared.words.command.Command.TheVariants.{Run, Check, Bench, Trace, Outcomes, Ask}
+use Rattle.conc_task.specs.declared.words.command.Question.{Question}
 use Rattle.hs_compile.specs.declared.refusal.Refusal.{Refusal}
 use Rattle.hs_compile.specs.Verdicts.{IsAccepted, IsRefused, script_limit}
 use Rattle.conc_task.specs.declared.stop.Stop.{Stop}

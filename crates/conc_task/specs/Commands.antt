@@ -2,10 +2,10 @@
 use Rattle.std.specs.Prelude.{◌≡◌, ◌⊎◌, ℕ, List, Option, Some, None, ⊤}
 use Rattle.hs_base.specs.declared.clock_choice.ClockChoice.{ClockChoice}
 use Rattle.hs_base.specs.declared.clock_choice.ClockChoice.TheVariants.{Virtual}
-use Rattle.conc_gen.specs.Ring.{ring_text}
-use Rattle.conc_words.specs.declared.command.Command.{Command}
-use Rattle.conc_words.specs.declared.command.Command.TheVariants.{Run, Check, Bench, Trace, Outcomes, Ask}
-use Rattle.conc_words.specs.declared.command.Question.{Question}
+use Rattle.conc_task.specs.ring.Ring.{ring_text}
+use Rattle.conc_task.specs.declared.words.command.Command.{Command}
+use Rattle.conc_task.specs.declared.words.command.Command.TheVariants.{Run, Check, Bench, Trace, Outcomes, Ask}
+use Rattle.conc_task.specs.declared.words.command.Question.{Question}
 use Rattle.hs_compile.specs.Verdicts.{script_limit}
 use Rattle.conc_task.specs.Documents.{document_limit, IsLeft, IsScriptOf}
 

@@ -1,6 +1,6 @@
 -- Documents: a trace, a line `script`, and the bytes of a script (own).
 use Rattle.std.specs.Prelude.{◌≡◌, ◌≤◌, ◌<◌, ◌+◌, ◌⊎◌, ℕ, List, [], drop, length, take, Option, None, Some, ⊤}
-use Rattle.rules_traces.specs.Traces.{IsScriptLine}
+use Rattle.trace_text.specs.spelling.Traces.{IsScriptLine}
 
 -- A document has at most so many bytes.
 abbrev pub document_limit : ℕ

@@ -3,3 +3,5 @@ pub mod Commands
 pub mod Inputs
 pub mod Stops
 pub mod Tasks
+pub mod ring
+pub mod words

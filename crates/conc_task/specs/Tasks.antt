@@ -1,10 +1,10 @@
 -- What there is to do once the words and the input are read (own).
 use Rattle.std.specs.Prelude.{◌≡◌, ◌≤◌, ℕ, List, Option, Some, length, ⊤}
 use Rattle.rules_code.specs.Codes.{body_of}
-use Rattle.conc_words.specs.declared.command.Command.{Command}
-use Rattle.conc_words.specs.declared.command.Command.TheVariants.{Check, Outcomes}
-use Rattle.conc_words.specs.declared.command.Question.{Question}
-use Rattle.conc_words.specs.Commands.{IsNumbered}
+use Rattle.conc_task.specs.declared.words.command.Command.{Command}
+use Rattle.conc_task.specs.declared.words.command.Command.TheVariants.{Check, Outcomes}
+use Rattle.conc_task.specs.declared.words.command.Question.{Question}
+use Rattle.conc_task.specs.words.Commands.{IsNumbered}
 use Rattle.hs_compile.specs.Verdicts.{IsAccepted, script_limit}
 use Rattle.conc_task.specs.declared.task.Program.{Program}
 use Rattle.conc_task.specs.declared.task.Claim.{Claim}

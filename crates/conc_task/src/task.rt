@@ -2,19 +2,19 @@ ghost use Rattle.std.specs.Prelude.{◌≡◌, ◌≤◌, IfOk, MatchResult, Som
 ghost use Rattle.hs_io.specs.Causes.{Rose};
 ghost use Rattle.rules_code.specs.Codes.{body_of};
 ghost use Rattle.hs_compile.specs.Verdicts.{IsAccepted};
-ghost use Rattle.conc_gen.specs.Ring.{ring_text};
-ghost use Rattle.conc_words.specs.declared.command.Command.TheVariants.{Ask};
-ghost use Rattle.conc_words.specs.declared.command.Question.{Question as AQuestion};
-ghost use Rattle.conc_words.specs.Commands.{command_by, IsWithin};
+ghost use Rattle.conc_task.specs.ring.Ring.{ring_text};
+ghost use Rattle.conc_task.specs.declared.words.command.Command.TheVariants.{Ask};
+ghost use Rattle.conc_task.specs.declared.words.command.Question.{Question as AQuestion};
+ghost use Rattle.conc_task.specs.words.Commands.{command_by, IsWithin};
 ghost use Rattle.conc_task.specs.Commands.{ReadsSource};
 ghost use Rattle.conc_task.specs.Inputs.{HadBytes, HadScript, HadSome, IsScript, TakesWhole};
 ghost use Rattle.conc_task.specs.Stops.{Counted, HadNone, HasNone, IsDenied, IsUnclaimed, IsUnclear, IsUnread, stop_of};
 ghost use Rattle.conc_task.specs.Tasks.{HasCapabilities, HasClaim, HasFuel, HasNumber, HasStates, HasTask, IsClaimed};
 
 use crate::input::{Input, read_input};
+use crate::ring::ring;
 use crate::stop::Stop;
-use conc_gen::ring;
-use conc_words::{Command, Question, WordsFault, read_words};
+use crate::words::{Command, Question, WordsFault, read_words};
 use hs_base::ClockChoice;
 use hs_compile::{CompileFault, Refusal, accept, compile};
 use hs_io::Source;

@@ -5,8 +5,8 @@ use Rattle.std.specs.Io.KnownBytes.{Appends}
 use Rattle.hs_base.specs.declared.clock_choice.ClockChoice.{ClockChoice}
 use Rattle.hs_io.specs.Causes.{Rose}
 use Rattle.hs_rules.specs.declared.entry.Entry.{Entry}
-use Rattle.conc_world.specs.Runs.{Shown}
-use Rattle.conc_words.specs.declared.command.Command.{Command}
+use Rattle.conc_caps.specs.Runs.{Shown}
+use Rattle.conc_task.specs.declared.words.command.Command.{Command}
 use Rattle.conc_task.specs.declared.stop.Stop.{Stop}
 use Rattle.conc_task.specs.declared.stop.Stop.TheVariants as stop
 use Rattle.conc_task.specs.declared.task.Task.{Task}

@@ -5,12 +5,12 @@ use Rattle.std.specs.Prelude.{Option, Result, Ok, Err}
 use Rattle.hs_base.specs.declared.clock_choice.ClockChoice.{ClockChoice}
 use Rattle.hs_rules.specs.declared.entry.Entry.{Entry}
 use Rattle.rules_code.specs.Codes.{body_of}
-use Rattle.rules_trees.specs.Programs.{Fn, script_of}
-use Rattle.report_tally.specs.Reporting.{report_of}
-use Rattle.conc_words.specs.declared.command.Command.{Command}
-use Rattle.conc_words.specs.declared.command.Question.{Question}
-use Rattle.conc_words.specs.declared.command.Question.TheVariants.{Verify, Report, Picture}
-use Rattle.conc_world.specs.Runs.{Shown}
+use Rattle.rules_expansion.specs.trees.Programs.{Fn, script_of}
+use Rattle.trace_report.specs.tally.Reporting.{report_of}
+use Rattle.conc_task.specs.declared.words.command.Command.{Command}
+use Rattle.conc_task.specs.declared.words.command.Question.{Question}
+use Rattle.conc_task.specs.declared.words.command.Question.TheVariants.{Verify, Report, Picture}
+use Rattle.conc_caps.specs.Runs.{Shown}
 use Rattle.trace_checker.specs.declared.verdict.Verified.{Verified as VerifiedRun}
 use Rattle.trace_checker.specs.declared.verdict.RunFault.{RunFault}
 use Rattle.trace_checker.specs.declared.verdict.RunFault.TheVariants as fault

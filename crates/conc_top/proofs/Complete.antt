@@ -3,13 +3,13 @@ use Rattle.std.proofs.Common.{◌≡◌, ◌⊎◌, ◌≤◌, ◌+◌, ℕ, Lis
 use Rattle.std.specs.Prelude.{Option, Some, None, IsSome, Result, Ok, Err}
 use Rattle.std.proofs.Math.Logic.{∥∥₁_elim}
 use Rattle.std.proofs.Props.{props}
-use Rattle.run_course.specs.declared.ends.RunEnd.{RunEnd}
-use Rattle.run_course.specs.declared.ends.RunEnd.TheVariants as end
-use Rattle.conc_words.specs.declared.command.Command.{Command}
-use Rattle.conc_words.specs.declared.command.Command.TheVariants.{Run, Check, Bench, Trace, Ask}
-use Rattle.conc_words.specs.declared.command.Command.TheVariants as commands
-use Rattle.conc_words.specs.declared.command.Question.{Question}
-use Rattle.conc_words.specs.declared.command.Question.TheVariants.{Verify, Report, Picture}
+use Rattle.conc_caps.specs.RunEnd.{RunEnd}
+use Rattle.conc_caps.specs.RunEnd.TheVariants as end
+use Rattle.conc_task.specs.declared.words.command.Command.{Command}
+use Rattle.conc_task.specs.declared.words.command.Command.TheVariants.{Run, Check, Bench, Trace, Ask}
+use Rattle.conc_task.specs.declared.words.command.Command.TheVariants as commands
+use Rattle.conc_task.specs.declared.words.command.Question.{Question}
+use Rattle.conc_task.specs.declared.words.command.Question.TheVariants.{Verify, Report, Picture}
 use Rattle.hs_compile.specs.declared.refusal.Refusal.{Refusal}
 use Rattle.hs_compile.specs.Verdicts.{IsRefused}
 use Rattle.hs_compile.proofs.Verdicts.{not_both}

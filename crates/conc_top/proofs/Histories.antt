@@ -14,15 +14,15 @@ use Rattle.hs_io.specs.Causes.{Rose}
 use Rattle.hs_rules.specs.declared.entry.Entry.{Entry}
 use Rattle.hs_rules.specs.declared.kept.Plan.{Plan}
 use Rattle.rules_code.specs.Codes.{body_of}
-use Rattle.rules_traces.specs.Traces.{document_of}
-use Rattle.rules_trees.specs.Programs.{Fn}
+use Rattle.trace_text.specs.spelling.Traces.{document_of}
+use Rattle.rules_expansion.specs.trees.Programs.{Fn}
 use Rattle.hs_laws.specs.HistoryEndings.{StaysWithin}
-use Rattle.run_course.specs.declared.ends.RunEnd.{RunEnd}
-use Rattle.run_course.specs.declared.ends.RunEnd.TheVariants as end
-use Rattle.run_course.specs.Endings.{EndedBy}
-use Rattle.conc_words.specs.declared.command.Command.{Command}
-use Rattle.conc_words.specs.declared.command.Command.TheVariants as command
-use Rattle.conc_world.specs.Runs.{IsRunOf, Shown, script}
+use Rattle.conc_caps.specs.RunEnd.{RunEnd}
+use Rattle.conc_caps.specs.RunEnd.TheVariants as end
+use Rattle.conc_caps.specs.Endings.{EndedBy}
+use Rattle.conc_task.specs.declared.words.command.Command.{Command}
+use Rattle.conc_task.specs.declared.words.command.Command.TheVariants as command
+use Rattle.conc_caps.specs.Runs.{IsRunOf, Shown, script}
 use Rattle.hs_compile.specs.Verdicts.{IsAccepted}
 use Rattle.conc_task.specs.declared.task.Program.{Program}
 use Rattle.conc_task.specs.declared.task.Task.{Task}

@@ -9,14 +9,14 @@ use Rattle.hs_base.specs.declared.no_memory.NoMemory.{NoMemory}
 use Rattle.hs_base.specs.declared.tree.script.Script.{Script}
 use Rattle.hs_rules.specs.declared.entry.Entry.{Entry}
 use Rattle.rules_code.specs.Codes.{body_of}
-use Rattle.conc_world.specs.Runs.{Shown}
-use Rattle.state_search.specs.Searching.{IsCodeOf}
+use Rattle.conc_caps.specs.Runs.{Shown}
+use Rattle.conc_outcomes.specs.Searching.{IsCodeOf}
 use Rattle.outcome_listing.specs.declared.explored.Explored.{Explored}
 use Rattle.outcome_listing.specs.declared.explored.Extent.{Extent}
 use Rattle.conc_outcomes.specs.Exploring.{Explores}
-use Rattle.conc_words.specs.declared.command.Command.{Command}
-use Rattle.conc_words.specs.declared.command.Command.TheVariants as commands
-use Rattle.conc_words.specs.declared.command.Question.{Question}
+use Rattle.conc_task.specs.declared.words.command.Command.{Command}
+use Rattle.conc_task.specs.declared.words.command.Command.TheVariants as commands
+use Rattle.conc_task.specs.declared.words.command.Question.{Question}
 use Rattle.conc_task.specs.declared.stop.Stop.{Stop}
 use Rattle.conc_task.specs.declared.stop.Stop.TheVariants as stop
 use Rattle.conc_task.specs.declared.task.Search.{Search}

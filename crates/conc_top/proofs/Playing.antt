@@ -14,20 +14,20 @@ use Rattle.hs_rules.specs.declared.entry.Entry.{Entry}
 use Rattle.hs_rules.specs.declared.kept.Plan.{Plan}
 use Rattle.hs_rules.specs.State.{State}
 use Rattle.hs_rules.specs.Runs.{IsRun, out, err}
-use Rattle.rules_trees.specs.Programs.{Fn, script_of}
+use Rattle.rules_expansion.specs.trees.Programs.{Fn, script_of}
 use Rattle.rules_code.specs.Codes.{body_of}
 use Rattle.hs_laws.specs.HistoryEndings.{StaysWithin}
 use Rattle.hs_laws.proofs.Expanded.{brackets_of, brackets_law, cells_law, masks_law}
 use Rattle.scope_laws.proofs.Law.{scopes_law}
-use Rattle.run_course.specs.declared.ends.RunEnd.{RunEnd}
-use Rattle.run_course.specs.declared.ends.RunEnd.TheVariants as end
-use Rattle.run_course.specs.Told.{AppendsPart, IsCutOff, is_write, ToldOf}
-use Rattle.run_course.specs.Endings.{EndedBy}
-use Rattle.clocked_record.specs.Clocks.{TicksKept}
-use Rattle.conc_words.specs.declared.command.Command.{Command}
-use Rattle.conc_words.specs.declared.command.Command.TheVariants.{Run, Check, Bench, Trace, Ask}
-use Rattle.conc_words.specs.declared.command.Command.TheVariants as commands
-use Rattle.conc_world.specs.Runs.{IsRunOf, Shown, script}
+use Rattle.conc_caps.specs.RunEnd.{RunEnd}
+use Rattle.conc_caps.specs.RunEnd.TheVariants as end
+use Rattle.conc_caps.specs.Told.{AppendsPart, IsCutOff, is_write, ToldOf}
+use Rattle.conc_caps.specs.Endings.{EndedBy}
+use Rattle.conc_caps.specs.Clocks.{TicksKept}
+use Rattle.conc_task.specs.declared.words.command.Command.{Command}
+use Rattle.conc_task.specs.declared.words.command.Command.TheVariants.{Run, Check, Bench, Trace, Ask}
+use Rattle.conc_task.specs.declared.words.command.Command.TheVariants as commands
+use Rattle.conc_caps.specs.Runs.{IsRunOf, Shown, script}
 use Rattle.hs_compile.specs.Verdicts.{IsAccepted, script_limit}
 use Rattle.conc_task.specs.declared.task.Program.{Program}
 use Rattle.conc_task.specs.declared.task.Task.{Task}

@@ -9,24 +9,24 @@ use Rattle.hs_rules.specs.declared.kept.Plan.{Plan}
 use Rattle.hs_rules.specs.State.{State}
 use Rattle.hs_rules.specs.Histories.{steps_of}
 use Rattle.hs_rules.specs.Runs.{IsRun, out, err}
-use Rattle.rules_trees.specs.Programs.{Fn, script_of}
-use Rattle.rules_traces.specs.Traces.{document_of}
+use Rattle.rules_expansion.specs.trees.Programs.{Fn, script_of}
+use Rattle.trace_text.specs.spelling.Traces.{document_of}
 use Rattle.hs_laws.specs.BracketLaw.{Brackets}
 use Rattle.hs_laws.specs.BracketPhases.{BracketsKept}
 use Rattle.hs_laws.specs.CellLaw.{CellsKept}
 use Rattle.hs_laws.specs.MaskLaw.{MasksKept}
 use Rattle.hs_laws.specs.HistoryEndings.{StaysWithin}
 use Rattle.scope_laws.specs.ScopesKept.{ScopesKept}
-use Rattle.clocked_record.specs.Clocks.{TicksKept}
-use Rattle.run_course.specs.declared.ends.RunEnd.{RunEnd}
-use Rattle.run_course.specs.Told.{AppendsPart, IsCutOff, is_write}
-use Rattle.run_course.specs.Endings.{EndedBy}
-use Rattle.conc_world.specs.Runs.{IsRunOf, Shown}
-use Rattle.conc_words.specs.declared.command.Command.{Command}
-use Rattle.conc_words.specs.declared.command.Command.TheVariants.{Run, Check, Bench, Trace, Ask}
-use Rattle.conc_words.specs.declared.command.Command.TheVariants as commands
-use Rattle.conc_words.specs.declared.command.Question.{Question}
-use Rattle.conc_words.specs.declared.command.Question.TheVariants.{Verify, Report, Picture}
+use Rattle.conc_caps.specs.Clocks.{TicksKept}
+use Rattle.conc_caps.specs.RunEnd.{RunEnd}
+use Rattle.conc_caps.specs.Told.{AppendsPart, IsCutOff, is_write}
+use Rattle.conc_caps.specs.Endings.{EndedBy}
+use Rattle.conc_caps.specs.Runs.{IsRunOf, Shown}
+use Rattle.conc_task.specs.declared.words.command.Command.{Command}
+use Rattle.conc_task.specs.declared.words.command.Command.TheVariants.{Run, Check, Bench, Trace, Ask}
+use Rattle.conc_task.specs.declared.words.command.Command.TheVariants as commands
+use Rattle.conc_task.specs.declared.words.command.Question.{Question}
+use Rattle.conc_task.specs.declared.words.command.Question.TheVariants.{Verify, Report, Picture}
 use Rattle.hs_compile.specs.declared.refusal.Refusal.{Refusal}
 use Rattle.hs_compile.specs.Verdicts.{IsAccepted, IsRefused}
 use Rattle.rules_code.specs.Codes.{body_of}
@@ -39,7 +39,7 @@ use Rattle.trace_checker.specs.declared.verdict.Verified.{Verified as VerifiedRu
 use Rattle.trace_picture.specs.declared.fault.PictureFault.{PictureFault}
 use Rattle.trace_picture.specs.declared.fault.PictureFault.TheVariants as picture
 use Rattle.trace_checker.specs.Checking.{Judges, TellsOfRun}
-use Rattle.report_tally.specs.Reporting.{report_of}
+use Rattle.trace_report.specs.tally.Reporting.{report_of}
 use Rattle.conc_top.specs.declared.ending.Ending.{Ending}
 use Rattle.conc_top.specs.declared.ending.Ending.TheVariants.{Ran, Accepted, Words, Refused, Read, Memory, Write, Verified, Reported, Pictured, NotRun, NotDrawn, Outcomes, NoOutcome}
 use Rattle.conc_top.specs.Searches.{HasListing, IsListingOf, IsUnlisted, limits}

@@ -3,13 +3,13 @@ use Rattle.std.specs.Prelude.{◌≡◌, ◌≤◌, ◌<◌, ◌⊎◌, ℕ, Lis
 use Rattle.hs_base.specs.declared.tree.script.Script.{Script}
 use Rattle.hs_rules.specs.declared.entry.Entry.{Entry}
 use Rattle.hs_rules.specs.State.{State}
-use Rattle.rules_trees.specs.Programs.{Fn, script_of}
-use Rattle.run_course.specs.declared.ends.RunEnd.{RunEnd}
-use Rattle.run_course.specs.declared.ends.RunEnd.TheVariants as end
-use Rattle.conc_words.specs.declared.command.Command.{Command}
-use Rattle.conc_words.specs.declared.command.Command.TheVariants.{Check}
-use Rattle.conc_words.specs.declared.command.Question.{Question}
-use Rattle.conc_words.specs.declared.command.Question.TheVariants.{Verify, Report, Picture}
+use Rattle.rules_expansion.specs.trees.Programs.{Fn, script_of}
+use Rattle.conc_caps.specs.RunEnd.{RunEnd}
+use Rattle.conc_caps.specs.RunEnd.TheVariants as end
+use Rattle.conc_task.specs.declared.words.command.Command.{Command}
+use Rattle.conc_task.specs.declared.words.command.Command.TheVariants.{Check}
+use Rattle.conc_task.specs.declared.words.command.Question.{Question}
+use Rattle.conc_task.specs.declared.words.command.Question.TheVariants.{Verify, Report, Picture}
 use Rattle.hs_compile.specs.Verdicts as verdict
 use Rattle.hs_compile.specs.declared.refusal.Refusal.TheVariants as refusal
 use Rattle.trace_checker.specs.declared.verdict.Verified.{Verified as VerifiedRun}

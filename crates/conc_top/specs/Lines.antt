@@ -10,15 +10,15 @@ use Rattle.typing_parts.specs.declared.fault.TypeFault.{TypeFault}
 use Rattle.typing_parts.specs.declared.fault.TypeFault.TheVariants as types
 use Rattle.hs_rules.specs.Primitives.{line_feed}
 use Rattle.hs_rules.specs.Endings.{limit_line, memory_line}
-use Rattle.run_course.specs.declared.ends.RunEnd.{RunEnd}
-use Rattle.run_course.specs.declared.ends.RunEnd.TheVariants as end
+use Rattle.conc_caps.specs.RunEnd.{RunEnd}
+use Rattle.conc_caps.specs.RunEnd.TheVariants as end
 use Rattle.hs_compile.specs.declared.refusal.Refusal.{Refusal}
 use Rattle.hs_compile.specs.declared.refusal.Refusal.TheVariants as refusal
 use Rattle.trace_checker.specs.declared.verdict.Verified.{Verified as VerifiedRun}
 use Rattle.outcome_listing.specs.declared.explored.Extent.{Extent}
 use Rattle.outcome_listing.specs.declared.explored.Extent.TheVariants.{All, NotAll}
-use Rattle.history_player.specs.declared.player.Reached.{Reached}
-use Rattle.history_player.specs.declared.player.Reached.TheVariants as reached
+use Rattle.trace_checker.specs.declared.player.player.Reached.{Reached}
+use Rattle.trace_checker.specs.declared.player.player.Reached.TheVariants as reached
 use Rattle.conc_top.specs.declared.ending.NotRun.{NotRun as NoRun}
 use Rattle.conc_top.specs.declared.ending.NotRun.TheVariants as norun
 use Rattle.conc_top.specs.declared.ending.Line.{Line}

@@ -4,17 +4,17 @@ use Rattle.hs_base.specs.declared.limits.Limits.{Limits}
 use Rattle.hs_base.specs.declared.tree.script.Script.{Script}
 use Rattle.rules_code.specs.declared.code.CodeBody.{CodeBody}
 use Rattle.rules_code.specs.Codes.{body_of}
-use Rattle.rules_traces.specs.Traces.{document_of}
+use Rattle.trace_text.specs.spelling.Traces.{document_of}
 use Rattle.hs_compile.specs.Verdicts.{IsAccepted}
 use Rattle.outcome_listing.specs.declared.bounds.Bounds.{Bounds}
 use Rattle.outcome_listing.specs.declared.explored.Explored.{Explored}
 use Rattle.outcome_listing.specs.declared.explored.Extent.{Extent}
 use Rattle.outcome_listing.specs.declared.explored.Outcome.{Outcome}
 use Rattle.outcome_listing.specs.Listing.{listing_of}
-use Rattle.state_search.specs.Searching.{IsCodeOf}
+use Rattle.conc_outcomes.specs.Searching.{IsCodeOf}
 use Rattle.conc_outcomes.specs.Exploring.{Explores}
-use Rattle.conc_words.specs.declared.command.Command.{Command}
-use Rattle.conc_words.specs.declared.command.Command.TheVariants as commands
+use Rattle.conc_task.specs.declared.words.command.Command.{Command}
+use Rattle.conc_task.specs.declared.words.command.Command.TheVariants as commands
 use Rattle.conc_task.specs.declared.task.Search.{Search}
 use Rattle.conc_top.specs.declared.ending.Ending.{Ending}
 use Rattle.conc_top.specs.declared.ending.Ending.TheVariants.{Memory, NoOutcome}

@@ -7,7 +7,7 @@ ghost use Rattle.conc_top.specs.Lines.{status_of};
 use crate::ending::{Done, Ending, NotRun, verified_line};
 use crate::telling::{tell, tell_text};
 use conc_task::Claim;
-use conc_words::Question;
+use conc_task::words::Question;
 use hs_base::Txt;
 use hs_io::{Clock, Sink};
 use std::alloc::Global;

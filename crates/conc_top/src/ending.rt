@@ -1,7 +1,7 @@
 ghost use Rattle.std.specs.Prelude.{◌≡◌, IfOk, OnErr, string_bytes};
 ghost use Rattle.conc_top.specs.Lines.{absent_line, extent_status, HasPlace, line_of, norun_line, numbered_line, NumbersALine, placed_line, PlacesTypeFault, reached_word, refusal_line, RefusesAPlace, run_line, run_status, status_of, text_of, types_line, undrawn_line, verified_line};
 
-use conc_world::{Parts, RunEnd, Shows};
+use conc_caps::{Parts, RunEnd, Shows};
 use hs_base::{NoMemory, Pos};
 use hs_compile::Refusal;
 use hs_io::{Clock, Sink};
@@ -26,7 +26,7 @@ pub enum Ending {
     Ran(RunEnd),
     /// A script was checked alone, and is accepted.
     Accepted,
-    /// The words are no command (`conc_words`).
+    /// The words are no command (`conc_task::words`).
     Words,
     /// The script is refused.
     Refused(Refusal),

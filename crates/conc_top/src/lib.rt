@@ -9,7 +9,7 @@
 //! and the sinks were told exactly what that run printed and the line of the ending; where outcomes were listed, the output
 //! sink was told exactly the list, or the document that was asked for. Which bytes a real stream gives or takes
 //! is left to `hs_io`, which bytes are a script to `hs_compile`, how a run goes on to `conc_world`, which outcomes a script has
-//! to `conc_outcomes`, which documents are runs to `trace_checker`, what a report says to `report_tally`,
+//! to `conc_outcomes`, which documents are runs to `trace_checker`, what a report says to `trace_report::tally`,
 //! and what is drawn to `lane_picture`.
 #![tactic(auto)]
 
@@ -21,7 +21,7 @@ mod telling;
 mod top;
 mod tracing;
 
-pub use conc_world::RunEnd;
+pub use conc_caps::RunEnd;
 pub use ending::{Done, Ending, NotRun, OUT_OF_MEMORY};
 pub use hs_compile::Refusal;
 pub use outcome_listing::Extent;

@@ -1,7 +1,7 @@
 //! `outcomes`: every outcome of a script is listed, or a run that comes to one of them is written.
 ghost use Rattle.std.specs.Prelude.{◌≡◌, ◌≤◌, IfOk, MatchResult, []};
 ghost use Rattle.rules_code.specs.Codes.{body_of};
-ghost use Rattle.conc_words.specs.Commands.{IsNumbered};
+ghost use Rattle.conc_task.specs.words.Commands.{IsNumbered};
 ghost use Rattle.conc_top.specs.Answers.{TellsSearch};
 ghost use Rattle.conc_top.specs.Lines.{status_of};
 ghost use Rattle.conc_top.specs.Searches.{IsListingOf, IsSearched, IsToldOf, IsUnlisted, IsUntold};

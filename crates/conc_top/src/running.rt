@@ -3,9 +3,8 @@ ghost use Rattle.std.specs.Prelude.{◌≡◌, ◌≤◌, IfErr, IfOk, IsSome, S
 ghost use Rattle.rules_code.specs.Codes.{body_of};
 ghost use Rattle.conc_top.specs.Answers.{HasRun};
 
-use conc_caps::run_caps;
+use conc_caps::{Closed, Desk, Parts, Shows, alone, run_caps};
 use conc_task::Program;
-use conc_world::{Closed, Desk, Parts, Shows, alone};
 use hs_base::Limits;
 use hs_io::{Clock, Gate, Sink};
 use hs_rules::Kept;

@@ -2,9 +2,9 @@ ghost use Rattle.std.specs.Prelude.{◌≡◌, ◌<◌, ◌≤◌, ◌⊎◌, �
 ghost use Rattle.hs_io.specs.Causes.{Rose};
 ghost use Rattle.rules_code.specs.Codes.{body_of};
 ghost use Rattle.hs_compile.specs.Verdicts.{IsAccepted};
-ghost use Rattle.conc_words.specs.Commands.{command_by};
+ghost use Rattle.conc_task.specs.words.Commands.{command_by};
 ghost use Rattle.conc_task.specs.Commands.{IsChosen, ReadsSource, Runs, Traces};
-ghost use Rattle.rules_traces.specs.Traces.{document_of};
+ghost use Rattle.trace_text.specs.spelling.Traces.{document_of};
 ghost use Rattle.outcome_listing.specs.declared.explored.Extent.{Extent};
 ghost use Rattle.conc_top.specs.declared.ending.Ending.TheVariants.{Outcomes, Ran};
 ghost use Rattle.conc_top.specs.Answers.{AnswersQuestions, AnswersRefused, AnswersScripts, HasCause, IsCall, IsPlayed, IsWritten, Plays, TellsLine, TellsListing, Unfailing, WasToldNothing};
@@ -17,8 +17,8 @@ use crate::listing::list;
 use crate::running::run_program;
 use crate::telling::{put_line, tell, tell_accepted};
 use crate::tracing::trace;
+use conc_caps::{Closed, Parts, Shows};
 use conc_task::{Program, Stop, Task, task_of};
-use conc_world::{Closed, Parts, Shows};
 use hs_io::{Clock, Gate, Sink, Source};
 use std::alloc::Global;
 use std::sync::Wait;
@@ -27,7 +27,7 @@ use std::thread::Threads;
 /// Does all that the program does: reads the words, reads the script from the source, checks it, runs it, and tells what it
 /// printed and how it ended.
 ///
-/// `words` are the words after the program's name (`conc_words`). What a run prints goes to `out` and to `err` while it runs,
+/// `words` are the words after the program's name (`conc_task::words`). What a run prints goes to `out` and to `err` while it runs,
 /// each entry's as one piece, and then the line of the ending to `err` as one piece; `check` puts `accepted` on `out`. `trace` prints
 /// nothing of that: once the run is over it puts its document on `out` as one piece. `verify` puts what it found on `out`,
 /// and `report` its lines and `picture` its document as one piece, where the document is a run. `outcomes` runs nothing: it puts

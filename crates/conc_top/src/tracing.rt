@@ -2,7 +2,7 @@
 ghost use Rattle.std.specs.Prelude.{◌≡◌, ◌≤◌, ◌⊎◌, IsSome, Some};
 ghost use Rattle.hs_io.specs.Causes.{Rose};
 ghost use Rattle.rules_code.specs.Codes.{body_of};
-ghost use Rattle.rules_traces.specs.Traces.{document_of};
+ghost use Rattle.trace_text.specs.spelling.Traces.{document_of};
 ghost use Rattle.hs_compile.specs.Verdicts.{IsAccepted};
 ghost use Rattle.conc_top.specs.Answers.{IsPlayed, IsWritten, PutsDocument, Writes, WritesEnded};
 ghost use Rattle.conc_top.specs.Lines.{status_of};
@@ -10,8 +10,8 @@ ghost use Rattle.conc_top.specs.Lines.{status_of};
 use crate::ending::{Done, Ending, run_line};
 use crate::running::run_program;
 use crate::telling::{put_line, put_piece, tell};
+use conc_caps::{Closed, Parts, RunEnd, Shows};
 use conc_task::Program;
-use conc_world::{Closed, Parts, RunEnd, Shows};
 use hs_base::NoMemory;
 use hs_io::{Clock, Failed, Gate, NullSink, Sink};
 use hs_rules::History;

@@ -5,9 +5,9 @@ use Rattle.std.proofs.Props.{props}
 use Rattle.hs_base.specs.declared.clock_choice.ClockChoice.{ClockChoice}
 use Rattle.hs_laws.specs.HistoryEndings.{StaysWithin}
 use Rattle.world_entries.specs.Worlds.{Live}
-use Rattle.run_record.specs.declared.record.Record.{Record}
-use Rattle.run_record.specs.Records.{script}
-use Rattle.clocked_record.specs.Clocks.{TicksKept}
+use Rattle.run_course.specs.declared.history.record.Record.{Record}
+use Rattle.run_course.specs.history.Records.{script}
+use Rattle.run_course.specs.clocked.Clocks.{TicksKept}
 use Rattle.run_course.specs.declared.ends.RunEnd.{RunEnd}
 use Rattle.run_course.specs.Told.{is_write, ToldOf}
 use Rattle.run_course.specs.Endings.{EndedBy}

@@ -6,11 +6,11 @@ use Rattle.std.specs.declared.snapshot.Snapshot.{Snapshot}
 use Rattle.hs_base.specs.declared.no_memory.NoMemory.{NoMemory}
 use Rattle.rules_code.specs.declared.code.CodeBody.{CodeBody}
 use Rattle.hs_rules.specs.declared.entry.Entry.{Entry}
-use Rattle.job_tickets.specs.declared.tickets.Out.{Out}
-use Rattle.job_tickets.specs.declared.tickets.Tickets.{Tickets}
-use Rattle.job_tickets.specs.Out.{job, IsIdle}
-use Rattle.run_record.specs.declared.record.Record.{Record}
-use Rattle.run_record.specs.Records.{Same}
+use Rattle.conc_world.specs.declared.tickets.tickets.Out.{Out}
+use Rattle.conc_world.specs.declared.tickets.tickets.Tickets.{Tickets}
+use Rattle.conc_world.specs.tickets.Out.{job, IsIdle}
+use Rattle.run_course.specs.declared.history.record.Record.{Record}
+use Rattle.run_course.specs.history.Records.{Same}
 use Rattle.run_course.specs.declared.ends.RunEnd.{RunEnd}
 use Rattle.run_course.specs.declared.ends.RunEnd.TheVariants as end
 use Rattle.run_course.specs.Endings.{IsConcluded, IsOpen}

@@ -9,9 +9,9 @@ use Rattle.std.proofs.Math.Seq.{take-length}
 use Rattle.std.proofs.Math.ListN.{drop_of_length-le}
 use Rattle.hs_rules.specs.declared.entry.Entry.{Entry}
 use Rattle.hs_rules.specs.declared.entry.Entry.TheVariants as entry
-use Rattle.job_tickets.specs.declared.tickets.Out.{Out}
-use Rattle.job_tickets.specs.declared.tickets.Tickets.{Tickets}
-use Rattle.job_tickets.specs.Out.{job, ticket_of, is_overtaken, IsIdle, Same, TakesBack}
+use Rattle.conc_world.specs.declared.tickets.tickets.Out.{Out}
+use Rattle.conc_world.specs.declared.tickets.tickets.Tickets.{Tickets}
+use Rattle.conc_world.specs.tickets.Out.{job, ticket_of, is_overtaken, IsIdle, Same, TakesBack}
 use Rattle.conc_world.specs.Jobs.{Added, IsOvertaken, Knows, Received, SameJobs, TakenBack}
 
 none_some : {A : Type 0} (o : Option A) (x : A) → o ≡ None → o ≡ Some x → ⊥

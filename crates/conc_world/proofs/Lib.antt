@@ -5,3 +5,4 @@ pub mod Desks
 pub mod Closing
 pub mod Turning
 pub mod Refusing
+pub mod tickets_lemmas

@@ -12,8 +12,8 @@ use Rattle.frame_stack.specs.Slicing.{IsDoing, MayGo}
 use Rattle.thread_table.specs.declared.thread.Thread.{Thread}
 use Rattle.thread_table.specs.Listing.{Goes}
 use Rattle.thread_table.specs.Table.{IsAt}
-use Rattle.run_record.specs.declared.record.Record.{Record}
-use Rattle.run_record.proofs.Goers.{doing_is, may_go}
+use Rattle.run_course.specs.declared.history.record.Record.{Record}
+use Rattle.run_course.proofs.history_lemmas.Goers.{doing_is, may_go}
 
 -- th is what was read at the number of a thread that is to do an action
 module _ (r : Record) (t : ℕ) (goer : IsAt t Goes r.world.threads.list.items) (th : Thread) (read : th ≡ get_or r.world.threads.list.items t th) where

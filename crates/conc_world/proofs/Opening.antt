@@ -19,9 +19,9 @@ use Rattle.thread_table.specs.Table.{slot_of, slots_of}
 use Rattle.thread_table.proofs.Table.{slots_at, slots_is}
 use Rattle.world_entries.specs.declared.world.World.{World}
 use Rattle.world_entries.specs.Worlds.{Goes, SameState}
-use Rattle.run_record.specs.declared.record.Record.{Record}
-use Rattle.run_record.specs.Records.{script, Same, EndsAs}
-use Rattle.clocked_record.proofs.Going.{same_script}
+use Rattle.run_course.specs.declared.history.record.Record.{Record}
+use Rattle.run_course.specs.history.Records.{script, Same, EndsAs}
+use Rattle.run_course.proofs.clocked_lemmas.Going.{same_script}
 use Rattle.run_course.specs.declared.ends.RunEnd.{RunEnd}
 use Rattle.run_course.specs.declared.ends.RunEnd.TheVariants as end
 use Rattle.run_course.specs.Endings.{IsConcluded, IsOpen}

@@ -3,8 +3,8 @@ use Rattle.std.specs.Prelude.{◌≤◌, Result, Ok, Err, OnErr, MatchOption}
 use Rattle.std.proofs.Common.{◌≡◌, Option, Some, None, ap, subst, sym}
 use Rattle.frame_stack.specs.declared.sliced.Slice.{Slice}
 use Rattle.world_entries.specs.Worlds.{state_of, Starts}
-use Rattle.run_record.specs.declared.record.Record.{Record}
-use Rattle.run_record.specs.Records.{Same}
+use Rattle.run_course.specs.declared.history.record.Record.{Record}
+use Rattle.run_course.specs.history.Records.{Same}
 use Rattle.run_course.specs.declared.ends.RunEnd.{RunEnd}
 use Rattle.conc_world.specs.declared.answers.Committed.{Committed}
 use Rattle.conc_world.specs.Jobs.{left}

@@ -18,14 +18,14 @@ use Rattle.thread_table.specs.Table.{IsAt}
 use Rattle.thread_table.proofs.Slots.{slot_back}
 use Rattle.world_entries.specs.declared.world.World.{World}
 use Rattle.world_entries.specs.Worlds.{state_of, Starts}
-use Rattle.run_record.specs.declared.record.Record.{Record}
-use Rattle.run_record.specs.Records.{Same}
-use Rattle.run_record.proofs.Controls.{part_doing}
+use Rattle.run_course.specs.declared.history.record.Record.{Record}
+use Rattle.run_course.specs.history.Records.{Same}
+use Rattle.run_course.proofs.history_lemmas.Controls.{part_doing}
 use Rattle.run_course.specs.declared.ends.RunEnd.{RunEnd}
 use Rattle.run_course.specs.Settled.{Accepted, Begins, IsAtRest, OnlyGoes}
-use Rattle.job_tickets.specs.declared.tickets.Tickets.{Tickets}
-use Rattle.job_tickets.specs.Jobs.{thread_of}
-use Rattle.job_tickets.specs.Out.{ticket_of}
+use Rattle.conc_world.specs.declared.tickets.tickets.Tickets.{Tickets}
+use Rattle.conc_world.specs.tickets.Jobs.{thread_of}
+use Rattle.conc_world.specs.tickets.Out.{ticket_of}
 use Rattle.conc_world.specs.Jobs.{left, AllOut, IsJob, NoneOut}
 
 -- ---- a thread that is to do an action has no job out where none is

@@ -5,12 +5,12 @@ use Rattle.local_steps.specs.Frames.{mask_inside}
 use Rattle.frame_stack.specs.declared.sliced.Slice.{Slice}
 use Rattle.thread_table.specs.declared.thread.Thread.{Thread}
 use Rattle.world_entries.specs.Worlds.{Starts}
-use Rattle.run_record.specs.declared.record.Record.{Record}
-use Rattle.run_record.specs.Records.{Same}
+use Rattle.run_course.specs.declared.history.record.Record.{Record}
+use Rattle.run_course.specs.history.Records.{Same}
 use Rattle.run_course.specs.declared.ends.RunEnd.{RunEnd}
 use Rattle.run_course.specs.declared.ends.RunEnd.TheVariants as end
 use Rattle.run_course.specs.Settled.{Accepted}
-use Rattle.job_tickets.specs.declared.tickets.Tickets.{Tickets}
+use Rattle.conc_world.specs.declared.tickets.tickets.Tickets.{Tickets}
 use Rattle.conc_world.specs.declared.answers.Why.{Why}
 use Rattle.conc_world.specs.declared.answers.Why.TheVariants as why
 use Rattle.conc_world.specs.declared.answers.Committed.{Committed}

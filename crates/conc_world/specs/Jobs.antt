@@ -9,10 +9,10 @@ use Rattle.frame_stack.specs.declared.job.Job.{Job}
 use Rattle.thread_table.specs.declared.thread.Thread.{Thread}
 use Rattle.thread_table.specs.Listing.{Goes}
 use Rattle.thread_table.specs.Table.{IsAt}
-use Rattle.run_record.specs.declared.record.Record.{Record}
-use Rattle.job_tickets.specs.declared.tickets.Out.{Out}
-use Rattle.job_tickets.specs.declared.tickets.Tickets.{Tickets}
-use Rattle.job_tickets.specs.Out.{job, ticket_of, is_overtaken}
+use Rattle.run_course.specs.declared.history.record.Record.{Record}
+use Rattle.conc_world.specs.declared.tickets.tickets.Out.{Out}
+use Rattle.conc_world.specs.declared.tickets.tickets.Tickets.{Tickets}
+use Rattle.conc_world.specs.tickets.Out.{job, ticket_of, is_overtaken}
 
 -- the fuel that is left
 abbrev pub left : Record → ℕ

@@ -5,10 +5,10 @@ use Rattle.hs_rules.specs.declared.entry.Entry.{Entry}
 use Rattle.hs_rules.specs.State.{State}
 use Rattle.hs_rules.specs.Histories.{steps_of}
 use Rattle.hs_rules.specs.Runs.{IsRun}
-use Rattle.rules_trees.specs.Programs.{Fn, script_of}
+use Rattle.rules_expansion.specs.trees.Programs.{Fn, script_of}
 use Rattle.rules_typing.specs.TypingScripts.{Accepted}
 use Rattle.hs_laws.specs.HistoryEndings.{StaysWithin}
-use Rattle.clocked_record.specs.Clocks.{TicksKept}
+use Rattle.run_course.specs.clocked.Clocks.{TicksKept}
 use Rattle.run_course.specs.declared.ends.RunEnd.{RunEnd}
 use Rattle.run_course.specs.Told.{is_write, ToldOf}
 use Rattle.run_course.specs.Endings.{EndedBy}

@@ -2,12 +2,12 @@
 ghost use Rattle.std.specs.Prelude.{◌≡◌, ◌≤◌, ◌↔◌, true, IsTrue, IfOk, MatchOption, None, OnOk, OnErr};
 ghost use Rattle.hs_base.specs.declared.mask.Mask.TheVariants.{Unmasked};
 ghost use Rattle.local_steps.specs.Frames.{mask_inside};
-ghost use Rattle.value_equality.specs.Efforts.{IsEndless};
+ghost use Rattle.local_steps.specs.equality.Efforts.{IsEndless};
 ghost use Rattle.thread_table.specs.Listing.{Goes, is_doing};
 ghost use Rattle.thread_table.specs.Table.{IsAt};
 ghost use Rattle.world_entries.specs.Worlds.{Starts};
 ghost use Rattle.frame_stack.specs.Slicing.{IsDoing};
-ghost use Rattle.run_record.specs.Records.{Same};
+ghost use Rattle.run_course.specs.history.Records.{Same};
 ghost use Rattle.run_course.specs.Settled.{Accepted};
 ghost use Rattle.conc_world.specs.Jobs.{left};
 ghost use Rattle.conc_world.specs.Committing.{IsCommitted, IsRefused, IsStale, MayBeTaken, TicketBack};
@@ -17,9 +17,9 @@ use crate::desk::Desk;
 use frame_stack::{Control, Slice};
 use hs_base::NoMemory;
 use hs_io::{Clock, Sink};
-use run_record::Record;
+use local_steps::equality::{Effort, Undecided, compare_envs};
+use run_course::history::Record;
 use thread_table::Thread;
-use value_equality::{Effort, Undecided, compare_envs};
 
 /// Whether a control is the start of a slice: to do the same action with the same values. Only where these are compared the
 /// effort may not do.

@@ -1,25 +1,25 @@
 ghost use Rattle.std.specs.Prelude.{◌≡◌, ◌≤◌, ◌<◌, ℕ, [], None, Some, IfOk, IfErr, IfSome, IfNone, OnOk, OnErr, IsSome, MatchOption};
 ghost use Rattle.rules_code.specs.Codes.{body_of};
-ghost use Rattle.job_tickets.specs.declared.tickets.Out.{Out};
-ghost use Rattle.job_tickets.specs.Out.{job};
+ghost use Rattle.conc_world.specs.declared.tickets.tickets.Out.{Out};
+ghost use Rattle.conc_world.specs.tickets.Out.{job};
 ghost use Rattle.run_course.specs.declared.ends.RunEnd.TheVariants as end;
 ghost use Rattle.run_course.specs.Endings.{IsConcluded, IsOpen};
 ghost use Rattle.run_course.specs.Settled.{GoesOn, IsAtRest, KeepsPlan};
 ghost use Rattle.conc_world.specs.Sets.{bodies_are_a_set};
 ghost use Rattle.conc_world.specs.Jobs.{Knows};
-ghost use Rattle.job_tickets.specs.Out.{IsIdle};
+ghost use Rattle.conc_world.specs.tickets.Out.{IsIdle};
 ghost use Rattle.conc_world.specs.Committing.{Unfinished, Anything};
 ghost use Rattle.conc_world.specs.Runs.{IsRunOf};
 
 use crate::answers::{Closed, Parts, Shows};
-use clocked_record::Clocked;
+use crate::tickets::Tickets;
 use frame_stack::Control;
 use hs_base::{Limits, NoMemory};
 use hs_io::{Clock, Sink};
 use hs_rules::{Code, CodeBody, History, Kept};
-use job_tickets::Tickets;
+use run_course::clocked::Clocked;
+use run_course::history::Record;
 use run_course::{Course, RunEnd};
-use run_record::Record;
 use std::alloc::Global;
 use std::snapshot::Snapshot;
 

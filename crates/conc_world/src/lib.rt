@@ -10,6 +10,8 @@
 //!
 //! The promise: whatever is committed, in whatever order, the history is a run, and after an ending it stays as it is. That
 //! slices run beside each other, and who runs them, is left to the caller.
+//!
+//! A part with a head of its own: `tickets`, tickets of jobs that are out.
 #![tactic(auto)]
 
 mod answers;
@@ -18,6 +20,7 @@ mod desk;
 mod jobs;
 mod redoing;
 mod running;
+pub mod tickets;
 
 pub use answers::{Closed, Committed, Made, Parts, Shows, Why};
 pub use desk::Desk;

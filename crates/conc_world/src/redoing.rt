@@ -10,7 +10,7 @@ use crate::jobs::MOST_STEPS;
 use frame_stack::Slice;
 use hs_base::NoMemory;
 use hs_io::{Clock, Sink};
-use value_equality::Effort;
+use local_steps::equality::Effort;
 
 /// A slice that comes back is compared in so many steps at most, ..
 const FEW: u64 = 16;

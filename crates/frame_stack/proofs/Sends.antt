@@ -15,8 +15,8 @@ use Rattle.hs_base.proofs.exn.Exn.TheSendSync as exn
 use Rattle.hs_base.proofs.mask.Mask.TheSendSync as mask
 use Rattle.hs_base.proofs.text.Txt.TheSendSync as txt
 use Rattle.rules_code.proofs.act.ActId.TheSendSync as act
-use Rattle.slot_env.specs.contracts.env.Env as env
-use Rattle.slot_env.specs.contracts.waiting.Waiting as waiting
+use Rattle.local_steps.specs.contracts.environments.env.Env as env
+use Rattle.local_steps.specs.contracts.environments.waiting.Waiting as waiting
 use Rattle.local_steps.specs.contracts.active.Frame as frame
 use Rattle.local_steps.specs.contracts.frames.Frames as frames
 use Rattle.local_steps.proofs.active.Masking.TheSendSync as masking

@@ -1,7 +1,7 @@
 -- What a thread on its way over the frames of a stack is (own).
 use Rattle.std.specs.Prelude.{◌≡◌, ℕ, ◌≤◌, List, [], ◌++◌, length, drop, Option, Some, None, MatchOption}
 use Rattle.hs_base.specs.declared.mask.Mask.{Mask}
-use Rattle.rules_trees.specs.Programs.{script_of}
+use Rattle.rules_expansion.specs.trees.Programs.{script_of}
 use Rattle.rules_sorts.specs.TypedMeaning.{any_cell}
 use Rattle.rules_code.specs.declared.code.CodeBody.{CodeBody}
 use Rattle.hs_rules.specs.Terms.{Term}

@@ -1,7 +1,7 @@
 -- What a job and a slice of a thread are (own).
 use Rattle.std.specs.Prelude.{◌≡◌, ℕ, ◌<◌, List, [], ◌∷◌, ◌++◌, Some}
 use Rattle.hs_base.specs.declared.mask.Mask.{Mask}
-use Rattle.rules_trees.specs.Programs.{script_of}
+use Rattle.rules_expansion.specs.trees.Programs.{script_of}
 use Rattle.rules_meaning.specs.Values.{V, values_of}
 use Rattle.rules_sorts.specs.Sorts.{Sort}
 use Rattle.rules_sorts.specs.TypedMeaning.{any_cell}

@@ -17,9 +17,9 @@ use crate::running::control;
 use crate::slicing::body;
 use crate::stack::Stack;
 use hs_base::{NoMemory, Value};
+use local_steps::environments::Spare;
 use local_steps::{Active, Frames, StepResult, step, step_in_place};
 use rules_code::{Code, CodeBody};
-use slot_env::Spare;
 use std::alloc::Global;
 use std::mem;
 

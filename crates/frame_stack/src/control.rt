@@ -3,8 +3,8 @@
 ghost use Rattle.std.specs.Prelude.{◌≡◌, IfOk};
 
 use hs_base::{Exn, NoMemory, Txt, Value};
+use local_steps::environments::Env;
 use rules_code::ActId;
-use slot_env::Env;
 use std::alloc::Global;
 
 /// What only the world answers: a primitive with its values, or a fork. Cells, threads and uses of `bracket` are numbers.

@@ -3,7 +3,7 @@
 ghost use Rattle.std.specs.Prelude.{◌≡◌, List, Option, length};
 ghost use Rattle.hs_base.specs.declared.mask.Mask.TheVariants.{Unmasked};
 ghost use Rattle.hs_base.specs.declared.exn.Exn.{Exn};
-ghost use Rattle.rules_trees.specs.Programs.{Fn};
+ghost use Rattle.rules_expansion.specs.trees.Programs.{Fn};
 ghost use Rattle.rules_expansion.specs.declared.primitive.Primitive.{Primitive};
 ghost use Rattle.rules_meaning.specs.Values.{V};
 ghost use Rattle.rules_sorts.specs.Sorts.{Sort};

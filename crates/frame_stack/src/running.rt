@@ -11,9 +11,9 @@ use crate::control::{Control, Operation};
 use crate::fault::SliceFault;
 use hs_base::{Mask, NoMemory, Value};
 use hs_io::Cutter;
+use local_steps::environments::Spare;
 use local_steps::{Active, Frames, StepResult, step, step_in_place};
 use rules_code::CodeBody;
-use slot_env::Spare;
 use std::alloc::Global;
 use std::mem;
 

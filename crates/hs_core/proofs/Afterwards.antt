@@ -7,7 +7,7 @@ use Rattle.rules_code.specs.declared.act.Act.{Act}
 use Rattle.rules_code.specs.declared.act.ActId.{ActId}
 use Rattle.rules_code.specs.Slots.{Sx, Scope, tree_in}
 use Rattle.rules_code.specs.CodeTrees.{Sa, act_in, act_decode}
-use Rattle.rules_trees.specs.Programs.{SurfaceAction}
+use Rattle.rules_expansion.specs.trees.Programs.{SurfaceAction}
 use Rattle.rules_expansion.specs.Core.{Core}
 use Rattle.rules_expansion.specs.Expansion.{core}
 use Rattle.hs_nodes.specs.Names.{scope_of}

@@ -10,12 +10,12 @@ use Rattle.rules_code.specs.declared.node.ExprId.{ExprId}
 use Rattle.rules_code.specs.declared.act.Act.{Act}
 use Rattle.rules_code.specs.declared.act.Act.TheVariants as k
 use Rattle.rules_code.specs.declared.act.ActId.{ActId}
-use Rattle.rules_trees.specs.Trees.{Ex}
+use Rattle.rules_expansion.specs.trees.Trees.{Ex}
 use Rattle.rules_expansion.specs.Names.{Written}
 use Rattle.rules_expansion.specs.Core.{Core}
 use Rattle.rules_expansion.specs.Expansion.{core}
-use Rattle.rules_trees.specs.Programs.{SurfaceAction, Bl, last, ActArms, maybe_acts, either_acts, list_acts, pair_acts, case_act, before, stmt_of, act_of, bl_of}
-use Rattle.rules_trees.proofs.EquationsOfActions.{bl_is}
+use Rattle.rules_expansion.specs.trees.Programs.{SurfaceAction, Bl, last, ActArms, maybe_acts, either_acts, list_acts, pair_acts, case_act, before, stmt_of, act_of, bl_of}
+use Rattle.rules_expansion.proofs.trees_lemmas.EquationsOfActions.{bl_is}
 use Rattle.hs_base.specs.declared.tree.action.Block.{Block}
 use Rattle.hs_base.specs.declared.tree.action.Action.{Action}
 use Rattle.rules_code.specs.Slots.{Sx, Scope, slotted, tree_in}

@@ -12,8 +12,8 @@ use Rattle.rules_code.specs.declared.node.ExprId.{ExprId}
 use Rattle.rules_code.specs.declared.act.Act.{Act}
 use Rattle.rules_code.specs.declared.act.ActId.{ActId}
 use Rattle.rules_code.specs.declared.code.Fun.{Fun}
-use Rattle.rules_trees.specs.Trees.{Ex, Wr}
-use Rattle.rules_trees.specs.Programs.{Fn, Par, Bd, pure_body, io_body, Bl, fn_of, par_of, script_of}
+use Rattle.rules_expansion.specs.trees.Trees.{Ex, Wr}
+use Rattle.rules_expansion.specs.trees.Programs.{Fn, Par, Bd, pure_body, io_body, Bl, fn_of, par_of, script_of}
 use Rattle.rules_meaning.specs.Meaning.{texts_of}
 use Rattle.rules_expansion.specs.Core.{ActionFunction, action_named}
 use Rattle.rules_expansion.specs.Expansion.{block_core, param_names, with_action, actions_of}

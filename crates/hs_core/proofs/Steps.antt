@@ -16,7 +16,7 @@ use Rattle.hs_nodes.specs.Standing.{Stands, AllStand}
 use Rattle.hs_nodes.proofs.Scopes.{scope-push}
 use Rattle.hs_nodes.specs.Emitting.{nodes_of, all_nodes, ids_of, Emitted}
 use Rattle.hs_nodes.proofs.Emitted.{all_trees, at_end, emitted, emitted_all}
-use Rattle.rules_trees.specs.Trees.{Ex, Exs}
+use Rattle.rules_expansion.specs.trees.Trees.{Ex, Exs}
 use Rattle.hs_core.specs.declared.defs.Defs.{Defs}
 use Rattle.hs_core.specs.Numbering.{names_of, index_among}
 use Rattle.hs_core.specs.Defining.{Knows, roots, functions}

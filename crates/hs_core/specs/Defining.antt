@@ -3,7 +3,7 @@ use Rattle.std.specs.Prelude.{◌≡◌, List}
 use Rattle.rules_code.specs.declared.node.Node.{Node}
 use Rattle.rules_expansion.specs.Core.{ActionFunction}
 use Rattle.rules_expansion.specs.Expansion.{actions_of}
-use Rattle.rules_trees.specs.Programs.{script_of}
+use Rattle.rules_expansion.specs.trees.Programs.{script_of}
 use Rattle.rules_code.specs.Slots.{Root, roots_of}
 use Rattle.hs_nodes.specs.Standing.{Known}
 use Rattle.hs_core.specs.declared.defs.Defs.{Defs}

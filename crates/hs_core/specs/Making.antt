@@ -6,9 +6,9 @@
 use Rattle.std.specs.Prelude.{ℕ, List, [], ◌∷◌, Option, Some, None}
 use Rattle.hs_base.specs.declared.tree.expr.Expr.{Expr}
 use Rattle.hs_base.specs.declared.tree.forms.EmptyForm.TheVariants as n
-use Rattle.rules_trees.specs.Trees.{ex_of}
-use Rattle.rules_trees.specs.Programs as tree
-use Rattle.rules_trees.specs.Programs.{SurfaceAction}
+use Rattle.rules_expansion.specs.trees.Trees.{ex_of}
+use Rattle.rules_expansion.specs.trees.Programs as tree
+use Rattle.rules_expansion.specs.trees.Programs.{SurfaceAction}
 use Rattle.rules_expansion.specs.declared.template.Binder.{Binder}
 use Rattle.rules_expansion.specs.declared.template.Binder.TheVariants as b
 use Rattle.rules_expansion.specs.declared.template.FormBlock.{FormBlock}

@@ -7,7 +7,7 @@ use Rattle.rules_code.specs.declared.act.Act.{Act}
 use Rattle.rules_code.specs.declared.act.Act.TheVariants as k
 use Rattle.rules_expansion.specs.Names.{Written}
 use Rattle.rules_expansion.specs.Core.{Core}
-use Rattle.rules_trees.specs.Programs.{SurfaceAction, Bl, ActArms, maybe_acts, either_acts, list_acts, pair_acts, before, stmt_of}
+use Rattle.rules_expansion.specs.trees.Programs.{SurfaceAction, Bl, ActArms, maybe_acts, either_acts, list_acts, pair_acts, before, stmt_of}
 use Rattle.rules_expansion.specs.Expansion.{core, block_core}
 use Rattle.rules_code.specs.Slots.{Sx, Scope}
 use Rattle.rules_code.specs.CodeTrees.{Sa, a_let, a_bind, a_then, a_maybe, a_either, a_list, a_pair, slotted_core}

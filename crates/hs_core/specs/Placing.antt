@@ -5,10 +5,10 @@ use Rattle.rules_code.specs.declared.node.Node.{Node}
 use Rattle.rules_code.specs.declared.act.Act.{Act}
 use Rattle.rules_code.specs.declared.act.ActId.{ActId}
 use Rattle.rules_code.specs.declared.node.ExprId.{ExprId}
-use Rattle.rules_trees.specs.Trees.{Ex}
+use Rattle.rules_expansion.specs.trees.Trees.{Ex}
 use Rattle.rules_meaning.specs.Meaning.{texts_of}
 use Rattle.rules_code.specs.declared.code.Fun.{Fun}
-use Rattle.rules_trees.specs.Programs.{Fn, par_of}
+use Rattle.rules_expansion.specs.trees.Programs.{Fn, par_of}
 use Rattle.rules_expansion.specs.Expansion.{actions_of}
 use Rattle.rules_code.specs.Slots.{Root, root_with, slotted, scope_onto}
 use Rattle.rules_code.specs.CodeTrees.{SlottedFunction, slotted_functions}

@@ -13,12 +13,12 @@ use rules_expansion::{
 };
 use std::alloc::Global;
 
-#[tactic(auto, using(rules_trees::proofs::EquationsOfActions::act_rules))]
+#[tactic(auto, using(rules_expansion::proofs::trees_lemmas::EquationsOfActions::act_rules))]
 impl ActEmitter {
     ghost use Rattle.std.specs.Prelude.{IfOk, ◌∷◌};
     ghost use Rattle.rules_expansion.specs.Names.{Written};
     ghost use Rattle.rules_expansion.specs.Expansion.{block_core, masking_core};
-    ghost use Rattle.rules_trees.specs.Programs.{act_of, bl_of, act_arms_of};
+    ghost use Rattle.rules_expansion.specs.trees.Programs.{act_of, bl_of, act_arms_of};
     ghost use Rattle.rules_code.specs.Slots.{Sx, slot_of};
     ghost use Rattle.rules_code.specs.CodeTrees.{Sa, a_if, a_fork, a_catch, a_restore, slot_or_end};
     ghost use Rattle.hs_core.specs.Defining.{Knows};

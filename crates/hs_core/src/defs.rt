@@ -1,6 +1,6 @@
 //! What the script defines.
 ghost use Rattle.std.specs.Prelude.{◌≡◌, IfOk};
-ghost use Rattle.rules_trees.specs.Programs.{script_of};
+ghost use Rattle.rules_expansion.specs.trees.Programs.{script_of};
 ghost use Rattle.rules_expansion.specs.Expansion.{actions_of};
 ghost use Rattle.hs_index.specs.Indexing.{Indexes};
 ghost use Rattle.hs_core.specs.Numbering.{names_of};
@@ -60,7 +60,7 @@ fn index_of(alloc: Global, names: &Items<Txt>) -> Result<Index, NoMemory>
 
 impl Defs {
     ghost use Rattle.std.specs.Prelude.{◌≡◌, IfOk};
-    ghost use Rattle.rules_trees.specs.Programs.{script_of};
+    ghost use Rattle.rules_expansion.specs.trees.Programs.{script_of};
     ghost use Rattle.rules_expansion.specs.Expansion.{actions_of};
     ghost use Rattle.hs_core.specs.Numbering.{index_among, names_of};
 

@@ -19,7 +19,7 @@ impl ActEmitter {
     ghost use Rattle.std.specs.Prelude.{◌≡◌, [], IfOk, pos};
     ghost use Rattle.hs_base.specs.declared.exn.Exn.TheVariants as x;
     ghost use Rattle.hs_base.specs.declared.tree.forms.EmptyForm.TheVariants as n;
-    ghost use Rattle.rules_trees.specs.Trees.{ex_of, number, nothing_more, exception};
+    ghost use Rattle.rules_expansion.specs.trees.Trees.{ex_of, number, nothing_more, exception};
     ghost use Rattle.rules_expansion.specs.Names.{Written, Added};
     ghost use Rattle.rules_expansion.specs.Core.{Killed};
     ghost use Rattle.rules_expansion.specs.declared.primitive.Primitive.TheVariants.{ThrowTo};

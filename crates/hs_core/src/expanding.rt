@@ -1,7 +1,7 @@
 //! From an accepted script to its code.
 ghost use Rattle.std.specs.Prelude.{◌≡◌, ◌++◌, [], IfOk, OnOk, slice_get, codes};
-ghost use Rattle.rules_trees.specs.Trees.{ex_of};
-ghost use Rattle.rules_trees.specs.Programs.{fn_of, script_of, bl_of};
+ghost use Rattle.rules_expansion.specs.trees.Trees.{ex_of};
+ghost use Rattle.rules_expansion.specs.trees.Programs.{fn_of, script_of, bl_of};
 ghost use Rattle.rules_code.specs.Slots.{roots_of, slotted};
 ghost use Rattle.rules_expansion.specs.Expansion.{actions_of};
 ghost use Rattle.rules_code.specs.Codes.{body_of};
@@ -88,7 +88,7 @@ fn places(emitter: &mut Emitter, alloc: Global, script: &Script) -> Result<Place
 
 impl ActEmitter {
     ghost use Rattle.std.specs.Prelude.{◌≡◌, IfOk, OnOk, length, List, [], ◌∷◌};
-    ghost use Rattle.rules_trees.specs.Programs.{fn_of, script_of, bl_of};
+    ghost use Rattle.rules_expansion.specs.trees.Programs.{fn_of, script_of, bl_of};
     ghost use Rattle.hs_nodes.specs.Names.{scope_after};
     ghost use Rattle.hs_core.specs.Defining.{Knows};
     ghost use Rattle.hs_core.specs.Emits.{Emits};

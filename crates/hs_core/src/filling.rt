@@ -44,7 +44,7 @@ impl ActEmitter {
     ghost use Rattle.std.specs.Prelude.{◌≡◌, IfOk, OnOk, []};
     ghost use Rattle.std.specs.Option.{option_copied};
     ghost use Rattle.hs_core.specs.declared.defs.Defs.{Defs};
-    ghost use Rattle.rules_trees.specs.Programs.{act_of};
+    ghost use Rattle.rules_expansion.specs.trees.Programs.{act_of};
     ghost use Rattle.hs_core.specs.declared.making.Making.{Making};
     ghost use Rattle.rules_expansion.specs.Templates.{operand};
     ghost use Rattle.rules_expansion.specs.declared.template.FormBlock.{FormBlock};

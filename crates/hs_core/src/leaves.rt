@@ -8,7 +8,7 @@ use std::alloc::Global;
 
 impl ActEmitter {
     ghost use Rattle.std.specs.Prelude.{IfOk, []};
-    ghost use Rattle.rules_trees.specs.Trees.{ex_of, exs_of};
+    ghost use Rattle.rules_expansion.specs.trees.Trees.{ex_of, exs_of};
     ghost use Rattle.rules_expansion.specs.Core.{Killed};
     ghost use Rattle.rules_expansion.specs.declared.primitive.Primitive.TheVariants.{ThrowTo};
     ghost use Rattle.rules_code.specs.Slots.{slotted, slotted_all, s_none, s_more};

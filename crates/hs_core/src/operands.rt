@@ -18,7 +18,7 @@ impl ActEmitter {
     ghost use Rattle.std.specs.Prelude.{◌≡◌, IfOk, pos};
     ghost use Rattle.std.specs.Option.{option_copied};
     ghost use Rattle.hs_base.specs.declared.tree.forms.SideForm.TheVariants as d;
-    ghost use Rattle.rules_trees.specs.Trees.{number, nothing_more};
+    ghost use Rattle.rules_expansion.specs.trees.Trees.{number, nothing_more};
     ghost use Rattle.rules_expansion.specs.Templates.{named, operand};
     ghost use Rattle.rules_code.specs.Slots.{slot_of, s_literal, s_unary, s_side, s_binary};
     ghost use Rattle.rules_code.specs.CodeTrees.{slot_or_end, slot_read, slotted_core_ex};

@@ -5,7 +5,7 @@ use Rattle.std.proofs.Math.Logic.{∥∥₁_elim}
 use Rattle.hs_base.specs.declared.tree.script.Script.{Script}
 use Rattle.rules_code.specs.declared.code.CodeBody.{CodeBody}
 use Rattle.rules_code.specs.declared.node.ExprId.{ExprId}
-use Rattle.rules_trees.specs.Programs.{script_of}
+use Rattle.rules_expansion.specs.trees.Programs.{script_of}
 use Rattle.rules_meaning.specs.Values.{V, Outcome, Stuck}
 use Rattle.rules_typing.specs.TypingScripts.{Accepted, sigs_from}
 use Rattle.rules_sorts.specs.TypedMeaning.{any_cell}

@@ -1,7 +1,7 @@
 //! What an expression gives, with the values of its slots, and what it means with names.
 ghost use Rattle.std.specs.Prelude.{◌≡◌, IfOk, List};
-ghost use Rattle.rules_trees.specs.Trees.{Ex};
-ghost use Rattle.rules_trees.specs.Programs.{Fn};
+ghost use Rattle.rules_expansion.specs.trees.Trees.{Ex};
+ghost use Rattle.rules_expansion.specs.trees.Programs.{Fn};
 ghost use Rattle.rules_meaning.specs.Values.{V, Env, values_of, Stuck};
 ghost use Rattle.rules_meaning.specs.Meaning.{functions_of, value_of_ex};
 ghost use Rattle.rules_code.specs.Slots.{Scope, roots_of, run, slotted, tree_at};

@@ -6,6 +6,8 @@
 //! answer. The one promise: no count falls and no reading falls, and a fault is answered only where the count of the object
 //! that was asked rose, which no other call raises. What real streams do is left to `StdSource` and `StdSink`, a few lines
 //! each, which tell no bytes, and what the time of the machine does to `HostClock`, which tells nothing of it.
+//!
+//! A part with a head of its own: `retried`, a stream whose reads go on where a signal interrupts them.
 #![tactic(auto)]
 
 mod clock;
@@ -15,6 +17,7 @@ mod gate;
 mod host_clock;
 mod mem_sink;
 mod mem_source;
+pub mod retried;
 mod sink;
 mod source;
 mod standing_clock;

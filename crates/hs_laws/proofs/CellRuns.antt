@@ -16,10 +16,10 @@ use Rattle.rules_waiting.specs.Waiting.{want_at, with_place, Reason, Throwing, S
 use Rattle.hs_rules.specs.State.{AcquiredBy, ReleasedBy, Thread, State, move, resume, answer, resume_all, block, spawn}
 use Rattle.hs_rules.specs.Primitives.{take, read, put, try_take, try_put, due_in, clock_value, masking_text, line_feed}
 use Rattle.hs_rules.specs.Entries.{uncaught_line, stranded, next}
-use Rattle.hs_cases.specs.Cases as row
-use Rattle.hs_cases.specs.Cases.{printed, told, finished}
-use Rattle.hs_cases.proofs.Performing.{performed_is}
-use Rattle.hs_cases.proofs.Entering.{case_of, all_are}
+use Rattle.hs_laws.specs.cases.Cases as row
+use Rattle.hs_laws.specs.cases.Cases.{printed, told, finished}
+use Rattle.hs_laws.proofs.cases_lemmas.Performing.{performed_is}
+use Rattle.hs_laws.proofs.cases_lemmas.Entering.{case_of, all_are}
 use Rattle.rules_waiting.specs.OneCell.{Want, Cell, Call, Make, Take, Read, Put, Try_take, Try_put, Leave, leaves_line, made, call}
 use Rattle.hs_laws.specs.Standing.{Once}
 use Rattle.hs_laws.specs.CellLaw.{Shows, answered, operation_calls, part_calls, thread_calls, leave_if, leave_call, leave_calls, calls_of, after_calls, IsAnswered, AnswersCalls, IsMake, NoMake}

@@ -8,8 +8,8 @@ use Rattle.hs_rules.specs.State.{Thread, State, with_term, frames_of, resume, an
 use Rattle.hs_rules.specs.Primitives.{moves_in, taken, goes_in, goes_on, read_by_all, given, take, read, put, try_take, try_put}
 use Rattle.rules_waiting.specs.OneCell as one
 use Rattle.rules_waiting.specs.OneCell.{Want, To_take, To_read, To_put, Place, Take, Read, Put, Try_take, Try_put, Answer, Took, Saw, Gave, Tried_take, Tried_put, Reply, After, cell_of, reply_of, after_of, leaves_line, joins_line, first_put, first_take, readers, leave_line, shown, comes_on, comes_in, call}
-use Rattle.hs_cases.proofs.Lines.{free_stays, kept_place, line_left}
-pub use Rattle.hs_cases.proofs.Lines.{all_left as all_line}
+use Rattle.hs_laws.proofs.cases_lemmas.Lines.{free_stays, kept_place, line_left}
+pub use Rattle.hs_laws.proofs.cases_lemmas.Lines.{all_left as all_line}
 use Rattle.hs_laws.specs.CellLaw.{told, answered, replied}
 use Rattle.hs_laws.specs.Standing.{Once}
 use Rattle.hs_laws.proofs.Lists.{cond_cases, cond_true, cond_false, equal_or, item_same, item_other, Found, first_found, once_left, once_more, Absent_in, Distinct, Ones, ones_apart, absent_those, distinct_those, ones_those_if, first_of_kind, those, takes, puts, reads_at, readers_are, only_thread, put_is_first, take_is_first, once_reason}

@@ -20,9 +20,9 @@ use Rattle.hs_rules.specs.LocalRules.{locals}
 use Rattle.hs_rules.specs.State.{AcquiredBy, ReleasedBy, Thread, State, move, resume, answer, resume_all, block, spawn}
 use Rattle.hs_rules.specs.Primitives.{due_in, clock_value, masking_text, line_feed}
 use Rattle.hs_rules.specs.Entries.{is_throw, is_silent, uncaught_line, closed, stranded, next}
-use Rattle.hs_cases.specs.Cases as row
-use Rattle.hs_cases.specs.Cases.{holding, with_cell, printed, told, read_there, Unfinished}
-use Rattle.hs_cases.proofs.Entering.{case_of, all_are, quietly}
+use Rattle.hs_laws.specs.cases.Cases as row
+use Rattle.hs_laws.specs.cases.Cases.{holding, with_cell, printed, told, read_there, Unfinished}
+use Rattle.hs_laws.proofs.cases_lemmas.Entering.{case_of, all_are, quietly}
 use Rattle.hs_laws.specs.BracketPhases.{Blocks, OpPart, At}
 use Rattle.hs_laws.specs.Standing.{IsResult, IsBare}
 use Rattle.hs_laws.proofs.Lists.{cond_true, cond_false, puts, takes, throws_at, reads_at, those, put_is_first, take_is_first, readers_are, throwers_are, only_thread, first_of_kind, Each, each_changed, Found, first_found}

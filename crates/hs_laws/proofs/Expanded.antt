@@ -13,8 +13,8 @@ use Rattle.hs_base.specs.declared.tree.forms.MaskingAction.{MaskingAction}
 use Rattle.hs_base.specs.declared.tree.forms.MaskingAction.TheVariants as m
 use Rattle.hs_base.specs.declared.tree.forms.GuardAction.{GuardAction}
 use Rattle.hs_base.specs.declared.tree.forms.GuardAction.TheVariants as g
-use Rattle.rules_trees.specs.Programs as tree
-use Rattle.rules_trees.specs.Programs.{SurfaceAction, Bl, ActArms, Par, Bd, Fn}
+use Rattle.rules_expansion.specs.trees.Programs as tree
+use Rattle.rules_expansion.specs.trees.Programs.{SurfaceAction, Bl, ActArms, Par, Bd, Fn}
 use Rattle.rules_expansion.specs.Names.{Name, Added}
 use Rattle.rules_expansion.specs.declared.hidden.Hidden.TheVariants.{Restorer, Caught, InTime, ActionResult, SideEnding, WasFirst, FirstEnd}
 use Rattle.rules_expansion.specs.Core.{CoreEx, Read, JustRead, Nil, LeftRead, RightRead, RightNil, Core, Return, ThrowIo, Bind, CaseEither, Perform, Catch, MaskWith, Restore, ActionFunction, action_named}

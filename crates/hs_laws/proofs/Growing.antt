@@ -10,7 +10,7 @@ use Rattle.hs_rules.specs.Terms.{Part, Ret, Throw, Do, MaskIn, Term, term}
 use Rattle.hs_rules.specs.State.{AcquiredBy, ReleasedBy, Thread, State, with_term, frames_of, resume, answer, resume_all, thread_with, spawn}
 use Rattle.hs_rules.specs.Primitives.{line_feed}
 use Rattle.hs_rules.specs.Entries.{stranded, next}
-use Rattle.hs_cases.specs.Cases.{with_cell, printed, told}
+use Rattle.hs_laws.specs.cases.Cases.{with_cell, printed, told}
 use Rattle.hs_rules.specs.Histories.{cost_of, steps_of}
 use Rattle.hs_rules.specs.Runs.{Run}
 use Rattle.hs_laws.specs.Standing.{made_so_far}

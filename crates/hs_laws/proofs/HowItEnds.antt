@@ -5,7 +5,7 @@ use Rattle.hs_base.specs.declared.limits.Limits.{Limits}
 use Rattle.hs_rules.specs.declared.entry.Entry.{Entry}
 use Rattle.hs_rules.specs.declared.entry.LimitKind.{LimitKind}
 use Rattle.hs_rules.specs.declared.entry.LimitKind.TheVariants.{Threads, Cells, Frames, Output}
-use Rattle.rules_trees.specs.Programs.{Fn}
+use Rattle.rules_expansion.specs.trees.Programs.{Fn}
 use Rattle.rules_meaning.specs.CoreMeaning.{Code, code_of}
 use Rattle.hs_rules.specs.State.{Thread, State}
 use Rattle.hs_rules.specs.Entries.{on_thread, next, Leads}
@@ -14,8 +14,8 @@ use Rattle.hs_rules.specs.Runs.{after}
 use Rattle.hs_rules.specs.Histories.{steps_of, cost_of}
 use Rattle.hs_rules.specs.Endings.{IsTick, Exceeds, RunEnding, Done, Uncaught, Deadlock, Fuel, is_ret, result_of, ended_by, IsDone, IsUncaught, Ends, IsWithin, FirstExceeded}
 use Rattle.hs_laws.specs.HistoryEndings.{HasEnding, HasLimit, StaysWithin}
-use Rattle.hs_cases.specs.Cases as row
-use Rattle.hs_cases.proofs.Entering.{case_of}
+use Rattle.hs_laws.specs.cases.Cases as row
+use Rattle.hs_laws.proofs.cases_lemmas.Entering.{case_of}
 use Rattle.hs_rules.specs.declared.entry.Entry.TheVariants as entry
 use Rattle.hs_laws.proofs.RunParts.{is_after, same_after}
 

@@ -4,15 +4,15 @@ use Rattle.std.specs.Prelude.{Contains}
 use Rattle.std.proofs.lemmas.Option.{same_Some}
 use Rattle.hs_rules.specs.declared.entry.Entry.{Entry}
 use Rattle.hs_rules.specs.declared.entry.Entry.TheVariants as entry
-use Rattle.rules_trees.specs.Programs.{Fn}
+use Rattle.rules_expansion.specs.trees.Programs.{Fn}
 use Rattle.rules_meaning.specs.Values.{V, UnitValue}
 use Rattle.rules_meaning.specs.CoreMeaning.{Code, code_of}
 use Rattle.rules_waiting.specs.Waiting.{Reason, Taking, Reading, Putting, Throwing, Sleeping, Waiting, Sleeper, reason_of, line_of, with_sleeper, sleepers_of, sleeper_before, sleeper_added, sorted_sleepers, earliest, flight_of, is_blocked}
 use Rattle.hs_rules.specs.State.{Thread, State, resume, answer, move, block, spawn}
 use Rattle.hs_rules.specs.Entries.{next, IsWork, IsLegal}
-use Rattle.hs_cases.specs.Cases as row
-use Rattle.hs_cases.specs.Cases.{MainRuns}
-use Rattle.hs_cases.proofs.Entering.{case_of, entered_is}
+use Rattle.hs_laws.specs.cases.Cases as row
+use Rattle.hs_laws.specs.cases.Cases.{MainRuns}
+use Rattle.hs_laws.proofs.cases_lemmas.Entering.{case_of, entered_is}
 use Rattle.hs_rules.specs.Endings.{IsTick, IsQuiet}
 use Rattle.hs_rules.specs.Runs.{Run, IsRun, after}
 use Rattle.hs_laws.specs.Standing.{Once}

@@ -20,3 +20,4 @@ pub mod HowItEnds
 pub mod Expanded
 pub mod SameCases
 pub mod Later
+pub mod cases_lemmas

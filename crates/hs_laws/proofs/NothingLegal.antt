@@ -9,9 +9,9 @@ use Rattle.rules_waiting.specs.Waiting.{Reason, is_blocked, sleepers_of}
 use Rattle.hs_rules.specs.State.{Thread, State, resume_all}
 use Rattle.hs_rules.specs.Entries.{stranded, strand, strand_entry, on_thread, next, IsWork, IsIdle, Leads}
 use Rattle.hs_rules.specs.Entries as entries
-use Rattle.hs_cases.specs.Cases as row
-use Rattle.hs_cases.specs.Cases.{Unfinished}
-use Rattle.hs_cases.proofs.Entering.{case_of, all_are, open_so, interruptible}
+use Rattle.hs_laws.specs.cases.Cases as row
+use Rattle.hs_laws.specs.cases.Cases.{Unfinished}
+use Rattle.hs_laws.proofs.cases_lemmas.Entering.{case_of, all_are, open_so, interruptible}
 use Rattle.hs_rules.specs.Endings.{IsTick, IsQuiet, AllWait}
 use Rattle.hs_base.specs.declared.exn.Exn.TheVariants.{BlockedIndefinitely}
 use Rattle.hs_laws.specs.Standing.{NoneWorks}

@@ -17,9 +17,9 @@ use Rattle.hs_rules.specs.Terms.{Operation, Calls, Part, Ret, Throw, Do, Perform
 use Rattle.hs_rules.specs.State.{AcquiredBy, ReleasedBy, Thread, State, move, resume, answer, resume_all, block, spawn}
 use Rattle.hs_rules.specs.Primitives.{due_in, clock_value, masking_text, line_feed}
 use Rattle.hs_rules.specs.Entries.{throwers, next}
-use Rattle.hs_cases.specs.Cases as row
-use Rattle.hs_cases.specs.Cases.{holding, with_cell, printed, told, read_there, MainRuns, finished}
-use Rattle.hs_cases.proofs.Entering.{case_of, entered_is}
+use Rattle.hs_laws.specs.cases.Cases as row
+use Rattle.hs_laws.specs.cases.Cases.{holding, with_cell, printed, told, read_there, MainRuns, finished}
+use Rattle.hs_laws.proofs.cases_lemmas.Entering.{case_of, entered_is}
 use Rattle.hs_laws.proofs.Lists.{Each, Found, first_found, Ones, ones_those, throws, throws_at, reads_at, readers_are, throwers_are, throw_is_first}
 use Rattle.hs_laws.proofs.Changes.{each_among, put_among, take_among}
 

@@ -15,7 +15,7 @@ use Rattle.rules_waiting.specs.Waiting.{Reason, Throwing, Sleeping, Waiting, Fly
 use Rattle.hs_rules.specs.State.{Mark, AcquiredBy, ReleasedBy, Thread, State, with_term, move, frames_of, resume, answer, resume_all, block, spawn, first}
 use Rattle.hs_rules.specs.Primitives.{read_by_all, line_feed}
 use Rattle.hs_rules.specs.Entries.{is_stranded, stranded_below, stranded, next}
-use Rattle.hs_cases.specs.Cases.{with_cell, printed, told}
+use Rattle.hs_laws.specs.cases.Cases.{with_cell, printed, told}
 use Rattle.hs_rules.specs.Runs.{Run}
 use Rattle.rules_waiting.specs.Waiting.{first_thrown}
 use Rattle.hs_laws.specs.BracketLaw.{mine, IsMasked, Brackets, count, Numbered}

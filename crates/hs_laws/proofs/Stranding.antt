@@ -12,8 +12,8 @@ use Rattle.hs_laws.specs.MaskLaw.{WaitsOpen, WasRemoved, thrown_out, AreStranded
 use Rattle.hs_laws.proofs.Lists.{cond_true, cond_false, equal_or, item_same, item_below, Absent_in, Distinct, Ones, StandsIn, stands_before, stands_behind}
 use Rattle.hs_laws.proofs.States.{other_thread, Strands, strands_each, stranded_distinct}
 use Rattle.hs_laws.proofs.CellSteps.{reason_left, not_blocked_reason}
-use Rattle.hs_cases.specs.Cases as row
-use Rattle.hs_cases.proofs.Entering.{case_of, all_are, waits_so, stranded_so}
+use Rattle.hs_laws.specs.cases.Cases as row
+use Rattle.hs_laws.proofs.cases_lemmas.Entering.{case_of, all_are, waits_so, stranded_so}
 
 -- ---- who is blocked
 pub left_free : (t : ℕ) (ws : List (Waiting V)) → is_blocked t (leaves t ws) ≡ false

@@ -13,8 +13,8 @@ use Rattle.hs_rules.specs.Terms.{Calls, Part, Ret, Throw, Do, Performs}
 use Rattle.rules_waiting.specs.Waiting.{Reason, Throwing, Waiting, leaves, reason_of, flight_of, flying_to}
 use Rattle.hs_rules.specs.State.{Thread, State, answer, resume_all, first}
 use Rattle.hs_rules.specs.Entries.{Leads, stranded, next}
-use Rattle.hs_cases.specs.Cases as row
-use Rattle.hs_cases.proofs.Entering.{case_of}
+use Rattle.hs_laws.specs.cases.Cases as row
+use Rattle.hs_laws.proofs.cases_lemmas.Entering.{case_of}
 use Rattle.hs_rules.specs.Runs.{Run}
 use Rattle.std.proofs.lemmas.Option.{same_Some}
 use Rattle.hs_laws.specs.MaskLaw.{WaitsThrough, ThrownBy, Received}

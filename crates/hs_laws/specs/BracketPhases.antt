@@ -11,13 +11,13 @@ use Rattle.rules_expansion.specs.Core.{CoreEx, Read, Core, Return, ThrowIo, Let,
 use Rattle.rules_expansion.specs.declared.primitive.Primitive.{Primitive}
 use Rattle.rules_expansion.specs.declared.primitive.Primitive.TheVariants.{TakeMVar, ReadMVar, PutMVar, ThreadDelay, ThrowTo, Acquired, Release}
 use Rattle.rules_expansion.specs.Core as core
-use Rattle.rules_trees.specs.Trees.{Exs}
+use Rattle.rules_expansion.specs.trees.Trees.{Exs}
 use Rattle.rules_expansion.specs.Expansion.{release, bracket_return, bracket_exit, bracket_rethrow, bracket_handler, bracket_guarded, bracket_acquired, acquire, bracket_marked, bracket_masked}
 use Rattle.hs_rules.specs.Terms.{Operation, Calls, Forks, ForksUnmask, Part, Ret, Throw, Do, Performs, Frame, BindTo, CatchBy, MaskIn, mask_at}
 use Rattle.rules_waiting.specs.Waiting.{Reason, Taking, Reading, Putting, Throwing, Sleeping, reason_of}
 use Rattle.hs_rules.specs.State.{Thread, State}
 use Rattle.hs_rules.specs.declared.entry.Entry.{Entry}
-use Rattle.rules_trees.specs.Programs.{Fn}
+use Rattle.rules_expansion.specs.trees.Programs.{Fn}
 use Rattle.hs_rules.specs.Runs.{after}
 use Rattle.hs_laws.specs.BracketLaw.{Brackets, count, mine, Numbered, owed, owed_here, IsMasked, MaskedCatches}
 

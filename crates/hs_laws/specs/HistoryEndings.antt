@@ -4,7 +4,7 @@ use Rattle.hs_base.specs.declared.limits.Limits.{Limits}
 use Rattle.hs_rules.specs.declared.entry.Entry.{Entry}
 use Rattle.hs_rules.specs.declared.entry.Entry.TheVariants as entry
 use Rattle.hs_rules.specs.declared.entry.LimitKind.{LimitKind}
-use Rattle.rules_trees.specs.Programs.{Fn}
+use Rattle.rules_expansion.specs.trees.Programs.{Fn}
 use Rattle.rules_meaning.specs.CoreMeaning.{code_of}
 use Rattle.hs_rules.specs.State.{State}
 use Rattle.hs_rules.specs.Entries.{Leads}

@@ -7,3 +7,4 @@ pub mod Standing
 pub mod ClockLaw
 pub mod HistoryEndings
 pub mod QuietLaws
+pub mod cases

@@ -2,7 +2,7 @@
 
 ghost use Rattle.std.specs.Prelude.{List};
 ghost use Rattle.hs_rules.specs.declared.entry.Entry.{Entry};
-ghost use Rattle.rules_trees.specs.Programs.{Fn};
+ghost use Rattle.rules_expansion.specs.trees.Programs.{Fn};
 ghost use Rattle.hs_rules.specs.State.{State};
 ghost use Rattle.hs_rules.specs.Runs.{IsRun};
 ghost use Rattle.hs_laws.specs.BracketLaw.{Brackets};

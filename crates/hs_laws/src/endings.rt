@@ -4,7 +4,7 @@ ghost use Rattle.std.specs.Prelude.{◌≡◌, ◌⊎◌, ◌++◌, ◌∷◌, [
 ghost use Rattle.hs_base.specs.declared.limits.Limits.{Limits};
 ghost use Rattle.hs_rules.specs.declared.entry.Entry.{Entry};
 ghost use Rattle.hs_rules.specs.declared.entry.LimitKind.{LimitKind};
-ghost use Rattle.rules_trees.specs.Programs.{Fn};
+ghost use Rattle.rules_expansion.specs.trees.Programs.{Fn};
 ghost use Rattle.rules_meaning.specs.CoreMeaning.{Code};
 ghost use Rattle.hs_rules.specs.State.{Thread, State};
 ghost use Rattle.hs_rules.specs.Entries.{next};

@@ -7,9 +7,13 @@
 //!
 //! Its promise: what the contracts say holds of every script and every history that the rules of `hs_rules` allow. The
 //! rules themselves are left to `hs_rules`, and that a program's history is such a run to the crates that keep one.
+//!
+//! A part with a head of its own: `cases`, the rules of a run by cases, each with a name, by which a step is
+//! proved.
 #![tactic(auto)]
 
 pub mod brackets;
+pub mod cases;
 pub mod cells;
 pub mod clock;
 pub mod endings;

@@ -2,7 +2,7 @@
 
 ghost use Rattle.std.specs.Prelude.{◌≡◌, ◌≤◌, ◌+◌, ℕ, List, ◌++◌, []};
 ghost use Rattle.hs_rules.specs.declared.entry.Entry.{Entry};
-ghost use Rattle.rules_trees.specs.Programs.{Fn};
+ghost use Rattle.rules_expansion.specs.trees.Programs.{Fn};
 ghost use Rattle.rules_meaning.specs.Values.{V};
 ghost use Rattle.rules_waiting.specs.OneCell.{leaves_line};
 ghost use Rattle.rules_waiting.specs.Waiting.{Reason, Waiting, blocks, leaves, want_at, with_place, line_of};

@@ -6,7 +6,7 @@ use Rattle.rules_code.specs.declared.node.ExprId.{ExprId}
 use Rattle.rules_code.specs.declared.node.NodeLink.{NodeLink}
 use Rattle.rules_code.specs.declared.node.Node.{Node}
 use Rattle.rules_code.specs.declared.node.Node.TheVariants as n
-use Rattle.rules_trees.specs.Trees.{Ex, Exs, Links, Arms, Lit, number, letters, truth, nothing_more, exception, lit, name, unary, binary, chain, conses, choose, items, empty, side, given, case, none, more, end, link, maybe_arms, either_arms, list_arms, pair_arms}
+use Rattle.rules_expansion.specs.trees.Trees.{Ex, Exs, Links, Arms, Lit, number, letters, truth, nothing_more, exception, lit, name, unary, binary, chain, conses, choose, items, empty, side, given, case, none, more, end, link, maybe_arms, either_arms, list_arms, pair_arms}
 use Rattle.rules_expansion.specs.Names.{Written}
 use Rattle.rules_code.specs.Slots.{Sx, Sxs, Slinks, s_literal, s_empty, s_slot, s_unary, s_side, s_binary, s_chain, s_conses, s_items, s_choose, s_given, s_maybe, s_either, s_list, s_pair, s_call, s_bad, s_none, s_more, s_end, s_link, Scope, slot_of, Root, body_of, read_or, count, slotted, slotted_all, slotted_links, slotted_arms, decode, trees, tree_at, tree_in, trees_in, links_in}
 use Rattle.rules_code.proofs.Arena.{trees-length, tree_at-more, tree_at-last, tree_in-past}

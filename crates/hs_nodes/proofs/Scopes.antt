@@ -3,7 +3,7 @@ use Rattle.std.proofs.Common.{◌≡◌, ℕ, ◌+◌, ◌-◌, ◌<◌, List, [
 use Rattle.std.proofs.Math.Seq.{take-suc}
 use Rattle.rules_expansion.specs.Names.{Name, same_name}
 use Rattle.hs_base.specs.declared.tree.expr.Expr.{Expr}
-use Rattle.rules_trees.specs.Trees.{exs_of}
+use Rattle.rules_expansion.specs.trees.Trees.{exs_of}
 use Rattle.rules_code.specs.Slots.{Scope, slot_of, count}
 use Rattle.hs_nodes.specs.declared.names.ScopedName.{ScopedName}
 use Rattle.hs_nodes.specs.Names.{name_of, scope_after, scope_of}

@@ -10,7 +10,7 @@ use Rattle.hs_base.specs.declared.tree.expr.Link.{Link}
 use Rattle.hs_base.specs.declared.tree.expr.ListLink.{ListLink}
 use Rattle.hs_base.specs.declared.tree.expr.SumLink.{SumLink}
 use Rattle.hs_base.specs.declared.tree.forms.BinaryForm.{BinaryForm}
-use Rattle.rules_trees.specs.Trees.{Ex, Links, Arms, more, link, ex_of, exs_of, links_of, sum_links_of, list_links_of, sum_form, cons_form}
+use Rattle.rules_expansion.specs.trees.Trees.{Ex, Links, Arms, more, link, ex_of, exs_of, links_of, sum_links_of, list_links_of, sum_form, cons_form}
 use Rattle.rules_code.specs.declared.node.ExprId.{ExprId}
 use Rattle.rules_code.specs.declared.node.NodeLink.{NodeLink}
 use Rattle.rules_code.specs.declared.node.Node.{Node}

@@ -5,7 +5,7 @@ use Rattle.rules_code.specs.declared.node.ExprId.{ExprId}
 use Rattle.rules_code.specs.declared.node.NodeLink.{NodeLink}
 use Rattle.rules_code.specs.declared.node.Node.{Node}
 use Rattle.rules_code.specs.declared.node.Node.TheVariants as n
-use Rattle.rules_trees.specs.Trees.{Ex, Exs, Links, Arms, Lit, number, letters, truth, nothing_more, exception, lit, name, unary, binary, chain, conses, choose, items, empty, side, given, case, none, more, end, link, maybe_arms, either_arms, list_arms, pair_arms}
+use Rattle.rules_expansion.specs.trees.Trees.{Ex, Exs, Links, Arms, Lit, number, letters, truth, nothing_more, exception, lit, name, unary, binary, chain, conses, choose, items, empty, side, given, case, none, more, end, link, maybe_arms, either_arms, list_arms, pair_arms}
 use Rattle.rules_expansion.specs.Names.{Written}
 use Rattle.rules_code.specs.Slots.{Scope, slot_of, count}
 use Rattle.hs_nodes.specs.Names.{scope_of}

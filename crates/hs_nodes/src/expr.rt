@@ -1,7 +1,7 @@
 //! The nodes of expressions.
 ghost use Rattle.std.specs.Prelude.{◌≡◌, ◌++◌, ◌∷◌, [], ◌+◌, length, IfOk};
 ghost use Rattle.rules_expansion.specs.Names.{Written};
-ghost use Rattle.rules_trees.specs.Trees.{ex_of, exs_of, arms_of, links_of, list_links_of, sum_links_of, constant_of, compare_form, sum_form, cons_form};
+ghost use Rattle.rules_expansion.specs.trees.Trees.{ex_of, exs_of, arms_of, links_of, list_links_of, sum_links_of, constant_of, compare_form, sum_form, cons_form};
 ghost use Rattle.hs_nodes.specs.Emitting.{nodes_of, arm_nodes, own1, two_nodes, literal_node, EmittedAs, EmittedAll, call_nodes, list_nodes, chain_nodes};
 
 use crate::emitter::Emitter;
@@ -59,7 +59,7 @@ fn cons_form(op: ConsOp) -> BinaryForm
     }
 }
 
-#[tactic(auto, using(crate::proofs::Scopes::emit_rules, rules_trees::proofs::Equations::ex_rules, rules_trees::proofs::Equations::arms_rules))]
+#[tactic(auto, using(crate::proofs::Scopes::emit_rules, rules_expansion::proofs::trees_lemmas::Equations::ex_rules, rules_expansion::proofs::trees_lemmas::Equations::arms_rules))]
 impl Emitter {
     /// Adds the node of a form with one part.
     fn unary(&mut self, form: UnaryForm, part: ExprId) -> Result<ExprId, NoMemory>

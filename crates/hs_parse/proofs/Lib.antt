@@ -1,2 +1,3 @@
 pub mod DefSteps
 pub mod Top
+pub mod blocks_lemmas

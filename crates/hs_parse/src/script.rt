@@ -3,9 +3,9 @@ ghost use Rattle.rules_grammar.specs.Grammar as g;
 ghost use Rattle.hs_grammar.specs.Parser as parser;
 ghost use Rattle.parse_leaves.specs.Reads.{Reads};
 
+use crate::blocks::block;
 use hs_base::{Body, Def, Script};
 use hs_items::Items;
-use parse_blocks::block;
 use parse_exprs::expr;
 use parse_leaves::{Cursor, Halt};
 use rules_tokens::{symbol, word};

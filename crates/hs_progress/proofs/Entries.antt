@@ -3,8 +3,8 @@ use Rattle.std.proofs.Common.{◌≡◌, ◌≢◌, ◌==◌, ⊎_elim, ℕ, zer
 use Rattle.hs_base.specs.declared.tree.script.Script.{Script}
 use Rattle.hs_rules.specs.declared.entry.Entry.{Entry}
 use Rattle.hs_rules.specs.declared.entry.Entry.TheVariants as entry
-use Rattle.rules_trees.specs.Trees.{unit}
-use Rattle.rules_trees.specs.Programs.{Fn, script_of}
+use Rattle.rules_expansion.specs.trees.Trees.{unit}
+use Rattle.rules_expansion.specs.trees.Programs.{Fn, script_of}
 use Rattle.rules_meaning.specs.Values.{UnitValue}
 use Rattle.rules_expansion.specs.Core.{Core}
 use Rattle.rules_meaning.specs.CoreMeaning.{Code, code_of}
@@ -17,11 +17,11 @@ use Rattle.hs_rules.specs.State.{Thread, State, move, resume, answer, resume_all
 use Rattle.hs_rules.specs.Primitives.{operated}
 use Rattle.hs_rules.specs.Entries.{closed, next, IsTimely, IsLegal, is_silent}
 use Rattle.hs_rules.specs.Runs.{Run, IsRun}
-use Rattle.hs_cases.specs.Cases as row
-use Rattle.hs_cases.proofs.Entering.{case_of, entered_is}
-use Rattle.hs_cases.proofs.Performing as performing
+use Rattle.hs_laws.specs.cases.Cases as row
+use Rattle.hs_laws.proofs.cases_lemmas.Entering.{case_of, entered_is}
+use Rattle.hs_laws.proofs.cases_lemmas.Performing as performing
 use Rattle.hs_base.specs.declared.exn.Exn.{Exn}
-use Rattle.hs_cases.proofs.Performing.{performed_is}
+use Rattle.hs_laws.proofs.cases_lemmas.Performing.{performed_is}
 use Rattle.hs_laws.proofs.Changes.{receiving, closing}
 use Rattle.hs_base.specs.declared.exn.Exn.TheVariants.{BlockedIndefinitely}
 use Rattle.hs_laws.specs.BracketLaw.{mine}

@@ -2,8 +2,8 @@
 use Rattle.std.proofs.Common.{◌≡◌, ◌≢◌, ℕ, List, [], ◌∷◌, Some, slice_get, refl, subst}
 use Rattle.hs_base.specs.declared.tree.script.Script.{Script}
 use Rattle.hs_rules.specs.declared.entry.Entry.{Entry}
-use Rattle.rules_trees.specs.Trees.{T, Exs, none, more}
-use Rattle.rules_trees.specs.Programs.{Fn, script_of}
+use Rattle.rules_expansion.specs.trees.Trees.{T, Exs, none, more}
+use Rattle.rules_expansion.specs.trees.Programs.{Fn, script_of}
 use Rattle.rules_meaning.specs.Values.{Env, Outcome, Gives, Throws, Stuck}
 use Rattle.rules_meaning.specs.Meaning.{functions_of}
 use Rattle.rules_meaning.specs.CoreMeaning.{code_of, value_of_core}

@@ -7,8 +7,8 @@ use Rattle.hs_base.specs.declared.tree.script.Body.{Body}
 use Rattle.hs_base.specs.declared.tree.script.Body.TheVariants as y
 use Rattle.hs_base.specs.declared.tree.script.Def.{Def}
 use Rattle.hs_base.specs.declared.tree.script.Script.{Script}
-use Rattle.rules_trees.specs.Trees.{T, unit}
-use Rattle.rules_trees.specs.Programs.{bl_of, bd_of, Par, Fn, fn_of, script_of}
+use Rattle.rules_expansion.specs.trees.Trees.{T, unit}
+use Rattle.rules_expansion.specs.trees.Programs.{bl_of, bd_of, Par, Fn, fn_of, script_of}
 use Rattle.rules_expansion.specs.Names.{Name, Written}
 use Rattle.rules_sorts.specs.Sorts.{a_value, SortedName}
 use Rattle.rules_typing.specs.Typing.{Sig}

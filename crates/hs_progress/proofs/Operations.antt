@@ -5,8 +5,8 @@ use Rattle.hs_base.specs.declared.exn.Exn.{Exn}
 use Rattle.hs_base.specs.declared.exn.Exn.TheVariants.{Timeout}
 use Rattle.hs_base.specs.declared.mask.Mask.{Mask}
 use Rattle.hs_base.specs.declared.mask.Mask.TheVariants.{Unmasked}
-use Rattle.rules_trees.specs.Trees.{T, unit, int, bool, text, thread, exn, maybe, either, cell}
-use Rattle.rules_trees.specs.Programs.{Fn}
+use Rattle.rules_expansion.specs.trees.Trees.{T, unit, int, bool, text, thread, exn, maybe, either, cell}
+use Rattle.rules_expansion.specs.trees.Programs.{Fn}
 use Rattle.rules_meaning.specs.Values as val
 use Rattle.rules_meaning.specs.Values.{V, UnitValue, Int, Truth, Text, Nothing, Just, Exception, Restore, Inst, with_name}
 use Rattle.rules_expansion.specs.declared.primitive.Primitive.{Primitive}

@@ -6,7 +6,7 @@ use Rattle.hs_base.specs.declared.exn.Exn.TheVariants.{BlockedIndefinitely}
 use Rattle.hs_base.specs.declared.tree.script.Script.{Script}
 use Rattle.hs_rules.specs.declared.entry.Entry.{Entry}
 use Rattle.hs_rules.specs.declared.entry.Entry.TheVariants as entry
-use Rattle.rules_trees.specs.Programs.{script_of}
+use Rattle.rules_expansion.specs.trees.Programs.{script_of}
 use Rattle.rules_meaning.specs.Values.{UnitValue}
 use Rattle.rules_meaning.specs.CoreMeaning.{Code, code_of}
 use Rattle.rules_typing.specs.TypingScripts.{Accepted}
@@ -25,9 +25,9 @@ use Rattle.hs_laws.proofs.HowItEnds.{main_ends}
 use Rattle.hs_laws.proofs.Expanded.{owing_of}
 use Rattle.hs_progress.specs.GoingOn.{MainRuns, IsRunning, own_entry, MayStrand}
 use Rattle.hs_progress.proofs.Entries.{main_is_there, runs_go_on}
-use Rattle.hs_cases.specs.Cases as row
-use Rattle.hs_cases.proofs.Entering.{case_of, all_are}
-use Rattle.hs_cases.proofs.Options.{on_running}
+use Rattle.hs_laws.specs.cases.Cases as row
+use Rattle.hs_laws.proofs.cases_lemmas.Entering.{case_of, all_are}
+use Rattle.hs_laws.proofs.cases_lemmas.Options.{on_running}
 
 isnt_state : (u : State) → None ≡ Some u → ⊥
 isnt_state u e = let z : ◌≡◌ {A = Option State} None (Some u) = e in cc z

@@ -1,7 +1,7 @@
 -- What is typed by a store is typed by a greater one.
 use Rattle.std.proofs.Common.{◌≡◌, ℕ, ◌==◌, ◌<◌, ◌≤◌, List, [], ◌∷◌, cond, Option, Some, None, slice_get, arith, ⊎_elim}
-use Rattle.rules_trees.specs.Trees.{T, thread, cell, async}
-use Rattle.rules_trees.specs.Programs.{Fn}
+use Rattle.rules_expansion.specs.trees.Trees.{T, thread, cell, async}
+use Rattle.rules_expansion.specs.trees.Programs.{Fn}
 use Rattle.rules_expansion.specs.Names.{Name}
 use Rattle.rules_meaning.specs.Values.{V, Env}
 use Rattle.rules_expansion.specs.Core.{Core}

@@ -12,9 +12,9 @@ use Rattle.hs_base.specs.declared.tree.forms.BinaryAction.TheVariants as b
 use Rattle.hs_base.specs.declared.tree.forms.BlockAction.TheVariants as k
 use Rattle.hs_base.specs.declared.tree.forms.MaskingAction.TheVariants as m
 use Rattle.hs_base.specs.declared.tree.forms.GuardAction.TheVariants as guards
-use Rattle.rules_trees.specs.Trees.{T, unit, int, bool, text, thread, exn, pair, maybe, either, list, cell, async, Ex, Exs, none, more}
-use Rattle.rules_trees.specs.Programs as tree
-use Rattle.rules_trees.specs.Programs.{SurfaceAction, Bl, ActArms}
+use Rattle.rules_expansion.specs.trees.Trees.{T, unit, int, bool, text, thread, exn, pair, maybe, either, list, cell, async, Ex, Exs, none, more}
+use Rattle.rules_expansion.specs.trees.Programs as tree
+use Rattle.rules_expansion.specs.trees.Programs.{SurfaceAction, Bl, ActArms}
 use Rattle.rules_expansion.specs.Names as names
 use Rattle.rules_expansion.specs.Names.{Written, Added, same_name, Unread}
 use Rattle.rules_expansion.specs.declared.hidden.Hidden.{Hidden}

@@ -3,7 +3,7 @@
 -- The rules follow those of actions (`rules_typing/specs/TypingActions`) where a script writes the form, and say the sorts of
 -- the names that expansions add.
 use Rattle.std.specs.Prelude.{◌≡◌, ℕ, true, List, [], ◌∷◌, Some}
-use Rattle.rules_trees.specs.Trees.{T, unit, int, bool, text, thread, exn, pair, maybe, either, list, cell, Exs}
+use Rattle.rules_expansion.specs.trees.Trees.{T, unit, int, bool, text, thread, exn, pair, maybe, either, list, cell, Exs}
 use Rattle.rules_expansion.specs.declared.hidden.Hidden.{Hidden}
 use Rattle.rules_expansion.specs.declared.hidden.Hidden.TheVariants as h
 use Rattle.rules_expansion.specs.Names.{Name, Written, Added, Unread}

@@ -1,7 +1,7 @@
 -- What an action's first step evaluates, and when it may be evaluated (own).
 use Rattle.std.specs.Prelude.{◌≢◌, ℕ, List, [], ◌∷◌}
-use Rattle.rules_trees.specs.Trees.{Exs, none, more}
-use Rattle.rules_trees.specs.Programs.{Fn}
+use Rattle.rules_expansion.specs.trees.Trees.{Exs, none, more}
+use Rattle.rules_expansion.specs.trees.Programs.{Fn}
 use Rattle.rules_meaning.specs.Values.{Env, Stuck}
 use Rattle.rules_meaning.specs.Meaning.{Functions}
 use Rattle.rules_meaning.specs.CoreMeaning.{value_of_core}

@@ -2,8 +2,8 @@
 
 ghost use Rattle.std.specs.Prelude.{◌≡◌, List, [], Some};
 ghost use Rattle.hs_base.specs.declared.tree.script.Script.{Script};
-ghost use Rattle.rules_trees.specs.Trees.{T, unit};
-ghost use Rattle.rules_trees.specs.Programs.{SurfaceAction, Bl, script_of};
+ghost use Rattle.rules_expansion.specs.trees.Trees.{T, unit};
+ghost use Rattle.rules_expansion.specs.trees.Programs.{SurfaceAction, Bl, script_of};
 ghost use Rattle.rules_expansion.specs.Core.{Core};
 ghost use Rattle.rules_expansion.specs.Expansion.{core, block_core, main_of};
 ghost use Rattle.rules_sorts.specs.Sorts.{a_value, SortedName};

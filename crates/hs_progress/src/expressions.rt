@@ -2,7 +2,7 @@
 
 ghost use Rattle.std.specs.Prelude.{List};
 ghost use Rattle.hs_base.specs.declared.tree.script.Script.{Script};
-ghost use Rattle.rules_trees.specs.Programs.{Fn, script_of};
+ghost use Rattle.rules_expansion.specs.trees.Programs.{Fn, script_of};
 ghost use Rattle.rules_expansion.specs.Core.{Core};
 ghost use Rattle.rules_meaning.specs.Values.{V, Env};
 ghost use Rattle.rules_meaning.specs.Meaning.{functions_of};

@@ -1,8 +1,8 @@
 //! A new cell or thread changes nothing for the old ones.
 
 ghost use Rattle.std.specs.Prelude.{◌≡◌, ◌<◌, ℕ, List, Option};
-ghost use Rattle.rules_trees.specs.Trees.{T};
-ghost use Rattle.rules_trees.specs.Programs.{Fn};
+ghost use Rattle.rules_expansion.specs.trees.Trees.{T};
+ghost use Rattle.rules_expansion.specs.trees.Programs.{Fn};
 ghost use Rattle.rules_meaning.specs.Values.{V};
 ghost use Rattle.rules_sorts.specs.Sorts.{Sort};
 ghost use Rattle.hs_rules.specs.Terms.{Term};

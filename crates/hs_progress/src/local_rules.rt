@@ -2,7 +2,7 @@
 
 ghost use Rattle.std.specs.Prelude.{◌≡◌, ℕ, Some};
 ghost use Rattle.hs_base.specs.declared.tree.script.Script.{Script};
-ghost use Rattle.rules_trees.specs.Programs.{script_of};
+ghost use Rattle.rules_expansion.specs.trees.Programs.{script_of};
 ghost use Rattle.rules_meaning.specs.CoreMeaning.{code_of};
 ghost use Rattle.rules_typing.specs.TypingScripts.{Accepted};
 ghost use Rattle.hs_rules.specs.Terms.{Term};

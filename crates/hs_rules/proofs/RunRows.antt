@@ -9,8 +9,8 @@ use Rattle.hs_base.specs.declared.tree.forms.UnaryAction.TheVariants.{Return, Pu
 use Rattle.hs_base.specs.declared.tree.forms.BinaryAction.TheVariants.{PutMVar, ThrowTo}
 use Rattle.hs_base.specs.declared.tree.forms.BlockAction.TheVariants.{ForkIo, MaskOnly, UninterruptibleMaskOnly}
 use Rattle.hs_base.specs.declared.tree.forms.GuardAction.TheVariants.{Finally}
-use Rattle.rules_trees.specs.Trees.{lit, unary, nothing_more, exception}
-use Rattle.rules_trees.specs.Programs.{SurfaceAction, bare, unary_act, binary_act, throw_io, new_empty, scoped, catch, guard, bracket, timeout, case_act, maybe_acts, Bl, last, then, bind}
+use Rattle.rules_expansion.specs.trees.Trees.{lit, unary, nothing_more, exception}
+use Rattle.rules_expansion.specs.trees.Programs.{SurfaceAction, bare, unary_act, binary_act, throw_io, new_empty, scoped, catch, guard, bracket, timeout, case_act, maybe_acts, Bl, last, then, bind}
 use Rattle.hs_rules.specs.State.{State, Mark, AcquiredBy, ReleasedBy, Thread}
 use Rattle.hs_rules.specs.Entries.{uncaught_line}
 use Rattle.hs_rules.specs.Runs.{after}

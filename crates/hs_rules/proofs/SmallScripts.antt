@@ -8,8 +8,8 @@ use Rattle.hs_base.specs.declared.tree.forms.UnaryForm.TheVariants.{Show, ErrorC
 use Rattle.hs_base.specs.declared.tree.forms.UnaryAction.TheVariants.{Return, PutStrLn, TakeMVar, KillThread, ThreadDelay}
 use Rattle.hs_base.specs.declared.tree.forms.BinaryAction.TheVariants.{PutMVar}
 use Rattle.hs_base.specs.declared.tree.forms.BlockAction.TheVariants.{ForkIo}
-use Rattle.rules_trees.specs.Trees.{unit, Wr, Ex, lit, name, none, unary, number, letters, nothing_more}
-use Rattle.rules_trees.specs.Programs.{SurfaceAction, unary_act, binary_act, throw_io, new_empty, call, scoped, Bl, bind, io_body, Par, Fn}
+use Rattle.rules_expansion.specs.trees.Trees.{unit, Wr, Ex, lit, name, none, unary, number, letters, nothing_more}
+use Rattle.rules_expansion.specs.trees.Programs.{SurfaceAction, unary_act, binary_act, throw_io, new_empty, call, scoped, Bl, bind, io_body, Par, Fn}
 use Rattle.hs_rules.specs.State.{State}
 use Rattle.hs_rules.specs.Entries.{next}
 use Rattle.hs_rules.specs.Runs.{first_of}

@@ -10,8 +10,8 @@ use Rattle.hs_base.specs.declared.tree.forms.BareAction.TheVariants.{MyThreadId,
 use Rattle.hs_base.specs.declared.tree.forms.UnaryAction.TheVariants.{ThreadDelay}
 use Rattle.hs_base.specs.declared.tree.forms.BinaryAction.TheVariants.{ThrowTo}
 use Rattle.hs_base.specs.declared.tree.forms.BlockAction.TheVariants.{MaskOnly, UninterruptibleMaskOnly}
-use Rattle.rules_trees.specs.Trees.{lit, none, more, unary, binary, exception}
-use Rattle.rules_trees.specs.Programs.{bare, unary_act, binary_act, call, choose_act, scoped, masking, restore, catch, bracket, last, then, bind, Fn}
+use Rattle.rules_expansion.specs.trees.Trees.{lit, none, more, unary, binary, exception}
+use Rattle.rules_expansion.specs.trees.Programs.{bare, unary_act, binary_act, call, choose_act, scoped, masking, restore, catch, bracket, last, then, bind, Fn}
 use Rattle.hs_rules.specs.State.{State, Thread}
 use Rattle.hs_rules.proofs.SmallScripts.{here, named, text, int, var, say, say_it, def, run_it, throwing, show_it, new, fork, take, put, nothing, return_unit, kill, nap, driven}
 

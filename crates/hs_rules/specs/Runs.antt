@@ -1,7 +1,7 @@
 -- Runs (own): lists of entries that are legal one after another, from the first state of a script.
 use Rattle.std.specs.Prelude.{◌≡◌, ℕ, List, [], ◌∷◌, Option, Some, None}
 use Rattle.hs_rules.specs.declared.entry.Entry.{Entry}
-use Rattle.rules_trees.specs.Programs.{Fn}
+use Rattle.rules_expansion.specs.trees.Programs.{Fn}
 use Rattle.rules_expansion.specs.Core.{Core}
 use Rattle.rules_meaning.specs.CoreMeaning.{Code, code_of}
 use Rattle.rules_expansion.specs.Expansion.{main_of}

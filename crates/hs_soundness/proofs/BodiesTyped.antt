@@ -4,7 +4,7 @@ use Rattle.hs_base.specs.declared.tree.script.Body.{Body}
 use Rattle.hs_base.specs.declared.tree.script.Body.TheVariants as y
 use Rattle.hs_base.specs.declared.tree.script.Def.{Def}
 use Rattle.hs_base.specs.declared.tree.script.Script.{Script}
-use Rattle.rules_trees.specs.Programs.{Fn, bd_of, fn_of, script_of}
+use Rattle.rules_expansion.specs.trees.Programs.{Fn, bd_of, fn_of, script_of}
 use Rattle.rules_typing.specs.Typing.{Fault, Need, is, Met, Ctx, Sig}
 use Rattle.rules_typing.specs.TypingFaults.{In}
 use Rattle.rules_typing.specs.TypingScripts.{result_of, params_in, head_faults, sigs_from, BodyHas, DefBreaks, AnyBreaks, Measured, unmeasured, measured_with, Accepted}

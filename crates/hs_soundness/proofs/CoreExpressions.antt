@@ -4,8 +4,8 @@ use Rattle.plain_laws.proofs.Lists.{bytes_eq_sym}
 use Rattle.hs_base.specs.declared.tree.script.Script.{Script}
 use Rattle.hs_base.specs.declared.tree.forms.BinaryForm.TheVariants as b
 use Rattle.hs_base.specs.declared.tree.forms.UnaryForm.TheVariants as u
-use Rattle.rules_trees.specs.Trees.{T, unit, int, bool, thread, exn, pair, maybe, either, async}
-use Rattle.rules_trees.specs.Programs.{script_of}
+use Rattle.rules_expansion.specs.trees.Trees.{T, unit, int, bool, thread, exn, pair, maybe, either, async}
+use Rattle.rules_expansion.specs.trees.Programs.{script_of}
 use Rattle.rules_expansion.specs.Names.{Name, Written, Added, same_name, Unread}
 use Rattle.rules_meaning.specs.Values.{V, Int, Pair, Just, Left, Right, Exception, Restore, Env, value_at, Outcome, Gives, Throws, Stuck}
 use Rattle.rules_meaning.specs.Meaning.{Functions, unary_of, binary_of, functions_of, value_of_ex}

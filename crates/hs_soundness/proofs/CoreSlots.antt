@@ -3,8 +3,8 @@ use Rattle.std.proofs.Common.{◌≡◌, inl, inr, ℕ, zero, suc, ◌≤◌, po
 use Rattle.std.specs.Prelude.{slice_get}
 use Rattle.hs_base.specs.declared.tree.forms.BinaryForm.TheVariants as b
 use Rattle.hs_base.specs.declared.tree.forms.UnaryForm.TheVariants as u
-use Rattle.rules_trees.specs.Trees.{T}
-use Rattle.rules_trees.specs.Programs.{Fn}
+use Rattle.rules_expansion.specs.trees.Trees.{T}
+use Rattle.rules_expansion.specs.trees.Programs.{Fn}
 use Rattle.rules_expansion.specs.Names.{Name}
 use Rattle.rules_meaning.specs.Values.{V, Int, Left, Right, Env, value_at, Outcome, Gives}
 use Rattle.rules_meaning.specs.Meaning.{then, unary_of, binary_of, functions_of}

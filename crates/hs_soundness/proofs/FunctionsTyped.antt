@@ -1,8 +1,8 @@
 -- The pure functions of a script whose pure definitions have their types answer values of their results.
 use Rattle.std.proofs.Common.{◌≡◌, ℕ, ◌+◌, ◌≤◌, List, [], ◌∷◌, ◌++◌, Bool, true, false, cond, Option, Some, None, refl, sym, ap, ◌∙◌, subst, arith, ◌⊎◌, inl, inr, ⊎_elim, bytes_eq, append_assoc, append-nil}
 use Rattle.std.proofs.lemmas.Bool.{ltb-true}
-use Rattle.rules_trees.specs.Trees.{T, Ex}
-use Rattle.rules_trees.specs.Programs.{Par, Bd, pure_body, io_body, Fn}
+use Rattle.rules_expansion.specs.trees.Trees.{T, Ex}
+use Rattle.rules_expansion.specs.trees.Programs.{Par, Bd, pure_body, io_body, Fn}
 use Rattle.rules_meaning.specs.Values.{V, Env, with_name, Outcome, Stuck}
 use Rattle.rules_expansion.specs.Names.{Written}
 use Rattle.rules_meaning.specs.Meaning.{Functions, answer, answer_of, in_env, bound_onto, texts_of, with_body, functions_onto, functions_of, value_of_ex}

@@ -11,7 +11,7 @@ use Rattle.hs_base.specs.declared.tree.forms.EmptyForm.{EmptyForm}
 use Rattle.hs_base.specs.declared.tree.forms.EmptyForm.TheVariants as n
 use Rattle.hs_base.specs.declared.tree.forms.SideForm.{SideForm}
 use Rattle.hs_base.specs.declared.tree.forms.SideForm.TheVariants as d
-use Rattle.rules_trees.specs.Trees.{T, unit, int, bool, text, thread, exn, pair, maybe, either, list, Lit, number, letters, truth, nothing_more, exception, Ex, Exs, Links, Arms, lit, name, unary, binary, chain, conses, choose, items, empty, side, given, case, none, more, end, link, maybe_arms, either_arms, list_arms, pair_arms}
+use Rattle.rules_expansion.specs.trees.Trees.{T, unit, int, bool, text, thread, exn, pair, maybe, either, list, Lit, number, letters, truth, nothing_more, exception, Ex, Exs, Links, Arms, lit, name, unary, binary, chain, conses, choose, items, empty, side, given, case, none, more, end, link, maybe_arms, either_arms, list_arms, pair_arms}
 use Rattle.rules_meaning.specs.Values as val
 use Rattle.rules_meaning.specs.Values.{V, UnitValue, Int, Truth, Text, Pair, Nothing, Just, Left, Right, Nil, Cons, Exception, Outcome, Gives, Throws, Stuck, Outcomes, AllGive, OneThrows, OneStuck, Restore, Env, value_at, with_name, list_of, and_one, and_then}
 use Rattle.rules_expansion.specs.Names.{Written}

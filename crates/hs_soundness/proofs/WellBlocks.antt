@@ -8,8 +8,8 @@ use Rattle.hs_base.specs.declared.tree.action.Stmt.{Stmt}
 use Rattle.hs_base.specs.declared.tree.action.Action.TheOpen.{Action-F, Block-F, BlockArms-F, Stmt-F}
 use Rattle.hs_base.specs.declared.tree.action.Action.TheViews.{roll-Action, roll-Block, roll-BlockArms, roll-Stmt}
 use Rattle.hs_base.specs.declared.tree.action.Action.TheFolds.{map-Action, map-Block, map-BlockArms, map-Stmt, fold-roll-Action, fold-roll-Block, fold-roll-BlockArms, fold-roll-Stmt, ind-Block}
-use Rattle.rules_trees.specs.Trees.{exs_of}
-use Rattle.rules_trees.specs.Programs.{SurfaceAction, Bl, last, ActArms, before, act_step, stmt_step, block_step, act_arms_step, act_of, stmt_of, bl_of, act_arms_of}
+use Rattle.rules_expansion.specs.trees.Trees.{exs_of}
+use Rattle.rules_expansion.specs.trees.Programs.{SurfaceAction, Bl, last, ActArms, before, act_step, stmt_step, block_step, act_arms_step, act_of, stmt_of, bl_of, act_arms_of}
 use Rattle.rules_sorts.specs.TypedMeaning.{WellAll}
 use Rattle.hs_soundness.specs.WellActions.{WellAct, WellBl, WellActArms}
 use Rattle.hs_soundness.proofs.Wells.{ex_well}

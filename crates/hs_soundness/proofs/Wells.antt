@@ -13,7 +13,7 @@ use Rattle.hs_base.specs.declared.tree.expr.Expr.TheOpen.{Expr-F, ExprArms-F}
 use Rattle.hs_base.specs.declared.tree.expr.Expr.TheViews.{roll-Expr, roll-ExprArms, roll-Link, roll-ListLink, roll-SumLink}
 use Rattle.hs_base.specs.declared.tree.expr.Expr.TheFolds.{map-Expr, map-ExprArms, fold-roll-Expr, fold-roll-ExprArms, fold-roll-Link, fold-roll-ListLink, fold-roll-SumLink, ind-Expr}
 use Rattle.hs_base.specs.declared.tree.forms.BinaryForm.{BinaryForm}
-use Rattle.rules_trees.specs.Trees.{Ex, Arms, Linked, Joined, to_exs, to_links, all_by, compare_form, cons_form, ex_step, arms_step, link_step, list_link_step, sum_link_step, ex_of, arms_of, joined_of, list_linked_of, sum_linked_of}
+use Rattle.rules_expansion.specs.trees.Trees.{Ex, Arms, Linked, Joined, to_exs, to_links, all_by, compare_form, cons_form, ex_step, arms_step, link_step, list_link_step, sum_link_step, ex_of, arms_of, joined_of, list_linked_of, sum_linked_of}
 use Rattle.rules_sorts.specs.TypedMeaning.{IsStrict, Well, WellAll, WellLinks, WellConses, WellArms}
 
 -- ---- parts with their proofs

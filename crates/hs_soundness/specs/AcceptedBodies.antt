@@ -1,6 +1,6 @@
 -- What acceptance says of the bodies of a script (own).
 use Rattle.std.specs.Prelude.{ℕ, ◌+◌, List, [], ◌∷◌}
-use Rattle.rules_trees.specs.Programs.{Fn}
+use Rattle.rules_expansion.specs.trees.Programs.{Fn}
 use Rattle.rules_typing.specs.Typing.{Sig}
 use Rattle.rules_typing.specs.TypingScripts.{params_in, result_of, BodyHas}
 

@@ -4,7 +4,7 @@
 -- rules see those of the script alone. Which value is of which type goes by `TypedMeaning`, where `cells` says which number
 -- is of which type.
 use Rattle.std.specs.Prelude.{◌≡◌, ◌⊎◌, ℕ, false, List, [], ◌∷◌, map, Option, Some, None}
-use Rattle.rules_trees.specs.Trees.{T, unit, int, bool, thread, exn, pair, maybe, either, async}
+use Rattle.rules_expansion.specs.trees.Trees.{T, unit, int, bool, thread, exn, pair, maybe, either, async}
 use Rattle.rules_expansion.specs.Names.{Name, Written, Added, Unread}
 use Rattle.rules_meaning.specs.Values.{V, Restore, Inst, Env, value_at, Outcome, Gives, Throws, Stuck}
 use Rattle.rules_sorts.specs.Sorts.{Sort, a_value, a_masking_name, an_instance, a_scope_cell, SortedName, sort_at}

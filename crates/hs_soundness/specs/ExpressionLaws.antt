@@ -1,7 +1,7 @@
 -- What the expressions of core actions give (own).
 use Rattle.std.specs.Prelude.{◌≡◌, ℕ, List}
 use Rattle.hs_base.specs.declared.tree.script.Script.{Script}
-use Rattle.rules_trees.specs.Programs.{Fn, script_of}
+use Rattle.rules_expansion.specs.trees.Programs.{Fn, script_of}
 use Rattle.rules_meaning.specs.Values.{V, Env}
 use Rattle.rules_sorts.specs.Sorts.{SortedName, Sort}
 use Rattle.rules_typing.specs.Typing.{Ctx}

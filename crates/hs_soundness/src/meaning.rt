@@ -1,8 +1,8 @@
 //! Meaning keeps types.
 
 ghost use Rattle.std.specs.Prelude.{ℕ, List};
-ghost use Rattle.rules_trees.specs.Trees.{Ex, T};
-ghost use Rattle.rules_trees.specs.Programs.{Fn};
+ghost use Rattle.rules_expansion.specs.trees.Trees.{Ex, T};
+ghost use Rattle.rules_expansion.specs.trees.Programs.{Fn};
 ghost use Rattle.rules_meaning.specs.Values.{Env};
 ghost use Rattle.rules_meaning.specs.Meaning.{Functions, functions_of, value_of_ex};
 ghost use Rattle.rules_typing.specs.Typing.{Ctx, TypedName, HasType};

@@ -1,7 +1,7 @@
 -- What was measured, in counts: the rules that are broken from there on are the same.
 use Rattle.std.proofs.Common.{◌≡◌, ℕ, zero, suc, ◌+◌, ◌<◌, ◌≤◌, ◌||◌, List, [], ◌∷◌, ◌++◌, Bool, true, false, cond, refl, sym, ap, ◌∙◌, arith, min, ltb}
 use Rattle.std.proofs.lemmas.Bool.{ltb-true, lt-ltb}
-use Rattle.rules_trees.specs.Programs.{Fn}
+use Rattle.rules_expansion.specs.trees.Programs.{Fn}
 use Rattle.rules_expansion.specs.Sizes.{body_size}
 use Rattle.rules_typing.specs.Typing.{large, Sig, Ctx}
 use Rattle.rules_typing.specs.TypingSizes.{Extent, nil, worst_body, param_names}

@@ -1,7 +1,7 @@
 -- The heads that the functions keep are those of the script.
 use Rattle.std.proofs.Common.{◌≡◌, ap, ◌∙◌}
 use Rattle.hs_base.specs.declared.tree.script.Script.{Script}
-use Rattle.rules_trees.specs.Programs.{script_of}
+use Rattle.rules_expansion.specs.trees.Programs.{script_of}
 use Rattle.rules_typing.specs.TypingScripts.{sigs_from}
 use Rattle.typing_parts.specs.Views.{sigs_of}
 use Rattle.typing_parts.specs.declared.funs.Funs.{Funs}

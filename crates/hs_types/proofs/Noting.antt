@@ -2,7 +2,7 @@
 use Rattle.std.proofs.Common.{◌≡◌, List, [], ◌∷◌, Bool, true, false, cond, Option, Some, refl, ap, ◌∙◌, sym}
 use Rattle.hs_base.specs.declared.tree.expr.Name.{Name}
 use Rattle.hs_base.specs.declared.tree.ty.Written.{Written}
-use Rattle.rules_trees.specs.Trees.{T, ty_of, wr_of}
+use Rattle.rules_expansion.specs.trees.Trees.{T, ty_of, wr_of}
 use Rattle.rules_typing.specs.Typing.{Fault, is, refusal}
 use Rattle.typing_judge.specs.Judging.{bad, good, met, with1}
 use Rattle.typing_judge.specs.JudgingScripts.{ends}

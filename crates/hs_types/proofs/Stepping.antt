@@ -1,7 +1,7 @@
 -- A step from definition to definition.
 use Rattle.std.proofs.Common.{◌≡◌, ℕ, ◌+◌, ◌||◌, List, [], ◌∷◌, ◌++◌, true, cond, Option, Some, None, refl, sym, ap, ◌∙◌, subst, arith, min, ltb}
 use Rattle.std.proofs.lemmas.List.{append-nil}
-use Rattle.rules_trees.specs.Programs.{Bd, pure_body, io_body, Fn}
+use Rattle.rules_expansion.specs.trees.Programs.{Bd, pure_body, io_body, Fn}
 use Rattle.rules_expansion.specs.Sizes.{body_size}
 use Rattle.rules_typing.specs.Typing.{Fault, large, Sig, Ctx, TypedName}
 use Rattle.rules_typing.specs.TypingSizes as rule

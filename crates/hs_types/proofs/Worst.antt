@@ -1,7 +1,7 @@
 -- The greatest expressions of actions, in counts: over tables of extents that are the same in counts they are so too.
 use Rattle.std.proofs.Common.{List, ◌∷◌, refl, arith}
-use Rattle.rules_trees.specs.Trees.{Exs, none, more}
-use Rattle.rules_trees.specs.Programs.{SurfaceAction, bare, unary_act, binary_act, throw_io, new_empty, call, choose_act, case_act, modify, scoped, masking, restore, catch, guard, bracket, timeout, with_async, Bl, last, then, bind, let_in, ActArms, maybe_acts, either_acts, list_acts, pair_acts, Bd, pure_body, io_body}
+use Rattle.rules_expansion.specs.trees.Trees.{Exs, none, more}
+use Rattle.rules_expansion.specs.trees.Programs.{SurfaceAction, bare, unary_act, binary_act, throw_io, new_empty, call, choose_act, case_act, modify, scoped, masking, restore, catch, guard, bracket, timeout, with_async, Bl, last, then, bind, let_in, ActArms, maybe_acts, either_acts, list_acts, pair_acts, Bd, pure_body, io_body}
 use Rattle.rules_typing.specs.Typing.{TypedName, Sig, masked}
 use Rattle.rules_typing.specs.TypingSizes.{Extent, nil, worse, worst_exs, worst_act, worst_bl, worst_arms, worst_body, called_extent}
 use Rattle.typing_judge.proofs.Capped.{Same, SameTable, same_extent}

@@ -1,7 +1,7 @@
 -- What an answer of the checker says of a script.
 use Rattle.std.specs.Prelude.{Option, Some, None, ⊤}
 use Rattle.hs_base.specs.declared.tree.script.Script.{Script}
-use Rattle.rules_trees.specs.Trees.{ty_of}
+use Rattle.rules_expansion.specs.trees.Trees.{ty_of}
 use Rattle.rules_typing.specs.Typing.{Fault, twice, unknown, kind, forward, arity, mismatch, scope, wide, large}
 use Rattle.rules_typing.specs.TypingScripts.{LacksMain, IsFirstBroken}
 use Rattle.typing_parts.specs.Views.{wanted_of}

@@ -2,8 +2,8 @@
 use Rattle.std.specs.Prelude.{◌≡◌, List, [], ◌∷◌, ◌++◌, Bool, map}
 use Rattle.hs_base.specs.declared.tree.script.Def.{Def}
 use Rattle.hs_base.specs.declared.tree.script.Param.{Param}
-use Rattle.rules_trees.specs.Trees.{wr_of}
-use Rattle.rules_trees.specs.Programs.{fn_of, par_of}
+use Rattle.rules_expansion.specs.trees.Trees.{wr_of}
+use Rattle.rules_expansion.specs.trees.Programs.{fn_of, par_of}
 use Rattle.rules_typing.specs.Typing.{Ctx, Fault, TypedName, bound}
 use Rattle.rules_typing.specs.TypingScripts.{head_faults, none_of, param_faults, params_in, result_of, room_faults, twice_faults, wide_faults}
 use Rattle.typing_judge.specs.Judging.{Found, part}

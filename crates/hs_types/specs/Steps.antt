@@ -2,7 +2,7 @@
 use Rattle.std.specs.Prelude.{◌≡◌, ◌+◌, ◌||◌, List, [], ◌∷◌, ◌++◌, min, cond, ltb}
 use Rattle.hs_base.specs.declared.pos.Pos.{Pos}
 use Rattle.rules_expansion.specs.Sizes.{body_size}
-use Rattle.rules_trees.specs.Programs.{Bd, pure_body, io_body, Fn}
+use Rattle.rules_expansion.specs.trees.Programs.{Bd, pure_body, io_body, Fn}
 use Rattle.rules_typing.specs.Typing.{Ctx, large}
 use Rattle.rules_typing.specs.TypingSizes as rule
 use Rattle.rules_typing.specs.TypingScripts.{Measured}

@@ -1,5 +1,5 @@
 ghost use Rattle.std.specs.Prelude.{◌≡◌, None, Some, IfOk};
-ghost use Rattle.rules_trees.specs.Programs.{script_of};
+ghost use Rattle.rules_expansion.specs.trees.Programs.{script_of};
 ghost use Rattle.rules_typing.specs.TypingScripts.{sigs_from};
 ghost use Rattle.typing_judge.specs.JudgingScripts.{script_faults};
 ghost use Rattle.typing_judge.specs.Least.{least};

@@ -1,6 +1,6 @@
 ghost use Rattle.std.specs.Prelude.{◌≡◌, ◌∷◌, [], None, IfOk, OnOk};
-ghost use Rattle.rules_trees.specs.Trees.{wr_of};
-ghost use Rattle.rules_trees.specs.Programs.{bd_of, fn_of};
+ghost use Rattle.rules_expansion.specs.trees.Trees.{wr_of};
+ghost use Rattle.rules_expansion.specs.trees.Programs.{bd_of, fn_of};
 ghost use Rattle.rules_typing.specs.Typing.{bound};
 ghost use Rattle.rules_typing.specs.TypingScripts.{params_in, wide_faults, head_faults, twice_faults, none_of};
 ghost use Rattle.typing_judge.specs.Judging.{with1};
@@ -16,8 +16,6 @@ use hs_base::NoMemory;
 use hs_base::tree::{Body, Def, Name, Param, Written};
 use hs_items::Items;
 use std::alloc::Global;
-use typing_actions::type_of_block;
-use typing_exprs::type_of;
 use typing_parts::checker::Checker;
 use typing_parts::first::{Broken, First};
 use typing_parts::funs::Funs;
@@ -27,6 +25,8 @@ use typing_table::table::TypeTable;
 use typing_table::ty::TypeTerm;
 use typing_table::widths::is_wide_written;
 use typing_table::written::from_written;
+use typing_walk::actions::type_of_block;
+use typing_walk::exprs::type_of;
 
 /// What a definition breaks first, `Large` aside, and whether its head is sound.
 #[derive(Drop)]

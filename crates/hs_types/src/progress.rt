@@ -1,5 +1,5 @@
 ghost use Rattle.std.specs.Prelude.{◌≡◌, [], None, Some, OnOk, map};
-ghost use Rattle.rules_trees.specs.Programs.{par_of, bd_of, fn_of};
+ghost use Rattle.rules_expansion.specs.trees.Programs.{par_of, bd_of, fn_of};
 ghost use Rattle.rules_typing.specs.TypingSizes.{param_names, worst_body};
 ghost use Rattle.rules_typing.specs.TypingScripts.{unmeasured, fn_extent, head_faults, none_of};
 ghost use Rattle.typing_judge.specs.JudgingScripts.{def_faults, is_far};
@@ -15,10 +15,10 @@ use hs_base::{NoMemory, Pos};
 use hs_items::Items;
 use std::alloc::Global;
 use typing_extents::meter::{Extent, Meter, nothing};
+use typing_extents::sizes::{add, body_nodes};
 use typing_parts::first::{Broken, First};
 use typing_parts::funs::Funs;
 use typing_parts::table::Table;
-use typing_sizes::{add, body_nodes};
 use typing_table::table::TypeTable;
 
 /// The first broken rule of the definitions so far, how far calls of them unfold, and their expanded sizes together.

@@ -5,3 +5,4 @@ pub mod Words
 pub mod Shapes
 pub mod Drawing
 pub mod Growing
+pub mod svg

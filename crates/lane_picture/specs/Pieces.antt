@@ -1,7 +1,7 @@
 -- The elements of SVG that a picture is made of ("Scalable Vector Graphics (SVG) 1.1").
 use Rattle.std.specs.Prelude.{ℕ, List, [], ◌++◌, codes}
 use Rattle.std.specs.Fmt.{decimal}
-use Rattle.svg_text.specs.Escaping.{escaped}
+use Rattle.lane_picture.specs.svg.Escaping.{escaped}
 
 -- a rectangle of a class
 unfoldable pub rect : (class : List ℕ) → (x y width height : ℕ) → List ℕ

@@ -1,11 +1,11 @@
 //! The elements of SVG that a picture is made of.
 ghost use Rattle.std.specs.Prelude.{◌≡◌, ◌++◌, OnOk, codes, string_bytes};
 ghost use Rattle.std.specs.Fmt.{decimal};
-ghost use Rattle.svg_text.specs.Escaping.{escaped};
+ghost use Rattle.lane_picture.specs.svg.Escaping.{escaped};
 ghost use Rattle.lane_picture.specs.Pieces.{rect, line, circle, letter, lozenge, text_start, text_end, number_end, label, tag, turned_number, turn, turned, group, group_end};
 
+use crate::svg::push_escaped;
 use std::alloc::AllocError;
-use svg_text::push_escaped;
 
 #[tactic(auto, unfolding(crate::specs::Pieces::rect))]
 pub(crate) fn write_rect(

@@ -5,7 +5,7 @@ use mathlib.Core.List.{IsPrefix}
 use Rattle.hs_rules.specs.declared.entry.Entry.{Entry}
 use Rattle.hs_rules.specs.declared.entry.Entry.TheVariants as entry
 use Rattle.frame_stack.specs.declared.sliced.Slice.{Slice}
-use Rattle.run_record.specs.declared.record.Record.{Record}
+use Rattle.run_course.specs.declared.history.record.Record.{Record}
 use Rattle.run_course.specs.declared.ends.RunEnd.{RunEnd}
 use Rattle.run_course.specs.Settled.{Accepted, Begins}
 use Rattle.conc_world.specs.declared.answers.Made.{Made}

@@ -30,9 +30,9 @@ use Rattle.hs_base.proofs.limits.Limits.TheSendSync as limits
 use Rattle.hs_io.specs.declared.clock.Clock as clock
 use Rattle.hs_io.specs.declared.sink.Sink as sink
 use Rattle.hs_rules.proofs.history.History.TheSendSync as history
-use Rattle.run_record.specs.contracts.record.Record as run
-use Rattle.job_tickets.proofs.tickets.Tickets.TheSendSync as tickets
-use Rattle.clocked_record.specs.contracts.clocked.Clocked as clocked
+use Rattle.run_course.specs.contracts.history.record.Record as run
+use Rattle.conc_world.proofs.tickets.tickets.Tickets.TheSendSync as tickets
+use Rattle.run_course.specs.contracts.clocked.clocked.Clocked as clocked
 use Rattle.run_course.specs.contracts.course.Course as course
 use Rattle.run_course.proofs.ends.RunEnd.TheSendSync as ending
 use Rattle.conc_world.specs.contracts.desk.Desk as desk

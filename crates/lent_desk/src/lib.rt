@@ -13,5 +13,7 @@ mod desk;
 mod lent;
 mod runs;
 
+// what a desk is, for those who lend one
+pub use conc_world::{Closed, Desk, Parts, RunEnd, Shows, alone};
 pub use desk::LentDesk;
 pub use lent::LentAs;

@@ -1,3 +1,4 @@
 pub mod Codes
 pub mod Forms
 pub mod Nesting
+pub mod equality_lemmas

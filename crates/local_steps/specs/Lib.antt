@@ -1,3 +1,5 @@
 pub mod Frames
 pub mod InPlace
 pub mod Machine
+pub mod environments
+pub mod equality

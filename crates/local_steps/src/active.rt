@@ -2,9 +2,9 @@
 
 ghost use Rattle.std.specs.Prelude.{◌≡◌, IfOk};
 
+use crate::environments::{Env, Waiting};
 use hs_base::{Exn, Mask, NoMemory, Value, Values};
 use rules_code::{ActId, Primitive};
-use slot_env::{Env, Waiting};
 use std::alloc::Global;
 
 /// The active part of a thread.

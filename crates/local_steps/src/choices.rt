@@ -11,10 +11,10 @@ ghost use Rattle.slot_laws.specs.SlotRules as rules;
 ghost use Rattle.slot_laws.specs.SlotRules.{SlotTerm, just_part, ret, doing};
 
 use crate::active::{Active, StepResult};
+use crate::environments::Env;
 use hs_base::{NoMemory, Split, Value};
 use hs_eval::Found;
 use rules_code::ActId;
-use slot_env::Env;
 use std::alloc::Global;
 
 /// `return`

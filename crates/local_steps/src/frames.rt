@@ -7,9 +7,9 @@ ghost use Rattle.local_steps.specs.declared.active.Frame.TheVariants as kind;
 ghost use Rattle.local_steps.specs.Frames.{framed, mask_inside, IsOneFrame, IsScope, IsHandler, IsIn, IsNested, masking};
 
 use crate::active::{Frame, Masking};
+use crate::environments::Waiting;
 use hs_base::{Mask, NoMemory};
 use rules_code::ActId;
-use slot_env::Waiting;
 use std::alloc::Global;
 use std::marker::Model;
 

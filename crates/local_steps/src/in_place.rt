@@ -12,12 +12,12 @@ ghost use Rattle.local_steps.specs.Machine.{act_of, active_of, funs_of};
 
 use crate::active::Active;
 use crate::acts::{Parts, act_at};
+use crate::environments::{Env, Spare};
 use crate::parts::eval_all;
 use hs_base::NoMemory;
 use hs_eval::FoundAll;
 use hs_items::Items;
 use rules_code::{Act, ActId, CodeBody, ExprId, Fun};
-use slot_env::{Env, Spare};
 use std::alloc::Global;
 
 /// The number of a function, and its arguments.

@@ -6,11 +6,16 @@
 //! memory. What a rule costs beside its expressions doesn't grow with the frames, which know the masking state inside them;
 //! what waits in a frame shares its values. How many rules a thread may do, and that none of an accepted script's threads is ever stuck, is left to
 //! `frame_stack`.
+//!
+//! Parts with a head of their own: `environments`, the values of an action's slots, which copies share; `equality`,
+//! whether two values, or two environments, are equal.
 #![tactic(auto)]
 
 mod active;
 mod acts;
 mod choices;
+pub mod environments;
+pub mod equality;
 mod frames;
 mod in_place;
 mod parts;

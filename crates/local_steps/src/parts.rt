@@ -12,11 +12,11 @@ use crate::active::{Active, StepResult};
 use crate::choices::{
     bound, choose, choose_either, choose_list, choose_maybe, choose_pair, returned, thrown,
 };
+use crate::environments::Env;
 use hs_base::{NoMemory, Values};
 use hs_eval::{Found, FoundAll};
 use hs_items::Items;
 use rules_code::{ActId, CodeBody, ExprId, Fun, Node, Primitive};
-use slot_env::Env;
 use std::alloc::Global;
 
 fn id_at(ids: &[ExprId], i: usize) -> ExprId

@@ -14,13 +14,13 @@ ghost use Rattle.local_steps.specs.Machine.{act_of, active_of, decoded_above, fr
 use crate::active::{Active, Frame, StepResult};
 use crate::acts::{Parts, act_at};
 use crate::choices::with_one;
+use crate::environments::Env;
 use crate::frames::Frames;
 use crate::parts::{
     do_call, do_either, do_if, do_let, do_list, do_maybe, do_pair, do_perform, do_return, do_throw,
 };
 use hs_base::{Exn, Mask, NoMemory, Value};
 use rules_code::{Act, ActId, CodeBody};
-use slot_env::Env;
 use std::alloc::Global;
 
 /// `x <- A; B`

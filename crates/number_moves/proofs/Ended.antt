@@ -15,18 +15,18 @@ use Rattle.local_steps.specs.declared.active.Active.TheVariants as a
 use Rattle.local_steps.specs.Machine.{active_of, funs_of}
 use Rattle.slot_states.specs.SlotStates.{SlotState, all_resumed, all_withdrawn, finished_at, finishes}
 use Rattle.slot_states.specs.Printing.{end_line, line_by}
-use Rattle.slot_entries.specs.Entering.{entered, ended, finish_entry}
-use Rattle.number_waits.specs.declared.flight.Thrown.{Thrown}
-use Rattle.number_waits.specs.Throwing.{thrown_to, throwers_of, map_flight}
-use Rattle.number_waits.proofs.Without.{flight_throwers, flight_to}
+use Rattle.slot_states.specs.entering.Entering.{entered, ended, finish_entry}
+use Rattle.number_states.specs.declared.waits.flight.Thrown.{Thrown}
+use Rattle.number_states.specs.waits.Throwing.{thrown_to, throwers_of, map_flight}
+use Rattle.number_states.proofs.waits_lemmas.Without.{flight_throwers, flight_to}
 use Rattle.number_states.specs.declared.state.NumberThread.{NumberThread}
 use Rattle.number_states.specs.declared.state.NumberState.{NumberState}
 use Rattle.number_states.specs.Stocks.{Stock, HasGrown, term_at, text_at, or_empty}
 use Rattle.number_states.specs.States.{Contents, contents, thread_of, slots_of, slots, AllIn, AreIn, Becomes}
 use Rattle.number_states.proofs.Growth.{stock_on, slots_of_on, all_in_on, text_at_on}
 use Rattle.number_states.proofs.Changes.{got_mapped}
-use Rattle.number_changes.specs.Moves.{Makes, IsActing}
-use Rattle.number_changes.proofs.Made.{on_acting}
+use Rattle.number_moves.specs.changes.Moves.{Makes, IsActing}
+use Rattle.number_moves.proofs.changes_lemmas.Made.{on_acting}
 
 -- each of these throwers is answered, and its throw is over
 abbrev pub throwers_end : List ℕ → CodeBody → SlotState → SlotState

@@ -5,10 +5,10 @@ use Rattle.hs_base.specs.declared.exn.Exn.{Exn}
 use Rattle.rules_waiting.specs.Waiting.{flying_to, first_thrown}
 use Rattle.slot_states.specs.SlotStates.{SlotThread, SlotState, receives}
 use Rattle.slot_states.specs.Resting.{is_receptive}
-use Rattle.slot_entries.specs.Entering.{received, receive_entry}
-use Rattle.number_waits.specs.declared.flight.Thrown.{Thrown}
-use Rattle.number_waits.specs.Throwing.{thrown_to, first_of, map_flight, map_thrown}
-use Rattle.number_waits.proofs.Without.{flight_to}
+use Rattle.slot_states.specs.entering.Entering.{received, receive_entry}
+use Rattle.number_states.specs.declared.waits.flight.Thrown.{Thrown}
+use Rattle.number_states.specs.waits.Throwing.{thrown_to, first_of, map_flight, map_thrown}
+use Rattle.number_states.proofs.waits_lemmas.Without.{flight_to}
 
 first_mapped : (f : ℕ → Exn) (xs : List Thrown) → map_thrown f (first_of xs) ≡ first_thrown (map_flight f xs)
 first_mapped f [] = refl

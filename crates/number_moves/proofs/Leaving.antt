@@ -4,17 +4,17 @@ use Rattle.std.specs.List.{AllByRecursion}
 use Rattle.rules_meaning.specs.Values.{V}
 use Rattle.rules_waiting.specs.OneCell.{Cell, Place, Leave, cell_of, leaves_line}
 use Rattle.rules_waiting.specs.Waiting.{without, withdrawn}
-use Rattle.cell_laws.specs.Mapped.{map_cell}
-use Rattle.cell_laws.proofs.Maps.{commutes}
+use Rattle.slot_states.specs.mapping.Mapped.{map_cell}
+use Rattle.slot_states.proofs.mapping_lemmas.Maps.{commutes}
 use Rattle.slot_states.specs.SlotStates.{left_lines}
-use Rattle.number_waits.specs.declared.flight.Thrown.{Thrown}
-use Rattle.number_waits.specs.Throwing.{without_thrower}
-use Rattle.number_waits.proofs.Without.{flight_without}
+use Rattle.number_states.specs.declared.waits.flight.Thrown.{Thrown}
+use Rattle.number_states.specs.waits.Throwing.{without_thrower}
+use Rattle.number_states.proofs.waits_lemmas.Without.{flight_without}
 use Rattle.number_states.specs.declared.state.NumberState.{NumberState}
 use Rattle.number_states.specs.Stocks.{Stock, value_at, exception_at}
 use Rattle.number_states.specs.States.{Contents, contents, slots_of, slots, LineIsWithin, CellIsWithin, AllIn, AreIn, Becomes}
 use Rattle.number_moves.specs.Lines.{lines_left}
-use Rattle.number_changes.proofs.Made.{contents_become}
+use Rattle.number_moves.proofs.changes_lemmas.Made.{contents_become}
 
 -- ---- lines
 

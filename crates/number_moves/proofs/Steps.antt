@@ -4,7 +4,7 @@ use Rattle.hs_base.specs.declared.mask.Mask.TheVariants.{Unmasked}
 use Rattle.rules_code.specs.CodeTrees.{SlottedFunction}
 use Rattle.slot_laws.specs.SlotRules.{SlotTerm, local, locals, on_term}
 use Rattle.slot_states.specs.SlotStates.{SlotThread, SlotState, moves}
-use Rattle.slot_entries.specs.Entering.{local_entry, moved}
+use Rattle.slot_states.specs.entering.Entering.{local_entry, moved}
 
 module _ (funs : List SlottedFunction) where
   pub steps_on : (n : ℕ) (t u : SlotTerm) → 0 < n → local funs Unmasked t.part t.frames ≡ Some u → locals funs Unmasked n t ≡ locals funs Unmasked (n - 1) u

@@ -8,12 +8,12 @@ use Rattle.rules_expansion.specs.declared.primitive.Primitive.TheVariants.{TakeM
 use Rattle.rules_waiting.specs.Waiting.{Flying, flying_to}
 use Rattle.slot_states.specs.SlotStates.{SlotThread, SlotState, strands}
 use Rattle.slot_states.specs.Resting.{is_receptive}
-use Rattle.slot_entries.specs.Entering.{is_empty, rests, rest_from, waits_to, waits_open, waiting_from, stranded, strand_entry}
-use Rattle.number_waits.specs.declared.flight.Thrown.{Thrown}
-use Rattle.number_waits.specs.declared.sleepers.Asleep.{Asleep}
-use Rattle.number_waits.specs.Throwing.{thrown_to, first_of, map_flight}
-use Rattle.number_waits.specs.Sleeping.{sleepers}
-use Rattle.number_waits.proofs.Without.{flight_to}
+use Rattle.slot_states.specs.entering.Entering.{is_empty, rests, rest_from, waits_to, waits_open, waiting_from, stranded, strand_entry}
+use Rattle.number_states.specs.declared.waits.flight.Thrown.{Thrown}
+use Rattle.number_states.specs.declared.waits.sleepers.Asleep.{Asleep}
+use Rattle.number_states.specs.waits.Throwing.{thrown_to, first_of, map_flight}
+use Rattle.number_states.specs.waits.Sleeping.{sleepers}
+use Rattle.number_states.proofs.waits_lemmas.Without.{flight_to}
 use Rattle.number_states.specs.declared.state.NumberThread.{NumberThread}
 use Rattle.number_moves.specs.Lines.{is_cell_first}
 

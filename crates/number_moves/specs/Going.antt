@@ -5,7 +5,7 @@ use Rattle.hs_rules.specs.declared.entry.Entry.{Entry}
 use Rattle.rules_code.specs.declared.code.CodeBody.{CodeBody}
 use Rattle.slot_laws.specs.SlotRules.{SlotTerm, locals}
 use Rattle.slot_states.specs.SlotStates.{SlotState}
-use Rattle.slot_entries.specs.Entering.{next}
+use Rattle.slot_states.specs.entering.Entering.{next}
 use Rattle.local_steps.specs.Machine.{funs_of}
 use Rattle.number_states.specs.declared.state.NumberState.{NumberState}
 use Rattle.number_states.specs.Stocks.{Stock, term_at}

@@ -1,2 +1,5 @@
 pub mod Going
 pub mod Lines
+pub mod changes
+pub mod operations
+pub mod rests

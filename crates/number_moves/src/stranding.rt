@@ -7,19 +7,19 @@ ghost use Rattle.hs_rules.specs.declared.entry.Entry.TheVariants as entry;
 ghost use Rattle.hs_rules.specs.Entries as entries;
 ghost use Rattle.local_steps.specs.Machine.{active_of};
 ghost use Rattle.slot_states.specs.SlotStates.{strands};
-ghost use Rattle.slot_entries.specs.Entering as entering;
-ghost use Rattle.slot_entries.specs.Entering.{rest_from, waiting_from};
+ghost use Rattle.slot_states.specs.entering.Entering as entering;
+ghost use Rattle.slot_states.specs.entering.Entering.{rest_from, waiting_from};
 ghost use Rattle.number_states.specs.Stocks.{HasGrown, IsTerm};
 ghost use Rattle.number_states.specs.States.{AreIn, Becomes, slots, thread_of};
-ghost use Rattle.number_changes.specs.Moves.{Enters};
+ghost use Rattle.number_moves.specs.changes.Moves.{Enters};
 ghost use Rattle.number_moves.specs.Lines.{is_cell_first};
 
 use crate::receiving::is_receptive;
 use crate::waiting::leave_lines;
 use hs_base::{Exn, Mask, NoMemory, Value};
 use local_steps::Active;
+use number_states::waits::first_to;
 use number_states::{NumberState, NumberThread, Numbers};
-use number_waits::first_to;
 use rules_code::Primitive;
 use std::alloc::Global;
 

@@ -5,8 +5,8 @@ ghost use Rattle.slot_states.specs.SlotStates.{left_lines};
 ghost use Rattle.number_states.specs.States.{AreIn, Becomes};
 ghost use Rattle.number_moves.specs.Lines.{lines_left};
 
+use number_states::waits::NumberCell;
 use number_states::{NumberState, Numbers};
-use number_waits::NumberCell;
 
 /// The thread leaves the line of each cell.
 fn leave_all(cells: &mut [NumberCell], t: u32)
@@ -32,7 +32,7 @@ pub fn withdraw(numbers: &Numbers, state: &mut NumberState, t: u32)
     ensures { Becomes (λ b x. record x { flight = withdrawn t x.flight }) numbers.now state.old numbers.now state.new }
 {
     let _ = numbers;
-    number_waits::withdraw(&mut state.flight, t);
+    number_states::waits::withdraw(&mut state.flight, t);
 }
 
 /// The thread sleeps no more.
@@ -41,5 +41,5 @@ pub fn stop_sleeping(numbers: &Numbers, state: &mut NumberState, t: u32)
     ensures { Becomes (λ b x. record x { sleepers = still_asleep t x.sleepers }) numbers.now state.old numbers.now state.new }
 {
     let _ = numbers;
-    number_waits::remove(&mut state.sleepers, t);
+    number_states::waits::remove(&mut state.sleepers, t);
 }

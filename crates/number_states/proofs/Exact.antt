@@ -1,8 +1,8 @@
 -- States with one key hold the same.
 use Rattle.std.proofs.Common.{◌≡◌, ℕ, Bool, true, false, List, [], ◌∷◌, ◌++◌, refl, sym, ap, ap₂, arith}
-use Rattle.value_keys.proofs.Exact.{exact_wide}
-use Rattle.number_waits.specs.Keys.{cells_key, flight_key, sleepers_key}
-use Rattle.number_waits.proofs.Exact.{exact_cells, exact_flight, exact_sleepers}
+use Rattle.number_tables.proofs.value_keys_lemmas.Exact.{exact_wide}
+use Rattle.number_states.specs.waits.Keys.{cells_key, flight_key, sleepers_key}
+use Rattle.number_states.proofs.waits_lemmas.Exact.{exact_cells, exact_flight, exact_sleepers}
 use Rattle.number_states.specs.declared.state.NumberThread.{NumberThread}
 use Rattle.number_states.specs.States.{Contents}
 use Rattle.number_states.specs.Keys.{standing_number, threads_key, counts_key, contents_key}

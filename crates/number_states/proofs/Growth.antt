@@ -5,17 +5,17 @@ use Rattle.std.proofs.lemmas.List.{map-append}
 use Rattle.rules_meaning.specs.Values.{V}
 use Rattle.rules_code.specs.declared.code.CodeBody.{CodeBody}
 use Rattle.rules_waiting.specs.OneCell.{Want, To_take, To_read, To_put, Place, Cell}
-use Rattle.cell_laws.specs.Mapped.{map_some, map_want, map_line, map_cell}
+use Rattle.slot_states.specs.mapping.Mapped.{map_some, map_want, map_line, map_cell}
 use Rattle.slot_laws.specs.SlotRules.{SlotPart, SlotTerm}
 use Rattle.slot_states.specs.SlotStates.{SlotThread}
 use Rattle.local_steps.specs.declared.active.Frame.{Frame}
 use Rattle.number_tables.specs.Tables.{Grows}
 use Rattle.number_tables.proofs.Indexes.{get_old}
-use Rattle.number_waits.specs.declared.flight.Thrown.{Thrown}
-use Rattle.number_waits.specs.Throwing.{map_flight}
-use Rattle.term_tables.specs.declared.term.Term.{Term}
-use Rattle.term_tables.specs.Numbered.{Numbered, term_in, of_term, over_stack}
-use Rattle.term_tables.specs.Numbered as terms
+use Rattle.number_states.specs.declared.waits.flight.Thrown.{Thrown}
+use Rattle.number_states.specs.waits.Throwing.{map_flight}
+use Rattle.term_graph.specs.declared.tables.term.Term.{Term}
+use Rattle.term_graph.specs.tables.Numbered.{Numbered, term_in, of_term, over_stack}
+use Rattle.term_graph.specs.tables.Numbered as terms
 use Rattle.local_steps.specs.Machine.{active_of}
 use Rattle.term_graph.proofs.Growth.{grows_same, grows_on, grown_same, grown_on}
 use Rattle.number_states.specs.declared.state.NumberThread.{NumberThread}

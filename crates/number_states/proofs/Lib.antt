@@ -3,3 +3,4 @@ pub mod Changes
 pub mod Exact
 pub mod Stocking
 pub mod Stacked
+pub mod waits_lemmas

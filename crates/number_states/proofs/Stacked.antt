@@ -8,9 +8,9 @@ use Rattle.rules_code.specs.declared.code.CodeBody.{CodeBody}
 use Rattle.slot_laws.specs.SlotRules.{SlotTerm, at, local}
 use Rattle.local_steps.specs.declared.active.Frame.{Frame}
 use Rattle.local_steps.specs.Machine.{active_of, frames_of, funs_of}
-use Rattle.term_tables.specs.declared.term.Term.{Term}
-use Rattle.term_tables.specs.Numbered.{Numbered, term_in, of_term, over_stack}
-use Rattle.term_tables.specs.Numbered as terms
+use Rattle.term_graph.specs.declared.tables.term.Term.{Term}
+use Rattle.term_graph.specs.tables.Numbered.{Numbered, term_in, of_term, over_stack}
+use Rattle.term_graph.specs.tables.Numbered as terms
 use Rattle.term_graph.specs.declared.stepping.LocalStep.{LocalStep}
 use Rattle.term_graph.specs.Steps.{Steps}
 use Rattle.term_graph.specs.Eager.{is_eager}

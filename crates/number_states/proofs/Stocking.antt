@@ -3,11 +3,11 @@ use Rattle.std.proofs.Common.{◌≡◌, ℕ, List, [], ◌++◌, Some, slice_ge
 use Rattle.hs_base.specs.declared.exn.Exn.{Exn}
 use Rattle.hs_base.specs.declared.value.Value.{Value}
 use Rattle.rules_meaning.specs.Values.{Text, value_of}
-use Rattle.value_keys.specs.Keys.{value_key, exn_key}
-use Rattle.value_keys.proofs.Exact.{exact_exn}
+use Rattle.number_tables.specs.value_keys.Keys.{value_key, exn_key}
+use Rattle.number_tables.proofs.value_keys_lemmas.Exact.{exact_exn}
 use Rattle.number_tables.specs.Tables.{Grows, IsNumberOf}
-use Rattle.term_tables.specs.Numbered.{Numbered}
-use Rattle.term_tables.proofs.Exact.{whole_value}
+use Rattle.term_graph.specs.tables.Numbered.{Numbered}
+use Rattle.term_graph.proofs.tables_lemmas.Exact.{whole_value}
 use Rattle.term_graph.proofs.Growth.{grows_same, grown_same}
 use Rattle.number_states.specs.declared.held.HeldValue.{HeldValue}
 use Rattle.number_states.specs.declared.held.HeldExn.{HeldExn}

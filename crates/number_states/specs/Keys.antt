@@ -1,7 +1,7 @@
 -- The keys of states in numbers (own): none begins another. A 0 ends a list, and what stands in one begins with another number.
 use Rattle.std.specs.Prelude.{ℕ, Bool, true, false, List, [], ◌∷◌, ◌++◌}
-use Rattle.value_keys.specs.Keys.{wide_key}
-use Rattle.number_waits.specs.Keys.{cells_key, flight_key, sleepers_key}
+use Rattle.number_tables.specs.value_keys.Keys.{wide_key}
+use Rattle.number_states.specs.waits.Keys.{cells_key, flight_key, sleepers_key}
 use Rattle.number_states.specs.declared.state.NumberThread.{NumberThread}
 use Rattle.number_states.specs.declared.state.NumberState.{NumberState}
 use Rattle.number_states.specs.States.{Contents, contents}

@@ -1,3 +1,4 @@
 pub mod Stocks
 pub mod States
 pub mod Keys
+pub mod waits

@@ -4,14 +4,14 @@ use Rattle.std.specs.List.{AllByRecursion}
 use Rattle.rules_code.specs.declared.code.CodeBody.{CodeBody}
 use Rattle.rules_waiting.specs.OneCell.{Want, To_take, To_read, To_put, Place, Cell}
 use Rattle.rules_waiting.specs.Waiting.{sorted_sleepers}
-use Rattle.cell_laws.specs.Mapped.{map_cell}
+use Rattle.slot_states.specs.mapping.Mapped.{map_cell}
 use Rattle.rules_code.specs.CodeTrees.{Sa}
 use Rattle.slot_laws.specs.SlotRules.{SlotPart, at, doing}
 use Rattle.slot_states.specs.SlotStates.{SlotThread, SlotState, resumed}
-use Rattle.number_waits.specs.declared.flight.Thrown.{Thrown}
-use Rattle.number_waits.specs.declared.sleepers.Asleep.{Asleep}
-use Rattle.number_waits.specs.Throwing.{map_flight}
-use Rattle.number_waits.specs.Sleeping.{sleepers, undue}
+use Rattle.number_states.specs.declared.waits.flight.Thrown.{Thrown}
+use Rattle.number_states.specs.declared.waits.sleepers.Asleep.{Asleep}
+use Rattle.number_states.specs.waits.Throwing.{map_flight}
+use Rattle.number_states.specs.waits.Sleeping.{sleepers, undue}
 use Rattle.number_states.specs.declared.state.NumberThread.{NumberThread}
 use Rattle.number_states.specs.declared.state.NumberState.{NumberState}
 use Rattle.number_states.specs.Stocks.{Stock, value_at, exception_at, term_at, IsTerm}

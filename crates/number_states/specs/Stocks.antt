@@ -9,8 +9,8 @@ use Rattle.rules_code.specs.declared.code.CodeBody.{CodeBody}
 use Rattle.slot_laws.specs.SlotRules.{SlotTerm, ret, at, local}
 use Rattle.local_steps.specs.Machine.{funs_of}
 use Rattle.number_tables.specs.Tables.{Grows}
-use Rattle.term_tables.specs.Numbered.{Numbered, term_in}
-use Rattle.term_tables.specs.Numbered as terms
+use Rattle.term_graph.specs.tables.Numbered.{Numbered, term_in}
+use Rattle.term_graph.specs.tables.Numbered as terms
 use Rattle.term_graph.specs.declared.stepping.LocalStep.{LocalStep}
 use Rattle.term_graph.specs.Eager.{is_eager}
 

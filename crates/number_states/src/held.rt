@@ -1,8 +1,8 @@
 //! Values, exceptions and texts that a table finds by their keys.
 use hs_base::{Exn, NoMemory, Txt, Value};
 use number_tables::Keyed;
+use number_tables::value_keys::{put_exn, put_value};
 use std::alloc::Global;
-use value_keys::{put_exn, put_value};
 
 /// A value by number.
 #[derive(Drop)]
@@ -12,7 +12,7 @@ pub struct HeldValue {
 
 impl Keyed for HeldValue {
     ghost use Rattle.rules_meaning.specs.Values.{value_of};
-    ghost use Rattle.value_keys.specs.Keys.{value_key};
+    ghost use Rattle.number_tables.specs.value_keys.Keys.{value_key};
 
     ghost key = { λ h. value_key (value_of h.value) };
 
@@ -28,7 +28,7 @@ pub struct HeldExn {
 }
 
 impl Keyed for HeldExn {
-    ghost use Rattle.value_keys.specs.Keys.{exn_key};
+    ghost use Rattle.number_tables.specs.value_keys.Keys.{exn_key};
 
     ghost key = { λ h. exn_key h.exn };
 
@@ -45,7 +45,7 @@ pub struct HeldText {
 
 impl Keyed for HeldText {
     ghost use Rattle.rules_meaning.specs.Values.{Text};
-    ghost use Rattle.value_keys.specs.Keys.{value_key};
+    ghost use Rattle.number_tables.specs.value_keys.Keys.{value_key};
 
     // The key of the value that it is.
     ghost key = { λ h. value_key (Text h.text) };

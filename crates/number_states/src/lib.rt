@@ -8,6 +8,9 @@
 //! Its promise: the tables only grow, a state whose numbers are those of something stands for the same at any later time, each
 //! change makes exactly what its function makes, and states with one key hold the same and so stand for the same. What an entry
 //! makes of a state is left to the crate above.
+//!
+//! A part with a head of its own: `waits`, who waits, in numbers: cells with their lines, exceptions in flight, and
+//! sleepers.
 #![tactic(auto)]
 
 mod beginning;
@@ -19,6 +22,7 @@ mod terms;
 mod threads;
 mod timing;
 mod using;
+pub mod waits;
 
 pub use beginning::first;
 pub use numbers::Numbers;

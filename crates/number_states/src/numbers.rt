@@ -1,7 +1,7 @@
 ghost use Rattle.std.specs.Prelude.{◌≡◌, ◌++◌, ◌∷◌, [], Some, IfOk, slice_get};
 ghost use Rattle.std.specs.Option.{option_copied};
 ghost use Rattle.rules_meaning.specs.Values.{value_of};
-ghost use Rattle.term_tables.specs.Numbered.{numbered};
+ghost use Rattle.term_graph.specs.tables.Numbered.{numbered};
 ghost use Rattle.number_states.specs.Stocks.{stock, or_empty, text_at, HasGrown, IsValue};
 
 use crate::held::{HeldExn, HeldText, HeldValue};
@@ -9,7 +9,7 @@ use hs_base::{Exn, NoMemory, Txt, Value};
 use number_tables::Table;
 use std::alloc::Global;
 use std::marker::Model;
-use term_tables::Terms;
+use term_graph::tables::Terms;
 
 /// What the numbers of states stand for. There are at most 2^32 of each kind.
 pub struct Numbers {

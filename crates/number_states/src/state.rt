@@ -3,14 +3,14 @@ ghost use Rattle.number_states.specs.Keys as keys;
 ghost use Rattle.number_states.specs.Keys.{threads_key, counts_key};
 ghost use Rattle.number_states.specs.States.{contents};
 
-use hs_base::NoMemory;
-use number_tables::Keyed;
-use number_waits::{
+use crate::waits::{
     Asleep, NumberCell, Thrown, copy_cells, copy_flight, copy_sleepers, put_cells, put_flight,
     put_sleepers,
 };
+use hs_base::NoMemory;
+use number_tables::Keyed;
+use number_tables::value_keys::{put, put_wide};
 use std::alloc::Global;
-use value_keys::{put, put_wide};
 
 /// A thread in numbers.
 #[derive(Clone, Copy, Debug)]

@@ -11,7 +11,7 @@ impl NumberState {
         ensures { Becomes (λ b. untimed) numbers.now self.old numbers.now self.new }
     {
         let _ = numbers;
-        number_waits::undue(&mut self.sleepers);
+        crate::waits::undue(&mut self.sleepers);
         self.clock = 0;
     }
 }

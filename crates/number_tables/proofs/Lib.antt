@@ -1,1 +1,2 @@
 pub mod Indexes
+pub mod value_keys_lemmas

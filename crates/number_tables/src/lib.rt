@@ -5,10 +5,13 @@
 //!
 //! Its promise: no two things of a table have one key, and a number that was given stays what it is. What a key says of its
 //! thing is left to the crate that has the type.
+//!
+//! A part with a head of its own: `value_keys`, keys of values, lists of numbers by which a table finds them.
 #![tactic(auto)]
 
 mod keyed;
 mod table;
+pub mod value_keys;
 
 pub use keyed::Keyed;
 pub use table::Table;

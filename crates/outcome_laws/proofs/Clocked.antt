@@ -4,7 +4,7 @@ use Rattle.std.proofs.lemmas.Bool.{leb-false}
 use Rattle.hs_base.specs.declared.clock_choice.ClockChoice.TheVariants.{Virtual}
 use Rattle.hs_rules.specs.declared.entry.Entry.{Entry}
 use Rattle.hs_rules.specs.declared.entry.Entry.TheVariants as entry
-use Rattle.rules_trees.specs.Programs.{Fn}
+use Rattle.rules_expansion.specs.trees.Programs.{Fn}
 use Rattle.rules_meaning.specs.Values.{V}
 use Rattle.rules_meaning.specs.CoreMeaning.{code_of}
 use Rattle.rules_waiting.specs.Waiting.{Reason, Sleeping, Sleeper, Waiting, reason_of, with_sleeper, sleepers_of, sleeper_before, sleeper_added, sorted_sleepers, earliest}
@@ -16,8 +16,8 @@ use Rattle.hs_laws.proofs.Ticking.{last_or, clock_begins, clock_works, clock_tic
 use Rattle.hs_laws.proofs.RunParts.{is_after, run_join, run_more}
 use Rattle.hs_laws.proofs.Later.{same_due}
 use Rattle.exn_flight.proofs.Order.{before_due}
-use Rattle.timing_laws.specs.WithoutTime.{timeless, TimelessRun, without_ticks, tick_until_due, with_its_tick}
-use Rattle.timing_laws.proofs.Timing.{none_sleeps, entry_back, time_ticks}
+use Rattle.outcome_laws.specs.timing.WithoutTime.{timeless, TimelessRun, without_ticks, tick_until_due, with_its_tick}
+use Rattle.outcome_laws.proofs.timing_lemmas.Timing.{none_sleeps, entry_back, time_ticks}
 use Rattle.outcome_laws.specs.Timings.{MayTick, TickFits, TimedRun}
 
 -- ---- the first of the sleepers

@@ -4,13 +4,13 @@ use Rattle.hs_base.specs.declared.clock_choice.ClockChoice.{ClockChoice}
 use Rattle.hs_base.specs.declared.clock_choice.ClockChoice.TheVariants.{Real}
 use Rattle.hs_rules.specs.declared.entry.Entry.{Entry}
 use Rattle.hs_rules.specs.declared.entry.Entry.TheVariants as entry
-use Rattle.rules_trees.specs.Programs.{Fn}
+use Rattle.rules_expansion.specs.trees.Programs.{Fn}
 use Rattle.rules_meaning.specs.CoreMeaning.{Code, code_of}
 use Rattle.hs_rules.specs.State.{State}
 use Rattle.hs_rules.specs.Entries.{Leads}
 use Rattle.hs_rules.specs.Runs.{Run, first_of, IsRun}
-use Rattle.timing_laws.specs.WithoutTime.{timeless, LeadsTimeless, TimelessRun, NeverReadsClock, without_ticks}
-use Rattle.timing_laws.proofs.Timing.{run_forth, run_back}
+use Rattle.outcome_laws.specs.timing.WithoutTime.{timeless, LeadsTimeless, TimelessRun, NeverReadsClock, without_ticks}
+use Rattle.outcome_laws.proofs.timing_lemmas.Timing.{run_forth, run_back}
 use Rattle.outcome_laws.specs.Timings.{MayTick, TickFits, RunWithTicks, TimedRun, RunsPast, IsEndlessFrom, IsEndless}
 use Rattle.outcome_laws.proofs.Timed.{real_run, run_of_timed, timed_join}
 

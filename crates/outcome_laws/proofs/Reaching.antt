@@ -3,7 +3,7 @@ use Rattle.std.proofs.Common.{◌≡◌, ℕ, List, Some, refl, sym, ap, ◌∙�
 use Rattle.hs_base.specs.declared.clock_choice.ClockChoice.{ClockChoice}
 use Rattle.hs_base.specs.declared.clock_choice.ClockChoice.TheVariants.{Real}
 use Rattle.hs_rules.specs.declared.entry.Entry.{Entry}
-use Rattle.rules_trees.specs.Programs.{Fn}
+use Rattle.rules_expansion.specs.trees.Programs.{Fn}
 use Rattle.rules_meaning.specs.CoreMeaning.{Code, code_of}
 use Rattle.hs_rules.specs.State.{State}
 use Rattle.hs_rules.specs.Endings.{Ends}
@@ -12,9 +12,9 @@ use Rattle.hs_rules.specs.Runs.{first_of}
 use Rattle.hs_laws.specs.HistoryEndings.{HasEnding}
 use Rattle.hs_laws.proofs.RunParts.{is_after, same_after}
 use Rattle.hs_laws.proofs.HowItEnds.{one_ending}
-use Rattle.timing_laws.specs.WithoutTime.{timeless, NeverReadsClock, without_ticks}
-use Rattle.timing_laws.proofs.Passing.{same_item}
-use Rattle.timing_laws.proofs.Timing.{deadlock_either, run_forth, run_back}
+use Rattle.outcome_laws.specs.timing.WithoutTime.{timeless, NeverReadsClock, without_ticks}
+use Rattle.outcome_laws.proofs.timing_lemmas.Passing.{same_item}
+use Rattle.outcome_laws.proofs.timing_lemmas.Timing.{deadlock_either, run_forth, run_back}
 use Rattle.outcome_laws.specs.Timings.{MayTick}
 use Rattle.outcome_laws.specs.Outcomes.{Final, Done, Uncaught, Deadlock, Outcome, ending_of, EndsBy, ShowsOutcome, Reaches, ReachesTimeless, HasOutcome, IsOutcomeOf}
 use Rattle.outcome_laws.proofs.Timed.{real_run, run_of_timed}

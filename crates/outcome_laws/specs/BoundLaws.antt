@@ -2,13 +2,13 @@
 use Rattle.std.specs.Prelude.{◌≡◌, ◌≤◌, ◌<◌, ◌+◌, ℕ, Bool, true, List, [], ◌∷◌, length, Some}
 use Rattle.hs_base.specs.declared.clock_choice.ClockChoice.{ClockChoice}
 use Rattle.hs_rules.specs.declared.entry.Entry.{Entry}
-use Rattle.rules_trees.specs.Programs.{Fn}
+use Rattle.rules_expansion.specs.trees.Programs.{Fn}
 use Rattle.rules_meaning.specs.CoreMeaning.{Code, code_of}
 use Rattle.hs_rules.specs.State.{State}
 use Rattle.hs_rules.specs.Entries.{Leads}
 use Rattle.hs_rules.specs.Runs.{Run, first_of, IsRun}
 use Rattle.hs_laws.specs.ClockLaw.{ClockKept}
-use Rattle.timing_laws.specs.WithoutTime.{timeless, LeadsTimeless, TimelessRun, NeverReadsClock, without_ticks}
+use Rattle.outcome_laws.specs.timing.WithoutTime.{timeless, LeadsTimeless, TimelessRun, NeverReadsClock, without_ticks}
 use Rattle.outcome_laws.specs.Timings.{MayTick, TickFits, TimedRun}
 
 -- Each timeless run from the first state of a script is, but for Ticks, a history of it that keeps the law of the clock with no

@@ -1,3 +1,6 @@
 pub mod Timings
 pub mod Outcomes
 pub mod BoundLaws
+pub mod timing
+pub mod reduction
+pub mod offers

@@ -5,13 +5,13 @@ use Rattle.std.specs.declared.cmp.Ordering.{Ordering}
 use Rattle.std.specs.Cmp.Lexicographic.{slice_cmp}
 use Rattle.hs_base.specs.declared.clock_choice.ClockChoice.{ClockChoice}
 use Rattle.hs_rules.specs.declared.entry.Entry.{Entry}
-use Rattle.rules_trees.specs.Programs.{Fn}
+use Rattle.rules_expansion.specs.trees.Programs.{Fn}
 use Rattle.rules_meaning.specs.CoreMeaning.{Code, code_of}
 use Rattle.hs_rules.specs.State.{State}
 use Rattle.hs_rules.specs.Endings as endings
 use Rattle.hs_rules.specs.Endings.{RunEnding, Ends}
 use Rattle.hs_rules.specs.Runs.{first_of, IsRun}
-use Rattle.timing_laws.specs.WithoutTime.{TimelessRun}
+use Rattle.outcome_laws.specs.timing.WithoutTime.{TimelessRun}
 use Rattle.outcome_laws.specs.Timings.{TimedRun}
 
 -- how a run may have ended of itself

@@ -7,14 +7,14 @@ use Rattle.hs_base.specs.declared.clock_choice.ClockChoice.{ClockChoice}
 use Rattle.hs_base.specs.declared.clock_choice.ClockChoice.TheVariants.{Real, Virtual}
 use Rattle.hs_rules.specs.declared.entry.Entry.{Entry}
 use Rattle.hs_rules.specs.declared.entry.Entry.TheVariants as entry
-use Rattle.rules_trees.specs.Programs.{Fn}
+use Rattle.rules_expansion.specs.trees.Programs.{Fn}
 use Rattle.rules_meaning.specs.CoreMeaning.{Code, code_of}
 use Rattle.hs_rules.specs.State.{State}
 use Rattle.hs_rules.specs.Entries.{Leads}
 use Rattle.hs_rules.specs.Endings.{IsQuiet}
 use Rattle.hs_rules.specs.Runs.{first_of}
 use Rattle.hs_laws.specs.ClockLaw.{first_due}
-use Rattle.timing_laws.specs.WithoutTime.{without_ticks}
+use Rattle.outcome_laws.specs.timing.WithoutTime.{without_ticks}
 
 -- a Tick to this time may stand in a state: always, or where no entry of another kind is legal and then to the first due
 abbrev pub MayTick : ClockChoice → Code → State → ℕ → Type 0

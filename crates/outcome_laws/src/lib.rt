@@ -2,13 +2,21 @@
 //! an empty body carries laws as its contract, so that a caller may use them and a reader find them.
 //!
 //! To a contract an outcome is what a run printed and how it ended of itself (`specs/Outcomes.antt`), and a timing is a choice
-//! of the clock, which says where Ticks may stand (`specs/Timings.antt`). A timeless run is that of `timing_laws`.
+//! of the clock, which says where Ticks may stand (`specs/Timings.antt`). A timeless run is that of `timing`.
 //!
 //! Its promise: what timeless runs from the first state of a script come to is what its runs in real timing come to, by
 //! histories that keep the law of the clock; a run that comes back to its state goes on for ever, and a rank that falls at
-//! each entry bounds every run. Which entries need not be tried is left to `reduction_laws`, and what is legal in a state that
-//! somebody has in hand to `offer_laws`.
+//! each entry bounds every run. Which entries need not be tried is left to `reduction`, and what is legal in a state that
+//! somebody has in hand to `offers`.
+//!
+//! Parts with a head of their own: `timing`, time taken away from the rules of a run; `reduction`, which entries a
+//! search over all schedules may take at once; `offers`, of each kind of entry, which may be legal in a state with
+//! slots.
 #![tactic(auto)]
+
+pub mod offers;
+pub mod reduction;
+pub mod timing;
 
 ghost use Rattle.std.specs.Prelude.{◌≡◌, ◌≤◌, ◌<◌, ℕ, List, ◌∷◌, length, Some};
 ghost use Rattle.std.specs.declared.cmp.Ordering.TheVariants.{Equal};
@@ -16,13 +24,13 @@ ghost use Rattle.std.specs.Cmp.{IsTotalOrder};
 ghost use Rattle.hs_base.specs.declared.clock_choice.ClockChoice.{ClockChoice};
 ghost use Rattle.hs_base.specs.declared.clock_choice.ClockChoice.TheVariants.{Real, Virtual};
 ghost use Rattle.hs_rules.specs.declared.entry.Entry.{Entry};
-ghost use Rattle.rules_trees.specs.Programs.{Fn};
+ghost use Rattle.rules_expansion.specs.trees.Programs.{Fn};
 ghost use Rattle.rules_meaning.specs.CoreMeaning.{Code, code_of};
 ghost use Rattle.hs_rules.specs.State.{State};
 ghost use Rattle.hs_rules.specs.Runs.{Run, first_of, IsRun};
 ghost use Rattle.hs_laws.specs.ClockLaw.{ClockKept};
 ghost use Rattle.hs_laws.specs.HistoryEndings.{HasEnding};
-ghost use Rattle.timing_laws.specs.WithoutTime.{timeless, TimelessRun, NeverReadsClock, without_ticks};
+ghost use Rattle.outcome_laws.specs.timing.WithoutTime.{timeless, TimelessRun, NeverReadsClock, without_ticks};
 ghost use Rattle.outcome_laws.specs.Timings.{TimedRun, IsEndlessFrom, IsEndless};
 ghost use Rattle.outcome_laws.specs.Outcomes.{Outcome, ending_of, ReachesTimeless, Reaches, HasOutcome, IsOutcomeOf, outcome_cmp};
 ghost use Rattle.outcome_laws.specs.BoundLaws.{TimelessRunsHaveWitnesses, RanksBoundTimelessRuns, RanksBoundTimedRuns};

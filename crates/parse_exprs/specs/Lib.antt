@@ -1,1 +1,3 @@
 pub mod Exprs
+pub mod operands
+pub mod case_arms

@@ -7,11 +7,11 @@ ghost use Rattle.parse_leaves.proofs.Steps.{item-product_link, item-sum_link, it
 ghost use Rattle.parse_exprs.specs.Exprs.{compared};
 
 use crate::links::{Links, all_links};
+use crate::operands::app;
 use hs_base::tree::forms::UnaryForm;
 use hs_base::{CompareOp, Expr, Link, ListLink, Pos, SumLink};
 use hs_items::Boxed;
 use parse_leaves::{Cursor, Halt, trees};
-use parse_operands::app;
 use rules_tokens::symbol;
 use std::alloc::Global;
 

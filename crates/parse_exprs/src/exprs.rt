@@ -4,10 +4,10 @@ ghost use Rattle.hs_grammar.specs.Parser as parser;
 ghost use Rattle.parse_leaves.specs.Reads.{Reads};
 
 use crate::forms::expr_with;
+use crate::operands;
 use hs_base::Expr;
 use hs_items::Items;
 use parse_leaves::{Cursor, Halt};
-use parse_operands as operands;
 use std::alloc::Global;
 
 /// An expression.

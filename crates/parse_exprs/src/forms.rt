@@ -10,10 +10,10 @@ ghost use Rattle.parse_exprs.specs.Exprs.{branches};
 
 use crate::arms::boxed_arms;
 use crate::chains::or;
+use crate::operands::nested;
 use hs_base::{Expr, ExprArms, Name, Pos};
 use hs_items::Boxed;
 use parse_leaves::{Cursor, Halt};
-use parse_operands::nested;
 use rules_tokens::{symbol, word};
 use std::alloc::Global;
 

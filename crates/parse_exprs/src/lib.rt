@@ -3,12 +3,17 @@
 //! What a call promises is `Reads`: it answers as the parser of its rule does. Each form is a function that is passed
 //! `inner`, which reads what stands in an opener, and `expr` alone calls itself, through the closure that it passes.
 //! Actions are left to the crate above.
+//!
+//! Parts with a head of their own: `operands`, constants, lists, pairs, arguments, calls and the built-in
+//! functions; `case_arms`, the arms of a `case`, whose branches are expressions or blocks.
 #![tactic(auto)]
 
 mod arms;
+pub mod case_arms;
 mod chains;
 mod exprs;
 mod forms;
 mod links;
+pub mod operands;
 
 pub use exprs::{arg, args, expr, two_args};

@@ -3,8 +3,8 @@ use Rattle.std.proofs.Common.{◌≡◌, ℕ, zero, suc, ◌+◌, ◌==◌, List
 use Rattle.std.specs.Prelude.{slice_get, bytes_eq}
 use Rattle.std.proofs.lemmas.List.{append-nil}
 use Rattle.plain_laws.proofs.Lists.{get_append}
-use Rattle.rules_trees.specs.Trees.{Ex, Exs, Links, Arms, lit, name, unary, binary, chain, conses, choose, items, empty, side, given, case, none, more, end, link, maybe_arms, either_arms, list_arms, pair_arms}
-use Rattle.rules_trees.specs.Programs.{Bd, pure_body, io_body, Fn}
+use Rattle.rules_expansion.specs.trees.Trees.{Ex, Exs, Links, Arms, lit, name, unary, binary, chain, conses, choose, items, empty, side, given, case, none, more, end, link, maybe_arms, either_arms, list_arms, pair_arms}
+use Rattle.rules_expansion.specs.trees.Programs.{Bd, pure_body, io_body, Fn}
 use Rattle.rules_expansion.specs.Names.{Written, same_name}
 use Rattle.rules_meaning.specs.Values.{V, UnitValue, Int, Truth, Text, Pair, Nothing, Just, Left, Right, Nil, Cons, Cell, Thread, Exception, Restore, Inst, list_of, Env, with_name, value_at, Outcome, Gives, Throws, Stuck, Outcomes, AllGive, OneThrows, OneStuck, and_then}
 use Rattle.rules_meaning.specs.Meaning.{Functions, then, then_all, answer, or_else, linked, binary_of, unary_of, side_of, on_truth, on_maybe, on_either, on_list, on_pair, value_of_ex, values_of_exs, left_chain, right_chain, value_of_arms, bound_onto, in_env, answer_of, texts_of, with_body, functions_onto, functions_of}

@@ -11,8 +11,8 @@ use Rattle.rules_code.specs.declared.node.ExprId.{ExprId}
 use Rattle.rules_code.specs.declared.node.NodeLink.{NodeLink}
 use Rattle.rules_code.specs.declared.node.Node.{Node}
 use Rattle.rules_code.specs.declared.node.Node.TheVariants as n
-use Rattle.rules_trees.specs.Trees.{Ex, Exs, Links, Arms, Lit, number, letters, truth, nothing_more, exception, lit, name, unary, binary, chain, conses, choose, items, empty, side, given, case, none, more, end, link, maybe_arms, either_arms, list_arms, pair_arms}
-use Rattle.rules_trees.specs.Programs.{Bd, pure_body, io_body, Fn}
+use Rattle.rules_expansion.specs.trees.Trees.{Ex, Exs, Links, Arms, Lit, number, letters, truth, nothing_more, exception, lit, name, unary, binary, chain, conses, choose, items, empty, side, given, case, none, more, end, link, maybe_arms, either_arms, list_arms, pair_arms}
+use Rattle.rules_expansion.specs.trees.Programs.{Bd, pure_body, io_body, Fn}
 use Rattle.rules_expansion.specs.Names.{Name, Written, same_name}
 use Rattle.rules_meaning.specs.Values.{V, list_of, Outcome, Gives, Stuck, Outcomes, AllGive, and_then}
 use Rattle.rules_meaning.specs.Meaning.{then, then_all, literal, empty_of, side_of, unary_of, binary_of, linked, on_truth, on_maybe, on_either, on_list, on_pair, texts_of}

@@ -1,6 +1,6 @@
 -- Core actions (own): what every action of a script expands to.
 use Rattle.std.specs.Prelude.{ℕ, cond, List, [], ◌∷◌, Option, Some, None, bytes_eq}
-use Rattle.rules_trees.specs.Trees.{Ex, Exs}
+use Rattle.rules_expansion.specs.trees.Trees.{Ex, Exs}
 use Rattle.rules_expansion.specs.declared.primitive.Primitive.{Primitive}
 use Rattle.rules_expansion.specs.Names.{Name}
 

@@ -13,8 +13,8 @@ use Rattle.hs_base.specs.declared.tree.forms.MaskingAction.{MaskingAction}
 use Rattle.hs_base.specs.declared.tree.forms.MaskingAction.TheVariants as m
 use Rattle.hs_base.specs.declared.tree.forms.GuardAction.{GuardAction}
 use Rattle.hs_base.specs.declared.tree.forms.GuardAction.TheVariants as g
-use Rattle.rules_trees.specs.Programs as tree
-use Rattle.rules_trees.specs.Programs.{SurfaceAction, Bl, ActArms, Par, Bd, Fn}
+use Rattle.rules_expansion.specs.trees.Programs as tree
+use Rattle.rules_expansion.specs.trees.Programs.{SurfaceAction, Bl, ActArms, Par, Bd, Fn}
 use Rattle.rules_expansion.specs.declared.hidden.Hidden.TheVariants.{Restorer, Caught, Instance, BracketResult, BracketFault, ScopeCell, Child, ChildEnding, ScopeResult, Awaited, ActionResult}
 use Rattle.rules_expansion.specs.declared.primitive.Primitive.{Primitive}
 use Rattle.rules_expansion.specs.declared.primitive.Primitive.TheVariants.{PutStr, PutStrLn, HPutStrLn, NewMVar, NewEmptyMVar, TakeMVar, PutMVar, ReadMVar, TryTakeMVar, TryPutMVar, MyThreadId, GetMaskingState, ClockMicros, ThreadDelay, ThrowTo, Acquired, Release}

@@ -3,3 +3,4 @@ pub mod Expansion
 pub mod Names
 pub mod Sizes
 pub mod Templates
+pub mod trees

@@ -2,9 +2,9 @@
 -- each node of an expression, the names among them that the expansion reads. What binds a name, the masking name behind
 -- `restore`, patterns and types are no nodes.
 use Rattle.std.specs.Prelude.{ℕ, ◌+◌, List, [], ◌∷◌}
-use Rattle.rules_trees.specs.Trees.{Ex, Exs, Links, Arms, lit, name, unary, binary, chain, conses, choose, items, empty, side, given, case, none, more, end, link, maybe_arms, either_arms, list_arms, pair_arms}
+use Rattle.rules_expansion.specs.trees.Trees.{Ex, Exs, Links, Arms, lit, name, unary, binary, chain, conses, choose, items, empty, side, given, case, none, more, end, link, maybe_arms, either_arms, list_arms, pair_arms}
 use Rattle.rules_expansion.specs.Core.{CoreEx, OfScript, Read, JustRead, NoValue, BelowZero, IsZero, SameExn, Killed, Nil, LeftRead, RightRead, RightLeft, RightRight, RightNil, PairRead, FirstOf, SecondOf, Core, Return, ThrowIo, Let, Bind, If, CaseMaybe, CaseEither, CaseList, CasePair, Call, Perform, Fork, ForkUnmask, Catch, MaskWith, MaskHard, Restore}
-use Rattle.rules_trees.specs.Programs.{Bd, pure_body, io_body}
+use Rattle.rules_expansion.specs.trees.Programs.{Bd, pure_body, io_body}
 use Rattle.rules_expansion.specs.declared.template.Operand.{Operand}
 use Rattle.rules_expansion.specs.declared.template.Operand.TheVariants as x
 use Rattle.rules_expansion.specs.declared.template.FormBlock.{FormBlock}

@@ -5,6 +5,8 @@
 //! which templates are made, `steps`, whose promise is that it answers a form's template written out, and the row of each word
 //! of an action (`unary_row` and its like), by which the crates above go. What core actions
 //! do is left to `rules_meaning` (expressions) and to `hs_rules` (steps), and making the nodes of a code to `hs_core`.
+//!
+//! A part with a head of its own: `trees`, scripts as plain trees for definitions.
 #![tactic(auto)]
 
 mod hidden;
@@ -12,6 +14,7 @@ mod primitive;
 mod scopes;
 mod table;
 mod template;
+pub mod trees;
 
 pub use hidden::Hidden;
 pub use primitive::Primitive;

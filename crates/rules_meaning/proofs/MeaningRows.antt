@@ -7,7 +7,7 @@ use Rattle.hs_base.specs.declared.pos.Pos.{Pos}
 use Rattle.hs_base.specs.declared.exn.Exn.TheVariants as x
 use Rattle.hs_base.specs.declared.tree.forms.UnaryForm.TheVariants as u
 use Rattle.hs_base.specs.declared.tree.forms.BinaryForm.TheVariants as b
-use Rattle.rules_trees.specs.Trees.{Ex, lit, number, truth, unary, binary, chain, Links, end, link}
+use Rattle.rules_expansion.specs.trees.Trees.{Ex, lit, number, truth, unary, binary, chain, Links, end, link}
 use Rattle.rules_meaning.specs.Values.{Text, Outcome, Gives, Throws}
 use Rattle.rules_meaning.specs.Meaning.{value_of_ex}
 

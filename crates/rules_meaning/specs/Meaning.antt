@@ -20,8 +20,8 @@ use Rattle.hs_base.specs.declared.tree.forms.EmptyForm.{EmptyForm}
 use Rattle.hs_base.specs.declared.tree.forms.EmptyForm.TheVariants as n
 use Rattle.hs_base.specs.declared.tree.forms.SideForm.{SideForm}
 use Rattle.hs_base.specs.declared.tree.forms.SideForm.TheVariants as d
-use Rattle.rules_trees.specs.Trees.{Ex, Exs, Links, Arms, Lit, number, letters, truth, nothing_more, exception, lit, name, unary, binary, chain, conses, choose, items, empty, side, given, case, none, more, end, link, maybe_arms, either_arms, list_arms, pair_arms}
-use Rattle.rules_trees.specs.Programs.{Bd, pure_body, io_body, Fn, Par}
+use Rattle.rules_expansion.specs.trees.Trees.{Ex, Exs, Links, Arms, Lit, number, letters, truth, nothing_more, exception, lit, name, unary, binary, chain, conses, choose, items, empty, side, given, case, none, more, end, link, maybe_arms, either_arms, list_arms, pair_arms}
+use Rattle.rules_expansion.specs.trees.Programs.{Bd, pure_body, io_body, Fn, Par}
 use Rattle.rules_expansion.specs.Names.{Name, Written}
 use Rattle.rules_meaning.specs.Values.{V, UnitValue, Int, Truth, Text, Pair, Nothing, Just, Left, Right, Nil, Cons, Cell, Thread, Exception, Restore, Inst, list_of, Env, with_name, value_at, Outcome, Gives, Throws, Stuck, Outcomes, AllGive, OneThrows, OneStuck, and_then}
 

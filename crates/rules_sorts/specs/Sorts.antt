@@ -1,6 +1,6 @@
 -- Scopes of core actions (own): names with what each stands for.
 use Rattle.std.specs.Prelude.{List, [], ◌∷◌, Option, Some, None, cond}
-use Rattle.rules_trees.specs.Trees.{T}
+use Rattle.rules_expansion.specs.trees.Trees.{T}
 use Rattle.rules_expansion.specs.Names.{Name, same_name}
 
 -- what a name of a scope stands for

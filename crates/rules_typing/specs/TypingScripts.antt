@@ -6,8 +6,8 @@
 use Rattle.std.specs.Prelude.{◌≡◌, ℕ, ◌+◌, ◌<◌, ◌⊎◌, ◌&&◌, List, [], ◌∷◌, ◌++◌, length, Bool, true, false, cond, Option, Some, None, ltb, codes}
 use Rattle.hs_base.specs.declared.tree.expr.Name.{Name}
 use Rattle.hs_base.specs.declared.tree.script.Script.{Script}
-use Rattle.rules_trees.specs.Trees.{T, unit, Wr}
-use Rattle.rules_trees.specs.Programs.{Par, Bd, pure_body, io_body, Fn, script_of}
+use Rattle.rules_expansion.specs.trees.Trees.{T, unit, Wr}
+use Rattle.rules_expansion.specs.trees.Programs.{Par, Bd, pure_body, io_body, Fn, script_of}
 use Rattle.rules_typing.specs.Typing.{Fault, twice, scope, wide, large, nodes, is, FirstUnmet, TypedName, bound, Sig, Ctx, find, HasType, BreaksIn}
 use Rattle.rules_typing.specs.TypingActions.{BlHas, BlBreaks}
 use Rattle.rules_typing.specs.TypingFaults.{In, Precedes}

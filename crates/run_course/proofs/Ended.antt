@@ -6,19 +6,19 @@ use Rattle.std.proofs.Props.{props}
 use Rattle.hs_rules.specs.declared.entry.Entry.{Entry}
 use Rattle.hs_rules.specs.Histories.{steps_of}
 use Rattle.hs_rules.specs.Endings.{RunEnding, Done, Uncaught, Deadlock, Fuel, IsDone, IsUncaught, IsDeadlock}
-use Rattle.rules_trees.specs.Programs.{Fn}
+use Rattle.rules_expansion.specs.trees.Programs.{Fn}
 use Rattle.rules_meaning.specs.CoreMeaning.{code_of}
 use Rattle.hs_laws.specs.HistoryEndings.{HasEnding}
 use Rattle.slot_states.specs.SlotStates.{Represents}
 use Rattle.slot_states.proofs.Settled.{is_left}
 use Rattle.world_entries.specs.Worlds.{state_of, Goes}
 use Rattle.world_entries.proofs.Making.{main_goes}
-use Rattle.run_record.specs.declared.acts.Next.{Next}
-use Rattle.run_record.specs.declared.acts.Next.TheVariants as next
-use Rattle.run_record.specs.declared.record.Record.{Record}
-use Rattle.run_record.specs.Records.{script, HasFinished, IsNext, EndsAs}
-use Rattle.run_record.proofs.GoingOn.{one_state}
-use Rattle.run_record.proofs.HowItEnds.{act_spends, goer_spends, sleeper_spends, stuck_ends}
+use Rattle.run_course.specs.declared.history.acts.Next.{Next}
+use Rattle.run_course.specs.declared.history.acts.Next.TheVariants as next
+use Rattle.run_course.specs.declared.history.record.Record.{Record}
+use Rattle.run_course.specs.history.Records.{script, HasFinished, IsNext, EndsAs}
+use Rattle.run_course.proofs.history_lemmas.GoingOn.{one_state}
+use Rattle.run_course.proofs.history_lemmas.HowItEnds.{act_spends, goer_spends, sleeper_spends, stuck_ends}
 use Rattle.run_course.specs.declared.ends.RunEnd.{RunEnd}
 use Rattle.run_course.specs.declared.ends.RunEnd.TheVariants as end
 use Rattle.run_course.specs.Endings.{EndsBy, IsOpen}

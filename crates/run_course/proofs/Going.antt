@@ -4,10 +4,10 @@ use Rattle.std.proofs.Common.{ℕ, Bool, inl, inr, refl}
 use Rattle.hs_base.specs.declared.no_memory.NoMemory.{NoMemory}
 use Rattle.hs_rules.specs.declared.entry.Entry.{Entry}
 use Rattle.hs_rules.specs.declared.entry.Entry.TheVariants as entry
-use Rattle.run_record.specs.declared.record.Record.{Record}
-use Rattle.run_record.specs.Records.{Same, Appended}
-use Rattle.clocked_record.specs.Clocks.{Looked}
-use Rattle.clocked_record.proofs.Going as so
+use Rattle.run_course.specs.declared.history.record.Record.{Record}
+use Rattle.run_course.specs.history.Records.{Same, Appended}
+use Rattle.run_course.specs.clocked.Clocks.{Looked}
+use Rattle.run_course.proofs.clocked_lemmas.Going as so
 use Rattle.run_course.proofs.Kept.{IsSilent, Went, looked}
 
 pub silently : (e : Entry) (old new : Record) → IsSilent e → so.Went e old new → Went old new

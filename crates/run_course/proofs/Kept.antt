@@ -11,16 +11,16 @@ use Rattle.hs_rules.specs.declared.entry.Entry.{Entry}
 use Rattle.hs_rules.specs.declared.entry.Entry.TheVariants as entry
 use Rattle.hs_rules.specs.declared.entry.LimitKind.{LimitKind}
 use Rattle.hs_rules.specs.Runs.{out, err}
-use Rattle.rules_trees.specs.Programs.{Fn}
+use Rattle.rules_expansion.specs.trees.Programs.{Fn}
 use Rattle.hs_laws.specs.HistoryEndings.{HasLimit}
 use Rattle.slot_states.specs.SlotStates.{SlotState}
 use Rattle.slot_states.specs.Printing.{output_by, errors_by}
 use Rattle.slot_states.proofs.Printed.{nothing_yet}
 use Rattle.world_entries.specs.Worlds.{state_of}
-use Rattle.run_record.specs.declared.record.Record.{Record}
-use Rattle.run_record.specs.Records.{script, Same, Appended, WouldExceed}
-use Rattle.clocked_record.specs.Clocks.{Looked}
-use Rattle.clocked_record.proofs.Going.{same_script}
+use Rattle.run_course.specs.declared.history.record.Record.{Record}
+use Rattle.run_course.specs.history.Records.{script, Same, Appended, WouldExceed}
+use Rattle.run_course.specs.clocked.Clocks.{Looked}
+use Rattle.run_course.proofs.clocked_lemmas.Going.{same_script}
 use Rattle.run_course.specs.declared.ends.RunEnd.{RunEnd}
 use Rattle.run_course.specs.declared.ends.RunEnd.TheVariants as end
 use Rattle.run_course.specs.Told.{is_write, ToldBy, ToldOf, Both, OneFailed}

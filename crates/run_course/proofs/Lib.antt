@@ -3,3 +3,5 @@ pub mod Ended
 pub mod Kept
 pub mod Going
 pub mod More
+pub mod history_lemmas
+pub mod clocked_lemmas

@@ -4,13 +4,13 @@ use Rattle.hs_rules.specs.declared.entry.Entry.{Entry}
 use Rattle.hs_rules.specs.declared.entry.Entry.TheVariants as entry
 use Rattle.hs_rules.specs.Histories.{cost_of, steps_of}
 use Rattle.hs_rules.proofs.Histories.{steps_of_last}
-use Rattle.run_record.specs.declared.acts.NextEntry.{NextEntry}
-use Rattle.run_record.specs.declared.acts.Next.{Next}
-use Rattle.run_record.specs.declared.record.Record.{Record}
-use Rattle.run_record.specs.Acts.{entry_of}
-use Rattle.run_record.specs.Records.{IsNext, Appended}
-use Rattle.run_record.proofs.Exceeding.{cost_one}
-use Rattle.clocked_record.specs.Clocks.{Looked}
+use Rattle.run_course.specs.declared.history.acts.NextEntry.{NextEntry}
+use Rattle.run_course.specs.declared.history.acts.Next.{Next}
+use Rattle.run_course.specs.declared.history.record.Record.{Record}
+use Rattle.run_course.specs.history.Acts.{entry_of}
+use Rattle.run_course.specs.history.Records.{IsNext, Appended}
+use Rattle.run_course.proofs.history_lemmas.Exceeding.{cost_one}
+use Rattle.run_course.specs.clocked.Clocks.{Looked}
 use Rattle.run_course.specs.declared.ends.RunEnd.{RunEnd}
 use Rattle.run_course.specs.Settled.{Acted, KeepsPlan}
 

@@ -7,7 +7,7 @@ use Rattle.std.proofs.Math.Logic.{∥∥₁_elim}
 use Rattle.std.specs.Io.KnownBytes.{Appends}
 use Rattle.hs_rules.specs.declared.entry.Entry.{Entry}
 use Rattle.hs_rules.specs.Runs.{out, err}
-use Rattle.rules_trees.specs.Programs.{Fn, script_of}
+use Rattle.rules_expansion.specs.trees.Programs.{Fn, script_of}
 use Rattle.rules_code.specs.declared.code.CodeBody.{CodeBody}
 use Rattle.hs_laws.proofs.RunParts.{run_before}
 use Rattle.slot_states.specs.SlotStates.{Represents}
@@ -15,9 +15,9 @@ use Rattle.slot_states.specs.Printing.{output_by, errors_by}
 use Rattle.slot_states.proofs.Printed.{entry_adds}
 use Rattle.world_entries.specs.declared.world.World.{World}
 use Rattle.world_entries.specs.Worlds.{state_of, Live}
-use Rattle.run_record.specs.declared.record.Record.{Record}
-use Rattle.run_record.specs.Records.{script, Appended}
-use Rattle.run_record.proofs.GoingOn.{one_state}
+use Rattle.run_course.specs.declared.history.record.Record.{Record}
+use Rattle.run_course.specs.history.Records.{script, Appended}
+use Rattle.run_course.proofs.history_lemmas.GoingOn.{one_state}
 use Rattle.run_course.specs.Told.{AppendsPart, IsCutOff, Both, OneFailed}
 
 -- ---- what one more entry prints

@@ -3,14 +3,14 @@ use Rattle.std.specs.Prelude.{◌⊎◌, ◌<◌, ℕ, List, Option, Some, None}
 use Rattle.hs_base.specs.declared.limits.Limits.{Limits}
 use Rattle.hs_io.specs.Causes.{Rose}
 use Rattle.hs_rules.specs.declared.entry.Entry.{Entry}
-use Rattle.rules_trees.specs.Programs.{Fn}
+use Rattle.rules_expansion.specs.trees.Programs.{Fn}
 use Rattle.hs_laws.specs.HistoryEndings.{HasEnding, HasLimit}
 use Rattle.hs_rules.specs.Endings as endings
 use Rattle.hs_rules.specs.Endings.{RunEnding}
 use Rattle.hs_rules.specs.Histories.{steps_of}
 use Rattle.world_entries.specs.Worlds.{Goes}
-use Rattle.run_record.specs.declared.record.Record.{Record}
-use Rattle.run_record.specs.Records.{EndsAs}
+use Rattle.run_course.specs.declared.history.record.Record.{Record}
+use Rattle.run_course.specs.history.Records.{EndsAs}
 use Rattle.run_course.specs.declared.ends.RunEnd.{RunEnd}
 use Rattle.run_course.specs.declared.ends.RunEnd.TheVariants as end
 

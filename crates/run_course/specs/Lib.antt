@@ -1,3 +1,5 @@
 pub mod Told
 pub mod Endings
 pub mod Settled
+pub mod history
+pub mod clocked

@@ -11,10 +11,10 @@ use Rattle.rules_meaning.specs.CoreMeaning.{code_of}
 use Rattle.slot_states.specs.Resting.{IsLeft}
 use Rattle.frame_stack.specs.declared.sliced.Slice.{Slice}
 use Rattle.world_entries.specs.Worlds.{state_of}
-use Rattle.run_record.specs.declared.acts.Next.{Next}
-use Rattle.run_record.specs.declared.acts.Next.TheVariants as next
-use Rattle.run_record.specs.declared.record.Record.{Record}
-use Rattle.run_record.specs.Records.{script, Same, Appended, SomeGoes}
+use Rattle.run_course.specs.declared.history.acts.Next.{Next}
+use Rattle.run_course.specs.declared.history.acts.Next.TheVariants as next
+use Rattle.run_course.specs.declared.history.record.Record.{Record}
+use Rattle.run_course.specs.history.Records.{script, Same, Appended, SomeGoes}
 use Rattle.run_course.specs.declared.ends.RunEnd.{RunEnd}
 use Rattle.run_course.specs.declared.ends.RunEnd.TheVariants as end
 use Rattle.run_course.specs.Endings.{IsOpen, IsConcluded}

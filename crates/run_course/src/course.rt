@@ -1,11 +1,11 @@
 ghost use Rattle.std.specs.Prelude.{◌≡◌, ◌≤◌, [], None, Some, IsSome, false};
-ghost use Rattle.run_record.specs.Records.{script};
+ghost use Rattle.run_course.specs.history.Records.{script};
 ghost use Rattle.run_course.specs.declared.ends.RunEnd.TheVariants as end;
 ghost use Rattle.run_course.specs.Told.{is_write, ToldOf};
 ghost use Rattle.run_course.specs.Endings.{EndedBy};
 
+use crate::clocked::Clocked;
 use crate::ends::RunEnd;
-use clocked_record::Clocked;
 use hs_io::{Clock, Sink};
 use std::snapshot::Snapshot;
 

@@ -3,18 +3,18 @@ ghost use Rattle.std.specs.Prelude.{◌≡◌, ◌≢◌, ◌<◌, ◌+◌, ◌�
 ghost use Rattle.hs_io.specs.Causes.{HasCause, Rose};
 ghost use Rattle.hs_io.specs.Outside.{Puts};
 ghost use Rattle.hs_rules.specs.Histories.{steps_of};
-ghost use Rattle.run_record.specs.declared.acts.Next.TheVariants as next;
-ghost use Rattle.run_record.specs.Acts.{entry_of};
-ghost use Rattle.run_record.specs.Pieces.{IsPiece};
-ghost use Rattle.run_record.specs.Records.{IsNext, Same};
+ghost use Rattle.run_course.specs.declared.history.acts.Next.TheVariants as next;
+ghost use Rattle.run_course.specs.history.Acts.{entry_of};
+ghost use Rattle.run_course.specs.history.Pieces.{IsPiece};
+ghost use Rattle.run_course.specs.history.Records.{IsNext, Same};
 ghost use Rattle.run_course.specs.Told.{Both, OneFailed, Counted};
 ghost use Rattle.run_course.specs.Settled.{Acted};
 
 use crate::course::Course;
 use crate::ends::RunEnd;
+use crate::history::{NextEntry, PrintedPiece, Stream};
 use hs_base::NoMemory;
 use hs_io::{Clock, Failed, Sink};
-use run_record::{NextEntry, PrintedPiece, Stream};
 
 /// Puts a piece that isn't empty.
 fn put<S: Sink>(sink: &mut S, bytes: &[u8]) -> Result<(), Failed>

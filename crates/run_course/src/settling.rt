@@ -6,20 +6,20 @@ ghost use Rattle.hs_rules.specs.declared.entry.Entry.TheVariants as entry;
 ghost use Rattle.thread_table.specs.Listing as at;
 ghost use Rattle.thread_table.specs.Table.{IsAt};
 ghost use Rattle.world_entries.specs.Worlds.{Goes, Starts};
-ghost use Rattle.run_record.specs.declared.acts.Next.TheVariants as next;
-ghost use Rattle.run_record.specs.Records.{IsAccepted, IsNext, Same, Appended};
-ghost use Rattle.clocked_record.specs.Clocks.{work, Looked};
+ghost use Rattle.run_course.specs.declared.history.acts.Next.TheVariants as next;
+ghost use Rattle.run_course.specs.history.Records.{IsAccepted, IsNext, Same, Appended};
+ghost use Rattle.run_course.specs.clocked.Clocks.{work, Looked};
 ghost use Rattle.run_course.specs.declared.ends.RunEnd.TheVariants as end;
 ghost use Rattle.run_course.specs.Endings.{EndsBy, IsConcluded, IsOpen};
 ghost use Rattle.run_course.specs.Settled.{Accepted, Begins, GoesBy, GoesOn, IsAtRest, KeepsPlan, OnlyGoes};
 
 use crate::course::Course;
 use crate::ends::RunEnd;
+use crate::history::{Next, NextEntry, Record};
 use frame_stack::Slice;
 use hs_base::NoMemory;
 use hs_io::{Clock, Sink};
 use hs_rules::{Entry, LimitKind};
-use run_record::{Next, NextEntry, Record};
 use std::collections::HashMap;
 
 /// The ending that holds, by what can be done next.

@@ -5,7 +5,7 @@ use Rattle.hs_base.specs.declared.exn.Exn.{Exn}
 use Rattle.hs_base.specs.declared.exn.Exn.TheVariants.{BlockedIndefinitely}
 use Rattle.hs_rules.specs.declared.entry.Entry.{Entry}
 use Rattle.hs_rules.specs.declared.entry.Entry.TheVariants as entry
-use Rattle.rules_trees.specs.Programs.{Fn, script_of}
+use Rattle.rules_expansion.specs.trees.Programs.{Fn, script_of}
 use Rattle.rules_expansion.specs.declared.primitive.Primitive.TheVariants.{PutMVar}
 use Rattle.rules_expansion.specs.Core.{Core}
 use Rattle.rules_meaning.specs.Values.{V, Cell, UnitValue}
@@ -39,8 +39,8 @@ use Rattle.scope_laws.proofs.Typed.{Kept, part_sure}
 use Rattle.scope_laws.proofs.Books.{held_thread}
 use Rattle.scope_laws.proofs.Plain.{stands}
 use Rattle.scope_laws.proofs.Operations.{KeptAt, performed_kept}
-use Rattle.hs_cases.specs.Cases as row
-use Rattle.hs_cases.proofs.Entering.{case_of, all_are, interruptible}
+use Rattle.hs_laws.specs.cases.Cases as row
+use Rattle.hs_laws.proofs.cases_lemmas.Entering.{case_of, all_are, interruptible}
 use Rattle.hs_laws.proofs.Changes.{Open, receiving, closing}
 use Rattle.hs_laws.specs.Standing.{IsBare}
 

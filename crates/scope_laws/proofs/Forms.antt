@@ -12,9 +12,9 @@ use Rattle.hs_base.specs.declared.tree.forms.MaskingAction.{MaskingAction}
 use Rattle.hs_base.specs.declared.tree.forms.MaskingAction.TheVariants as m
 use Rattle.hs_base.specs.declared.tree.forms.GuardAction.{GuardAction}
 use Rattle.hs_base.specs.declared.tree.forms.GuardAction.TheVariants as g
-use Rattle.rules_trees.specs.Trees.{Ex}
-use Rattle.rules_trees.specs.Programs as tree
-use Rattle.rules_trees.specs.Programs.{SurfaceAction, Bl, ActArms, Par, Bd, Fn}
+use Rattle.rules_expansion.specs.trees.Trees.{Ex}
+use Rattle.rules_expansion.specs.trees.Programs as tree
+use Rattle.rules_expansion.specs.trees.Programs.{SurfaceAction, Bl, ActArms, Par, Bd, Fn}
 use Rattle.rules_expansion.specs.Names.{Name, Written, Added, Unread}
 use Rattle.rules_expansion.specs.declared.hidden.Hidden.TheVariants.{Restorer, InTime}
 use Rattle.rules_expansion.specs.Core.{OfScript, JustRead, Core, Return, Bind, MaskWith, ActionFunction, action_named}

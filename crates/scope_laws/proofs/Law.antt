@@ -3,7 +3,7 @@ use Rattle.std.proofs.Common.{◌≡◌, ◌≢◌, ◌==◌, ℕ, suc, List, []
 use Rattle.std.proofs.lemmas.Bool.{false_from_ne_true}
 use Rattle.hs_base.specs.declared.tree.script.Script.{Script}
 use Rattle.hs_rules.specs.declared.entry.Entry.{Entry}
-use Rattle.rules_trees.specs.Programs.{script_of}
+use Rattle.rules_expansion.specs.trees.Programs.{script_of}
 use Rattle.rules_typing.specs.TypingScripts.{Accepted}
 use Rattle.hs_rules.specs.Terms.{Part, Ret, Throw, Do, Performs, Frame}
 use Rattle.hs_rules.specs.State.{Thread, State}

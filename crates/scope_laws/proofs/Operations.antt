@@ -4,7 +4,7 @@ use Rattle.plain_laws.proofs.Lists.{get_last, get_before_last}
 use Rattle.hs_base.specs.declared.exn.Exn.TheVariants.{Timeout}
 use Rattle.hs_base.specs.declared.mask.Mask.{Mask}
 use Rattle.hs_base.specs.declared.mask.Mask.TheVariants.{Unmasked}
-use Rattle.rules_trees.specs.Programs.{Fn}
+use Rattle.rules_expansion.specs.trees.Programs.{Fn}
 use Rattle.rules_expansion.specs.Names.{Name, Added}
 use Rattle.rules_expansion.specs.declared.hidden.Hidden.TheVariants.{Restorer, ScopeCell, Child}
 use Rattle.rules_expansion.specs.declared.primitive.Primitive.{Primitive}
@@ -18,8 +18,8 @@ use Rattle.rules_waiting.specs.Waiting.{Reason, Taking, Reading, Putting, Throwi
 use Rattle.hs_rules.specs.Terms.{Operation, Calls, Forks, ForksUnmask, Part, Ret, Throw, Do, Performs, Frame, BindTo, MaskIn, Term, term, mask_at}
 use Rattle.hs_rules.specs.State.{Mark, AcquiredBy, ReleasedBy, Thread, State, with_term, frames_of, resume, answer, resume_all, block, spawn}
 use Rattle.hs_rules.specs.Primitives.{moves_in, goes_in, read_by_all, given, due_in, clock_value, masking_text, line_feed}
-use Rattle.hs_cases.specs.Cases as row
-use Rattle.hs_cases.specs.Cases.{read_there}
+use Rattle.hs_laws.specs.cases.Cases as row
+use Rattle.hs_laws.specs.cases.Cases.{read_there}
 use Rattle.hs_laws.specs.BracketPhases.{FineOp}
 use Rattle.hs_laws.specs.BracketLaw.{count, IsMasked}
 use Rattle.hs_laws.proofs.Lists.{cond_true, cond_false, equal_or, item_same, item_other, item_below}

@@ -1,8 +1,8 @@
 -- What the phase of a thread says in plain words.
 use Rattle.std.proofs.Common.{◌≡◌, ◌≢◌, ℕ, true, false, List, [], ◌∷◌, Option, Some, slice_get, refl, sym, ◌∙◌, subst}
 use Rattle.hs_base.specs.declared.exn.Exn.{Exn}
-use Rattle.rules_trees.specs.Trees.{T}
-use Rattle.rules_trees.specs.Programs.{Fn}
+use Rattle.rules_expansion.specs.trees.Trees.{T}
+use Rattle.rules_expansion.specs.trees.Programs.{Fn}
 use Rattle.rules_expansion.specs.Names.{Name}
 use Rattle.rules_expansion.specs.declared.hidden.Hidden.TheVariants.{ScopeResult}
 use Rattle.rules_expansion.specs.declared.primitive.Primitive.{Primitive}

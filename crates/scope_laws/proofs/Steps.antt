@@ -3,7 +3,7 @@ use Rattle.std.proofs.Common.{◌≡◌, ◌≢◌, ℕ, suc, ◌==◌, List, []
 use Rattle.hs_base.specs.declared.mask.Mask.{Mask}
 use Rattle.hs_base.specs.declared.exn.Exn.{Exn}
 use Rattle.hs_base.specs.declared.exn.Exn.TheVariants.{ThreadKilled}
-use Rattle.rules_trees.specs.Trees.{Ex}
+use Rattle.rules_expansion.specs.trees.Trees.{Ex}
 use Rattle.rules_expansion.specs.Names.{Name, Added}
 use Rattle.rules_expansion.specs.declared.hidden.Hidden.TheVariants.{TheCell, ScopeCell, Child, ChildEnding, ScopeResult, Caught}
 use Rattle.rules_expansion.specs.declared.primitive.Primitive.{Primitive}

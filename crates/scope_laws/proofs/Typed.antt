@@ -1,8 +1,8 @@
 -- What types say of the cells of scopes: an expression of the script gives none, and an operation that takes or tries is at none.
 use Rattle.std.proofs.Common.{◌≡◌, ℕ, List, [], ◌∷◌, Some, slice_get, sym, subst}
 use Rattle.hs_base.specs.declared.tree.script.Script.{Script}
-use Rattle.rules_trees.specs.Trees.{T, cell, Ex}
-use Rattle.rules_trees.specs.Programs.{Fn, script_of}
+use Rattle.rules_expansion.specs.trees.Trees.{T, cell, Ex}
+use Rattle.rules_expansion.specs.trees.Programs.{Fn, script_of}
 use Rattle.rules_expansion.specs.Names.{Name, Added}
 use Rattle.rules_expansion.specs.declared.hidden.Hidden.TheVariants.{ScopeCell}
 use Rattle.rules_expansion.specs.Core.{CoreEx, OfScript, Core, Let, Perform}

@@ -11,7 +11,7 @@ use Rattle.hs_base.specs.declared.mask.Mask.{Mask}
 use Rattle.hs_base.specs.declared.mask.Mask.TheVariants.{Uninterruptible}
 use Rattle.hs_base.specs.declared.exn.Exn.{Exn}
 use Rattle.hs_base.specs.declared.exn.Exn.TheVariants.{ThreadKilled}
-use Rattle.rules_trees.specs.Trees.{Ex, Exs}
+use Rattle.rules_expansion.specs.trees.Trees.{Ex, Exs}
 use Rattle.rules_expansion.specs.Names.{Name, Written, Added, Unread}
 use Rattle.rules_expansion.specs.declared.hidden.Hidden.TheVariants.{Restorer, Caught, TheCell, ScopeCell, Child, ChildEnding, ScopeResult, Awaited}
 use Rattle.rules_meaning.specs.Values.{V, Cell, Exception, Env, value_at}

@@ -3,7 +3,7 @@
 -- A store, by which the state is typed, says which cells are for the ends of children: nothing takes from one, and only the child
 -- puts into it.
 use Rattle.std.specs.Prelude.{◌≡◌, ◌≢◌, ℕ, true, List, [], ◌∷◌, ◌++◌, Option, Some, None, slice_get}
-use Rattle.rules_trees.specs.Programs.{Fn}
+use Rattle.rules_expansion.specs.trees.Programs.{Fn}
 use Rattle.rules_expansion.specs.declared.hidden.Hidden.TheVariants.{ScopeResult}
 use Rattle.rules_expansion.specs.declared.primitive.Primitive.{Primitive}
 use Rattle.rules_expansion.specs.declared.primitive.Primitive.TheVariants.{TakeMVar, PutMVar, TryTakeMVar, TryPutMVar}

@@ -15,8 +15,8 @@ use Rattle.exn_flight.specs.Asleep.{due_of}
 pub use Rattle.hs_laws.proofs.Lists.{item_below as there_below}
 use Rattle.slot_laws.specs.SlotRules.{SlotTerm, on_term, local, locals}
 use Rattle.slot_states.specs.SlotStates.{SlotThread, SlotState}
-use Rattle.slot_entries.specs.Entering.{next, on_thread, entered, local_entry, moved, operates, receive_entry, ended, woken}
-use Rattle.slot_entries.proofs.Passing.{passed_not, thread_there, thread_leaves, none_or}
+use Rattle.slot_states.specs.entering.Entering.{next, on_thread, entered, local_entry, moved, operates, receive_entry, ended, woken}
+use Rattle.slot_states.proofs.entering_lemmas.Passing.{passed_not, thread_there, thread_leaves, none_or}
 use Rattle.search_laws.specs.Shown.{Shown}
 use Rattle.search_laws.specs.Going.{IsStill, MayTake}
 use Rattle.search_laws.specs.Found.{Edge, IsFollowed, IsGone, entries_at, entries_from, wake_of, candidates}

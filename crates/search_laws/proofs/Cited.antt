@@ -4,27 +4,27 @@ use Rattle.std.specs.Prelude.{◌↔◌}
 use Rattle.hs_base.specs.declared.tree.script.Script.{Script}
 use Rattle.hs_rules.specs.declared.entry.Entry.{Entry}
 use Rattle.hs_rules.specs.declared.entry.Entry.TheVariants as entry
-use Rattle.rules_trees.specs.Programs.{script_of}
+use Rattle.rules_expansion.specs.trees.Programs.{script_of}
 use Rattle.rules_meaning.specs.CoreMeaning.{code_of}
 use Rattle.rules_typing.specs.TypingScripts.{Accepted}
 use Rattle.rules_code.specs.CodeTrees.{SlottedFunction, code_trees}
 use Rattle.hs_rules.specs.State.{State}
 use Rattle.hs_rules.specs.Entries.{Leads}
 use Rattle.hs_rules.specs.Runs.{IsRun}
-use Rattle.timing_laws.specs.WithoutTime as named
+use Rattle.outcome_laws.specs.timing.WithoutTime as named
 use Rattle.hs_base.specs.declared.mask.Mask.TheVariants.{Unmasked}
 use Rattle.slot_laws.specs.SlotRules.{locals, on_term}
 use Rattle.slot_states.specs.SlotStates.{SlotState, Represents}
 use Rattle.slot_states.specs.Printing.{output_by, errors_by}
-use Rattle.slot_entries.specs.Entering.{next, local_entry, moved}
-use Rattle.slot_time.specs.WithoutTime.{untimed, ReadsClock}
-use Rattle.slot_entries.proofs.Passing.{thread_leaves}
-pub use Rattle.slot_entries.proofs.Entered.{next_entered as entered}
-use Rattle.slot_entries.proofs.Legal.{legal_next}
-pub use Rattle.slot_time.proofs.Waking.{next_forth as forth, next_back as back, or_ticks as ticked}
-use Rattle.slot_time.proofs.Standing.{reads_alike}
-pub use Rattle.slot_rests.proofs.Stepping.{moves_step as steps}
-use Rattle.slot_rests.specs.Rests.{EagerMove}
+use Rattle.slot_states.specs.entering.Entering.{next, local_entry, moved}
+use Rattle.search_laws.specs.time.WithoutTime.{untimed, ReadsClock}
+use Rattle.slot_states.proofs.entering_lemmas.Passing.{thread_leaves}
+pub use Rattle.slot_states.proofs.entering_lemmas.Entered.{next_entered as entered}
+use Rattle.slot_states.proofs.entering_lemmas.Legal.{legal_next}
+pub use Rattle.search_laws.proofs.time_lemmas.Waking.{next_forth as forth, next_back as back, or_ticks as ticked}
+use Rattle.search_laws.proofs.time_lemmas.Standing.{reads_alike}
+pub use Rattle.search_laws.proofs.rests_lemmas.Stepping.{moves_step as steps}
+use Rattle.search_laws.specs.rests.Rests.{EagerMove}
 
 pub legal : (script : Script) → Accepted script → (es : List Entry) (s u : State) → IsRun (script_of script) es s → (x : SlotState) → Represents (script_of script) x s → (e : Entry) → Leads (code_of (script_of script)) s e u → (y : SlotState) × (next (code_trees (script_of script)) x e ≡ Some y) × Represents (script_of script) y u
 legal script accepted es s u run x r e = legal_next script accepted es s run x r u e

@@ -3,15 +3,15 @@ use Rattle.std.proofs.Common.{◌≡◌, zero, List, Some, refl, ap, ◌∙◌, 
 use Rattle.hs_base.specs.declared.clock_choice.ClockChoice.{ClockChoice}
 use Rattle.hs_base.specs.declared.limits.Limits.{Limits}
 use Rattle.hs_base.specs.declared.tree.script.Script.{Script}
-use Rattle.rules_trees.specs.Programs.{Fn, script_of}
+use Rattle.rules_expansion.specs.trees.Programs.{Fn, script_of}
 use Rattle.rules_meaning.specs.CoreMeaning.{Code, code_of}
 use Rattle.rules_typing.specs.TypingScripts.{Accepted}
 use Rattle.rules_code.specs.CodeTrees.{SlottedFunction, code_trees}
 use Rattle.hs_rules.specs.Runs.{first_of}
 use Rattle.outcome_laws.specs.Timings.{MayTick}
 use Rattle.outcome_laws.specs.Outcomes.{Outcome, IsOutcomeOf}
-use Rattle.reduction_laws.specs.Paths.{IsClosed}
-use Rattle.reduction_laws.proofs.Closed.{script_outcome}
+use Rattle.outcome_laws.specs.reduction.Paths.{IsClosed}
+use Rattle.outcome_laws.proofs.reduction_lemmas.Closed.{script_outcome}
 use Rattle.slot_states.specs.SlotStates.{SlotState}
 use Rattle.search_laws.specs.Shown.{Shown, IsFirst}
 use Rattle.search_laws.specs.Found.{Edge, AreTrueEdges, AreGone, IsSeen}

@@ -7,7 +7,7 @@ use Rattle.hs_base.specs.declared.limits.Limits.{Limits}
 use Rattle.hs_base.specs.declared.tree.script.Script.{Script}
 use Rattle.hs_rules.specs.declared.entry.Entry.{Entry}
 use Rattle.hs_rules.specs.declared.entry.Entry.TheVariants as entry
-use Rattle.rules_trees.specs.Programs.{Fn, script_of}
+use Rattle.rules_expansion.specs.trees.Programs.{Fn, script_of}
 use Rattle.rules_meaning.specs.CoreMeaning.{Code, code_of}
 use Rattle.rules_typing.specs.TypingScripts.{Accepted}
 use Rattle.rules_code.specs.CodeTrees.{SlottedFunction, code_trees}
@@ -17,17 +17,17 @@ use Rattle.hs_rules.specs.Endings.{IsTick, IsQuiet}
 use Rattle.hs_rules.specs.Runs.{IsRun}
 use Rattle.hs_laws.proofs.RunParts.{run_more}
 use Rattle.outcome_laws.specs.Timings.{MayTick}
-use Rattle.reduction_laws.specs.EagerRules.{EagerSteps}
-use Rattle.reduction_laws.specs.Paths.{IsTaken}
+use Rattle.outcome_laws.specs.reduction.EagerRules.{EagerSteps}
+use Rattle.outcome_laws.specs.reduction.Paths.{IsTaken}
 use Rattle.slot_states.specs.SlotStates.{SlotState, ticks, Represents}
 use Rattle.slot_states.specs.Printing.{output_by, errors_by}
 use Rattle.slot_states.proofs.Settled.{same_due}
 use Rattle.slot_states.proofs.Printed.{nothing_yet, run_prints, next_adds}
-use Rattle.slot_entries.specs.Entering.{entered, next}
-use Rattle.slot_entries.proofs.Passing.{passed, thread_there, none_or}
-use Rattle.slot_time.specs.WithoutTime.{untimed}
-use Rattle.slot_rests.specs.Rests.{EagerMoves}
-use Rattle.slot_rests.proofs.Untimed.{timed_moves}
+use Rattle.slot_states.specs.entering.Entering.{entered, next}
+use Rattle.slot_states.proofs.entering_lemmas.Passing.{passed, thread_there, none_or}
+use Rattle.search_laws.specs.time.WithoutTime.{untimed}
+use Rattle.search_laws.specs.rests.Rests.{EagerMoves}
+use Rattle.search_laws.proofs.rests_lemmas.Untimed.{timed_moves}
 use Rattle.search_laws.specs.Shown.{forget, Shown, StandsAs, IsFirst}
 use Rattle.search_laws.specs.Going.{EagerEntries, IsStill, ReadsTime, MayTake, Takes}
 use Rattle.search_laws.specs.Found.{Edge, AreTrueEdges, AreGone}

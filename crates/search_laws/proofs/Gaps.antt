@@ -7,19 +7,19 @@ use Rattle.hs_base.specs.declared.tree.script.Script.{Script}
 use Rattle.hs_rules.specs.declared.entry.Entry.{Entry}
 use Rattle.hs_rules.specs.declared.entry.LimitKind.{LimitKind}
 use Rattle.hs_rules.specs.declared.entry.LimitKind.TheVariants as limit
-use Rattle.rules_trees.specs.Programs.{Fn, script_of}
+use Rattle.rules_expansion.specs.trees.Programs.{Fn, script_of}
 use Rattle.rules_meaning.specs.CoreMeaning.{code_of}
 use Rattle.rules_typing.specs.TypingScripts.{Accepted}
 use Rattle.rules_code.specs.CodeTrees.{code_trees}
 use Rattle.hs_rules.specs.Entries.{IsLegal}
 use Rattle.hs_rules.specs.Endings.{allowed}
-use Rattle.timing_laws.specs.WithoutTime as named
+use Rattle.outcome_laws.specs.timing.WithoutTime as named
 use Rattle.slot_states.specs.SlotStates.{SlotState}
 use Rattle.slot_states.specs.Printing.{output_by, errors_by}
 use Rattle.slot_states.specs.Resting.{used}
 use Rattle.slot_states.proofs.AtRest.{same_used}
-use Rattle.slot_entries.specs.Entering.{next}
-use Rattle.slot_time.specs.WithoutTime.{untimed, ReadsClock}
+use Rattle.slot_states.specs.entering.Entering.{next}
+use Rattle.search_laws.specs.time.WithoutTime.{untimed, ReadsClock}
 use Rattle.search_laws.specs.Shown.{forget, Shown, IsFirst, Arrives, Uses}
 use Rattle.search_laws.specs.Going.{ReadsTime, Leaves, steps_by}
 use Rattle.search_laws.proofs.Cited.{entered, reads, reads_named}

@@ -11,7 +11,7 @@ use Rattle.slot_states.specs.SlotStates.{SlotState}
 use Rattle.slot_states.specs.Resting.{used}
 pub use Rattle.hs_laws.proofs.Lists.{item_append as there_before}
 pub use Rattle.plain_laws.proofs.Lists.{get_last as there_last}
-use Rattle.slot_rests.specs.Rests.{EagerMove}
+use Rattle.search_laws.specs.rests.Rests.{EagerMove}
 use Rattle.search_laws.specs.Shown.{Shown}
 use Rattle.search_laws.specs.Going.{EagerEntries}
 use Rattle.search_laws.specs.Found.{Source, ComesOf, Comes, IsBefore, HasSource, HaveSources, Edge, IsTrueEdge, AreTrueEdges, AreInOrder, IsFollowed, IsGone}

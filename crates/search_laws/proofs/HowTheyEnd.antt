@@ -5,11 +5,11 @@ use Rattle.hs_base.specs.declared.clock_choice.ClockChoice.TheVariants.{Real, Vi
 use Rattle.hs_base.specs.declared.tree.script.Script.{Script}
 use Rattle.hs_rules.specs.declared.entry.Entry.{Entry}
 use Rattle.hs_rules.specs.declared.entry.Entry.TheVariants as entry
-use Rattle.rules_trees.specs.Programs.{Fn, script_of}
+use Rattle.rules_expansion.specs.trees.Programs.{Fn, script_of}
 use Rattle.rules_meaning.specs.CoreMeaning.{code_of}
 use Rattle.rules_typing.specs.TypingScripts.{Accepted}
 use Rattle.rules_sorts.specs.Sorts.{Sort}
-use Rattle.rules_trees.specs.Trees.{T}
+use Rattle.rules_expansion.specs.trees.Trees.{T}
 use Rattle.rules_code.specs.CodeTrees.{SlottedFunction, code_trees}
 use Rattle.rules_waiting.specs.Waiting.{sorted_sleepers, is_blocked}
 use Rattle.hs_rules.specs.Terms.{Part}
@@ -25,11 +25,11 @@ use Rattle.slot_states.specs.SlotStates.{SlotThread, SlotState, Represents, Same
 use Rattle.slot_states.proofs.AtRest.{nobody_sleeps}
 use Rattle.slot_states.proofs.Settled.{none_asleep}
 use Rattle.slot_states.proofs.Reading.{named_of}
-use Rattle.slot_entries.specs.Entering.{next}
-use Rattle.slot_entries.proofs.Passing.{none_or}
-use Rattle.slot_time.specs.WithoutTime.{untimed, undue, ticked_to, due_first}
+use Rattle.slot_states.specs.entering.Entering.{next}
+use Rattle.slot_states.proofs.entering_lemmas.Passing.{none_or}
+use Rattle.search_laws.specs.time.WithoutTime.{untimed, undue, ticked_to, due_first}
 use Rattle.exn_flight.specs.Asleep.{due_of}
-use Rattle.slot_time.proofs.Sleepers.{none_sleeps}
+use Rattle.search_laws.proofs.time_lemmas.Sleepers.{none_sleeps}
 use Rattle.search_laws.specs.Shown.{forget, Shown}
 use Rattle.search_laws.specs.Found.{is_value, ended_by, IsStuck, EndsAs, HasKind, MayHaveKind}
 use Rattle.search_laws.proofs.Cited.{entered, legal, reads, back}

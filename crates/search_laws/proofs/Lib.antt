@@ -8,3 +8,6 @@ pub mod Gaps
 pub mod Following
 pub mod Complete
 pub mod Growing
+pub mod time_lemmas
+pub mod rests_lemmas
+pub mod ends_lemmas

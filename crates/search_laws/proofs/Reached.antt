@@ -7,7 +7,7 @@ use Rattle.hs_base.specs.declared.limits.Limits.{Limits}
 use Rattle.hs_base.specs.declared.tree.script.Script.{Script}
 use Rattle.hs_rules.specs.declared.entry.Entry.{Entry}
 use Rattle.hs_rules.specs.declared.entry.LimitKind.TheVariants as limit
-use Rattle.rules_trees.specs.Programs.{Fn, script_of}
+use Rattle.rules_expansion.specs.trees.Programs.{Fn, script_of}
 use Rattle.rules_typing.specs.TypingScripts.{Accepted}
 use Rattle.rules_code.specs.CodeTrees.{SlottedFunction, code_trees}
 use Rattle.hs_rules.specs.Endings.{IsWithin}
@@ -17,8 +17,8 @@ use Rattle.slot_states.specs.SlotStates.{SlotState, moves}
 use Rattle.slot_states.specs.Printing.{output_by, errors_by}
 use Rattle.slot_states.specs.Resting.{used}
 use Rattle.slot_states.proofs.Printed.{nothing_yet, run_prints}
-use Rattle.slot_time.specs.WithoutTime.{untimed}
-use Rattle.slot_rests.proofs.Untimed.{timed_move}
+use Rattle.search_laws.specs.time.WithoutTime.{untimed}
+use Rattle.search_laws.proofs.rests_lemmas.Untimed.{timed_move}
 use Rattle.search_laws.specs.Shown.{forget, Shown, FitsIn, IsFirst, Arrives}
 use Rattle.search_laws.specs.Going.{EagerEntries, steps_by, Leaves, Takes}
 use Rattle.search_laws.specs.Found.{Source, ComesFirst, ComesBy, ComesOf, Comes, IsBefore, HaveSources}

@@ -11,13 +11,13 @@ use Rattle.rules_expansion.specs.declared.primitive.Primitive.{Primitive}
 use Rattle.rules_expansion.specs.declared.primitive.Primitive.TheVariants.{ClockMicros}
 use Rattle.rules_code.specs.CodeTrees.{SlottedFunction}
 use Rattle.hs_rules.specs.Endings.{IsTick}
-use Rattle.timing_laws.specs.WithoutTime.{is_clock_reading}
+use Rattle.outcome_laws.specs.timing.WithoutTime.{is_clock_reading}
 use Rattle.slot_laws.specs.SlotRules.{calls, forks, forks_unmask, SlotPart, performs, SlotFrame, mask_from}
 use Rattle.slot_states.specs.SlotStates.{SlotThread, SlotState}
-use Rattle.slot_entries.specs.Operating.{performed}
-use Rattle.slot_entries.specs.Entering.{next, on_thread, operates, op_entry}
-use Rattle.slot_entries.proofs.Passing.{passed_not, thread_there, thread_leaves}
-use Rattle.slot_time.specs.WithoutTime.{untimed, ReadsClock, part_reads_clock, thread_reads_clock}
+use Rattle.slot_states.specs.entering.Operating.{performed}
+use Rattle.slot_states.specs.entering.Entering.{next, on_thread, operates, op_entry}
+use Rattle.slot_states.proofs.entering_lemmas.Passing.{passed_not, thread_there, thread_leaves}
+use Rattle.search_laws.specs.time.WithoutTime.{untimed, ReadsClock, part_reads_clock, thread_reads_clock}
 use Rattle.search_laws.specs.Shown.{forget}
 use Rattle.search_laws.proofs.Cited.{forth}
 

@@ -9,7 +9,7 @@ use Rattle.hs_rules.specs.declared.entry.Entry.{Entry}
 use Rattle.hs_rules.specs.declared.entry.Entry.TheVariants as entry
 use Rattle.hs_rules.specs.declared.entry.LimitKind.{LimitKind}
 use Rattle.hs_rules.specs.declared.entry.LimitKind.TheVariants as limit
-use Rattle.rules_trees.specs.Programs.{Fn, script_of}
+use Rattle.rules_expansion.specs.trees.Programs.{Fn, script_of}
 use Rattle.rules_meaning.specs.CoreMeaning.{code_of}
 use Rattle.rules_typing.specs.TypingScripts.{Accepted}
 use Rattle.rules_code.specs.CodeTrees.{SlottedFunction, code_trees}
@@ -31,9 +31,9 @@ use Rattle.slot_states.proofs.AtRest.{same_used}
 use Rattle.slot_states.proofs.Settled.{same_due}
 use Rattle.slot_states.proofs.Printed.{next_adds}
 use Rattle.exn_flight.specs.Asleep.{due_of}
-use Rattle.slot_entries.specs.Entering.{next, on_thread}
-use Rattle.slot_time.specs.WithoutTime.{untimed, ticked_to, due_first}
-use Rattle.slot_rests.specs.Rests.{EagerMove}
+use Rattle.slot_states.specs.entering.Entering.{next, on_thread}
+use Rattle.search_laws.specs.time.WithoutTime.{untimed, ticked_to, due_first}
+use Rattle.search_laws.specs.rests.Rests.{EagerMove}
 use Rattle.search_laws.specs.Shown.{forget, FitsIn}
 use Rattle.search_laws.specs.Going.{EagerEntries, IsStill, MayTake, steps_by, Leaves}
 use Rattle.search_laws.proofs.Cited.{entered, legal, reads, same_output, same_errors, back, ticked, move_enters}

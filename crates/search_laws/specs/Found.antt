@@ -7,13 +7,13 @@ use Rattle.hs_rules.specs.declared.entry.Entry.TheVariants as entry
 use Rattle.rules_waiting.specs.Waiting.{Sleeper}
 use Rattle.hs_rules.specs.State.{State}
 use Rattle.hs_rules.specs.Runs.{IsRun}
-use Rattle.rules_trees.specs.Programs.{Fn}
+use Rattle.rules_expansion.specs.trees.Programs.{Fn}
 use Rattle.rules_meaning.specs.CoreMeaning.{code_of}
 use Rattle.rules_code.specs.CodeTrees.{SlottedFunction}
 use Rattle.outcome_laws.specs.Outcomes.{Final, Done, Uncaught, Deadlock, Outcome, ShowsOutcome}
 use Rattle.slot_laws.specs.SlotRules.{SlotPart, ret, throw, doing, performs}
 use Rattle.slot_states.specs.SlotStates.{SlotThread, SlotState}
-use Rattle.slot_entries.specs.Entering.{next}
+use Rattle.slot_states.specs.entering.Entering.{next}
 use Rattle.search_laws.specs.Shown.{forget, Shown, StandsAs, FitsIn}
 use Rattle.search_laws.specs.Going.{EagerEntries, IsStill, MayTake, steps_by, Takes}
 

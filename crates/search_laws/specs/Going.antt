@@ -12,9 +12,9 @@ use Rattle.rules_waiting.specs.Waiting.{earliest}
 use Rattle.slot_states.specs.SlotStates.{SlotState}
 use Rattle.slot_states.specs.Resting.{used}
 use Rattle.slot_states.specs.Printing.{output_by, errors_by}
-use Rattle.slot_entries.specs.Entering.{next}
-use Rattle.slot_time.specs.WithoutTime.{ReadsClock}
-use Rattle.slot_rests.specs.Rests.{EagerMove}
+use Rattle.slot_states.specs.entering.Entering.{next}
+use Rattle.search_laws.specs.time.WithoutTime.{ReadsClock}
+use Rattle.search_laws.specs.rests.Rests.{EagerMove}
 use Rattle.search_laws.specs.Shown.{forget, Shown, FitsIn}
 
 -- ---- eager local rules with their entries

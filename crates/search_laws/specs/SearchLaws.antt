@@ -10,14 +10,14 @@ use Rattle.hs_rules.specs.declared.entry.Entry.TheVariants.{Tick}
 use Rattle.hs_rules.specs.State.{State}
 use Rattle.hs_rules.specs.Entries.{IsLegal}
 use Rattle.hs_rules.specs.Runs.{IsRun}
-use Rattle.rules_trees.specs.Programs.{script_of}
+use Rattle.rules_expansion.specs.trees.Programs.{script_of}
 use Rattle.rules_meaning.specs.CoreMeaning.{code_of}
 use Rattle.rules_typing.specs.TypingScripts.{Accepted}
 use Rattle.rules_code.specs.CodeTrees.{SlottedFunction, code_trees}
-use Rattle.timing_laws.specs.WithoutTime.{ReadsClock}
+use Rattle.outcome_laws.specs.timing.WithoutTime.{ReadsClock}
 use Rattle.outcome_laws.specs.Outcomes.{Final, Outcome, EndsBy, IsOutcomeOf}
 use Rattle.slot_states.specs.SlotStates.{SlotState}
-use Rattle.slot_entries.specs.Entering.{next}
+use Rattle.slot_states.specs.entering.Entering.{next}
 use Rattle.search_laws.specs.Shown.{Shown, StandsAs, IsFirst, Arrives, Uses}
 use Rattle.search_laws.specs.Going.{MayTake, ReadsTime, steps_by, Leaves}
 use Rattle.search_laws.specs.Found.{Source, Comes, HaveSources, Edge, AreTrueEdges, IsFollowed, IsGone, AreGone, candidates, HasKind, MayHaveKind, IsSeen}

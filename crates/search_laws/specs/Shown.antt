@@ -15,11 +15,11 @@ use Rattle.slot_states.specs.Resting.{used}
 use Rattle.hs_rules.specs.State.{State}
 use Rattle.hs_rules.specs.Histories.{steps_of}
 use Rattle.hs_rules.specs.Runs.{first_of, IsRun}
-use Rattle.rules_trees.specs.Programs.{Fn}
+use Rattle.rules_expansion.specs.trees.Programs.{Fn}
 use Rattle.rules_meaning.specs.CoreMeaning.{code_of}
 use Rattle.outcome_laws.specs.Timings.{TimedRun}
 use Rattle.slot_states.specs.SlotStates.{SlotState, Represents}
-use Rattle.slot_time.specs.WithoutTime.{untimed}
+use Rattle.search_laws.specs.time.WithoutTime.{untimed}
 
 -- what a search in a timing keeps of a state
 abbrev pub forget : ClockChoice → SlotState → SlotState

@@ -8,7 +8,15 @@
 //! Its promise: each state to which the sources lead is one that a run of the timing comes to, of so many steps and within the
 //! limits; where each entry of each state has its edge, each outcome of the script shows in some state; and what a gap is said to
 //! be it is in the words of the rules. How the states are found is left to the crate that searches.
+//!
+//! Parts with a head of their own: `time`, time taken away from states with slots; `rests`, eager local rules of
+//! states with slots, which a search may take at once; `ends`, whether every schedule ends, read off what a search
+//! has found.
 #![tactic(auto)]
+
+pub mod ends;
+pub mod rests;
+pub mod time;
 
 ghost use Rattle.std.specs.Prelude.{◌≡◌, ◌≤◌, List, None};
 ghost use Rattle.std.specs.List.{Contains};
@@ -17,13 +25,13 @@ ghost use Rattle.hs_base.specs.declared.limits.Limits.{Limits};
 ghost use Rattle.hs_base.specs.declared.tree.script.Script.{Script};
 ghost use Rattle.hs_rules.specs.declared.entry.Entry.{Entry};
 ghost use Rattle.hs_rules.specs.declared.entry.LimitKind.TheVariants as limit;
-ghost use Rattle.rules_trees.specs.Programs.{script_of};
+ghost use Rattle.rules_expansion.specs.trees.Programs.{script_of};
 ghost use Rattle.rules_typing.specs.TypingScripts.{Accepted};
 ghost use Rattle.rules_code.specs.CodeTrees.{SlottedFunction};
 ghost use Rattle.slot_states.specs.SlotStates.{SlotState};
 ghost use Rattle.slot_states.specs.Resting.{used};
-ghost use Rattle.slot_rests.specs.Rests.{EagerMove};
-ghost use Rattle.slot_entries.specs.Entering.{next};
+ghost use Rattle.search_laws.specs.rests.Rests.{EagerMove};
+ghost use Rattle.slot_states.specs.entering.Entering.{next};
 ghost use Rattle.search_laws.specs.Shown.{FitsIn, IsFirst, Uses};
 ghost use Rattle.search_laws.specs.Going.{IsStill};
 ghost use Rattle.search_laws.specs.Found.{candidates};

@@ -3,8 +3,8 @@ use Rattle.std.proofs.Common.{◌≡◌, ℕ, zero, suc, List, [], ◌∷◌, Bo
 use Rattle.plain_laws.proofs.Lists.{get_mapped}
 use Rattle.hs_base.specs.declared.mask.Mask.TheVariants.{Unmasked}
 use Rattle.hs_base.specs.declared.tree.script.Script.{Script}
-use Rattle.rules_trees.specs.Trees.{T, Exs, none, more}
-use Rattle.rules_trees.specs.Programs.{Fn, script_of}
+use Rattle.rules_expansion.specs.trees.Trees.{T, Exs, none, more}
+use Rattle.rules_expansion.specs.trees.Programs.{Fn, script_of}
 use Rattle.rules_expansion.specs.Core.{CoreEx, OfScript, Core, Bind, Call, Perform, ActionFunction}
 use Rattle.rules_expansion.specs.Expansion.{actions_of}
 use Rattle.rules_meaning.specs.Values.{V, Env}

@@ -3,8 +3,8 @@ use Rattle.std.proofs.Common.{◌≡◌, ℕ, List, [], ◌∷◌, true, Option,
 use Rattle.std.specs.Prelude.{◌&&◌, codes}
 use Rattle.std.proofs.lemmas.Bool.{and_parts}
 use Rattle.hs_base.specs.declared.tree.script.Script.{Script}
-use Rattle.rules_trees.specs.Trees.{T, unit}
-use Rattle.rules_trees.specs.Programs.{script_of}
+use Rattle.rules_expansion.specs.trees.Trees.{T, unit}
+use Rattle.rules_expansion.specs.trees.Programs.{script_of}
 use Rattle.rules_expansion.specs.Names.{Name}
 use Rattle.rules_sorts.specs.Sorts.{a_value, SortedName}
 use Rattle.rules_typing.specs.Typing as typing
@@ -16,7 +16,7 @@ use Rattle.rules_code.specs.CodeTrees.{main_tree, tree_or_bad}
 use Rattle.hs_soundness.proofs.Growing.{fits_none}
 use Rattle.hs_progress.specs.CoreTyping.{Does, Takes, takes_none, takes_one}
 use Rattle.hs_base.specs.declared.mask.Mask.{Mask}
-use Rattle.rules_trees.specs.Programs.{Fn}
+use Rattle.rules_expansion.specs.trees.Programs.{Fn}
 use Rattle.rules_meaning.specs.Values.{V, Env}
 use Rattle.rules_sorts.specs.Sorts.{Sort}
 use Rattle.rules_sorts.specs.TypedMeaning.{any_cell}

@@ -6,8 +6,8 @@ use Rattle.hs_base.specs.declared.mask.Mask.{Mask}
 use Rattle.hs_base.specs.declared.mask.Mask.TheVariants.{Unmasked, Masked}
 use Rattle.hs_base.specs.Masks.{join_of}
 use Rattle.hs_base.specs.declared.tree.script.Script.{Script}
-use Rattle.rules_trees.specs.Trees.{T, bool, exn, pair, maybe, either, list}
-use Rattle.rules_trees.specs.Programs.{Fn, script_of}
+use Rattle.rules_expansion.specs.trees.Trees.{T, bool, exn, pair, maybe, either, list}
+use Rattle.rules_expansion.specs.trees.Programs.{Fn, script_of}
 use Rattle.rules_expansion.specs.Names.{Name}
 use Rattle.rules_meaning.specs.Values.{V, Truth, Nothing, Just, Left, Right, Pair, Nil, Cons, Exception, Restore, Env, with_name, value_at}
 use Rattle.rules_meaning.specs.Meaning.{functions_of, values_of_exs}

@@ -1,7 +1,7 @@
 -- What stands in a store stands in one that follows, and a thread that is answered stands by its answer.
 use Rattle.std.proofs.Common.{◌≡◌, ℕ, ◌<◌, List, Option, Some, sym, subst, slice_get}
-use Rattle.rules_trees.specs.Trees.{T}
-use Rattle.rules_trees.specs.Programs.{Fn}
+use Rattle.rules_expansion.specs.trees.Trees.{T}
+use Rattle.rules_expansion.specs.trees.Programs.{Fn}
 use Rattle.rules_expansion.specs.Names.{Name}
 use Rattle.rules_meaning.specs.Values.{V, Env}
 use Rattle.rules_sorts.specs.Sorts.{Sort, SortedName}

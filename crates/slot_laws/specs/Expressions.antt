@@ -3,7 +3,7 @@
 -- `hs_eval::eval` answers for a node of a code where there is a reading of it and of the values of slots. Those readings
 -- are said by the parts of `Evaluable`, of the tree that the node stands for.
 use Rattle.std.specs.Prelude.{◌≡◌, ℕ, List, [], ◌∷◌, Some, slice_get}
-use Rattle.rules_trees.specs.Programs.{Fn}
+use Rattle.rules_expansion.specs.trees.Programs.{Fn}
 use Rattle.rules_expansion.specs.Core.{CoreEx, Core}
 use Rattle.rules_meaning.specs.Values.{V, Env}
 use Rattle.rules_sorts.specs.Sorts.{Sort, SortedName}

@@ -6,7 +6,7 @@ use Rattle.hs_base.specs.declared.tree.script.Script.{Script}
 use Rattle.hs_base.specs.declared.exn.Exn.TheVariants.{BlockedIndefinitely}
 use Rattle.hs_rules.specs.declared.entry.Entry.{Entry}
 use Rattle.hs_rules.specs.declared.entry.Entry.TheVariants.{Stranded}
-use Rattle.rules_trees.specs.Programs.{Fn, script_of}
+use Rattle.rules_expansion.specs.trees.Programs.{Fn, script_of}
 use Rattle.rules_expansion.specs.Names.{Name}
 use Rattle.rules_expansion.specs.Core.{Core}
 use Rattle.rules_expansion.specs.Expansion.{main_of}

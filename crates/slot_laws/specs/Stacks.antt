@@ -1,6 +1,6 @@
 -- When stacks with slots stand for the threads of a state (own).
 use Rattle.std.specs.Prelude.{◌≡◌, ℕ, ◌==◌, cond, List, Some, slice_get}
-use Rattle.rules_trees.specs.Programs.{Fn}
+use Rattle.rules_expansion.specs.trees.Programs.{Fn}
 use Rattle.hs_rules.specs.State.{Thread, State}
 use Rattle.hs_rules.specs.Terms as named
 use Rattle.hs_rules.specs.Terms.{term}

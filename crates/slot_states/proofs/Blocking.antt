@@ -3,7 +3,7 @@ use Rattle.std.proofs.Common.{append-nil, ◌≡◌, ◌≢◌, ℕ, suc, ◌+�
 use Rattle.hs_base.specs.declared.exn.Exn.{Exn}
 use Rattle.hs_base.specs.declared.tree.script.Script.{Script}
 use Rattle.hs_rules.specs.declared.entry.Entry.TheVariants.{Op}
-use Rattle.rules_trees.specs.Programs.{script_of}
+use Rattle.rules_expansion.specs.trees.Programs.{script_of}
 use Rattle.rules_meaning.specs.Values as val
 use Rattle.rules_meaning.specs.Values.{UnitValue, Int, Exception}
 use Rattle.rules_expansion.specs.declared.primitive.Primitive.TheVariants.{ThreadDelay, ThrowTo}
@@ -11,7 +11,7 @@ use Rattle.rules_typing.specs.TypingScripts.{Accepted}
 use Rattle.rules_waiting.specs.Waiting.{Throwing, Sleeping, flight_of, sleepers_of, sorted_sleepers, sleeper_added}
 use Rattle.exn_flight.proofs.OneList.{flight_blocks, sleepers_block}
 use Rattle.exn_flight.proofs.Sorting.{sleeps_in_order}
-use Rattle.hs_cases.specs.Cases as row
+use Rattle.hs_laws.specs.cases.Cases as row
 use Rattle.slot_laws.specs.SlotRules.{performs, calls}
 use Rattle.slot_states.specs.SlotStates.{SlotThread, SlotState, answer, throws, throws_at, sleeps, Enters, StandsAt, MainGoes}
 use Rattle.slot_states.proofs.Following.{same_some}

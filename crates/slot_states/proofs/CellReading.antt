@@ -1,7 +1,7 @@
 -- The cells that the operations of threads with slots name are there.
 use Rattle.std.proofs.Common.{◌≡◌, ◌⊎◌, inl, inr, ⊎_elim, ℕ, ◌<◌, List, [], ◌∷◌, length, slice_get, Option, Some, None, refl, subst, arith}
-use Rattle.rules_trees.specs.Trees.{T, cell, async}
-use Rattle.rules_trees.specs.Programs.{Fn}
+use Rattle.rules_expansion.specs.trees.Trees.{T, cell, async}
+use Rattle.rules_expansion.specs.trees.Programs.{Fn}
 use Rattle.rules_meaning.specs.Values as val
 use Rattle.rules_meaning.specs.Values.{V}
 use Rattle.rules_sorts.specs.Sorts.{Sort}

@@ -2,8 +2,8 @@
 use Rattle.std.proofs.Common.{◌≡◌, ◌≢◌, ℕ, ◌<◌, ◌==◌, true, false, cond, List, [], ◌∷◌, length, slice_get, Option, Some, None, refl, sym, ap, ◌∙◌, subst, ⊎_elim}
 use Rattle.hs_base.specs.declared.tree.script.Script.{Script}
 use Rattle.hs_rules.specs.declared.entry.Entry.{Entry}
-use Rattle.rules_trees.specs.Programs.{Fn, script_of}
-use Rattle.rules_trees.specs.Trees.{T}
+use Rattle.rules_expansion.specs.trees.Programs.{Fn, script_of}
+use Rattle.rules_expansion.specs.trees.Trees.{T}
 use Rattle.rules_sorts.specs.Sorts.{Sort}
 use Rattle.rules_meaning.specs.Values as val
 use Rattle.rules_meaning.specs.Values.{V}

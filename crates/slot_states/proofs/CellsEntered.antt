@@ -6,7 +6,7 @@ use Rattle.hs_base.specs.declared.mask.Mask.TheVariants.{Unmasked}
 use Rattle.hs_base.specs.declared.tree.script.Script.{Script}
 use Rattle.hs_rules.specs.declared.entry.Entry.{Entry}
 use Rattle.hs_rules.specs.declared.entry.Entry.TheVariants as entry
-use Rattle.rules_trees.specs.Programs.{Fn, script_of}
+use Rattle.rules_expansion.specs.trees.Programs.{Fn, script_of}
 use Rattle.rules_typing.specs.TypingScripts.{Accepted}
 use Rattle.rules_meaning.specs.Values as val
 use Rattle.rules_meaning.specs.Values.{V}
@@ -16,8 +16,8 @@ use Rattle.rules_expansion.specs.declared.primitive.Primitive.TheVariants.{NewMV
 use Rattle.hs_rules.specs.Terms.{Operation, Calls, Ret}
 use Rattle.hs_rules.specs.Primitives.{operated, take, read, put, try_take, try_put}
 use Rattle.hs_rules.specs.Entries.{Leads}
-use Rattle.hs_cases.specs.Cases as row
-use Rattle.hs_cases.proofs.Performing.{case_of}
+use Rattle.hs_laws.specs.cases.Cases as row
+use Rattle.hs_laws.proofs.cases_lemmas.Performing.{case_of}
 use Rattle.hs_rules.specs.Runs.{IsRun}
 use Rattle.hs_rules.specs.State.{Thread, State, answer}
 use Rattle.rules_waiting.specs.OneCell.{Cell, Call, Take, Read, Put, Try_take, Try_put, Reply, cell_of, made, call}

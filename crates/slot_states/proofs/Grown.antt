@@ -6,8 +6,8 @@ use Rattle.hs_base.specs.declared.tree.script.Script.{Script}
 use Rattle.hs_rules.specs.declared.entry.Entry.{Entry}
 use Rattle.hs_rules.specs.declared.entry.LimitKind.{LimitKind}
 use Rattle.hs_rules.specs.declared.entry.LimitKind.TheVariants as limit
-use Rattle.rules_trees.specs.Trees.{T}
-use Rattle.rules_trees.specs.Programs.{Fn, script_of}
+use Rattle.rules_expansion.specs.trees.Trees.{T}
+use Rattle.rules_expansion.specs.trees.Programs.{Fn, script_of}
 use Rattle.rules_meaning.specs.Values as val
 use Rattle.rules_meaning.specs.Values.{V, UnitValue, Int, Truth, Text, Nothing, Just, Exception, Inst, with_name}
 use Rattle.rules_expansion.specs.declared.primitive.Primitive.TheVariants.{NewMVar, NewEmptyMVar}
@@ -17,7 +17,7 @@ use Rattle.hs_rules.specs.Terms.{Operation, Calls, Forks, ForksUnmask, Part, Ret
 use Rattle.hs_rules.specs.State.{AcquiredBy, ReleasedBy, Thread, State, with_term, frames_of, thread_with, resume, answer, spawn}
 use Rattle.hs_rules.specs.Primitives.{line_feed}
 use Rattle.hs_rules.specs.Entries.{stranded, next}
-use Rattle.hs_cases.specs.Cases.{printed, told, with_cell}
+use Rattle.hs_laws.specs.cases.Cases.{printed, told, with_cell}
 use Rattle.hs_laws.proofs.Lists.{those}
 use Rattle.hs_laws.proofs.Changes as change
 use Rattle.hs_laws.proofs.Changes.{Changes, Stands, Calm, Makes, all_kept, changes}

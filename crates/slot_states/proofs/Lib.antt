@@ -22,3 +22,6 @@ pub mod Places
 pub mod StrandedAlike
 pub mod Settled
 pub mod Grown
+pub mod mapping_lemmas
+pub mod demands_lemmas
+pub mod entering_lemmas

@@ -3,7 +3,7 @@ use Rattle.std.proofs.Common.{◌≡◌, ℕ, zero, suc, ◌<◌, ◌≤◌, Lis
 use Rattle.hs_base.specs.declared.mask.Mask.TheVariants.{Unmasked}
 use Rattle.hs_base.specs.declared.tree.script.Script.{Script}
 use Rattle.hs_rules.specs.declared.entry.Entry.TheVariants.{Local, Tick}
-use Rattle.rules_trees.specs.Programs.{Fn, script_of}
+use Rattle.rules_expansion.specs.trees.Programs.{Fn, script_of}
 use Rattle.rules_meaning.specs.CoreMeaning.{Code, code_of}
 use Rattle.rules_typing.specs.TypingScripts.{Accepted}
 use Rattle.rules_code.specs.CodeTrees.{code_trees}
@@ -12,8 +12,8 @@ use Rattle.hs_rules.specs.Terms as named
 use Rattle.hs_rules.specs.LocalRules as name
 use Rattle.hs_rules.specs.State.{Thread, State, move}
 use Rattle.hs_rules.specs.Entries.{Leads}
-use Rattle.hs_cases.specs.Cases as row
-use Rattle.hs_cases.proofs.Entering.{entered_is}
+use Rattle.hs_laws.specs.cases.Cases as row
+use Rattle.hs_laws.proofs.cases_lemmas.Entering.{entered_is}
 use Rattle.hs_laws.proofs.States.{other_thread}
 use Rattle.hs_laws.proofs.Growing.{term_length}
 use Rattle.slot_laws.specs.SlotRules.{SlotTerm, locals}

@@ -6,7 +6,7 @@ use Rattle.hs_base.specs.declared.exn.Exn.{Exn}
 use Rattle.hs_base.specs.declared.tree.script.Script.{Script}
 use Rattle.hs_rules.specs.declared.entry.Entry.{Entry}
 use Rattle.hs_rules.specs.declared.entry.Entry.TheVariants.{Op}
-use Rattle.rules_trees.specs.Programs.{script_of}
+use Rattle.rules_expansion.specs.trees.Programs.{script_of}
 use Rattle.rules_meaning.specs.Values.{V}
 use Rattle.rules_meaning.specs.CoreMeaning.{code_of}
 use Rattle.rules_expansion.specs.declared.primitive.Primitive.{Primitive}
@@ -15,7 +15,7 @@ use Rattle.rules_waiting.specs.Waiting.{Reason, Flying, Sleeper, blocks, want_at
 use Rattle.hs_rules.specs.Terms.{Operation, Calls, Part, Ret, Throw}
 use Rattle.hs_rules.specs.State.{Mark, State, resume, answer, block}
 use Rattle.hs_rules.specs.Entries.{Leads}
-use Rattle.hs_cases.specs.Cases as row
+use Rattle.hs_laws.specs.cases.Cases as row
 use Rattle.hs_rules.specs.Runs.{IsRun}
 use Rattle.hs_laws.proofs.CellSteps.{line_more, leaves_absent}
 use Rattle.slot_laws.specs.SlotRules.{SlotPart, ret, throw, performs, calls, mask_from}

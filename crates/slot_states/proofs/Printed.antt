@@ -2,8 +2,8 @@
 use Rattle.std.proofs.Common.{◌≡◌, ℕ, List, [], ◌∷◌, ◌++◌, append-nil, append_assoc, slice_get, Option, Some, None, refl, sym, ap, ◌∙◌}
 use Rattle.hs_base.specs.declared.exn.Exn.TheVariants.{BlockedIndefinitely}
 use Rattle.hs_rules.specs.declared.entry.Entry.{Entry}
-use Rattle.rules_trees.specs.Trees.{T}
-use Rattle.rules_trees.specs.Programs.{Fn}
+use Rattle.rules_expansion.specs.trees.Trees.{T}
+use Rattle.rules_expansion.specs.trees.Programs.{Fn}
 use Rattle.rules_expansion.specs.Core.{Core}
 use Rattle.rules_expansion.specs.declared.primitive.Primitive.TheVariants.{PutStr, PutStrLn, HPutStrLn, NewMVar, NewEmptyMVar}
 use Rattle.rules_meaning.specs.CoreMeaning.{Code, code_of}

@@ -9,7 +9,7 @@ use Rattle.rules_meaning.specs.Values as val
 use Rattle.rules_meaning.specs.Values.{V, UnitValue, Int, Text, Exception, Inst}
 use Rattle.rules_expansion.specs.declared.primitive.Primitive.TheVariants.{PutStr, PutStrLn, HPutStrLn, MyThreadId, GetMaskingState, ClockMicros, NewTimeout, Acquired, Release}
 use Rattle.rules_typing.specs.TypingScripts.{Accepted}
-use Rattle.hs_cases.specs.Cases as row
+use Rattle.hs_laws.specs.cases.Cases as row
 use Rattle.hs_rules.specs.Primitives.{masking_text, line_feed}
 use Rattle.hs_rules.specs.State.{AcquiredBy, ReleasedBy}
 use Rattle.slot_laws.specs.SlotRules.{performs, calls, mask_from}

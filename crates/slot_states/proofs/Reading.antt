@@ -6,8 +6,8 @@ use Rattle.hs_base.specs.declared.mask.Mask.{Mask}
 use Rattle.hs_base.specs.declared.mask.Mask.TheVariants.{Unmasked}
 use Rattle.hs_rules.specs.declared.entry.Entry.{Entry}
 use Rattle.hs_rules.specs.declared.entry.Entry.TheVariants.{Op}
-use Rattle.rules_trees.specs.Trees.{T}
-use Rattle.rules_trees.specs.Programs.{Fn}
+use Rattle.rules_expansion.specs.trees.Trees.{T}
+use Rattle.rules_expansion.specs.trees.Programs.{Fn}
 use Rattle.rules_expansion.specs.Names.{Name}
 use Rattle.rules_expansion.specs.Core.{Core}
 use Rattle.rules_expansion.specs.declared.primitive.Primitive.{Primitive}
@@ -22,8 +22,8 @@ use Rattle.hs_rules.specs.Terms.{Operation, Ret, Throw, Do, Performs, Calls, For
 use Rattle.hs_rules.specs.State.{Thread, State}
 use Rattle.hs_rules.specs.Entries as entries
 use Rattle.hs_rules.specs.Entries.{next, on_thread, Leads}
-use Rattle.hs_cases.specs.Cases as row
-use Rattle.hs_cases.proofs.Entering.{entered_is}
+use Rattle.hs_laws.specs.cases.Cases as row
+use Rattle.hs_laws.proofs.cases_lemmas.Entering.{entered_is}
 use Rattle.hs_laws.specs.BracketPhases.{Blocks, OpPart}
 use Rattle.hs_laws.specs.Standing.{Standing}
 use Rattle.hs_laws.proofs.Stranding.{blocked_reason}

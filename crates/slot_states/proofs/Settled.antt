@@ -3,8 +3,8 @@ use Rattle.std.proofs.Common.{◌≡◌, ◌≢◌, ℕ, suc, ◌<◌, List, [],
 use Rattle.hs_base.specs.declared.tree.script.Script.{Script}
 use Rattle.hs_rules.specs.declared.entry.Entry.{Entry}
 use Rattle.hs_rules.specs.declared.entry.Entry.TheVariants as entry
-use Rattle.rules_trees.specs.Trees.{T}
-use Rattle.rules_trees.specs.Programs.{Fn, script_of}
+use Rattle.rules_expansion.specs.trees.Trees.{T}
+use Rattle.rules_expansion.specs.trees.Programs.{Fn, script_of}
 use Rattle.rules_expansion.specs.Core.{Core}
 use Rattle.rules_meaning.specs.Values.{Env}
 use Rattle.rules_meaning.specs.CoreMeaning.{code_of}
@@ -16,9 +16,9 @@ use Rattle.hs_rules.specs.Terms.{Operation, Ret, Throw, Do, Performs, mask_at}
 use Rattle.hs_rules.specs.State.{Thread, State}
 use Rattle.hs_rules.specs.Entries as entries
 use Rattle.hs_rules.specs.Entries.{is_unmasked, stranded, IsLegal}
-use Rattle.hs_cases.specs.Cases as row
-use Rattle.hs_cases.specs.Cases.{Unfinished}
-use Rattle.hs_cases.proofs.Entering.{case_of, open_so, interruptible}
+use Rattle.hs_laws.specs.cases.Cases as row
+use Rattle.hs_laws.specs.cases.Cases.{Unfinished}
+use Rattle.hs_laws.proofs.cases_lemmas.Entering.{case_of, open_so, interruptible}
 use Rattle.hs_rules.specs.Runs.{IsRun}
 use Rattle.hs_rules.specs.Endings.{IsQuiet, IsDeadlock, AllWait}
 use Rattle.hs_laws.specs.Standing.{IsResult, NoneWorks}

@@ -7,7 +7,7 @@ use Rattle.hs_base.specs.declared.mask.Mask.TheVariants.{Unmasked}
 use Rattle.hs_base.specs.declared.tree.script.Script.{Script}
 use Rattle.hs_rules.specs.declared.entry.Entry.{Entry}
 use Rattle.hs_rules.specs.declared.entry.Entry.TheVariants.{Op}
-use Rattle.rules_trees.specs.Programs.{Fn, script_of}
+use Rattle.rules_expansion.specs.trees.Programs.{Fn, script_of}
 use Rattle.rules_meaning.specs.Values as val
 use Rattle.rules_meaning.specs.Values.{V, Restore, with_name}
 use Rattle.rules_typing.specs.TypingScripts.{Accepted}
@@ -17,7 +17,7 @@ use Rattle.hs_rules.specs.Terms as named
 use Rattle.hs_rules.specs.Terms.{Operation, Forks, ForksUnmask, Ret, Do, MaskIn, term}
 use Rattle.hs_rules.specs.State.{Thread, State, thread_with, spawn}
 use Rattle.hs_rules.specs.State as state
-use Rattle.hs_cases.specs.Cases as row
+use Rattle.hs_laws.specs.cases.Cases as row
 use Rattle.hs_rules.specs.Runs.{IsRun}
 use Rattle.hs_laws.proofs.Lists.{equal_or, cond_true, cond_false, item_below}
 use Rattle.hs_laws.proofs.Stranding.{blocked_reason}

@@ -4,7 +4,7 @@ use Rattle.std.specs.Prelude.{Contains}
 use Rattle.hs_base.specs.declared.exn.Exn.TheVariants.{BlockedIndefinitely}
 use Rattle.hs_base.specs.declared.tree.script.Script.{Script}
 use Rattle.hs_rules.specs.declared.entry.Entry.TheVariants.{Stranded}
-use Rattle.rules_trees.specs.Programs.{Fn, script_of}
+use Rattle.rules_expansion.specs.trees.Programs.{Fn, script_of}
 use Rattle.rules_meaning.specs.Values.{V}
 use Rattle.rules_meaning.specs.CoreMeaning.{code_of}
 use Rattle.rules_typing.specs.TypingScripts.{Accepted}
@@ -13,8 +13,8 @@ use Rattle.hs_rules.specs.Terms as named
 use Rattle.hs_rules.specs.Terms.{Operation, Calls, Ret, Throw, Do, Performs, mask_at}
 use Rattle.hs_rules.specs.State.{State, frames_of, resume, resume_all}
 use Rattle.hs_rules.specs.Entries.{stranded}
-use Rattle.hs_cases.proofs.Entering.{waits_so, stranded_so}
-use Rattle.hs_cases.proofs.Lines.{all_left}
+use Rattle.hs_laws.proofs.cases_lemmas.Entering.{waits_so, stranded_so}
+use Rattle.hs_laws.proofs.cases_lemmas.Lines.{all_left}
 use Rattle.hs_laws.specs.MaskLaw as law
 use Rattle.hs_laws.specs.MaskLaw.{AreStranded}
 use Rattle.hs_laws.specs.Standing.{Standing}

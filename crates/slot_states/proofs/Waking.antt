@@ -3,7 +3,7 @@ use Rattle.std.proofs.Common.{◌≡◌, ◌≤◌, ℕ, List, Some, refl, sym, 
 use Rattle.hs_base.specs.declared.tree.script.Script.{Script}
 use Rattle.hs_rules.specs.declared.entry.Entry.{Entry}
 use Rattle.hs_rules.specs.declared.entry.Entry.TheVariants.{Wake}
-use Rattle.rules_trees.specs.Programs.{Fn, script_of}
+use Rattle.rules_expansion.specs.trees.Programs.{Fn, script_of}
 use Rattle.rules_meaning.specs.Values.{UnitValue}
 use Rattle.rules_meaning.specs.CoreMeaning.{code_of}
 use Rattle.rules_typing.specs.TypingScripts.{Accepted}
@@ -11,8 +11,8 @@ use Rattle.rules_waiting.specs.Waiting.{Sleeping, reason_of, still_asleep, first
 use Rattle.hs_rules.specs.Terms.{Ret}
 use Rattle.hs_rules.specs.State.{State, answer}
 use Rattle.hs_rules.specs.Entries.{Leads}
-use Rattle.hs_cases.specs.Cases as row
-use Rattle.hs_cases.proofs.Entering.{entered_is}
+use Rattle.hs_laws.specs.cases.Cases as row
+use Rattle.hs_laws.proofs.cases_lemmas.Entering.{entered_is}
 use Rattle.hs_rules.specs.Runs.{IsRun}
 use Rattle.hs_laws.proofs.CellSteps.{Away, away_leaves}
 use Rattle.hs_laws.proofs.Expanded.{standing_of}

@@ -9,3 +9,6 @@ pub mod OperationLaws
 pub mod OutputLaws
 pub mod RestingLaws
 pub mod WaitingLaws
+pub mod mapping
+pub mod demands
+pub mod entering

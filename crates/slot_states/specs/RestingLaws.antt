@@ -2,7 +2,7 @@
 use Rattle.std.specs.Prelude.{◌≡◌, [], ◌∷◌, ℕ, List, Some, slice_get, false}
 use Rattle.hs_base.specs.declared.mask.Mask.{Mask}
 use Rattle.hs_base.specs.declared.tree.script.Script.{Script}
-use Rattle.rules_trees.specs.Programs.{script_of}
+use Rattle.rules_expansion.specs.trees.Programs.{script_of}
 use Rattle.rules_meaning.specs.Values.{V}
 use Rattle.rules_sorts.specs.TypedMeaning.{any_cell}
 use Rattle.rules_typing.specs.TypingScripts.{Accepted}

@@ -9,11 +9,17 @@
 //! Its promise: where such a state stands for the state that a run of an accepted script leaves, and what is asked of the
 //! thread holds, the entry is legal, and what it makes of the one stands for the state that it leaves. That a program's parts
 //! are such a state is left to the crate that has them.
+//!
+//! Parts with a head of their own: `mapping`, one cell alone, in any type of values; `demands`, what each legal
+//! entry asks of a state with slots; `entering`, what each entry makes of a state with slots, as one function.
 #![tactic(auto)]
 
 pub mod cells;
+pub mod demands;
+pub mod entering;
 pub mod entries;
 pub mod growing;
+pub mod mapping;
 pub mod operations;
 pub mod outputs;
 pub mod resting;

@@ -4,7 +4,7 @@ ghost use Rattle.std.specs.Prelude.{◌≡◌, [], Some, slice_get, true};
 ghost use Rattle.hs_base.specs.declared.exn.Exn.{Exn};
 ghost use Rattle.hs_base.specs.declared.tree.script.Script.{Script};
 ghost use Rattle.hs_rules.specs.declared.entry.LimitKind.{LimitKind};
-ghost use Rattle.rules_trees.specs.Programs.{script_of};
+ghost use Rattle.rules_expansion.specs.trees.Programs.{script_of};
 ghost use Rattle.rules_meaning.specs.Values.{V};
 ghost use Rattle.rules_waiting.specs.Waiting.{sleepers_of};
 ghost use Rattle.hs_rules.specs.State.{State};

@@ -4,7 +4,7 @@ ghost use Rattle.std.specs.Prelude.{◌≡◌, ◌≢◌, ◌⊎◌, ℕ, []};
 ghost use Rattle.hs_base.specs.declared.tree.script.Script.{Script};
 ghost use Rattle.hs_rules.specs.declared.entry.Entry.{Entry};
 ghost use Rattle.hs_rules.specs.declared.entry.Entry.TheVariants.{Local};
-ghost use Rattle.rules_trees.specs.Programs.{script_of};
+ghost use Rattle.rules_expansion.specs.trees.Programs.{script_of};
 ghost use Rattle.rules_meaning.specs.CoreMeaning.{code_of};
 ghost use Rattle.rules_waiting.specs.Waiting.{earliest};
 ghost use Rattle.hs_rules.specs.State.{State};

@@ -1,7 +1,7 @@
 //! Who waits, and for what.
 
 ghost use Rattle.hs_base.specs.declared.tree.script.Script.{Script};
-ghost use Rattle.rules_trees.specs.Programs.{script_of};
+ghost use Rattle.rules_expansion.specs.trees.Programs.{script_of};
 ghost use Rattle.hs_rules.specs.State.{State};
 ghost use Rattle.slot_states.specs.SlotStates.{SlotState, Represents};
 ghost use Rattle.slot_states.specs.Premises.{OfRuns, OfAcceptedRuns};

@@ -1,6 +1,6 @@
 -- What the stack of a row's thread is (own).
 use Rattle.std.specs.Prelude.{None}
-use Rattle.rules_trees.specs.Programs.{script_of}
+use Rattle.rules_expansion.specs.trees.Programs.{script_of}
 use Rattle.rules_code.specs.declared.code.CodeBody.{CodeBody}
 use Rattle.hs_rules.specs.Terms.{Term}
 use Rattle.slot_laws.specs.Standing.{cells_of, Stands}

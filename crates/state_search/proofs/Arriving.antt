@@ -10,9 +10,9 @@ use Rattle.number_states.specs.declared.state.NumberState.{NumberState}
 use Rattle.number_states.specs.Stocks.{Stock, HasGrown, text_at}
 use Rattle.number_states.specs.States.{AreIn, Becomes, slots}
 use Rattle.number_states.proofs.Growth.{text_at_on}
-use Rattle.number_rests.specs.declared.rules.EagerRules.{EagerRules}
-use Rattle.number_rests.specs.Resting.{Rests}
-use Rattle.number_rests.specs.Rules.{AreRules}
+use Rattle.number_moves.specs.declared.rests.rules.EagerRules.{EagerRules}
+use Rattle.number_moves.specs.rests.Resting.{Rests}
+use Rattle.number_moves.specs.rests.Rules.{AreRules}
 use Rattle.search_laws.specs.Shown.{Shown, FitsIn, forget}
 use Rattle.search_laws.specs.Going.{EagerEntries, Takes}
 use Rattle.search_laws.specs.Found.{Comes, IsBefore}

@@ -9,7 +9,7 @@ use Rattle.rules_code.specs.declared.code.CodeBody.{CodeBody}
 use Rattle.rules_waiting.specs.Waiting.{Sleeper}
 use Rattle.outcome_listing.specs.declared.bounds.Bounds.{Bounds}
 use Rattle.slot_states.specs.SlotStates.{SlotThread, SlotState}
-use Rattle.slot_entries.specs.Entering.{next}
+use Rattle.slot_states.specs.entering.Entering.{next}
 use Rattle.local_steps.specs.Machine.{funs_of}
 use Rattle.number_states.proofs.Changes.{got_read}
 use Rattle.search_laws.specs.Shown.{Shown}

@@ -18,9 +18,9 @@ use Rattle.number_states.specs.Keys.{state_key}
 use Rattle.number_states.proofs.Changes.{got_mapped}
 use Rattle.number_states.proofs.Exact.{exact_contents}
 use Rattle.number_states.proofs.Growth.{slots_of_on, all_in_on, text_at_on}
-use Rattle.number_rests.specs.declared.rules.EagerRules.{EagerRules}
-use Rattle.number_rests.specs.Rules.{AreRules}
-use Rattle.number_rests.proofs.Ruling.{rules_on}
+use Rattle.number_moves.specs.declared.rests.rules.EagerRules.{EagerRules}
+use Rattle.number_moves.specs.rests.Rules.{AreRules}
+use Rattle.number_moves.proofs.rests_lemmas.Ruling.{rules_on}
 use Rattle.search_laws.specs.Shown.{Shown}
 use Rattle.search_laws.specs.Found.{Source, Comes, IsBefore, HaveSources, Edge, AreTrueEdges, AreInOrder, IsGone, ended_by}
 use Rattle.search_laws.proofs.Candidates.{there_below}

@@ -12,7 +12,7 @@ use Rattle.hs_rules.specs.State.{State}
 use Rattle.hs_rules.specs.Endings.{allowed, FirstExceeded}
 use Rattle.hs_rules.specs.Endings as endings
 use Rattle.hs_rules.specs.Runs.{IsRun}
-use Rattle.rules_trees.specs.Programs.{Fn, script_of}
+use Rattle.rules_expansion.specs.trees.Programs.{Fn, script_of}
 use Rattle.rules_code.specs.declared.code.CodeBody.{CodeBody}
 use Rattle.rules_code.specs.CodeTrees.{SlottedFunction, code_trees}
 use Rattle.outcome_laws.specs.Outcomes as laws
@@ -23,7 +23,7 @@ use Rattle.outcome_listing.specs.declared.explored.Cause.TheVariants as cause
 use Rattle.slot_states.specs.SlotStates.{SlotState, Represents}
 use Rattle.slot_states.specs.Resting.{used}
 use Rattle.slot_states.proofs.AtRest.{first_stands_for}
-use Rattle.slot_entries.specs.Entering.{next}
+use Rattle.slot_states.specs.entering.Entering.{next}
 use Rattle.local_steps.specs.Machine.{funs_of}
 use Rattle.number_states.specs.States.{first_slots}
 use Rattle.search_laws.specs.Shown.{Shown, IsFirst, Arrives, Uses}

@@ -10,12 +10,12 @@ use Rattle.hs_rules.specs.State.{State}
 use Rattle.hs_rules.specs.Entries.{IsLegal}
 use Rattle.hs_rules.specs.Endings.{allowed, FirstExceeded}
 use Rattle.hs_rules.specs.Runs.{first_of}
-use Rattle.rules_trees.specs.Programs.{script_of}
+use Rattle.rules_expansion.specs.trees.Programs.{script_of}
 use Rattle.rules_meaning.specs.CoreMeaning.{code_of}
 use Rattle.rules_typing.specs.TypingScripts.{Accepted}
 use Rattle.rules_code.specs.declared.code.CodeBody.{CodeBody}
 use Rattle.rules_code.specs.CodeTrees.{StandsFor}
-use Rattle.timing_laws.specs.WithoutTime as named
+use Rattle.outcome_laws.specs.timing.WithoutTime as named
 use Rattle.outcome_laws.specs.Timings.{TimedRun}
 use Rattle.outcome_laws.specs.Outcomes as laws
 use Rattle.outcome_laws.specs.Outcomes.{EndsBy, IsOutcomeOf}
@@ -24,7 +24,7 @@ use Rattle.outcome_listing.specs.declared.explored.Cause.{Cause}
 use Rattle.outcome_listing.specs.declared.explored.Cause.TheVariants as cause
 use Rattle.slot_states.specs.SlotStates.{SlotState}
 use Rattle.slot_states.specs.Resting.{used}
-use Rattle.slot_entries.specs.Entering.{next}
+use Rattle.slot_states.specs.entering.Entering.{next}
 use Rattle.local_steps.specs.Machine.{funs_of}
 use Rattle.number_tables.specs.Tables.{AreApart}
 use Rattle.number_states.specs.declared.state.NumberState.{NumberState}

@@ -9,10 +9,10 @@ use Rattle.outcome_listing.specs.declared.explored.Cause.TheVariants as cause
 use Rattle.outcome_listing.specs.declared.explored.Final.{Final}
 use Rattle.outcome_listing.specs.declared.explored.Final.TheVariants.{Deadlock}
 use Rattle.slot_states.specs.SlotStates.{SlotState}
-use Rattle.slot_entries.specs.Entering.{next}
+use Rattle.slot_states.specs.entering.Entering.{next}
 use Rattle.local_steps.specs.Machine.{funs_of}
 use Rattle.number_tables.specs.Tables.{Grows}
-use Rattle.number_rests.specs.Rules.{AreRules}
+use Rattle.number_moves.specs.rests.Rules.{AreRules}
 use Rattle.search_laws.specs.Shown.{Shown}
 use Rattle.slot_states.specs.Printing.{output_by, errors_by}
 use Rattle.search_laws.specs.Going.{IsStill, MayTake, Leaves, steps_by}

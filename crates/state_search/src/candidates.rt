@@ -1,7 +1,7 @@
 //! The entries to try in a state.
 ghost use Rattle.std.specs.Prelude.{◌≡◌, ◌++◌, ◌∷◌, [], map, IfOk, OnOk};
 ghost use Rattle.hs_rules.specs.declared.entry.Entry.TheVariants as entry;
-ghost use Rattle.number_waits.specs.Sleeping as sleeping;
+ghost use Rattle.number_states.specs.waits.Sleeping as sleeping;
 ghost use Rattle.rules_code.specs.declared.code.CodeBody.{CodeBody};
 ghost use Rattle.number_states.specs.Stocks.{Stock};
 ghost use Rattle.number_states.specs.States.{thread_of, slots};
@@ -10,8 +10,8 @@ ghost use Rattle.search_laws.specs.Found.{entries_at, entries_from, wake_of};
 
 use hs_base::NoMemory;
 use hs_rules::Entry;
+use number_states::waits::Asleep;
 use number_states::{NumberState, NumberThread};
-use number_waits::Asleep;
 use std::alloc::Global;
 
 /// Puts the entries that a thread has of its own, and that may have a next state, at the end of a list.

@@ -1,5 +1,5 @@
 use hs_rules::Entry;
-use number_rests::EagerRules;
+use number_moves::rests::EagerRules;
 use number_states::{NumberState, Numbers};
 use number_tables::Table;
 use outcome_listing::{Cause, Final};

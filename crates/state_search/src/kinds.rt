@@ -2,7 +2,7 @@
 ghost use Rattle.std.specs.Prelude.{◌≡◌, IfOk, MatchBool, MatchOption, slice_get};
 ghost use Rattle.rules_code.specs.declared.code.CodeBody.{CodeBody};
 ghost use Rattle.local_steps.specs.Machine.{active_of};
-ghost use Rattle.slot_time.specs.WithoutTime.{ReadsClock, part_reads_clock};
+ghost use Rattle.search_laws.specs.time.WithoutTime.{ReadsClock, part_reads_clock};
 ghost use Rattle.number_states.specs.States.{AreIn, slots};
 ghost use Rattle.search_laws.specs.Shown.{FitsIn};
 ghost use Rattle.search_laws.specs.Going.{ReadsTime};

@@ -14,7 +14,7 @@ use Rattle.local_steps.specs.declared.active.Frame.{Frame}
 use Rattle.local_steps.specs.Frames.{mask_inside}
 use Rattle.local_steps.specs.Machine.{active_of, frame_of, frames_of, funs_of}
 use Rattle.local_steps.proofs.Codes.{masks_inside}
-use Rattle.term_tables.specs.Numbered.{Numbered, term_in}
+use Rattle.term_graph.specs.tables.Numbered.{Numbered, term_in}
 use Rattle.term_graph.specs.declared.begun.Begun.{Begun}
 use Rattle.term_graph.specs.declared.stepping.Moved.{Moved}
 use Rattle.term_graph.specs.Eager.{is_unmasked, is_throw, passes, passes_all, receives_nothing, leaving_is_eager, step_is_eager, is_eager}

@@ -7,8 +7,8 @@ use Rattle.slot_laws.specs.SlotRules.{SlotPart, SlotFrame, SlotTerm, at}
 use Rattle.local_steps.specs.declared.active.Frame.{Frame}
 use Rattle.local_steps.specs.Machine.{active_of, frame_of, frames_of}
 use Rattle.number_tables.specs.Tables.{Grows}
-use Rattle.term_tables.specs.Numbered.{Numbered, HasGrown, IsStack, term_in, of_term, over_stack}
-use Rattle.term_tables.specs.declared.term.Term.{Term}
+use Rattle.term_graph.specs.tables.Numbered.{Numbered, HasGrown, IsStack, term_in, of_term, over_stack}
+use Rattle.term_graph.specs.declared.tables.term.Term.{Term}
 
 pub grows_same : {X : Type 0} (xs : List X) → Grows xs xs
 grows_same xs = ([], sym (append-nil xs))

@@ -1,4 +1,4 @@
--- Eager rules of terms with slots (own): each is the rule of the same name in `reduction_laws/specs/EagerRules`, where it is said
+-- Eager rules of terms with slots (own): each is the rule of the same name in `outcome_laws/specs/reduction/EagerRules`, where it is said
 -- of terms with names.
 use Rattle.std.specs.Prelude.{◌≡◌, ℕ, zero, suc, Bool, true, false, not, ◌&&◌, ◌||◌, List, [], ◌∷◌, Option, Some, None}
 use Rattle.hs_base.specs.declared.mask.Mask.{Mask}

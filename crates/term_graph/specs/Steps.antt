@@ -7,7 +7,7 @@ use Rattle.slot_laws.specs.SlotRules.{SlotPart, ret, throw, doing, performs, Slo
 use Rattle.local_steps.specs.declared.active.Frame.{Frame}
 use Rattle.local_steps.specs.Frames.{mask_inside}
 use Rattle.local_steps.specs.Machine.{active_of, frames_of, funs_of}
-use Rattle.term_tables.specs.Numbered.{Numbered, term_in}
+use Rattle.term_graph.specs.tables.Numbered.{Numbered, term_in}
 use Rattle.term_graph.specs.declared.begun.Begun.{Begun}
 use Rattle.term_graph.specs.declared.stepping.Moved.{Moved}
 use Rattle.term_graph.specs.declared.stepping.LocalStep.{LocalStep}

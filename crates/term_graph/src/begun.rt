@@ -5,10 +5,10 @@ ghost use Rattle.local_steps.specs.declared.active.Frame.{Frame};
 ghost use Rattle.local_steps.specs.Machine.{active_of, frame_of, frames_of};
 ghost use Rattle.term_graph.specs.Steps.{Begins, FindsBegun, NeedsFrame};
 
+use crate::tables::Terms;
 use hs_base::{Mask, NoMemory};
 use local_steps::{Active, Frame, Frames};
 use std::alloc::Global;
-use term_tables::Terms;
 
 /// A part in few frames of its own, inside the stack of a number.
 #[derive(Drop)]

@@ -6,9 +6,9 @@ ghost use Rattle.local_steps.specs.Machine.{active_of, frame_of, frames_of};
 ghost use Rattle.term_graph.specs.Eager as eager;
 ghost use Rattle.term_graph.specs.Steps as steps;
 
+use crate::tables::Terms;
 use hs_base::Mask;
 use local_steps::{Active, Frame};
-use term_tables::Terms;
 
 /// Whether this is no masking.
 fn is_unmasked(mask: Mask) -> bool

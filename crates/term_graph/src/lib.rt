@@ -6,12 +6,16 @@
 //! Its promise: a step answers the number of exactly the term that the rule leaves, with whether the rule was eager; and the
 //! terms that an answer, an exception and a fork make are those of the state with slots. What other threads may do meanwhile is
 //! left to the laws of eager rules, and what an operation does to the crate above.
+//!
+//! A part with a head of its own: `tables`, terms of threads by number, frames in stacks and active parts in
+//! stacks.
 #![tactic(auto)]
 
 mod begun;
 mod eager;
 mod made;
 mod stepping;
+pub mod tables;
 
 pub use made::{first, forked, resumed};
 pub use stepping::{LocalStep, step};

@@ -4,14 +4,14 @@ ghost use Rattle.hs_base.specs.declared.mask.Mask.TheVariants.{Unmasked};
 ghost use Rattle.rules_code.specs.declared.code.CodeBody.{CodeBody};
 ghost use Rattle.slot_laws.specs.SlotRules.{SlotTerm, at, doing, mask_in, mask_from};
 ghost use Rattle.local_steps.specs.Machine.{act_of, active_of};
-ghost use Rattle.term_tables.specs.Numbered.{term_in, HasGrown, IsStack};
+ghost use Rattle.term_graph.specs.tables.Numbered.{term_in, HasGrown, IsStack};
 
+use crate::tables::Terms;
 use hs_base::{Mask, NoMemory};
+use local_steps::environments::Env;
 use local_steps::{Active, Frame, Masking};
 use rules_code::ActId;
-use slot_env::Env;
 use std::alloc::Global;
-use term_tables::Terms;
 
 /// The stack of the term of a number.
 fn stack_of(terms: &Terms, number: u32) -> u32

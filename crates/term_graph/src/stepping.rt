@@ -5,17 +5,17 @@ ghost use Rattle.rules_code.specs.declared.code.CodeBody.{CodeBody};
 ghost use Rattle.slot_laws.specs.SlotRules.{SlotPart, SlotFrame, SlotTerm, local};
 ghost use Rattle.local_steps.specs.declared.active.Frame.{Frame};
 ghost use Rattle.local_steps.specs.Machine.{active_of, frames_of, funs_of};
-ghost use Rattle.term_tables.specs.Numbered.{term_in, HasGrown, IsStack};
+ghost use Rattle.term_graph.specs.tables.Numbered.{term_in, HasGrown, IsStack};
 ghost use Rattle.term_graph.specs.Eager.{passes_all};
 ghost use Rattle.term_graph.specs.Steps.{Begins, Lands, Moves, Steps};
 
 use crate::begun::{Begun, begin};
 use crate::eager::{eager_at_once, is_doing, is_throw, passes};
+use crate::tables::Terms;
 use hs_base::NoMemory;
 use local_steps::{Active, Frames, StepResult};
 use rules_code::CodeBody;
 use std::alloc::Global;
-use term_tables::Terms;
 
 /// Where a term goes by a local rule.
 #[derive(Clone, Copy, Debug)]

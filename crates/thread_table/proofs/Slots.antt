@@ -24,7 +24,7 @@ use Rattle.thread_table.specs.declared.thread.Thread.{Thread}
 use Rattle.thread_table.specs.Table.{slot_of, slots_of, frames_over}
 use Rattle.thread_table.specs.Listing.{mask_of, is_throw, has_own, is_receptive, is_hit, wanted, NobodyWants, is_at_cell, WaitsAtCell, waits_open}
 use Rattle.thread_table.proofs.Table.{slots_at}
-use Rattle.hs_cases.proofs.Entering.{not_hard, interruptible}
+use Rattle.hs_laws.proofs.cases_lemmas.Entering.{not_hard, interruptible}
 
 -- ---- the thread that stands at a number
 back_from : (b : CodeBody) (o : Option Thread) (y : SlotThread) → option_map (slot_of b) o ≡ Some y → (th : Thread) × (o ≡ Some th) × (slot_of b th ≡ y)

@@ -12,14 +12,14 @@ use Rattle.hs_rules.specs.Runs.{IsRun}
 use Rattle.hs_rules.specs.State.{State}
 use Rattle.rules_code.specs.declared.code.CodeBody.{CodeBody}
 use Rattle.rules_meaning.specs.CoreMeaning.{code_of}
-use Rattle.rules_trees.specs.Programs.{Fn, script_of}
-use Rattle.rules_traces.specs.Traces.{Fits, line_of, trace_of, BeginsNoLine, Reads, Spells, HasNoHeader}
+use Rattle.rules_expansion.specs.trees.Programs.{Fn, script_of}
+use Rattle.trace_text.specs.spelling.Traces.{Fits, line_of, trace_of, BeginsNoLine, Reads, Spells, HasNoHeader}
 use Rattle.trace_text.proofs.EntryLines.{line_parts}
 use Rattle.trace_text.proofs.Readings.{reads_on}
-use Rattle.history_player.specs.declared.player.Player.{Player}
-use Rattle.history_player.specs.declared.player.Reached.{Reached}
-use Rattle.history_player.specs.Playing.{script, Played, CanFollow, ReachedAs}
-use Rattle.history_player.proofs.Runs.{played_runs}
+use Rattle.trace_checker.specs.declared.player.player.Player.{Player}
+use Rattle.trace_checker.specs.declared.player.player.Reached.{Reached}
+use Rattle.trace_checker.specs.player.Playing.{script, Played, CanFollow, ReachedAs}
+use Rattle.trace_checker.proofs.player_lemmas.Runs.{played_runs}
 use Rattle.trace_checker.specs.declared.verdict.RunFault.TheVariants as fault
 use Rattle.trace_checker.specs.declared.walk.Walk.{Walk}
 use Rattle.trace_checker.specs.Checking.{most_steps, Runs, Judges}

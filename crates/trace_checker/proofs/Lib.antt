@@ -1,3 +1,4 @@
 pub mod Parts
 pub mod Verdicts
 pub mod Following
+pub mod player_lemmas

@@ -11,8 +11,8 @@ use Rattle.hs_rules.specs.Runs.{IsRun}
 use Rattle.hs_rules.specs.State.{Thread, State}
 use Rattle.hs_laws.proofs.RunParts.{run_before}
 use Rattle.rules_meaning.specs.CoreMeaning.{Code, code_of}
-use Rattle.rules_trees.specs.Programs.{Fn}
-use Rattle.rules_traces.specs.Traces.{Fits, header, line_of, trace_of, Reads}
+use Rattle.rules_expansion.specs.trees.Programs.{Fn}
+use Rattle.trace_text.specs.spelling.Traces.{Fits, header, line_of, trace_of, Reads}
 
 -- ---- a run with an entry more
 

@@ -12,14 +12,14 @@ use Rattle.hs_rules.specs.Runs.{IsRun}
 use Rattle.hs_rules.specs.State.{State}
 use Rattle.hs_laws.proofs.RunParts.{is_after, same_after, run_before}
 use Rattle.rules_meaning.specs.CoreMeaning.{Code, code_of}
-use Rattle.rules_trees.specs.Programs.{Fn}
-use Rattle.rules_traces.specs.Traces.{Fits, header, line_of, BeginsNoLine, Reads, HasNoHeader}
+use Rattle.rules_expansion.specs.trees.Programs.{Fn}
+use Rattle.trace_text.specs.spelling.Traces.{Fits, header, line_of, BeginsNoLine, Reads, HasNoHeader}
 use Rattle.trace_text.proofs.EntryLines.{one_line}
 use Rattle.trace_text.proofs.Readings.{one_reading, none_more}
 use Rattle.trace_text.proofs.Faults.{fit_behind}
-use Rattle.history_player.specs.declared.player.Reached.{Reached}
-use Rattle.history_player.specs.declared.player.Reached.TheVariants as reached
-use Rattle.history_player.specs.Playing.{ReachedAs}
+use Rattle.trace_checker.specs.declared.player.player.Reached.{Reached}
+use Rattle.trace_checker.specs.declared.player.player.Reached.TheVariants as reached
+use Rattle.trace_checker.specs.player.Playing.{ReachedAs}
 use Rattle.trace_checker.specs.declared.verdict.Verified.{Verified}
 use Rattle.trace_checker.specs.declared.verdict.RunFault.{RunFault}
 use Rattle.trace_checker.specs.declared.verdict.RunFault.TheVariants as fault

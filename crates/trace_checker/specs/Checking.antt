@@ -5,9 +5,9 @@ use Rattle.hs_rules.specs.Histories.{steps_of}
 use Rattle.hs_rules.specs.Runs.{IsRun}
 use Rattle.hs_rules.specs.State.{State}
 use Rattle.rules_meaning.specs.CoreMeaning.{code_of}
-use Rattle.rules_trees.specs.Programs.{Fn}
-use Rattle.rules_traces.specs.Traces.{Reads, Spells, HasNoHeader, GoesWrong}
-use Rattle.history_player.specs.Playing.{ReachedAs}
+use Rattle.rules_expansion.specs.trees.Programs.{Fn}
+use Rattle.trace_text.specs.spelling.Traces.{Reads, Spells, HasNoHeader, GoesWrong}
+use Rattle.trace_checker.specs.player.Playing.{ReachedAs}
 use Rattle.trace_checker.specs.declared.verdict.Verified.{Verified}
 use Rattle.trace_checker.specs.declared.verdict.RunFault.{RunFault}
 use Rattle.trace_checker.specs.declared.verdict.RunFault.TheVariants as fault

@@ -3,8 +3,8 @@ use Rattle.std.specs.Prelude.{◌≡◌, ℕ, List, [], ◌∷◌, ◌++◌, len
 use Rattle.hs_rules.specs.declared.entry.Entry.{Entry}
 use Rattle.hs_rules.specs.Histories.{steps_of}
 use Rattle.rules_code.specs.declared.code.CodeBody.{CodeBody}
-use Rattle.rules_traces.specs.Traces.{Reads}
-use Rattle.history_player.specs.Playing.{Played}
+use Rattle.trace_text.specs.spelling.Traces.{Reads}
+use Rattle.trace_checker.specs.player.Playing.{Played}
 use Rattle.trace_checker.specs.declared.walk.Walk.{Walk}
 
 -- The text was read as far as these entries, of which the first ones are played: they are a run of the script of this code, and the

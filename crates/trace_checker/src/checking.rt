@@ -1,5 +1,5 @@
 ghost use Rattle.rules_code.specs.Codes.{body_of};
-ghost use Rattle.rules_trees.specs.Programs.{script_of};
+ghost use Rattle.rules_expansion.specs.trees.Programs.{script_of};
 ghost use Rattle.trace_checker.specs.Checking.{Judges};
 
 use crate::verdict::{RunFault, Verified};

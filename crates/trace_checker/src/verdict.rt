@@ -1,4 +1,4 @@
-use history_player::Reached;
+use crate::player::Reached;
 use hs_base::NoMemory;
 
 /// The text is a trace of a run.

@@ -1,9 +1,9 @@
 //! The way along the lines of a text, entry by entry, with a player beside it.
 ghost use Rattle.std.specs.Prelude.{◌≤◌};
 
+use crate::player::Player;
 use crate::steps::cost;
 use crate::verdict::{RunFault, Verified};
-use history_player::Player;
 use hs_rules::{Code, Entry};
 use std::alloc::Global;
 use trace_text::{Line, Lines};
@@ -31,8 +31,8 @@ impl<'a> Walk<'a> {
     ghost use Rattle.hs_rules.specs.declared.entry.Entry.{Entry as AnEntry};
     ghost use Rattle.rules_code.specs.Codes.{body_of};
     ghost use Rattle.rules_code.specs.declared.code.CodeBody.{CodeBody};
-    ghost use Rattle.rules_traces.specs.Traces.{Spells};
-    ghost use Rattle.rules_trees.specs.Programs.{script_of};
+    ghost use Rattle.trace_text.specs.spelling.Traces.{Spells};
+    ghost use Rattle.rules_expansion.specs.trees.Programs.{script_of};
     ghost use Rattle.trace_checker.specs.Checking.{Judges};
     ghost use Rattle.trace_checker.specs.Walking.{HasRead, WalkedTo};
 

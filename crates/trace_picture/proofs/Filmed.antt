@@ -9,8 +9,8 @@ use Rattle.hs_laws.proofs.RunParts.{is_after, same_after}
 use Rattle.hs_laws.proofs.Expanded.{standing_of}
 use Rattle.rules_code.specs.declared.code.CodeBody.{CodeBody}
 use Rattle.rules_meaning.specs.CoreMeaning.{code_of}
-use Rattle.rules_trees.specs.Programs.{Fn, script_of}
-use Rattle.rules_traces.specs.Traces.{Spells}
+use Rattle.rules_expansion.specs.trees.Programs.{Fn, script_of}
+use Rattle.trace_text.specs.spelling.Traces.{Spells}
 use Rattle.slot_states.specs.SlotStates.{Represents}
 use Rattle.thread_table.proofs.Table.{slots_count}
 use Rattle.world_entries.proofs.CellsOf.{cells_count}
@@ -27,8 +27,8 @@ use Rattle.lane_picture.specs.declared.film.Event.TheVariants as event
 use Rattle.lane_picture.specs.declared.film.Pose.{Pose}
 use Rattle.lane_picture.specs.declared.film.Frame.{Frame}
 use Rattle.lane_picture.specs.Drawing.{picture}
-use Rattle.history_film.specs.Filming.{poses_of, fulls_of, event_of, frame_with, frame_of, film_of}
-use Rattle.history_film.proofs.Films.{film_first, film_more}
+use Rattle.trace_picture.specs.film.Filming.{poses_of, fulls_of, event_of, frame_with, frame_of, film_of}
+use Rattle.trace_picture.proofs.film_lemmas.Films.{film_first, film_more}
 use Rattle.trace_picture.specs.declared.filming.Shot.{Shot}
 use Rattle.trace_picture.specs.declared.fault.PictureFault.TheVariants as fault
 use Rattle.trace_picture.specs.Looking.{poses_at, fulls_at, event_at, frame_at}

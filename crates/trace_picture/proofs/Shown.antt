@@ -3,8 +3,8 @@ use Rattle.std.proofs.Common.{◌≡◌, ℕ, zero, suc, ◌+◌, List, [], ◌�
 use Rattle.hs_base.specs.declared.value.Value.{Value}
 use Rattle.hs_base.specs.declared.mask.Mask.{Mask}
 use Rattle.hs_base.specs.declared.mask.Mask.TheVariants.{Unmasked}
-use Rattle.rules_trees.specs.Trees.{T}
-use Rattle.rules_trees.specs.Programs.{Fn}
+use Rattle.rules_expansion.specs.trees.Trees.{T}
+use Rattle.rules_expansion.specs.trees.Programs.{Fn}
 use Rattle.rules_sorts.specs.Sorts.{Sort}
 use Rattle.rules_code.specs.declared.code.CodeBody.{CodeBody}
 use Rattle.rules_meaning.specs.Values.{V, value_of}
@@ -14,7 +14,7 @@ use Rattle.rules_expansion.specs.declared.primitive.Primitive.TheVariants.{TakeM
 use Rattle.rules_waiting.specs.OneCell.{Cell}
 use Rattle.rules_waiting.specs.Waiting.{Reason, Taking, Reading, Putting, Throwing, Sleeping, is_blocked, reason_of, flying_to, first_thrown}
 use Rattle.exn_flight.specs.Asleep.{due_of}
-use Rattle.cell_laws.specs.Mapped.{map_some, map_cell}
+use Rattle.slot_states.specs.mapping.Mapped.{map_some, map_cell}
 use Rattle.hs_rules.specs.Terms.{Part, Ret, Throw, Do, Performs, Operation, Calls, Forks, ForksUnmask, mask_at}
 use Rattle.hs_rules.specs.State as rules
 use Rattle.hs_rules.specs.State.{State}
@@ -48,7 +48,7 @@ use Rattle.lane_picture.specs.declared.film.Doing.TheVariants as does
 use Rattle.lane_picture.specs.declared.film.Event.{Event}
 use Rattle.lane_picture.specs.declared.film.Event.TheVariants as event
 use Rattle.lane_picture.specs.declared.film.Pose.{Pose}
-use Rattle.history_film.specs.Filming.{doing_for, pose_of, poses_from, poses_of, fulls_of, primitive_deed, operation_event, end_event, by_part, receive_event, event_of}
+use Rattle.trace_picture.specs.film.Filming.{doing_for, pose_of, poses_from, poses_of, fulls_of, primitive_deed, operation_event, end_event, by_part, receive_event, event_of}
 use Rattle.trace_picture.specs.Looking.{asleep_until, operation_doing, control_doing, thread_doing, pose_at, poses_at, fulls_at, operation_deed, operates, ends, by_control, event_at}
 
 -- ---- what a thread waits for that stands at an operation

@@ -1,3 +1,4 @@
 pub mod Looking
 pub mod Picturing
 pub mod Shooting
+pub mod film

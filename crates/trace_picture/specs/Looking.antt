@@ -22,7 +22,7 @@ use Rattle.lane_picture.specs.declared.film.Event.{Event}
 use Rattle.lane_picture.specs.declared.film.Event.TheVariants as event
 use Rattle.lane_picture.specs.declared.film.Frame.{Frame}
 use Rattle.lane_picture.specs.declared.film.Pose.{Pose}
-use Rattle.history_film.specs.Filming.{receive_event}
+use Rattle.trace_picture.specs.film.Filming.{receive_event}
 
 -- ---- threads
 

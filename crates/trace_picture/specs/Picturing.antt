@@ -3,15 +3,15 @@ use Rattle.std.specs.Prelude.{◌≡◌, ◌≤◌, ◌<◌, ℕ, List, length, 
 use Rattle.hs_rules.specs.declared.entry.Entry.{Entry}
 use Rattle.hs_rules.specs.State.{State}
 use Rattle.rules_meaning.specs.CoreMeaning.{code_of}
-use Rattle.rules_trees.specs.Programs.{Fn}
-use Rattle.rules_traces.specs.Traces.{Spells}
-use Rattle.history_player.specs.declared.player.Reached.{Reached}
-use Rattle.history_player.specs.declared.player.Reached.TheVariants as reached
-use Rattle.history_player.specs.Playing.{ReachedAs}
+use Rattle.rules_expansion.specs.trees.Programs.{Fn}
+use Rattle.trace_text.specs.spelling.Traces.{Spells}
+use Rattle.trace_checker.specs.declared.player.player.Reached.{Reached}
+use Rattle.trace_checker.specs.declared.player.player.Reached.TheVariants as reached
+use Rattle.trace_checker.specs.player.Playing.{ReachedAs}
 use Rattle.trace_checker.specs.Checking.{RunsTo, Judges}
 use Rattle.lane_picture.specs.declared.film.Ending.{Ending}
 use Rattle.lane_picture.specs.declared.film.Ending.TheVariants as ending
-use Rattle.history_film.specs.Filming.{picture_of}
+use Rattle.trace_picture.specs.film.Filming.{picture_of}
 use Rattle.trace_picture.specs.declared.fault.PictureFault.{PictureFault}
 use Rattle.trace_picture.specs.declared.fault.PictureFault.TheVariants as fault
 

@@ -2,10 +2,10 @@
 use Rattle.std.specs.Prelude.{◌≡◌, ℕ, List, length, vec_items}
 use Rattle.hs_rules.specs.declared.entry.Entry.{Entry}
 use Rattle.hs_rules.specs.State.{State}
-use Rattle.rules_trees.specs.Programs.{Fn}
-use Rattle.rules_traces.specs.Traces.{Spells}
+use Rattle.rules_expansion.specs.trees.Programs.{Fn}
+use Rattle.trace_text.specs.spelling.Traces.{Spells}
 use Rattle.trace_checker.specs.Checking.{RunsTo}
-use Rattle.history_film.specs.Filming.{film_of}
+use Rattle.trace_picture.specs.film.Filming.{film_of}
 use Rattle.trace_picture.specs.declared.filming.Shot.{Shot}
 
 -- the text spells a run of the script, and this is its film

@@ -1,7 +1,7 @@
 //! The way along the lines of a text, with a film beside the player.
 ghost use Rattle.std.specs.Prelude.{◌≡◌, ◌++◌, ◌∷◌, [], IfErr, IfOk, OnOk, Err, vec_items, length};
 ghost use Rattle.rules_code.specs.Codes.{body_of};
-ghost use Rattle.rules_trees.specs.Programs.{script_of};
+ghost use Rattle.rules_expansion.specs.trees.Programs.{script_of};
 ghost use Rattle.trace_checker.specs.Checking.{Judges};
 ghost use Rattle.lane_picture.specs.declared.film.Event.TheVariants as an_event;
 ghost use Rattle.lane_picture.specs.Drawing.{picture as drawing};

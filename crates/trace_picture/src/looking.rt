@@ -2,7 +2,7 @@
 ghost use Rattle.std.specs.Prelude.{◌≡◌, IfOk, slice_get, length, is_some, ◌<◌};
 ghost use Rattle.mvar_cell.specs.Calls.{cell_at};
 ghost use Rattle.trace_picture.specs.Looking.{asleep_until, operation_doing, control_doing, thread_doing, pose_at, poses_at, fulls_at, operation_deed, operates, ends, by_control, event_at, frame_at};
-ghost use Rattle.history_film.specs.Filming.{receive_event};
+ghost use Rattle.trace_picture.specs.film.Filming.{receive_event};
 ghost use Rattle.rules_waiting.specs.Waiting.{flying_to, first_thrown};
 
 use frame_stack::{Control, Prim};

@@ -8,19 +8,19 @@ use Rattle.hs_rules.specs.Entries.{Leads}
 use Rattle.hs_laws.proofs.RunParts.{is_after, same_after}
 use Rattle.rules_code.specs.declared.code.CodeBody.{CodeBody}
 use Rattle.rules_meaning.specs.CoreMeaning.{code_of}
-use Rattle.rules_trees.specs.Programs.{Fn, script_of}
-use Rattle.rules_traces.specs.Traces.{Spells}
+use Rattle.rules_expansion.specs.trees.Programs.{Fn, script_of}
+use Rattle.trace_text.specs.spelling.Traces.{Spells}
 use Rattle.world_entries.specs.Worlds.{Live}
 use Rattle.trace_checker.specs.declared.walk.Walk.{Walk}
 use Rattle.trace_checker.specs.Checking.{TellsOfRun}
 use Rattle.trace_checker.specs.Walking.{Stands, WalkedTo, HasRead}
 use Rattle.trace_checker.proofs.Parts.{last_leads}
-use Rattle.report_tally.specs.declared.counts.Seen.{Seen}
-use Rattle.report_tally.specs.declared.touch.Touch.{Touch}
-use Rattle.report_tally.specs.declared.tally.Tally.{Tally}
-use Rattle.report_tally.specs.Reporting.{lines_below, report_of}
-use Rattle.report_tally.specs.Tallying.{Tallies, IsWithin, IsCounted}
-use Rattle.report_tally.proofs.Tallied.{tallied}
+use Rattle.trace_report.specs.declared.tally.counts.Seen.{Seen}
+use Rattle.trace_report.specs.declared.tally.touch.Touch.{Touch}
+use Rattle.trace_report.specs.declared.tally.tally.Tally.{Tally}
+use Rattle.trace_report.specs.tally.Reporting.{lines_below, report_of}
+use Rattle.trace_report.specs.tally.Tallying.{Tallies, IsWithin, IsCounted}
+use Rattle.trace_report.proofs.tally_lemmas.Tallied.{tallied}
 use Rattle.trace_report.specs.Looking.{before_of, seen_of, thread_text, cell_text}
 use Rattle.trace_report.proofs.Seeing.{entry_seen}
 use Rattle.trace_report.proofs.Written.{written}

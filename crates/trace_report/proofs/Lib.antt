@@ -2,3 +2,4 @@ pub mod Shown
 pub mod Seeing
 pub mod Written
 pub mod Counted
+pub mod tally_lemmas

@@ -3,7 +3,7 @@ use Rattle.std.proofs.Common.{◌≡◌, ℕ, List, [], ◌∷◌, ◌++◌, Boo
 use Rattle.std.proofs.lemmas.Bool.{eqb-true}
 use Rattle.hs_rules.specs.declared.entry.Entry.{Entry}
 use Rattle.hs_rules.specs.declared.entry.Entry.TheVariants as entry
-use Rattle.rules_trees.specs.Programs.{Fn}
+use Rattle.rules_expansion.specs.trees.Programs.{Fn}
 use Rattle.rules_code.specs.declared.code.CodeBody.{CodeBody}
 use Rattle.rules_meaning.specs.Values.{V}
 use Rattle.rules_meaning.specs.CoreMeaning.{code_of}
@@ -12,7 +12,7 @@ use Rattle.hs_rules.specs.State as rules
 use Rattle.hs_rules.specs.State.{State}
 use Rattle.hs_rules.specs.Entries.{Leads}
 use Rattle.hs_rules.specs.Runs.{IsRun}
-use Rattle.hs_cases.proofs.Entering.{case_of}
+use Rattle.hs_laws.proofs.cases_lemmas.Entering.{case_of}
 use Rattle.hs_laws.specs.Standing.{Standing}
 use Rattle.hs_laws.proofs.Expanded.{standing_of}
 use Rattle.hs_laws.proofs.RunParts.{run_more}
@@ -20,11 +20,11 @@ use Rattle.hs_laws.proofs.Stranding.{blocked_reason}
 use Rattle.slot_states.specs.SlotStates.{Represents}
 use Rattle.world_entries.specs.declared.world.World.{World}
 use Rattle.world_entries.specs.Worlds.{state_of}
-use Rattle.report_tally.specs.Touching.{is_at, is_on, cell_of}
-use Rattle.report_tally.specs.Tallying.{SeesOp, Sees}
-use Rattle.report_tally.proofs.Leaving.{free_stands}
-use Rattle.report_tally.proofs.Operating.{performs}
-use Rattle.report_tally.proofs.Steps.{did}
+use Rattle.trace_report.specs.tally.Touching.{is_at, is_on, cell_of}
+use Rattle.trace_report.specs.tally.Tallying.{SeesOp, Sees}
+use Rattle.trace_report.proofs.tally_lemmas.Leaving.{free_stands}
+use Rattle.trace_report.proofs.tally_lemmas.Operating.{performs}
+use Rattle.trace_report.proofs.tally_lemmas.Steps.{did}
 use Rattle.trace_report.specs.Looking.{touch_at, blocked_at, full_at, line_at, touched_full, touched_line, before_of, seen_of}
 use Rattle.trace_report.proofs.Shown.{touch_shown, blocked_shown, absent_shown, full_shown, line_shown}
 

@@ -1,14 +1,14 @@
 -- What is seen of a world is so of the state that it stands for.
 use Rattle.std.proofs.Common.{◌≡◌, ℕ, suc, List, [], ◌∷◌, length, Bool, true, false, cond, Option, Some, None, option_map, slice_get, is_some, refl, sym, ap, ◌∙◌, subst}
 use Rattle.hs_base.specs.declared.value.Value.{Value}
-use Rattle.rules_trees.specs.Trees.{T}
-use Rattle.rules_trees.specs.Programs.{Fn}
+use Rattle.rules_expansion.specs.trees.Trees.{T}
+use Rattle.rules_expansion.specs.trees.Programs.{Fn}
 use Rattle.rules_sorts.specs.Sorts.{Sort}
 use Rattle.rules_code.specs.declared.code.CodeBody.{CodeBody}
 use Rattle.rules_meaning.specs.Values.{V, value_of}
 use Rattle.rules_waiting.specs.OneCell.{Place, Cell}
 use Rattle.rules_waiting.specs.Waiting.{is_blocked}
-use Rattle.cell_laws.specs.Mapped.{map_some, map_line, map_cell}
+use Rattle.slot_states.specs.mapping.Mapped.{map_some, map_line, map_cell}
 use Rattle.hs_rules.specs.Terms.{Part}
 use Rattle.hs_rules.specs.State as rules
 use Rattle.hs_rules.specs.State.{State}
@@ -26,13 +26,13 @@ use Rattle.thread_table.proofs.Table.{slots_at}
 use Rattle.world_entries.specs.declared.world.World.{World}
 use Rattle.world_entries.specs.Worlds.{state_of}
 use Rattle.world_entries.proofs.CellsOf.{cells_at}
-use Rattle.report_tally.specs.declared.touch.Touch.{Touch}
-use Rattle.report_tally.specs.declared.touch.Touch.TheVariants as touch
-use Rattle.report_tally.specs.declared.writing.Word.TheVariants as word
-use Rattle.report_tally.specs.Reporting as report
-use Rattle.report_tally.specs.Reporting.{is_full, thread_word, line_length}
-use Rattle.report_tally.specs.Touching.{primitive_touch, part_touch, thread_touch, full_in}
-use Rattle.report_tally.specs.Words.{word_text}
+use Rattle.trace_report.specs.declared.tally.touch.Touch.{Touch}
+use Rattle.trace_report.specs.declared.tally.touch.Touch.TheVariants as touch
+use Rattle.trace_report.specs.declared.tally.writing.Word.TheVariants as word
+use Rattle.trace_report.specs.tally.Reporting as report
+use Rattle.trace_report.specs.tally.Reporting.{is_full, thread_word, line_length}
+use Rattle.trace_report.specs.tally.Touching.{primitive_touch, part_touch, thread_touch, full_in}
+use Rattle.trace_report.specs.tally.Words.{word_text}
 use Rattle.trace_report.specs.Looking.{operation_touch, control_touch, touch_at, blocked_at, full_at, line_at, ended_word, word_at}
 
 -- ---- what a thread stands at

@@ -1,7 +1,7 @@
 -- The text that is written of a world by its counts is the report.
 use Rattle.std.proofs.Common.{◌≡◌, ◌<◌, ℕ, zero, suc, ◌+◌, List, ◌++◌, length, slice_get, refl, sym, ap, ◌∙◌, arith}
 use Rattle.hs_rules.specs.declared.entry.Entry.{Entry}
-use Rattle.rules_trees.specs.Programs.{Fn}
+use Rattle.rules_expansion.specs.trees.Programs.{Fn}
 use Rattle.rules_code.specs.declared.code.CodeBody.{CodeBody}
 use Rattle.hs_rules.specs.State.{State}
 use Rattle.hs_rules.specs.Runs.{IsRun}
@@ -12,14 +12,14 @@ use Rattle.thread_table.proofs.Table.{slots_count}
 use Rattle.world_entries.proofs.CellsOf.{cells_count}
 use Rattle.world_entries.specs.declared.world.World.{World}
 use Rattle.world_entries.specs.Worlds.{state_of}
-use Rattle.report_tally.specs.declared.counts.ThreadCounts.{ThreadCounts}
-use Rattle.report_tally.specs.declared.counts.CellCounts.{CellCounts}
-use Rattle.report_tally.specs.declared.tally.Tally.{Tally}
-use Rattle.report_tally.specs.Reporting.{one_if, local_of, ops_of, waits_of, receives_of, cell_waits, longest, cell_word, thread_line, cell_line, thread_line_of, cell_line_of, lines_below, report_of}
-use Rattle.report_tally.specs.Tallying.{Tallies}
-use Rattle.report_tally.specs.Touching.{full_in}
-use Rattle.report_tally.specs.Words.{word_text}
-use Rattle.report_tally.proofs.Steps.{ins_are}
+use Rattle.trace_report.specs.declared.tally.counts.ThreadCounts.{ThreadCounts}
+use Rattle.trace_report.specs.declared.tally.counts.CellCounts.{CellCounts}
+use Rattle.trace_report.specs.declared.tally.tally.Tally.{Tally}
+use Rattle.trace_report.specs.tally.Reporting.{one_if, local_of, ops_of, waits_of, receives_of, cell_waits, longest, cell_word, thread_line, cell_line, thread_line_of, cell_line_of, lines_below, report_of}
+use Rattle.trace_report.specs.tally.Tallying.{Tallies}
+use Rattle.trace_report.specs.tally.Touching.{full_in}
+use Rattle.trace_report.specs.tally.Words.{word_text}
+use Rattle.trace_report.proofs.tally_lemmas.Steps.{ins_are}
 use Rattle.trace_report.specs.Looking.{word_at, full_at, thread_text, cell_text}
 use Rattle.trace_report.proofs.Shown.{word_shown, full_shown}
 

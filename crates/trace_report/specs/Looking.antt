@@ -10,16 +10,16 @@ use Rattle.thread_table.specs.declared.thread.Thread.{Thread}
 use Rattle.hs_rules.specs.declared.entry.Entry.{Entry}
 use Rattle.hs_rules.specs.declared.entry.Entry.TheVariants as entry
 use Rattle.world_entries.specs.declared.world.World.{World}
-use Rattle.report_tally.specs.declared.counts.Seen.{Seen}
-use Rattle.report_tally.specs.declared.tally.Tally.{Tally}
-use Rattle.report_tally.specs.Reporting.{one_if, thread_line, cell_line, cell_word}
-use Rattle.report_tally.specs.Tallying.{thread_at, cell_at}
-use Rattle.report_tally.specs.Touching.{cell_of}
-use Rattle.report_tally.specs.Words.{word_text}
-use Rattle.report_tally.specs.declared.touch.Touch.{Touch}
-use Rattle.report_tally.specs.declared.touch.Touch.TheVariants as touch
-use Rattle.report_tally.specs.declared.writing.Word.{Word}
-use Rattle.report_tally.specs.declared.writing.Word.TheVariants as word
+use Rattle.trace_report.specs.declared.tally.counts.Seen.{Seen}
+use Rattle.trace_report.specs.declared.tally.tally.Tally.{Tally}
+use Rattle.trace_report.specs.tally.Reporting.{one_if, thread_line, cell_line, cell_word}
+use Rattle.trace_report.specs.tally.Tallying.{thread_at, cell_at}
+use Rattle.trace_report.specs.tally.Touching.{cell_of}
+use Rattle.trace_report.specs.tally.Words.{word_text}
+use Rattle.trace_report.specs.declared.tally.touch.Touch.{Touch}
+use Rattle.trace_report.specs.declared.tally.touch.Touch.TheVariants as touch
+use Rattle.trace_report.specs.declared.tally.writing.Word.{Word}
+use Rattle.trace_report.specs.declared.tally.writing.Word.TheVariants as word
 
 abbrev pub operation_touch : Operation → Touch
 operation_touch (o.TakeMVar m) = touch.Takes m

@@ -2,8 +2,8 @@
 ghost use Rattle.std.specs.Prelude.{◌≡◌, slice_get};
 ghost use Rattle.trace_report.specs.Looking.{operation_touch, control_touch, touch_at, blocked_at as blocked_by, full_at, line_at, ended_word, word_at};
 
+use crate::tally::{Touch, Word};
 use frame_stack::{Control, Prim};
-use report_tally::{Touch, Word};
 use thread_table::Threads;
 use world_entries::World;
 

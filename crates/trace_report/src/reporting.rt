@@ -2,15 +2,15 @@
 ghost use Rattle.std.specs.Prelude.{◌≡◌, ◌++◌, IfErr, IfOk, OnOk, Err, length, string_bytes};
 ghost use Rattle.hs_rules.specs.declared.entry.Entry.TheVariants as entry;
 ghost use Rattle.rules_code.specs.Codes.{body_of};
-ghost use Rattle.rules_trees.specs.Programs.{script_of};
-ghost use Rattle.report_tally.specs.Reporting.{report_of, lines_below};
+ghost use Rattle.rules_expansion.specs.trees.Programs.{script_of};
+ghost use Rattle.trace_report.specs.tally.Reporting.{report_of, lines_below};
 ghost use Rattle.trace_checker.specs.Checking.{Judges, TellsOfRun};
 ghost use Rattle.trace_report.specs.Looking.{before_of, seen_of, thread_text, cell_text};
 
 use crate::looking::{is_blocked, is_full, line, touch, word};
+use crate::tally::{Seen, Tally, Touch};
 use hs_base::{NoMemory, Txt};
 use hs_rules::{Code, Entry};
-use report_tally::{Seen, Tally, Touch};
 use std::alloc::{AllocError, Global};
 use trace_checker::{RunFault, Walk};
 use world_entries::World;

@@ -12,7 +12,7 @@ use Rattle.std.proofs.lemmas.List.{append-nil, get_or-drop}
 use Rattle.std.proofs.Math.Seq.{take-append_seam, drop-append_seam, drop-nil}
 use Rattle.hs_rules.specs.declared.entry.Entry.{Entry}
 use Rattle.hs_rules.specs.declared.entry.Entry.TheVariants.{Local, Op, Receive, Wake, Finish, Tick, Stranded}
-use Rattle.rules_traces.specs.Traces.{Fits, Spells, header, line_of, trace_of, script_line, document_of}
+use Rattle.trace_text.specs.spelling.Traces.{Fits, Spells, header, line_of, trace_of, script_line, document_of}
 use Rattle.trace_text.specs.Reading.{DocumentsPart}
 
 -- ---- no byte of a trace is the `s` that begins the line `script`

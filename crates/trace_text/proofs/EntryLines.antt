@@ -2,7 +2,7 @@
 use Rattle.std.proofs.Common.{◌≡◌, ℕ, ◌<◌, ◌^◌, List, ◌∷◌, ◌++◌, refl, sym, ap, ◌∙◌, arith, append_assoc}
 use Rattle.hs_rules.specs.declared.entry.Entry.{Entry}
 use Rattle.hs_rules.specs.declared.entry.Entry.TheVariants.{Local, Op, Receive, Wake, Finish, Tick, Stranded}
-use Rattle.rules_traces.specs.Traces.{Fits, line_of}
+use Rattle.trace_text.specs.spelling.Traces.{Fits, line_of}
 use Rattle.trace_text.specs.Fields.{EndsNumber, EndsNumbers, ReadsNumber, ReadsNumbers, number_then, numbers_then, letter_of}
 use Rattle.trace_text.proofs.Numbers.{one_number, wider}
 

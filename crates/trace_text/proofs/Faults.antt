@@ -3,7 +3,7 @@ use Rattle.std.proofs.Common.{◌≡◌, ℕ, ◌<◌, ◌≤◌, List, [], ◌�
 use Rattle.std.specs.List.{flat_map, AllByRecursion}
 use Rattle.std.proofs.lemmas.Bool.{cases_lt}
 use Rattle.hs_rules.specs.declared.entry.Entry.{Entry}
-use Rattle.rules_traces.specs.Traces.{Fits, header, line_of, Reads, HasNoHeader, GoesWrong, BeginsNoLine}
+use Rattle.trace_text.specs.spelling.Traces.{Fits, header, line_of, Reads, HasNoHeader, GoesWrong, BeginsNoLine}
 use Rattle.trace_text.specs.Reading.{FaultsComeLater, OneFault, TracesAreFaultless}
 use Rattle.trace_text.proofs.Readings.{one_reading, none_more}
 

@@ -6,7 +6,7 @@ use Rattle.std.proofs.lemmas.List.Concat.{flat_map-append}
 use Rattle.std.proofs.lemmas.Bool.{cases_lt}
 use Rattle.std.proofs.lemmas.List.{append-nil, take_all}
 use Rattle.hs_rules.specs.declared.entry.Entry.{Entry}
-use Rattle.rules_traces.specs.Traces.{Fits, header, line_of, trace_of, Spells}
+use Rattle.trace_text.specs.spelling.Traces.{Fits, header, line_of, trace_of, Spells}
 use Rattle.trace_text.specs.Fields.{letter_of, numbers_then}
 use Rattle.trace_text.specs.Reading.{GoesOn, OneReading, OneSpelling, ReadsOn}
 use Rattle.trace_text.proofs.EntryLines.{line_parts, one_line}

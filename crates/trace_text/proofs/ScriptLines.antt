@@ -10,7 +10,7 @@ use Rattle.std.proofs.lemmas.Slice.Eq.{starts_is}
 use Rattle.std.specs.Cmp.Lexicographic.{pointwise}
 use Rattle.std.proofs.Math.Dec.{eqb}
 use Rattle.std.proofs.Math.Seq.{take-append_seam}
-use Rattle.rules_traces.specs.Traces.{BeginsLine, IsScriptLine, script_line}
+use Rattle.trace_text.specs.spelling.Traces.{BeginsLine, IsScriptLine, script_line}
 
 -- a line begins at this place, and no line before it is `script`
 pub record IsSearched (text : List ℕ) (begin : ℕ) : Type 0 where

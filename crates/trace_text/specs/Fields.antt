@@ -4,7 +4,7 @@ use Rattle.std.specs.Fmt.{decimal}
 use Rattle.std.specs.Char.{digit_value}
 use Rattle.hs_rules.specs.declared.entry.Entry.{Entry}
 use Rattle.hs_rules.specs.declared.entry.Entry.TheVariants.{Local, Op, Receive, Wake, Finish, Tick, Stranded}
-use Rattle.rules_traces.specs.Traces.{Fits}
+use Rattle.trace_text.specs.spelling.Traces.{Fits}
 
 -- a blank, a number, and what stands behind it
 abbrev pub number_then : ℕ → List ℕ → List ℕ

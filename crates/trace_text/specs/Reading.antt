@@ -2,7 +2,7 @@
 use Rattle.std.specs.Prelude.{◌≡◌, ◌≢◌, ℕ, ◌+◌, ◌≤◌, List, [], ◌∷◌, ◌++◌, length, take, drop}
 use Rattle.std.specs.List.{flat_map, AllByRecursion}
 use Rattle.hs_rules.specs.declared.entry.Entry.{Entry}
-use Rattle.rules_traces.specs.Traces.{Fits, line_of, trace_of, BeginsNoLine, Reads, Spells, IsMisspelled, IsScriptLine, document_of}
+use Rattle.trace_text.specs.spelling.Traces.{Fits, line_of, trace_of, BeginsNoLine, Reads, Spells, IsMisspelled, IsScriptLine, document_of}
 use Rattle.trace_text.specs.declared.lines.Line.{Line}
 use Rattle.trace_text.specs.declared.lines.Line.TheVariants as line
 

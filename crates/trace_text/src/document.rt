@@ -1,6 +1,6 @@
 ghost use Rattle.std.specs.Prelude.{◌≡◌, ◌+◌, ◌≤◌, ◌==◌, ℕ, MatchOption};
 ghost use Rattle.std.specs.List.{position};
-ghost use Rattle.rules_traces.specs.Traces.{IsScriptLine};
+ghost use Rattle.trace_text.specs.spelling.Traces.{IsScriptLine};
 
 /// The line between a trace and its script.
 pub const SCRIPT_LINE: &[u8] = b"script\n";

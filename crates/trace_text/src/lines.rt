@@ -1,6 +1,6 @@
 ghost use Rattle.std.specs.Prelude.{◌≡◌, ℕ, [], ◌++◌, List, MatchOption};
 ghost use Rattle.hs_rules.specs.declared.entry.Entry.{Entry};
-ghost use Rattle.rules_traces.specs.Traces.{BeginsNoLine, Fits, HasNoHeader, Reads, line_of};
+ghost use Rattle.trace_text.specs.spelling.Traces.{BeginsNoLine, Fits, HasNoHeader, Reads, line_of};
 ghost use Rattle.trace_text.specs.Fields.{ReadsNumbers};
 ghost use Rattle.trace_text.specs.Reading.{Answers};
 

@@ -1,6 +1,6 @@
 ghost use Rattle.std.specs.Prelude.{◌≡◌, ◌++◌, IfOk, OnOk, codes, string_bytes};
 ghost use Rattle.std.specs.Fmt.{decimal};
-ghost use Rattle.rules_traces.specs.Traces.{Fits, Spells, document_of, header, line_of};
+ghost use Rattle.trace_text.specs.spelling.Traces.{Fits, Spells, document_of, header, line_of};
 
 use crate::document::SCRIPT_LINE;
 use hs_base::{NoMemory, Txt};
@@ -33,7 +33,7 @@ pub fn write_document(alloc: Global, history: &History, script: &[u8]) -> Result
     Ok(document)
 }
 
-#[tactic(auto, unfolding(rules_traces::specs::Traces::header))]
+#[tactic(auto, unfolding(crate::specs::spelling::Traces::header))]
 fn write_header(text: &mut String) -> Result<(), AllocError>
     ensures { OnOk result (string_bytes text.new ≡ string_bytes text.old ++ header) }
 {

@@ -1,2 +1,3 @@
 pub mod Meters
 pub mod Steps
+pub mod sizes_lemmas

@@ -7,8 +7,8 @@ use Rattle.hs_base.specs.declared.tree.expr.Name.{Name}
 use Rattle.hs_base.specs.declared.tree.expr.Expr.{Expr}
 use Rattle.hs_base.specs.declared.tree.action.Block.{Block}
 use Rattle.hs_base.specs.declared.tree.action.BlockArms.{BlockArms}
-use Rattle.rules_trees.specs.Trees.{Ex, Exs, Links, Arms, ex_of}
-use Rattle.rules_trees.specs.Programs.{SurfaceAction, bl_of, act_arms_of}
+use Rattle.rules_expansion.specs.trees.Trees.{Ex, Exs, Links, Arms, ex_of}
+use Rattle.rules_expansion.specs.trees.Programs.{SurfaceAction, bl_of, act_arms_of}
 use Rattle.rules_typing.specs.Typing.{TypedName, Sig, masked, look}
 use Rattle.rules_typing.specs.TypingSizes as rule
 use Rattle.typing_parts.specs.Views.{scope_of}

@@ -2,7 +2,7 @@
 use Rattle.std.specs.Prelude.{◌≡◌, ◌+◌, ◌-◌, ◌≤◌, List, [], ◌∷◌, length, drop, min, max, Result, IfOk}
 use Rattle.hs_base.specs.declared.no_memory.NoMemory.{NoMemory}
 use Rattle.rules_typing.specs.TypingSizes as rule
-use Rattle.rules_trees.specs.Programs.{Bl}
+use Rattle.rules_expansion.specs.trees.Programs.{Bl}
 use Rattle.rules_typing.specs.Typing.{Sig, TypedName}
 use Rattle.typing_parts.specs.Views.{scope_of, sigs_of}
 use Rattle.typing_parts.specs.declared.funs.Funs.{Funs}

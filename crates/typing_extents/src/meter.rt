@@ -1,11 +1,12 @@
 ghost use Rattle.std.specs.Prelude.{◌≡◌, ◌≤◌, ◌+◌, ◌-◌, ◌∷◌, [], OnOk, min, max, length, drop};
-ghost use Rattle.rules_trees.specs.Trees.{ex_of, exs_of, arms_of, links_of, sum_links_of, list_links_of};
+ghost use Rattle.rules_expansion.specs.trees.Trees.{ex_of, exs_of, arms_of, links_of, sum_links_of, list_links_of};
 ghost use Rattle.rules_typing.specs.Typing.{masked};
 ghost use Rattle.rules_typing.specs.TypingSizes.{extent, extents, link_extents, arm_extents, body_extent, over, beside, higher};
 ghost use Rattle.rules_typing.specs.Typing.{look};
 ghost use Rattle.typing_parts.specs.Views.{scope_of, sigs_of};
 ghost use Rattle.typing_extents.specs.Measuring.{Extends, ext_of, exts_of, MeasuredAs};
 
+use crate::sizes::{add, greater};
 use hs_base::NoMemory;
 use hs_base::tree::forms::BinaryForm;
 use hs_base::tree::{Expr, ExprArms, Link, ListLink, Name, SumLink};
@@ -14,7 +15,6 @@ use std::alloc::Global;
 use typing_parts::entry::{Entry, Sorted};
 use typing_parts::funs::Funs;
 use typing_parts::table::Table;
-use typing_sizes::{add, greater};
 
 /// How far an expression unfolds, in counts.
 #[derive(Clone, Copy, Debug)]
@@ -316,7 +316,7 @@ impl Meter {
     }
 
     #[cycle(extents)]
-    #[tactic(auto, using(rules_trees::proofs::Equations::arms_rules))]
+    #[tactic(auto, using(rules_expansion::proofs::trees_lemmas::Equations::arms_rules))]
     fn arms(&mut self, alloc: Global, funs: &Funs, arms: &ExprArms) -> Result<Extent, NoMemory>
         ensures { MeasuredAs funs.now self.old self.new result (λ gs xs s. arm_extents gs xs s (arms_of arms.now)) }
     {

@@ -1,6 +1,6 @@
 ghost use Rattle.std.specs.Prelude.{◌∷◌, IfOk};
-ghost use Rattle.rules_trees.specs.Trees.{ex_of, exs_of};
-ghost use Rattle.rules_trees.specs.Programs.{act_of, bl_of, act_arms_of, stmt_of};
+ghost use Rattle.rules_expansion.specs.trees.Trees.{ex_of, exs_of};
+ghost use Rattle.rules_expansion.specs.trees.Programs.{act_of, bl_of, act_arms_of, stmt_of};
 ghost use Rattle.rules_typing.specs.Typing.{masked};
 ghost use Rattle.rules_typing.specs.TypingSizes.{extent, worse, worst_act, worst_bl, worst_arms, worst_exs};
 ghost use Rattle.typing_parts.specs.Views.{sigs_of};
@@ -96,7 +96,7 @@ impl Meter {
     }
 
     #[cycle(worst)]
-    #[tactic(auto, using(rules_trees::proofs::EquationsOfActions::act_arms_rules))]
+    #[tactic(auto, using(rules_expansion::proofs::trees_lemmas::EquationsOfActions::act_arms_rules))]
     fn act_arms(&mut self, alloc: Global, funs: &Funs, arms: &BlockArms) -> Result<Extent, NoMemory>
         ensures { MeasuredAs funs.now self.old self.new result (λ gs xs s. worst_arms gs xs s (act_arms_of arms.now)) }
     {
@@ -158,7 +158,7 @@ impl Meter {
 
     /// The greatest expression of a statement; its name is bound.
     #[cycle(worst)]
-    #[tactic(auto, using(rules_trees::proofs::EquationsOfActions::stmt_rules))]
+    #[tactic(auto, using(rules_expansion::proofs::trees_lemmas::EquationsOfActions::stmt_rules))]
     fn stmt(&mut self, alloc: Global, funs: &Funs, st: &Stmt) -> Result<Extent, NoMemory>
         ensures { IfOk result (λ x. Worsens (sigs_of funs.now.types.nodes funs.now.sigs) self.old self.new x (stmt_of st.now)) }
     {
@@ -182,7 +182,7 @@ impl Meter {
 
     /// The greatest expression of a block.
     #[cycle(worst)]
-    #[tactic(auto, using(rules_trees::proofs::EquationsOfActions::bl_is))]
+    #[tactic(auto, using(rules_expansion::proofs::trees_lemmas::EquationsOfActions::bl_is))]
     pub fn block(&mut self, alloc: Global, funs: &Funs, b: &Block) -> Result<Extent, NoMemory>
         ensures { MeasuredAs funs.now self.old self.new result (λ gs xs s. worst_bl gs xs s (bl_of b.now)) }
     {

@@ -1,6 +1,6 @@
 -- How far expressions unfold, in counts: extents that are the same in counts are so above them too.
 use Rattle.std.proofs.Common.{◌≡◌, ℕ, ◌+◌, List, [], ◌∷◌, Option, Some, None, refl, arith, min, max, get_or}
-use Rattle.rules_trees.specs.Trees.{Ex, lit, name, unary, binary, chain, conses, choose, items, empty, side, given, case, Exs, none, more, Links, end, link, Arms, maybe_arms, either_arms, list_arms, pair_arms}
+use Rattle.rules_expansion.specs.trees.Trees.{Ex, lit, name, unary, binary, chain, conses, choose, items, empty, side, given, case, Exs, none, more, Links, end, link, Arms, maybe_arms, either_arms, list_arms, pair_arms}
 use Rattle.rules_typing.specs.Typing.{Sort, TypedName, Sig, masked, look, find}
 use Rattle.rules_typing.specs.TypingSizes.{Extent, nil, sig_extent, body_extent, extent, extents, link_extents, arm_extents}
 

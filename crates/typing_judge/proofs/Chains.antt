@@ -3,7 +3,7 @@ use Rattle.std.proofs.Common.{◌≡◌, List, [], ◌∷◌, ◌++◌, Option, 
 use Rattle.std.proofs.lemmas.List.{append-nil}
 use Rattle.hs_base.specs.declared.pos.Pos.{Pos}
 use Rattle.hs_base.specs.declared.tree.forms.BinaryForm.{BinaryForm}
-use Rattle.rules_trees.specs.Trees.{T, Links, end, link}
+use Rattle.rules_expansion.specs.trees.Trees.{T, Links, end, link}
 use Rattle.rules_typing.specs.Typing.{Ctx, TypedName, row_binary}
 use Rattle.typing_judge.specs.Judging.{Found, after, with2, own, parts2, typed, folded, judge, judge_links, operand_faults, operand_types}
 

@@ -1,7 +1,7 @@
 -- The function agrees with the rules on expressions.
 use Rattle.std.proofs.Common.{subst, ap, ◌∙◌, ◌⊎◌, List, ◌∷◌, inl, inr, ⊎_elim}
 use Rattle.hs_base.specs.declared.pos.Pos.{Pos}
-use Rattle.rules_trees.specs.Trees.{T, Ex, lit, name, unary, binary, chain, conses, choose, items, empty, side, given, case, Exs, none, more, Links, end, link, Arms, maybe_arms, either_arms, list_arms, pair_arms}
+use Rattle.rules_expansion.specs.trees.Trees.{T, Ex, lit, name, unary, binary, chain, conses, choose, items, empty, side, given, case, Exs, none, more, Links, end, link, Arms, maybe_arms, either_arms, list_arms, pair_arms}
 use Rattle.rules_typing.specs.Typing.{Fault, type_of_lit, row_unary, row_binary, row_empty, row_side, row_choose, row_items, row_arms, form_of_arms, first_of, second_of, inner_of, Ctx, TypedName, bound, meant, count, Gives, Breaks, NotFull, NoRoom, IsWritten, WrittenBreaks, HasType, HaveTypes, LinksHave, ConsesHave, ArmsHave, BreaksIn, BreaksAny, LinksBreak, ConsesBreak, ArmsBreak}
 use Rattle.typing_judge.specs.Judging.{Found, own, written, parts2, unless_full, after, judge, judges, judge_links, judge_arms}
 use Rattle.typing_judge.proofs.Chains.{judge_conses, links_after, conses_after, conses_are}

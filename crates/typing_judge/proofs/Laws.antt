@@ -3,7 +3,7 @@ use Rattle.std.proofs.Common.{◌≡◌, ◌<◌, ◌≤◌, ◌&&◌, List, [],
 use Rattle.std.proofs.lemmas.Bool.{ltb-true, and_parts}
 use Rattle.hs_base.specs.declared.pos.Pos.{Pos}
 use Rattle.hs_base.specs.declared.tree.expr.Name.{Name}
-use Rattle.rules_trees.specs.Trees.{T, unit, int, bool, text, thread, exn, pair, maybe, either, list, cell, async, Wr}
+use Rattle.rules_expansion.specs.trees.Trees.{T, unit, int, bool, text, thread, exn, pair, maybe, either, list, cell, async, Wr}
 use Rattle.rules_typing.specs.Typing.{Form, a_maybe, an_either, a_list, a_pair, a_cell, an_async, equal, order, shown, Fault, scope, wide, nodes, Need, is, of, refusal, Row, TypedName, Meant, wrong, takes, is_each, Has, Met, AllMet, FirstUnmet, Makes, TooWide, Gives, Breaks, NotFull, NoRoom, Calls, BreaksCall, IsWritten, WrittenBreaks}
 use Rattle.rules_typing.specs.TypingFaults.{In}
 use Rattle.typing_judge.specs.Judging.{same, has, met, Found, good, bad, lost, after, with1, with2, with3, with_all, needing, made, own, written, unless_full, unless_wrong, scope_faults, unless, Founds, joined, called, part, parts2, parts3, parts_all, join, not_full}

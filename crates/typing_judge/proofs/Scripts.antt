@@ -3,8 +3,8 @@ use Rattle.std.proofs.Common.{◌≡◌, ℕ, ◌+◌, ◌||◌, ◌⊎◌, List
 use Rattle.std.proofs.lemmas.Bool.{ltb-true, lt-ltb}
 use Rattle.hs_base.specs.declared.tree.expr.Name.{Name}
 use Rattle.hs_base.specs.declared.tree.script.Script.{Script}
-use Rattle.rules_trees.specs.Trees.{T, Wr}
-use Rattle.rules_trees.specs.Programs.{Bd, pure_body, io_body, Fn, script_of}
+use Rattle.rules_expansion.specs.trees.Trees.{T, Wr}
+use Rattle.rules_expansion.specs.trees.Programs.{Bd, pure_body, io_body, Fn, script_of}
 use Rattle.rules_expansion.specs.Sizes.{body_size}
 use Rattle.rules_typing.specs.Typing.{Fault, large, AllMet, FirstUnmet, is, TypedName, Sig, Ctx}
 use Rattle.rules_typing.specs.TypingFaults.{In}

@@ -1,8 +1,8 @@
 -- The typing rules of actions and blocks as a function.
 use Rattle.std.specs.Prelude.{List, [], ◌∷◌}
 use Rattle.hs_base.specs.declared.pos.Pos.{Pos}
-use Rattle.rules_trees.specs.Trees.{T, exn}
-use Rattle.rules_trees.specs.Programs.{SurfaceAction, bare, unary_act, binary_act, throw_io, new_empty, call, choose_act, case_act, modify, scoped, masking, restore, catch, guard, bracket, timeout, with_async, Bl, last, then, bind, let_in, ActArms, maybe_acts, either_acts, list_acts, pair_acts}
+use Rattle.rules_expansion.specs.trees.Trees.{T, exn}
+use Rattle.rules_expansion.specs.trees.Programs.{SurfaceAction, bare, unary_act, binary_act, throw_io, new_empty, call, choose_act, case_act, modify, scoped, masking, restore, catch, guard, bracket, timeout, with_async, Bl, last, then, bind, let_in, ActArms, maybe_acts, either_acts, list_acts, pair_acts}
 use Rattle.rules_typing.specs.Typing.{a_cell, of, first_of, second_of, inner_of, row_choose, row_arms, TypedName, bound, masked, Ctx, meant_act, no_mask, count}
 use Rattle.rules_typing.specs.TypingActions.{type_of_bare, row_unary_act, row_binary_act, row_throw, row_new_empty, row_scoped, row_masking, row_modify, row_guard, row_bracket, row_timeout, row_async, form_of_acts}
 use Rattle.typing_judge.specs.Judging.{Found, good, after, needing, own, written, unless_full, unless_wrong, scope_faults, called, part, parts2, parts3, parts_all, not_full, judge, judges}

@@ -2,8 +2,8 @@
 use Rattle.std.specs.Prelude.{ℕ, ◌+◌, ◌||◌, List, [], ◌∷◌, ◌++◌, Bool, true, false, cond, ltb}
 use Rattle.hs_base.specs.declared.tree.expr.Name.{Name}
 use Rattle.hs_base.specs.declared.tree.script.Script.{Script}
-use Rattle.rules_trees.specs.Trees.{T, Wr}
-use Rattle.rules_trees.specs.Programs.{Bd, pure_body, io_body, Fn, script_of}
+use Rattle.rules_expansion.specs.trees.Trees.{T, Wr}
+use Rattle.rules_expansion.specs.trees.Programs.{Bd, pure_body, io_body, Fn, script_of}
 use Rattle.rules_expansion.specs.Sizes.{body_size}
 use Rattle.rules_typing.specs.Typing.{Fault, large, is, TypedName, Sig, Ctx}
 use Rattle.rules_typing.specs.TypingFaults.{In, Precedes}

@@ -2,7 +2,7 @@
 use Rattle.std.proofs.Common.{◌≡◌, ℕ, ◌+◌, suc, List, Bool, true, false, cond, [], ◌∷◌, length, drop, get_or, ◌<◌, ◌≤◌, Option, Some, None, map, ap, ◌∙◌, sym, refl, arith}
 use Rattle.std.proofs.lemmas.List.{drop_all}
 use Rattle.std.proofs.Math.Seq.{drop-cons}
-use Rattle.rules_trees.specs.Trees.{T, list}
+use Rattle.rules_expansion.specs.trees.Trees.{T, list}
 use Rattle.rules_typing.specs.Typing.{Fault, Need, refusal, Meant, wrong, is, is_each, row_items}
 use Rattle.typing_judge.specs.Judging.{called, met, made, own, with_all}
 use Rattle.typing_judge.specs.Least.{least}

@@ -8,7 +8,7 @@ use Rattle.hs_base.specs.declared.tree.expr.SumLink.{SumLink}
 use Rattle.typing_table.specs.declared.table.TypeNode.{TypeNode}
 use Rattle.typing_table.specs.declared.ty.TypeTerm.{TypeTerm}
 use Rattle.hs_base.specs.declared.tree.forms.BinaryForm.{BinaryForm}
-use Rattle.rules_trees.specs.Trees.{T, Ex, Links, link, ex_of, links_of, sum_links_of, list_links_of, sum_form, cons_form}
+use Rattle.rules_expansion.specs.trees.Trees.{T, Ex, Links, link, ex_of, links_of, sum_links_of, list_links_of, sum_form, cons_form}
 use Rattle.rules_typing.specs.Typing.{Fault, Ctx, TypedName, row_binary}
 use Rattle.typing_judge.specs.Judging.{Found, after, with2, own, parts2, typed, folded, judge, judge_links, operand_faults, operand_types}
 use Rattle.typing_judge.proofs.Chains.{links_after}

@@ -1,6 +1,6 @@
 -- Which types are of a form, by their outermost form.
 use Rattle.std.proofs.Common.{◌≡◌, refl}
-use Rattle.rules_trees.specs.Trees.{T, int, bool, text, thread, exn, pair, maybe, either, list, cell, async}
+use Rattle.rules_expansion.specs.trees.Trees.{T, int, bool, text, thread, exn, pair, maybe, either, list, cell, async}
 use Rattle.rules_typing.specs.Typing.{Form, a_maybe, an_either, a_list, a_pair, a_cell, an_async, equal, order, shown}
 use Rattle.typing_judge.specs.Judging.{has}
 use Rattle.typing_table.specs.Meaning.{kind_of}

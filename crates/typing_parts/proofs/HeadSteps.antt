@@ -4,8 +4,8 @@ use Rattle.std.proofs.Math.Seq.{drop-cons}
 use Rattle.hs_base.specs.declared.tree.script.Param.{Param}
 use Rattle.hs_base.specs.declared.tree.script.Def.{Def}
 use Rattle.hs_base.specs.declared.tree.ty.Written.{Written}
-use Rattle.rules_trees.specs.Trees.{T, ty_of, wr_of}
-use Rattle.rules_trees.specs.Programs.{par_of, bd_of, fn_of}
+use Rattle.rules_expansion.specs.trees.Trees.{T, ty_of, wr_of}
+use Rattle.rules_expansion.specs.trees.Programs.{par_of, bd_of, fn_of}
 use Rattle.rules_typing.specs.Typing.{Sig}
 use Rattle.rules_typing.specs.TypingScripts.{acts, result_of, param_types, sigs_from, sig_of_fn}
 use Rattle.typing_table.specs.declared.table.TypeNode.{TypeNode}

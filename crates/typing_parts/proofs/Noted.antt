@@ -2,12 +2,12 @@
 use Rattle.std.proofs.Common.{◌≡◌, ℕ, ◌+◌, suc, List, true, false, cond, [], ◌∷◌, ◌++◌, length, drop, get_or, ◌<◌, Option, Some, None, refl, ap, ◌∙◌, sym, append_assoc, arith}
 use Rattle.std.proofs.lemmas.List.{append-nil}
 use Rattle.std.proofs.Math.Seq.{drop-cons}
-use Rattle.rules_trees.specs.Trees.{T, exs_of, ex_of}
+use Rattle.rules_expansion.specs.trees.Trees.{T, exs_of, ex_of}
 use Rattle.rules_typing.specs.Typing.{Fault, count, Need, refusal, Ctx, TypedName}
 use Rattle.typing_judge.specs.Judging.{joined, Found, Founds, judge, judges, bad, needing, met}
 use Rattle.typing_judge.specs.Least.{least, lesser}
 use Rattle.hs_base.specs.declared.tree.expr.Expr.{Expr}
-use Rattle.rules_trees.proofs.Equations.{ex_rules, ty_rules, arms_rules}
+use Rattle.rules_expansion.proofs.trees_lemmas.Equations.{ex_rules, ty_rules, arms_rules}
 use Rattle.typing_table.specs.declared.table.TypeNode.{TypeNode}
 use Rattle.typing_table.specs.declared.ty.TypeTerm.{TypeTerm}
 use Rattle.typing_table.specs.Meaning.{type_in}

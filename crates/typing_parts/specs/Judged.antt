@@ -2,9 +2,9 @@
 use Rattle.std.specs.Prelude.{◌≡◌, List, [], ◌∷◌, ◌++◌, ◌-◌, ◌≤◌, length, drop, Bool, true, false, cond, Option, Some, None}
 use Rattle.hs_base.specs.declared.pos.Pos.{Pos}
 use Rattle.hs_base.specs.declared.tree.expr.Name.{Name}
-use Rattle.rules_trees.specs.Trees.{T, Links}
+use Rattle.rules_expansion.specs.trees.Trees.{T, Links}
 use Rattle.rules_typing.specs.Typing.{Ctx, TypedName, bound, Fault, Need, refusal}
-use Rattle.rules_trees.specs.Programs.{Bl}
+use Rattle.rules_expansion.specs.trees.Programs.{Bl}
 use Rattle.typing_judge.specs.Judging.{Found, Founds, met, operand_faults, operand_types}
 use Rattle.typing_judge.specs.JudgingActions.{judge_bl}
 use Rattle.typing_judge.specs.Least.{least}

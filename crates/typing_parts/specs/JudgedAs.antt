@@ -2,7 +2,7 @@
 use Rattle.std.specs.Prelude.{List, [], ◌∷◌, Option, Result, IfOk}
 use Rattle.hs_base.specs.declared.no_memory.NoMemory.{NoMemory}
 use Rattle.hs_base.specs.declared.tree.expr.Name.{Name}
-use Rattle.rules_trees.specs.Trees.{T}
+use Rattle.rules_expansion.specs.trees.Trees.{T}
 use Rattle.rules_typing.specs.Typing.{Ctx, TypedName, bound, Row, gives, of, is, a_cell, inner_of}
 use Rattle.typing_judge.specs.Judging.{Found, typed, unless_full}
 use Rattle.typing_table.specs.declared.table.TypeTable.{TypeTable}

@@ -8,7 +8,7 @@ use Rattle.typing_table.specs.declared.kind.TypeKind.TheVariants as k
 use Rattle.typing_table.specs.declared.table.TypeNode.{TypeNode}
 use Rattle.typing_table.specs.declared.ty.TypeTerm.{TypeTerm}
 use Rattle.typing_table.specs.Meaning.{known, type_in}
-use Rattle.rules_trees.specs.Trees.{T, ty_of}
+use Rattle.rules_expansion.specs.trees.Trees.{T, ty_of}
 use Rattle.rules_typing.specs.Typing as rule
 use Rattle.rules_typing.specs.Typing.{Sort, value, masking_name, TypedName, Sig, Fault, Wanted, exactly}
 use Rattle.typing_parts.specs.declared.fault.Form.{Form}

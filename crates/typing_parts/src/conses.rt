@@ -1,5 +1,5 @@
 ghost use Rattle.std.specs.Prelude.{◌≡◌, ◌+◌, IfOk, length};
-ghost use Rattle.rules_trees.specs.Trees.{list_links_of, cons_form};
+ghost use Rattle.rules_expansion.specs.trees.Trees.{list_links_of, cons_form};
 ghost use Rattle.rules_typing.specs.Typing.{row_binary};
 ghost use Rattle.typing_judge.specs.Judging.{folded, own, with2};
 ghost use Rattle.typing_parts.specs.Views.{opt_ty, opts_of};

@@ -1,6 +1,6 @@
 ghost use Rattle.std.specs.Prelude.{◌≡◌, IfOk, Some, map, codes, length};
-ghost use Rattle.rules_trees.specs.Trees.{wr_of};
-ghost use Rattle.rules_trees.specs.Programs.{par_of, bd_of, fn_of};
+ghost use Rattle.rules_expansion.specs.trees.Trees.{wr_of};
+ghost use Rattle.rules_expansion.specs.trees.Programs.{par_of, bd_of, fn_of};
 ghost use Rattle.rules_typing.specs.Typing.{find};
 ghost use Rattle.rules_typing.specs.TypingScripts.{sigs_from, sig_of_fn, param_types, result_of, is_none, is_unit, main_by};
 ghost use Rattle.typing_table.specs.Meaning.{Grows, known};

@@ -1,5 +1,5 @@
 ghost use Rattle.std.specs.Prelude.{[], ◌∷◌, IfOk, map, true};
-ghost use Rattle.rules_trees.specs.Trees.{bool};
+ghost use Rattle.rules_expansion.specs.trees.Trees.{bool};
 ghost use Rattle.typing_table.specs.Meaning.{base_of, type_in};
 ghost use Rattle.rules_typing.specs.Typing.{is, of, gives, is_each};
 ghost use Rattle.typing_judge.specs.Judging.{own, made};

@@ -1,4 +1,4 @@
-ghost use Rattle.rules_trees.specs.Trees.{wr_of};
+ghost use Rattle.rules_expansion.specs.trees.Trees.{wr_of};
 ghost use Rattle.typing_table.specs.Meaning.{type_in};
 ghost use Rattle.rules_typing.specs.Typing.{row_unary, row_binary, row_empty, row_side, row_choose, row_arms, row_items};
 ghost use Rattle.typing_judge.specs.Judging.{own, with1, with2, with3, with_all, written};

@@ -1,6 +1,6 @@
 -- Each type has a node.
 use Rattle.std.proofs.Common.{◌<◌, arith}
-use Rattle.rules_trees.specs.Trees.{T, unit, int, bool, text, thread, exn, pair, maybe, either, list, cell, async}
+use Rattle.rules_expansion.specs.trees.Trees.{T, unit, int, bool, text, thread, exn, pair, maybe, either, list, cell, async}
 use Rattle.rules_typing.specs.Typing.{nodes}
 
 pub nodes_some : (a : T) → 0 < nodes a

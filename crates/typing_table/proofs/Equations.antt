@@ -1,6 +1,6 @@
 -- Which tree each type of the checker stands for.
 use Rattle.std.proofs.Common.{◌≡◌, ℕ, List, ap, ◌∙◌, sym}
-use Rattle.rules_trees.specs.Trees.{T, pair, maybe, either, list, cell, async}
+use Rattle.rules_expansion.specs.trees.Trees.{T, pair, maybe, either, list, cell, async}
 use Rattle.typing_table.specs.declared.base.Base.{Base}
 use Rattle.typing_table.specs.declared.table.TypeNode.{TypeNode}
 use Rattle.typing_table.specs.declared.ty.TypeTerm.{TypeTerm}

@@ -5,7 +5,7 @@ use Rattle.std.proofs.lemmas.Result.{IfOk-weaker}
 use Rattle.std.specs.List.{slice_get}
 use Rattle.std.specs.Result.{IfOk}
 use Rattle.hs_base.specs.declared.no_memory.NoMemory.{NoMemory}
-use Rattle.rules_trees.specs.Trees.{T}
+use Rattle.rules_expansion.specs.trees.Trees.{T}
 use Rattle.typing_table.specs.declared.table.TypeNode.{TypeNode}
 use Rattle.typing_table.specs.Meaning.{node_type, types_at, known, Below, Ordered, Grows}
 use Rattle.typing_table.proofs.Tables.{known-node, node_type-within, known-grows, grows_length, grows_more}

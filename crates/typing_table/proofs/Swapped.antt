@@ -1,7 +1,7 @@
 -- The test whether two types are the same says the same of them the other way round.
 use Rattle.std.proofs.Common.{◌≡◌, true, subst}
 use Rattle.plain_laws.proofs.Booleans.{same_bool}
-use Rattle.rules_trees.specs.Trees.{T}
+use Rattle.rules_expansion.specs.trees.Trees.{T}
 use Rattle.typing_judge.specs.Judging.{same}
 use Rattle.typing_judge.proofs.Laws.{same_true, same_self}
 

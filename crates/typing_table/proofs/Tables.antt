@@ -4,7 +4,7 @@ use Rattle.std.proofs.lemmas.List.{get_or_past}
 use Rattle.std.proofs.Math.ListN.{get_or-append}
 use Rattle.std.proofs.Math.Seq.{get_or-append_seam}
 use Rattle.std.specs.List.{slice_get}
-use Rattle.rules_trees.specs.Trees.{T, unit, pair, maybe, either, list, cell, async}
+use Rattle.rules_expansion.specs.trees.Trees.{T, unit, pair, maybe, either, list, cell, async}
 use Rattle.typing_table.specs.declared.table.TypeNode.{TypeNode}
 use Rattle.typing_table.specs.declared.table.TypeNode.TheVariants as n
 use Rattle.typing_table.specs.Meaning.{item, node_type, types_after, types_at, known, reach, Ordered, Grows}

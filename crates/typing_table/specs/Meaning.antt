@@ -1,6 +1,6 @@
 -- The type that a type of the checker stands for, by a table of types.
 use Rattle.std.specs.Prelude.{◌≡◌, ℕ, suc, ◌≤◌, max, List, [], ◌∷◌, ◌++◌, get_or, slice_get, Some}
-use Rattle.rules_trees.specs.Trees.{T, unit, int, bool, text, thread, exn, pair, maybe, either, list, cell, async}
+use Rattle.rules_expansion.specs.trees.Trees.{T, unit, int, bool, text, thread, exn, pair, maybe, either, list, cell, async}
 use Rattle.typing_table.specs.declared.base.Base.{Base}
 use Rattle.typing_table.specs.declared.base.Base.TheVariants as b
 use Rattle.typing_table.specs.declared.kind.TypeKind.{TypeKind}

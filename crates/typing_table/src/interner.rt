@@ -1,5 +1,5 @@
 ghost use Rattle.std.specs.Prelude.{◌≡◌, ◌<◌, [], length, slice_get, IfOk, IfSome, Some};
-ghost use Rattle.rules_trees.specs.Trees.{ty_of};
+ghost use Rattle.rules_expansion.specs.trees.Trees.{ty_of};
 ghost use Rattle.typing_table.specs.Meaning.{Below, Grows, known};
 
 use crate::base::Base;
@@ -60,7 +60,7 @@ impl Interner {
     }
 
     /// The place of a written type, which an equal one that was put before has too.
-    #[tactic(auto, using(rules_trees::proofs::Equations::ty_rules))]
+    #[tactic(auto, using(rules_expansion::proofs::trees_lemmas::Equations::ty_rules))]
     pub fn intern(&mut self, t: &Ty) -> Result<usize, NoMemory>
         ensures { IfOk result (λ place. Grows self.old.types.nodes self.new.types.nodes × (place < length self.new.types.nodes) × (known self.new.types.nodes place ≡ ty_of t.now)) }
     {

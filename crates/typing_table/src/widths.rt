@@ -1,5 +1,5 @@
 ghost use Rattle.std.specs.Prelude.{◌≡◌, ◌+◌, ◌<◌, ltb, MatchOption};
-ghost use Rattle.rules_trees.specs.Trees.{ty_of};
+ghost use Rattle.rules_expansion.specs.trees.Trees.{ty_of};
 ghost use Rattle.rules_typing.specs.Typing.{nodes};
 ghost use Rattle.typing_table.specs.Meaning.{known, type_in};
 
@@ -69,7 +69,7 @@ pub fn is_wide(types: &TypeTable, t: &TypeTerm) -> bool
 }
 
 /// What is left of a number after one for each node of a written type, where there are so many.
-#[tactic(auto, using(rules_trees::proofs::Equations::ty_rules))]
+#[tactic(auto, using(rules_expansion::proofs::trees_lemmas::Equations::ty_rules))]
 fn spend_written(t: &Ty, left: u32) -> Option<u32>
     ensures { MatchOption result (left < nodes (ty_of t.now)) (λ r. r + nodes (ty_of t.now) ≡ left) }
 {

@@ -1,5 +1,5 @@
 ghost use Rattle.std.specs.Prelude.{◌≡◌, List, IfOk};
-ghost use Rattle.rules_trees.specs.Trees.{ty_of};
+ghost use Rattle.rules_expansion.specs.trees.Trees.{ty_of};
 ghost use Rattle.typing_table.specs.Meaning.{base_of, known, type_in};
 
 use crate::base::Base;
@@ -10,7 +10,7 @@ use hs_items::Boxed;
 use std::alloc::Global;
 
 /// A type without parts, as it is written.
-#[tactic(auto, using(rules_trees::proofs::Equations::ty_rules))]
+#[tactic(auto, using(rules_expansion::proofs::trees_lemmas::Equations::ty_rules))]
 fn written_base(base: Base) -> Ty
     ensures { ty_of result ≡ base_of base }
 {
@@ -34,7 +34,7 @@ fn boxed_at(alloc: Global, types: &TypeTable, place: usize) -> Result<Boxed<Ty>,
 
 /// The type at a place, as it is written.
 #[cycle(written_places)]
-#[tactic(auto, using(rules_trees::proofs::Equations::ty_rules))]
+#[tactic(auto, using(rules_expansion::proofs::trees_lemmas::Equations::ty_rules))]
 fn written_at(alloc: Global, types: &TypeTable, place: usize) -> Result<Ty, NoMemory>
     ensures { IfOk result (λ t. ty_of t ≡ known types.now.nodes place) }
 {
@@ -65,7 +65,7 @@ fn boxed_written(alloc: Global, types: &TypeTable, t: &TypeTerm) -> Result<Boxed
 
 /// A type of the checker, as it is written.
 #[cycle(written_types)]
-#[tactic(auto, using(rules_trees::proofs::Equations::ty_rules, crate::proofs::Equations::type_rules))]
+#[tactic(auto, using(rules_expansion::proofs::trees_lemmas::Equations::ty_rules, crate::proofs::Equations::type_rules))]
 pub fn to_written(alloc: Global, types: &TypeTable, t: &TypeTerm) -> Result<Ty, NoMemory>
     ensures { IfOk result (λ r. ty_of r ≡ type_in types.now.nodes t.now) }
 {
@@ -97,7 +97,7 @@ fn boxed_type(alloc: Global, t: &Ty) -> Result<Boxed<TypeTerm>, NoMemory>
 
 /// A written type as one of the checker.
 #[cycle(types_written)]
-#[tactic(auto, using(rules_trees::proofs::Equations::ty_rules, crate::proofs::Equations::type_rules))]
+#[tactic(auto, using(rules_expansion::proofs::trees_lemmas::Equations::ty_rules, crate::proofs::Equations::type_rules))]
 pub fn from_written(alloc: Global, t: &Ty) -> Result<TypeTerm, NoMemory>
     ensures { IfOk result (λ r. (ms : List TypeNode) → type_in ms r ≡ ty_of t.now) }
 {

@@ -4,7 +4,7 @@ use Rattle.hs_base.specs.declared.value.Value.{Value}
 use Rattle.rules_meaning.specs.Values.{V, value_of}
 use Rattle.rules_code.specs.declared.code.CodeBody.{CodeBody}
 use Rattle.rules_waiting.specs.OneCell.{Cell, Call, Reply, Answer, call, reply_of, shown}
-use Rattle.cell_laws.specs.Mapped.{map_call, map_replies, map_answer}
+use Rattle.slot_states.specs.mapping.Mapped.{map_call, map_replies, map_answer}
 use Rattle.mvar_cell.specs.Calls.{IsCall}
 use Rattle.hs_laws.specs.CellLaw.{told}
 use Rattle.hs_laws.proofs.Lists.{Ones}

@@ -8,7 +8,7 @@ use Rattle.rules_meaning.specs.Values.{V, value_of}
 use Rattle.rules_typing.specs.TypingScripts.{Accepted}
 use Rattle.rules_code.specs.declared.code.CodeBody.{CodeBody}
 use Rattle.rules_waiting.specs.OneCell.{Call, Take, Read, Put, Try_take, Try_put, Reply, made}
-use Rattle.cell_laws.specs.Mapped.{map_some, map_call, map_replies}
+use Rattle.slot_states.specs.mapping.Mapped.{map_some, map_call, map_replies}
 use Rattle.hs_eval.proofs.Cases.{value_of-Cell}
 use Rattle.mvar_cell.specs.Mvars.{Mvars}
 use Rattle.mvar_cell.specs.Calls.{cell_at, IsCall, IsFull}

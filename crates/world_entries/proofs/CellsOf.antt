@@ -4,8 +4,8 @@ use Rattle.plain_laws.proofs.Booleans.{both_false}
 use Rattle.hs_base.specs.declared.value.Value.{Value}
 use Rattle.rules_meaning.specs.Values.{V, value_of}
 use Rattle.rules_waiting.specs.OneCell.{Place, Cell, Call, Leave, After, Reply, made, call, stands_in}
-use Rattle.cell_laws.specs.Mapped.{map_line, map_cell, map_call, map_replies, map_after}
-use Rattle.cell_laws.proofs.Maps.{commutes}
+use Rattle.slot_states.specs.mapping.Mapped.{map_line, map_cell, map_call, map_replies, map_after}
+use Rattle.slot_states.proofs.mapping_lemmas.Maps.{commutes}
 use Rattle.mvar_cell.specs.Mvars.{Mvars}
 use Rattle.mvar_cell.specs.Calls as mvar
 use Rattle.mvar_cell.specs.Calls.{IsCall, stands_among, StandsNowhere}

@@ -11,7 +11,7 @@ use Rattle.hs_rules.specs.Entries.{throwers}
 use Rattle.hs_laws.proofs.Lists.{cond_true, cond_false, equal_or, Absent_in, Distinct, Ones, ones_apart, ones_changed, ones_those_if, distinct_those, throws_at, throwers_are, once_reason}
 use Rattle.hs_laws.proofs.Stranding.{reason_blocked}
 use Rattle.hs_laws.proofs.Expanded.{standing_of}
-use Rattle.rules_trees.specs.Programs.{script_of}
+use Rattle.rules_expansion.specs.trees.Programs.{script_of}
 use Rattle.rules_meaning.specs.Values.{UnitValue, value_of}
 use Rattle.rules_typing.specs.TypingScripts.{Accepted}
 use Rattle.rules_code.specs.declared.code.CodeBody.{CodeBody}

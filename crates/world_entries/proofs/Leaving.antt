@@ -11,7 +11,7 @@ use Rattle.hs_rules.specs.Terms.{Operation, Calls, Performs}
 use Rattle.hs_laws.specs.BracketPhases.{Blocks}
 use Rattle.hs_laws.proofs.Expanded.{standing_of}
 use Rattle.hs_progress.specs.TypedStates.{has}
-use Rattle.rules_trees.specs.Programs.{Fn, script_of}
+use Rattle.rules_expansion.specs.trees.Programs.{Fn, script_of}
 use Rattle.rules_meaning.specs.Values as val
 use Rattle.rules_meaning.specs.Values.{V}
 use Rattle.rules_expansion.specs.declared.primitive.Primitive.{Primitive}

@@ -7,7 +7,7 @@ use Rattle.rules_meaning.specs.Values.{value_of}
 use Rattle.rules_typing.specs.TypingScripts.{Accepted}
 use Rattle.rules_code.specs.declared.code.CodeBody.{CodeBody}
 use Rattle.rules_waiting.specs.OneCell.{Cell, Call, Reply, shown, stands_in, readers, leave_line}
-use Rattle.cell_laws.specs.Mapped.{map_call, map_replies}
+use Rattle.slot_states.specs.mapping.Mapped.{map_call, map_replies}
 use Rattle.mvar_cell.specs.Mvars.{Mvars}
 use Rattle.mvar_cell.specs.Calls.{cell_at, IsCall, IsEmpty, StandsNowhere, NobodyReads}
 use Rattle.mvar_cell.specs.Readers.{AreAllReaders}

@@ -14,7 +14,7 @@ use Rattle.hs_base.specs.declared.tree.forms.UnaryForm.{UnaryForm}
 use Rattle.hs_base.specs.declared.tree.forms.BinaryForm.{BinaryForm}
 use Rattle.hs_base.specs.declared.tree.forms.EmptyForm.{EmptyForm}
 use Rattle.hs_base.specs.declared.tree.forms.SideForm.{SideForm}
-use Rattle.rules_trees.specs.Trees.{Lit}
+use Rattle.rules_expansion.specs.trees.Trees.{Lit}
 use Rattle.rules_expansion.specs.declared.primitive.Primitive.{Primitive}
 use Rattle.rules_meaning.specs.Values as values
 use Rattle.rules_meaning.specs.Values.{V}

@@ -7,7 +7,7 @@ use Rattle.hs_base.specs.declared.value.Value.{Value}
 use Rattle.rules_meaning.specs.Values.{value_of}
 use Rattle.rules_code.specs.declared.code.CodeBody.{CodeBody}
 use Rattle.hs_rules.specs.declared.entry.Entry.{Entry}
-use Rattle.rules_trees.specs.Programs.{script_of}
+use Rattle.rules_expansion.specs.trees.Programs.{script_of}
 use Rattle.rules_waiting.specs.OneCell.{stands_in}
 use Rattle.mvar_cell.specs.Calls.{cell_at, StandsNowhere}
 use Rattle.slot_laws.specs.SlotRules.{performs}

@@ -2,7 +2,7 @@
 use Rattle.std.specs.Prelude.{◌≡◌, ◌<◌, ◌≤◌, ◌^◌, ◌⊎◌, ℕ, ◌+◌, Bool, true, false, List, [], ◌∷◌, length, Some, slice_get, slice_set}
 use Rattle.hs_base.specs.declared.value.Value.{Value}
 use Rattle.hs_rules.specs.declared.entry.Entry.{Entry}
-use Rattle.rules_trees.specs.Programs.{script_of}
+use Rattle.rules_expansion.specs.trees.Programs.{script_of}
 use Rattle.rules_meaning.specs.Values.{V, value_of}
 use Rattle.rules_typing.specs.TypingScripts.{Accepted}
 use Rattle.rules_code.specs.declared.code.CodeBody.{CodeBody}
@@ -11,7 +11,7 @@ use Rattle.rules_waiting.specs.Waiting.{withdrawn, still_asleep}
 use Rattle.rules_code.specs.CodeTrees.{StandsFor}
 use Rattle.hs_rules.specs.State.{State}
 use Rattle.hs_rules.specs.Runs.{IsRun}
-use Rattle.cell_laws.specs.Mapped.{map_cell}
+use Rattle.slot_states.specs.mapping.Mapped.{map_cell}
 use Rattle.slot_states.specs.SlotStates.{SlotState, left_lines, Represents, Enters}
 use Rattle.slot_states.specs.Resting.{AllRest}
 use Rattle.mvar_cell.specs.Calls.{cell_at}

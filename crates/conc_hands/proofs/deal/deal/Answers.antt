@@ -1,9 +1,9 @@
 use Rattle.std.proofs.Common.{rules, ◌≡◌, ◌⊎◌, ◌+◌, ◌-◌, ◌<◌, ◌≤◌, ℕ, true, false, Some, [], ◌∷◌, ◌++◌, length, length-set, set, slice_get, ◌==◌, sym, ap, ◌∙◌, subst, refl, arith}
 use Rattle.std.proofs.lemmas.Option.{slice_get_read}
-use Rattle.ticket_queues.specs.declared.view.QueueView.{QueueView}
-use Rattle.ticket_queues.specs.declared.deque.Door.{Door}
-use Rattle.ticket_queues.specs.QueueRule.{view_with}
-use Rattle.ticket_queues.specs.Deques.{deque_view, deque_id, door_id, pass_view, IsDequePass}
+use Rattle.conc_hands.specs.declared.queues.view.QueueView.{QueueView}
+use Rattle.conc_hands.specs.declared.queues.deque.Door.{Door}
+use Rattle.conc_hands.specs.queues.QueueRule.{view_with}
+use Rattle.conc_hands.specs.queues.Deques.{deque_view, deque_id, door_id, pass_view, IsDequePass}
 use Rattle.conc_hands.specs.Ends.{share_if}
 use Rattle.conc_hands.specs.Dealing.{AreRows, AreDealt, dealt_if}
 use Rattle.conc_hands.proofs.Deals.{starts_dealt, ends_dealt, deals_one, shares_next}

@@ -1,6 +1,6 @@
 use Rattle.std.proofs.Common.{◌≡◌, ℕ, ◌+◌, ◌-◌, ◌<◌, ◌≤◌, [], length, Some}
-use Rattle.ticket_queues.specs.QueueRule.{view_with}
-use Rattle.ticket_queues.specs.Deques.{deque_view, deque_id, room_of}
+use Rattle.conc_hands.specs.queues.QueueRule.{view_with}
+use Rattle.conc_hands.specs.queues.Deques.{deque_view, deque_id, room_of}
 use Rattle.conc_hands.specs.Dealing.{AreDealt}
 use Rattle.conc_hands.proofs.deal.deal.Given as goal
 

@@ -1,7 +1,7 @@
 use Rattle.std.proofs.Common.{◌≡◌, ℕ, ◌-◌, ◌≤◌, [], length, Some, slice_get}
 use Rattle.std.specs.declared.alloc.Global.{Global}
 use Rattle.std.specs.declared.vec.Vec.{Vec}
-use Rattle.ticket_queues.specs.declared.deque.DequePass.{DequePass}
+use Rattle.conc_hands.specs.declared.queues.deque.DequePass.{DequePass}
 use Rattle.conc_hands.proofs.deal.empty_rows.Given as goal
 
 abbrev pub invariant-loop-number : goal.invariant-loop-number

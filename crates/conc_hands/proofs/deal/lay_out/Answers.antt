@@ -1,9 +1,9 @@
 use Rattle.std.proofs.Common.{rules, ◌≡◌, ◌+◌, ◌-◌, ◌<◌, ◌≤◌, ℕ, List, Some, [], ◌∷◌, ◌++◌, length, length-append, slice_get, sym, ap, ◌∙◌, subst, refl, arith}
 use Rattle.std.specs.Int.{IsNextPowerOfTwo}
-use Rattle.ticket_queues.specs.declared.deque.Deque.{Deque}
-use Rattle.ticket_queues.specs.declared.deque.Door.{Door}
-use Rattle.ticket_queues.specs.QueueRule.{view_with}
-use Rattle.ticket_queues.specs.Deques.{deque_view, deque_id, door_id}
+use Rattle.conc_hands.specs.declared.queues.deque.Deque.{Deque}
+use Rattle.conc_hands.specs.declared.queues.deque.Door.{Door}
+use Rattle.conc_hands.specs.queues.QueueRule.{view_with}
+use Rattle.conc_hands.specs.queues.Deques.{deque_view, deque_id, door_id}
 use Rattle.conc_hands.specs.Dealing.{AreRows, AreDeques}
 use Rattle.conc_hands.proofs.Deals.{rows_wider, deques_wider, last_door}
 use Rattle.conc_hands.proofs.Places.{got_last}

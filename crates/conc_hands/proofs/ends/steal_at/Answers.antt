@@ -1,6 +1,6 @@
 use Rattle.std.proofs.Common.{◌≡◌, ◌≢◌, ℕ, ◌+◌, ◌<◌, ◌≤◌, [], ◌∷◌, ◌++◌, length, length-set, Some, None, slice_get, sym, ap, ◌∙◌, subst, refl, ⊎_elim, arith}
 use Rattle.std.proofs.lemmas.Option.{slice_get_read}
-use Rattle.ticket_queues.specs.Deques.{deque_view, pass_view}
+use Rattle.conc_hands.specs.queues.Deques.{deque_view, pass_view}
 use Rattle.conc_hands.proofs.Tickets.{share_other, same_rights, stole}
 use Rattle.conc_hands.proofs.Places.{got_after}
 use Rattle.conc_hands.proofs.ends.steal_at.Goals as goal

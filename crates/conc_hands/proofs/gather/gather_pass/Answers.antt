@@ -1,6 +1,6 @@
 use Rattle.std.proofs.Common.{rules, ◌≡◌, ℕ, ◌<◌, ◌≤◌, List, length, length-set, map, set, slice_get, Some, sym, ap, ◌∙◌, subst, refl, arith}
 use Rattle.std.proofs.lemmas.Option.{slice_get_read}
-use Rattle.ticket_queues.specs.Deques.{pass_view}
+use Rattle.conc_hands.specs.queues.Deques.{pass_view}
 use Rattle.conc_hands.specs.declared.hand.Hand.{Hand}
 use Rattle.conc_hands.specs.declared.hand.JobsEnd.{JobsEnd}
 use Rattle.conc_hands.specs.Gathering.{ends_in, number_at, IsSpentAt, IsConserved, AreEnds}

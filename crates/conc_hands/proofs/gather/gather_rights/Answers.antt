@@ -1,9 +1,9 @@
 use Rattle.std.proofs.Common.{rules, ◌≡◌, ℕ, suc, ◌+◌, ◌<◌, ◌≤◌, List, [], ◌∷◌, ◌++◌, length, length-set, map, set, take, drop, slice_get, Some, append-nil, sym, ap, ◌∙◌, subst, refl, arith}
 use Rattle.std.proofs.lemmas.Option.{slice_get_read}
-use Rattle.ticket_queues.specs.declared.view.QueueView.{QueueView}
-use Rattle.ticket_queues.specs.Inboxes.{inbox_view}
-use Rattle.cut_flags.specs.FlagsRule.{pen_view}
-use Rattle.cut_flags.specs.declared.view.PenView.{PenView}
+use Rattle.conc_hands.specs.declared.queues.view.QueueView.{QueueView}
+use Rattle.conc_hands.specs.queues.Inboxes.{inbox_view}
+use Rattle.conc_hands.specs.flags.FlagsRule.{pen_view}
+use Rattle.conc_hands.specs.declared.flags.view.PenView.{PenView}
 use Rattle.conc_hands.specs.declared.hand.Hand.{Hand}
 use Rattle.conc_hands.specs.Hands.{raised_by, read_by, handed_in_by, collected_by}
 use Rattle.conc_hands.specs.Lists.{all_raised, all_read, all_handed_in, all_collected}

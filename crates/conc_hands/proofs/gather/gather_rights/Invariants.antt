@@ -1,7 +1,7 @@
 use Rattle.std.proofs.Common.{◌≡◌, ◌-◌, ◌<◌, ◌≤◌, length, take, drop}
-use Rattle.ticket_queues.specs.Inboxes.{IsInboxPass, inbox_view}
-use Rattle.cut_flags.specs.FlagsRule.{pen_view}
-use Rattle.cut_flags.specs.Pens.{IsPenOf, view_of}
+use Rattle.conc_hands.specs.queues.Inboxes.{IsInboxPass, inbox_view}
+use Rattle.conc_hands.specs.flags.FlagsRule.{pen_view}
+use Rattle.conc_hands.specs.flags.Pens.{IsPenOf, view_of}
 use Rattle.conc_hands.specs.Gathering.{ends_in, shares_over}
 use Rattle.conc_hands.specs.Lists.{all_raised, all_read, all_handed_in, all_collected}
 use Rattle.conc_hands.proofs.gather.gather_rights.Given as goal

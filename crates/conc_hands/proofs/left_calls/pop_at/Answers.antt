@@ -1,6 +1,6 @@
 use Rattle.std.proofs.Common.{◌≡◌, ℕ, ◌+◌, ◌<◌, List, [], ◌∷◌, length, map, set, slice_get, Some, MatchOption, sym, ap, ◌∙◌, subst, refl}
 use Rattle.std.proofs.lemmas.Option.{slice_get_read}
-use Rattle.ticket_queues.specs.Deques.{deque_view}
+use Rattle.conc_hands.specs.queues.Deques.{deque_view}
 use Rattle.conc_hands.specs.declared.hand.Hand.{Hand}
 use Rattle.conc_hands.specs.declared.hand.JobsEnd.{JobsEnd}
 use Rattle.conc_hands.specs.Gathering.{ends_in, AreWhole, AreEmptyBelow, SameTotals, TotalsTaken, IsEmptyAt}

@@ -1,6 +1,6 @@
 use Rattle.number_tables.specs.Tables.{Grows}
 use Rattle.number_states.specs.Stocks.{HasGrown}
-use Rattle.exact_walks.specs.Entering.{IsAt}
+use Rattle.conc_outcomes.specs.walks.Entering.{IsAt}
 use Rattle.conc_outcomes.proofs.ends.go_round.Given as goal
 
 abbrev pub invariant-loop-place : goal.invariant-loop-place

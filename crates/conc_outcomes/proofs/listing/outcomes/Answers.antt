@@ -1,6 +1,6 @@
 use Rattle.std.proofs.Common.{sym, ◌∙◌, subst, arith}
 use Rattle.std.specs.List.{AllByRecursion}
-use Rattle.rules_trees.specs.Programs.{script_of}
+use Rattle.rules_expansion.specs.trees.Programs.{script_of}
 use Rattle.number_states.proofs.Changes.{all_more}
 use Rattle.conc_outcomes.specs.Exploring.{IsListed}
 use Rattle.conc_outcomes.proofs.Lists.{nothing_there}

@@ -1,9 +1,9 @@
 use Rattle.std.proofs.Common.{◌≡◌, map, take}
 use Rattle.std.specs.List.{AllByRecursion}
 use Rattle.hs_base.specs.declared.tree.script.Script.{Script}
-use Rattle.rules_trees.specs.Programs.{script_of}
+use Rattle.rules_expansion.specs.trees.Programs.{script_of}
 use Rattle.outcome_listing.specs.Finals.{outcomes_of}
-use Rattle.outcome_order.specs.Rising.{outcome_by}
+use Rattle.conc_outcomes.specs.order.Rising.{outcome_by}
 use Rattle.state_search.specs.Searching.{IsCodeOf}
 use Rattle.conc_outcomes.specs.Exploring.{IsListed}
 use Rattle.conc_outcomes.proofs.listing.outcomes.Given as goal

@@ -1,7 +1,7 @@
 use Rattle.std.proofs.Common.{ap, refl, ◌∙◌}
 use Rattle.std.specs.Prelude.{Some}
 use Rattle.std.proofs.lemmas.Result.{err_from_is_err_and}
-use Rattle.conc_words.specs.declared.command.Command.TheVariants.{Check, Outcomes, Run, Trace}
+use Rattle.conc_task.specs.declared.words.command.Command.TheVariants.{Check, Outcomes, Run, Trace}
 use Rattle.conc_task.proofs.Tasks.{checked, claim_none, claimed, ring_none, ring_task, run_task, searched, source_none, traced_program, unclear}
 use Rattle.conc_task.proofs.task.task_of.Goals as goal
 

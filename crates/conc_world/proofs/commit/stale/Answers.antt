@@ -1,7 +1,7 @@
 use Rattle.std.proofs.Common.{◌≡◌, ◌∙◌, Some, None, ap, sym}
 use Rattle.std.proofs.lemmas.Bool.{both_ways}
 use Rattle.thread_table.specs.declared.thread.Thread.{Thread}
-use Rattle.run_record.proofs.Printing.{there, absent}
+use Rattle.run_course.proofs.history_lemmas.Printing.{there, absent}
 use Rattle.thread_table.specs.Listing.{Goes}
 use Rattle.thread_table.specs.Table.{IsAt}
 use Rattle.conc_world.proofs.Refusing.{on_err}

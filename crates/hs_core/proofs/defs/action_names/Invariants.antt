@@ -1,5 +1,5 @@
 use Rattle.std.proofs.Common.{◌≡◌, ◌++◌, drop, map}
-use Rattle.rules_trees.specs.Programs.{fn_of}
+use Rattle.rules_expansion.specs.trees.Programs.{fn_of}
 use Rattle.rules_expansion.specs.Expansion.{actions_of}
 use Rattle.hs_core.specs.Numbering.{names_of}
 use Rattle.hs_core.proofs.defs.action_names.Given as goal

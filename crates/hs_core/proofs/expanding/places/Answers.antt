@@ -1,5 +1,5 @@
 use Rattle.std.proofs.Common.{◌≡◌, [], take, map, length, get_or, sym, ap, ◌∙◌, subst, arith}
-use Rattle.rules_trees.specs.Programs.{fn_of}
+use Rattle.rules_expansion.specs.trees.Programs.{fn_of}
 use Rattle.rules_code.specs.Slots.{roots_of}
 use Rattle.hs_nodes.specs.Standing.{Known}
 use Rattle.hs_core.proofs.Placings.{places_step, one_more}

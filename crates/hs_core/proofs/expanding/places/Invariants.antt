@@ -1,5 +1,5 @@
 use Rattle.std.proofs.Common.{◌≡◌, [], take, map}
-use Rattle.rules_trees.specs.Programs.{fn_of}
+use Rattle.rules_expansion.specs.trees.Programs.{fn_of}
 use Rattle.rules_code.specs.Slots.{roots_of}
 use Rattle.hs_nodes.specs.Standing.{Known}
 use Rattle.hs_core.proofs.expanding.places.Given as goal

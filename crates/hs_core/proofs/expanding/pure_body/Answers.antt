@@ -1,4 +1,4 @@
-use Rattle.rules_trees.specs.Trees.{ex_of}
+use Rattle.rules_expansion.specs.trees.Trees.{ex_of}
 use Rattle.hs_core.proofs.Placings.{body_is}
 use Rattle.hs_core.proofs.expanding.pure_body.Goals as goal
 

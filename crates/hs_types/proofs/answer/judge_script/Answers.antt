@@ -1,5 +1,5 @@
 use Rattle.std.proofs.Common.{Some, ap, ◌∙◌, sym, codes}
-use Rattle.rules_trees.specs.Programs.{script_of}
+use Rattle.rules_expansion.specs.trees.Programs.{script_of}
 use Rattle.rules_typing.specs.Typing.{find}
 use Rattle.rules_typing.specs.TypingScripts.{main_by}
 use Rattle.typing_judge.specs.JudgingScripts.{script_faults}

@@ -1,5 +1,5 @@
 use Rattle.std.proofs.Common.{◌≡◌, ◌&&◌, drop, map}
-use Rattle.rules_trees.specs.Programs.{par_of}
+use Rattle.rules_expansion.specs.trees.Programs.{par_of}
 use Rattle.rules_typing.specs.TypingScripts.{params_in, param_faults, none_of}
 use Rattle.typing_judge.specs.Least.{least}
 use Rattle.typing_parts.specs.Judged.{names, kept}

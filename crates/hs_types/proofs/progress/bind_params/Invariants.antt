@@ -1,5 +1,5 @@
 use Rattle.std.proofs.Common.{◌≡◌, [], drop, map}
-use Rattle.rules_trees.specs.Programs.{par_of}
+use Rattle.rules_expansion.specs.trees.Programs.{par_of}
 use Rattle.rules_typing.specs.TypingSizes.{param_names}
 use Rattle.typing_parts.specs.Views.{scope_of}
 use Rattle.hs_types.proofs.progress.bind_params.Given as goal

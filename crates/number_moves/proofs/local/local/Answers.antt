@@ -4,12 +4,12 @@ use Rattle.hs_rules.specs.declared.entry.Entry.TheVariants as entry
 use Rattle.rules_code.specs.declared.code.CodeBody.{CodeBody}
 use Rattle.slot_laws.specs.SlotRules.{locals}
 use Rattle.slot_states.specs.SlotStates.{moves}
-use Rattle.slot_entries.specs.Entering.{entered, local_entry}
+use Rattle.slot_states.specs.entering.Entering.{entered, local_entry}
 use Rattle.local_steps.specs.Machine.{funs_of}
 use Rattle.number_states.specs.Stocks.{term_at}
 use Rattle.number_states.specs.States.{contents, thread_of, slots}
 use Rattle.number_states.proofs.Growth.{all_in_on}
-use Rattle.number_changes.proofs.Made.{of_copy, of_older, copy_in, makes, on_acting}
+use Rattle.number_moves.proofs.changes_lemmas.Made.{of_copy, of_older, copy_in, makes, on_acting}
 use Rattle.number_moves.proofs.Steps.{local_moves}
 use Rattle.number_moves.proofs.local.local.Goals as goal
 

@@ -3,12 +3,12 @@ use Rattle.hs_rules.specs.declared.entry.Entry.TheVariants as entry
 use Rattle.local_steps.specs.Machine.{funs_of}
 use Rattle.slot_states.specs.SlotStates.{receives}
 use Rattle.slot_states.specs.Resting.{is_receptive}
-use Rattle.slot_entries.specs.Entering.{entered, receive_entry}
-use Rattle.number_waits.specs.declared.flight.Thrown.{Thrown}
-use Rattle.number_waits.specs.Throwing.{thrown_to, first_of, map_thrown}
+use Rattle.slot_states.specs.entering.Entering.{entered, receive_entry}
+use Rattle.number_states.specs.declared.waits.flight.Thrown.{Thrown}
+use Rattle.number_states.specs.waits.Throwing.{thrown_to, first_of, map_thrown}
 use Rattle.number_states.specs.Stocks.{exception_at}
 use Rattle.number_states.specs.States.{thread_of, slots}
-use Rattle.number_changes.proofs.Made.{makes, on_acting}
+use Rattle.number_moves.proofs.changes_lemmas.Made.{makes, on_acting}
 use Rattle.number_moves.proofs.Flying.{first_flying, first_within, receive_none, receive_first}
 use Rattle.number_moves.proofs.receiving.receive.Goals as goal
 

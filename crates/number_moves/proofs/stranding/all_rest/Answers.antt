@@ -1,5 +1,5 @@
 use Rattle.std.proofs.Common.{◌≡◌, ◌+◌, ◌<◌, length, false, get_or, drop, map, sym, ap, ◌∙◌, arith}
-use Rattle.slot_entries.specs.Entering.{rests, rest_from}
+use Rattle.slot_states.specs.entering.Entering.{rests, rest_from}
 use Rattle.number_states.specs.declared.state.NumberThread.{NumberThread}
 use Rattle.number_states.specs.States.{thread_of, slots}
 use Rattle.number_moves.proofs.Strands.{rest_more}

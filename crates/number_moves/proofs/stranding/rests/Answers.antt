@@ -1,5 +1,5 @@
 use Rattle.std.proofs.Common.{◌≡◌, Some, None, sym, ap, ◌∙◌}
-use Rattle.number_waits.specs.Throwing.{thrown_to, first_of}
+use Rattle.number_states.specs.waits.Throwing.{thrown_to, first_of}
 use Rattle.number_states.specs.Stocks.{exception_at}
 use Rattle.number_states.specs.States.{thread_of}
 use Rattle.number_moves.proofs.Strands.{held, rests_free, rests_not}

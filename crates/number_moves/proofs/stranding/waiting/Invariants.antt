@@ -1,6 +1,6 @@
 use Rattle.std.proofs.Common.{◌≡◌, ◌++◌, drop, map}
 use Rattle.rules_code.specs.declared.code.CodeBody.{CodeBody}
-use Rattle.slot_entries.specs.Entering.{waiting_from}
+use Rattle.slot_states.specs.entering.Entering.{waiting_from}
 use Rattle.number_states.specs.States.{slots, thread_of}
 use Rattle.number_moves.proofs.stranding.waiting.Given as goal
 

@@ -1,7 +1,7 @@
 use Rattle.std.proofs.Common.{◌<◌, [], ◌∷◌, ◌++◌, false, length, sym, ap, ◌∙◌, subst}
 use Rattle.std.specs.List.{AllByRecursion}
 use Rattle.std.proofs.lemmas.Option.{slice_get_within}
-use Rattle.number_waits.specs.declared.flight.Thrown.{Thrown}
+use Rattle.number_states.specs.declared.waits.flight.Thrown.{Thrown}
 use Rattle.number_states.specs.declared.state.NumberThread.{NumberThread}
 use Rattle.number_states.specs.Stocks.{IsTerm}
 use Rattle.number_states.specs.States.{CellIsWithin}

@@ -1,6 +1,6 @@
 use Rattle.std.proofs.Common.{ap, ◌∙◌, sym, subst}
-use Rattle.run_record.specs.declared.acts.Next.TheVariants as next
-use Rattle.run_record.proofs.HowItEnds.{done_ends, uncaught_ends}
+use Rattle.run_course.specs.declared.history.acts.Next.TheVariants as next
+use Rattle.run_course.proofs.history_lemmas.HowItEnds.{done_ends, uncaught_ends}
 use Rattle.run_course.specs.Settled.{GoesBy}
 use Rattle.run_course.proofs.Ended.{over_ends, spent_ends, stuck_so}
 use Rattle.run_course.proofs.settling.ending_of.Goals as goal

@@ -1,4 +1,4 @@
-use Rattle.rules_trees.specs.Programs.{script_of}
+use Rattle.rules_expansion.specs.trees.Programs.{script_of}
 use Rattle.slot_states.proofs.CellReading.{waits_below, try_take_below, try_put_below}
 use Rattle.slot_states.proofs.CellThreads.{free_is_nowhere}
 use Rattle.slot_states.proofs.cells.calls_may_be_made.Goals as goal

@@ -1,4 +1,4 @@
-use Rattle.rules_trees.specs.Programs.{script_of}
+use Rattle.rules_expansion.specs.trees.Programs.{script_of}
 use Rattle.rules_meaning.specs.CoreMeaning.{code_of}
 use Rattle.slot_states.proofs.Printed.{next_adds, entry_adds, nothing_yet, run_prints}
 use Rattle.slot_states.proofs.outputs.entries_print.Goals as goal

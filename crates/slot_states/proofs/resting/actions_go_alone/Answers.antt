@@ -1,4 +1,4 @@
-use Rattle.rules_trees.specs.Programs.{script_of}
+use Rattle.rules_expansion.specs.trees.Programs.{script_of}
 use Rattle.slot_states.proofs.AtRest.{goes_alone}
 use Rattle.slot_states.proofs.resting.actions_go_alone.Goals as goal
 

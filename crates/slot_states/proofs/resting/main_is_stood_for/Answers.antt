@@ -1,4 +1,4 @@
-use Rattle.rules_trees.specs.Programs.{script_of}
+use Rattle.rules_expansion.specs.trees.Programs.{script_of}
 use Rattle.slot_states.proofs.AtRest.{main_done, main_uncaught, main_goes}
 use Rattle.slot_states.proofs.resting.main_is_stood_for.Goals as goal
 

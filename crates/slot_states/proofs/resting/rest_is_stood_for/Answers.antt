@@ -1,4 +1,4 @@
-use Rattle.rules_trees.specs.Programs.{script_of}
+use Rattle.rules_expansion.specs.trees.Programs.{script_of}
 use Rattle.slot_states.proofs.AtRest.{none_works, nobody_sleeps, same_used}
 use Rattle.slot_states.proofs.resting.rest_is_stood_for.Goals as goal
 

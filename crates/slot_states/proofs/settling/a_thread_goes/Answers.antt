@@ -1,4 +1,4 @@
-use Rattle.rules_trees.specs.Programs.{script_of}
+use Rattle.rules_expansion.specs.trees.Programs.{script_of}
 use Rattle.slot_states.proofs.Settled.{local_legal, no_deadlock}
 use Rattle.slot_states.proofs.settling.a_thread_goes.Goals as goal
 

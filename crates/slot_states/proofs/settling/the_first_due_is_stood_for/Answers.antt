@@ -1,4 +1,4 @@
-use Rattle.rules_trees.specs.Programs.{script_of}
+use Rattle.rules_expansion.specs.trees.Programs.{script_of}
 use Rattle.slot_states.proofs.Settled.{same_due}
 use Rattle.slot_states.proofs.settling.the_first_due_is_stood_for.Goals as goal
 

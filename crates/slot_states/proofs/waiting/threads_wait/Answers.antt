@@ -1,4 +1,4 @@
-use Rattle.rules_trees.specs.Programs.{script_of}
+use Rattle.rules_expansion.specs.trees.Programs.{script_of}
 use Rattle.hs_laws.proofs.Expanded.{standing_of}
 use Rattle.slot_states.proofs.Waits.{blocked_performs, thrower_blocked, sleeper_blocked, thrower_waits, sleeper_waits, free_waits}
 use Rattle.slot_states.proofs.waiting.threads_wait.Goals as goal

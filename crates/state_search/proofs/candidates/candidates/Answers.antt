@@ -2,8 +2,8 @@ use Rattle.std.proofs.Common.{◌≡◌, ◌≤◌, ◌<◌, ◌+◌, ◌++◌, 
 use Rattle.std.proofs.lemmas.List.{drop_all}
 use Rattle.hs_rules.specs.declared.entry.Entry.{Entry}
 use Rattle.hs_rules.specs.declared.entry.Entry.TheVariants as entry
-use Rattle.number_waits.specs.declared.sleepers.Asleep.{Asleep}
-use Rattle.number_waits.specs.Sleeping.{sleepers}
+use Rattle.number_states.specs.declared.waits.sleepers.Asleep.{Asleep}
+use Rattle.number_states.specs.waits.Sleeping.{sleepers}
 use Rattle.rules_code.specs.declared.code.CodeBody.{CodeBody}
 use Rattle.number_states.specs.declared.state.NumberThread.{NumberThread}
 use Rattle.number_states.specs.Stocks.{Stock}

@@ -1,5 +1,5 @@
 use Rattle.std.proofs.Common.{◌≡◌, ◌++◌, drop, map}
-use Rattle.number_waits.specs.Sleeping.{sleepers}
+use Rattle.number_states.specs.waits.Sleeping.{sleepers}
 use Rattle.rules_code.specs.declared.code.CodeBody.{CodeBody}
 use Rattle.number_states.specs.Stocks.{Stock}
 use Rattle.number_states.specs.States.{thread_of}

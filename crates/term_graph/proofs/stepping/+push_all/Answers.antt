@@ -1,7 +1,7 @@
 use Rattle.std.proofs.Common.{List, ◌++◌, sym, subst}
 use Rattle.local_steps.specs.declared.active.Frame.{Frame}
 use Rattle.local_steps.specs.Machine.{frame_of, frames_of}
-use Rattle.term_tables.specs.Numbered.{IsStack}
+use Rattle.term_graph.specs.tables.Numbered.{IsStack}
 use Rattle.term_graph.proofs.Growth.{pushed_more}
 use Rattle.term_graph.proofs.stepping.+push_all.Goals as goal
 

@@ -1,6 +1,6 @@
 use Rattle.std.proofs.Common.{arith}
 use Rattle.rules_code.specs.Codes.{body_of}
-use Rattle.rules_trees.specs.Programs.{script_of}
+use Rattle.rules_expansion.specs.trees.Programs.{script_of}
 use Rattle.trace_picture.proofs.Filmed.{large, pictured}
 use Rattle.trace_picture.proofs.filming.picture.Goals as goal
 

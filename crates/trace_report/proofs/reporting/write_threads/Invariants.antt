@@ -1,6 +1,6 @@
 use Rattle.std.proofs.Common.{◌≡◌, ◌++◌}
 use Rattle.std.specs.Prelude.{string_bytes}
-use Rattle.report_tally.specs.Reporting.{lines_below}
+use Rattle.trace_report.specs.tally.Reporting.{lines_below}
 use Rattle.trace_report.specs.Looking.{thread_text}
 use Rattle.trace_report.proofs.reporting.write_threads.Given as goal
 

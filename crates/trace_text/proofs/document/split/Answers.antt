@@ -2,7 +2,7 @@ use Rattle.std.proofs.Common.{◌∙◌, take, refl, sym, ap}
 use Rattle.std.specs.List.{position}
 use Rattle.std.specs.Prelude.{◌==◌}
 use Rattle.plain_laws.proofs.Lists.{slice_from}
-use Rattle.rules_traces.specs.Traces.{script_line}
+use Rattle.trace_text.specs.spelling.Traces.{script_line}
 use Rattle.trace_text.proofs.ScriptLines.{searched_more, searched_all, tested}
 use Rattle.trace_text.proofs.document.split.Goals as goal
 

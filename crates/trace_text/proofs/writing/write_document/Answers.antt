@@ -1,5 +1,5 @@
 use Rattle.std.proofs.Common.{◌∙◌}
-use Rattle.rules_traces.specs.Traces.{script_line}
+use Rattle.trace_text.specs.spelling.Traces.{script_line}
 use Rattle.trace_text.proofs.Documents.{document_is}
 use Rattle.trace_text.proofs.writing.write_document.Goals as goal
 

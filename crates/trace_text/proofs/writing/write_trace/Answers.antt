@@ -1,6 +1,6 @@
 use Rattle.std.proofs.Common.{◌++◌, ◌∙◌, refl, sym, ap, arith}
 use Rattle.std.specs.Prelude.{string_bytes}
-use Rattle.rules_traces.specs.Traces.{header}
+use Rattle.trace_text.specs.spelling.Traces.{header}
 use Rattle.trace_text.proofs.Readings.{written_none, written_more, ok_spells}
 use Rattle.trace_text.proofs.writing.write_trace.Goals as goal
 use Rattle.trace_text.proofs.writing.write_trace.Goals.{in-Some+in_ok-write_line, in_default}

@@ -1,5 +1,5 @@
 use Rattle.std.proofs.Common.{◌≡◌, ◌∙◌, ap, sym}
-use Rattle.rules_trees.specs.Programs.{bd_of}
+use Rattle.rules_expansion.specs.trees.Programs.{bd_of}
 use Rattle.rules_typing.specs.TypingScripts.{acts}
 use Rattle.typing_parts.proofs.HeadSteps.{head_step}
 use Rattle.typing_parts.proofs.heads.fun_of.Goals.{in-Pure, in-Action}

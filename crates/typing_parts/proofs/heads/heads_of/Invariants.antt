@@ -1,5 +1,5 @@
 use Rattle.std.proofs.Common.{◌≡◌, ◌++◌, length, drop, map}
-use Rattle.rules_trees.specs.Programs.{fn_of}
+use Rattle.rules_expansion.specs.trees.Programs.{fn_of}
 use Rattle.rules_typing.specs.TypingScripts.{sigs_from}
 use Rattle.typing_parts.specs.Heads.{HeadsBelow}
 use Rattle.typing_parts.specs.Views.{sigs_of}

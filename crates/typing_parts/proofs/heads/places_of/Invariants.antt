@@ -1,5 +1,5 @@
 use Rattle.std.proofs.Common.{◌≡◌, ◌++◌, length, drop, map}
-use Rattle.rules_trees.specs.Programs.{par_of}
+use Rattle.rules_expansion.specs.trees.Programs.{par_of}
 use Rattle.rules_typing.specs.TypingScripts.{param_types}
 use Rattle.typing_table.specs.Meaning.{Grows}
 use Rattle.typing_parts.specs.Heads.{AllBelow}

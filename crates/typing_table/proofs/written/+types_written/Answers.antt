@@ -1,6 +1,6 @@
 use Rattle.std.proofs.Common.{ap, ◌∙◌, sym}
-use Rattle.rules_trees.specs.Trees.{ty_of, pair, maybe, either, list, cell, async}
-use Rattle.rules_trees.proofs.Equations.{ty-Pair, ty-Maybe, ty-Either, ty-List, ty-Cell, ty-Async}
+use Rattle.rules_expansion.specs.trees.Trees.{ty_of, pair, maybe, either, list, cell, async}
+use Rattle.rules_expansion.proofs.trees_lemmas.Equations.{ty-Pair, ty-Maybe, ty-Either, ty-List, ty-Cell, ty-Async}
 use Rattle.typing_table.specs.Meaning.{type_in}
 use Rattle.typing_table.proofs.Equations.{type-Pair, type-Maybe, type-Either, type-List, type-Cell, type-Async}
 use Rattle.typing_table.proofs.written.+types_written.Goals as goal

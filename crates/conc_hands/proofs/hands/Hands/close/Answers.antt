@@ -1,8 +1,8 @@
 use Rattle.std.proofs.Common.{rules, ◌≡◌, ◌++◌, List, ℕ, ◌+◌, ◌<◌, [], length, sym, ap, ◌∙◌, subst, refl, arith}
-use Rattle.ticket_queues.specs.QueueRule.{weigh}
-use Rattle.ticket_queues.proofs.Weights.{weigh_append}
-use Rattle.cut_flags.specs.declared.view.PenView.{PenView}
-use Rattle.cut_flags.specs.FlagsRule.{OnlyRaised}
+use Rattle.conc_hands.specs.queues.QueueRule.{weigh}
+use Rattle.conc_hands.proofs.queues_lemmas.Weights.{weigh_append}
+use Rattle.conc_hands.specs.declared.flags.view.PenView.{PenView}
+use Rattle.conc_hands.specs.flags.FlagsRule.{OnlyRaised}
 use Rattle.conc_hands.specs.Lists.{all_pushed, all_taken}
 use Rattle.conc_hands.specs.Gathering.{total_over, pushed_weight, taken_weight, ends_in, AreEnds, AreDealt}
 use Rattle.conc_hands.proofs.Closes.{pushed_sum, taken_sum, all_counted, all_rights, all_posts, all_ends, all_dealt}

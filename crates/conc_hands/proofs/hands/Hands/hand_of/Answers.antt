@@ -1,6 +1,6 @@
 use Rattle.std.proofs.Common.{rules, ◌≡◌, ◌+◌, ◌<◌, ◌≤◌, ℕ, Some, [], sym, ap, ◌∙◌, subst, refl, arith}
-use Rattle.cut_flags.specs.declared.view.PenView.{PenView}
-use Rattle.ticket_queues.specs.declared.view.QueueView.{QueueView}
+use Rattle.conc_hands.specs.declared.flags.view.PenView.{PenView}
+use Rattle.conc_hands.specs.declared.queues.view.QueueView.{QueueView}
 use Rattle.conc_hands.proofs.Deals.{end_made}
 use Rattle.conc_hands.proofs.hands.Hands.hand_of.Goals as goal
 

@@ -1,8 +1,8 @@
 use Rattle.std.proofs.Common.{◌≡◌, ◌+◌, ◌-◌, ◌<◌, [], length, Some}
-use Rattle.ticket_queues.specs.QueueRule.{view_with}
-use Rattle.ticket_queues.specs.Inboxes.{IsInboxPass, inbox_view}
-use Rattle.cut_flags.specs.FlagsRule.{pen_view}
-use Rattle.cut_flags.specs.Pens.{IsPenOf, view_of}
+use Rattle.conc_hands.specs.queues.QueueRule.{view_with}
+use Rattle.conc_hands.specs.queues.Inboxes.{IsInboxPass, inbox_view}
+use Rattle.conc_hands.specs.flags.FlagsRule.{pen_view}
+use Rattle.conc_hands.specs.flags.Pens.{IsPenOf, view_of}
 use Rattle.conc_hands.specs.Dealing.{AreRows, AreDeques, AreFresh}
 use Rattle.conc_hands.specs.Hands.{hands_code}
 use Rattle.conc_hands.proofs.hands.Hands.hand_out.Given as goal

@@ -1,7 +1,7 @@
 use Rattle.std.proofs.Common.{◌≡◌, ◌+◌, ◌<◌, ◌↔◌, [], ◌++◌, List, ℕ, slice_get, Some, IsNone, sym, subst, ◌∙◌, ap, arith, append-nil}
-use Rattle.ticket_queues.specs.declared.deque.DequePass.{DequePass}
-use Rattle.ticket_queues.specs.QueueRule.{SameTickets}
-use Rattle.ticket_queues.specs.Deques.{deque_view, pass_view}
+use Rattle.conc_hands.specs.declared.queues.deque.DequePass.{DequePass}
+use Rattle.conc_hands.specs.queues.QueueRule.{SameTickets}
+use Rattle.conc_hands.specs.queues.Deques.{deque_view, pass_view}
 use Rattle.conc_hands.specs.Ends.{stolen_by, share_at}
 use Rattle.conc_hands.proofs.Tickets.{popped, stolen_alone}
 use Rattle.conc_hands.proofs.hands.Hands.pop.Goals as goal

@@ -1,6 +1,6 @@
 use Rattle.std.proofs.Common.{sym, ap, ◌∙◌}
 use Rattle.rules_code.specs.Codes.{body_of}
-use Rattle.run_record.specs.declared.record.Record.{Record}
+use Rattle.run_course.specs.declared.history.record.Record.{Record}
 use Rattle.conc_world.proofs.Desks.{code_alike, concluded_open, idle_few, idle_knows}
 use Rattle.conc_world.proofs.desk.Desk.begin.Goals as goal
 

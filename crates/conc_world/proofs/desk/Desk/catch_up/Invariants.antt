@@ -1,5 +1,5 @@
 use Rattle.std.proofs.Common.{◌≡◌, ◌-◌, ℕ, length}
-use Rattle.job_tickets.specs.Out.{ticket_of}
+use Rattle.conc_world.specs.tickets.Out.{ticket_of}
 use Rattle.conc_world.specs.Jobs.{SameJobs}
 use Rattle.conc_world.proofs.desk.Desk.catch_up.Given as goal
 

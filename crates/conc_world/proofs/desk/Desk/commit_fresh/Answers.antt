@@ -1,5 +1,5 @@
 use Rattle.std.proofs.Common.{subst, sym}
-use Rattle.job_tickets.specs.declared.tickets.Tickets.{Tickets}
+use Rattle.conc_world.specs.declared.tickets.tickets.Tickets.{Tickets}
 use Rattle.conc_world.specs.Committing.{IsCommitted, TicketBack}
 use Rattle.conc_world.proofs.desk.Desk.commit_fresh.Goals as goal
 

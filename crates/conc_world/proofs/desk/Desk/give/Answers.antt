@@ -1,5 +1,5 @@
 use Rattle.std.proofs.Common.{arith, refl}
-use Rattle.job_tickets.specs.Out.{job}
+use Rattle.conc_world.specs.tickets.Out.{job}
 use Rattle.conc_world.proofs.Knowing.{few_added, fresh_ticket, knows_added}
 use Rattle.conc_world.proofs.desk.Desk.give.Goals as goal
 

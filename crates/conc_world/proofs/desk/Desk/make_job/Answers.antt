@@ -1,8 +1,8 @@
 use Rattle.std.specs.Prelude.{length}
 use Rattle.std.proofs.Common.{◌≡◌, ◌+◌, ◌∙◌, ℕ, ap, arith, subst, sym}
 use Rattle.std.proofs.lemmas.Grind.{common_steps}
-use Rattle.job_tickets.specs.Out.{job, ticket_of, HasRoom}
-use Rattle.run_record.specs.Records.{Same}
+use Rattle.conc_world.specs.tickets.Out.{job, ticket_of, HasRoom}
+use Rattle.run_course.specs.history.Records.{Same}
 use Rattle.conc_world.specs.Jobs.{Added, IsJob}
 use Rattle.conc_world.proofs.Knowing.{added_after}
 use Rattle.conc_world.proofs.desk.Desk.make_job.Goals as goal

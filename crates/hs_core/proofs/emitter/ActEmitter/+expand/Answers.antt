@@ -1,11 +1,11 @@
 use Rattle.std.proofs.Common.{Some, None, refl, ap, sym, ◌∙◌, ◌∷◌, length, get_or, arith}
 use Rattle.rules_code.specs.declared.act.Act.TheVariants as k
-use Rattle.rules_trees.specs.Trees.{ex_of}
+use Rattle.rules_expansion.specs.trees.Trees.{ex_of}
 use Rattle.rules_expansion.specs.Names.{Written}
 use Rattle.rules_expansion.specs.Core.{OfScript}
 use Rattle.rules_expansion.specs.Expansion.{on_two, derived, unary_row_core, core, block_core, masking_core}
-use Rattle.rules_trees.specs.Programs.{choose_act, case_act, catch, bind, let_in, then, maybe_acts, either_acts, list_acts, pair_acts, act_of, bl_of, stmt_of, act_arms_of}
-use Rattle.rules_trees.proofs.EquationsOfActions.{act-Unary, act-Guard, act-If, act-Case, act-Catch, stmt-Bind, stmt-Let, stmt-Do, acts-OfMaybe, acts-OfEither, acts-OfList, acts-OfPair}
+use Rattle.rules_expansion.specs.trees.Programs.{choose_act, case_act, catch, bind, let_in, then, maybe_acts, either_acts, list_acts, pair_acts, act_of, bl_of, stmt_of, act_arms_of}
+use Rattle.rules_expansion.proofs.trees_lemmas.EquationsOfActions.{act-Unary, act-Guard, act-If, act-Case, act-Catch, stmt-Bind, stmt-Let, stmt-Do, acts-OfMaybe, acts-OfEither, acts-OfList, acts-OfPair}
 use Rattle.rules_code.specs.Slots.{slot_of, slotted}
 use Rattle.rules_code.specs.CodeTrees.{a_if, a_maybe, a_either, a_list, a_pair, a_fork, a_fork_unmask, a_catch, a_mask, a_mask_hard, a_restore, slot_or_end}
 use Rattle.hs_nodes.specs.declared.names.ScopedName.TheVariants as w

@@ -1,6 +1,6 @@
 use Rattle.std.proofs.Common.{take, drop}
 use Rattle.std.specs.Option.{option_copied}
-use Rattle.rules_trees.specs.Programs.{act_of}
+use Rattle.rules_expansion.specs.trees.Programs.{act_of}
 use Rattle.rules_expansion.specs.Templates.{steps}
 use Rattle.hs_core.specs.Opening.{OpensAll}
 use Rattle.hs_core.specs.Making.{filling_of}

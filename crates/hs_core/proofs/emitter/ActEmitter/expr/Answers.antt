@@ -1,4 +1,4 @@
-use Rattle.rules_trees.specs.Trees.{ex_of}
+use Rattle.rules_expansion.specs.trees.Trees.{ex_of}
 use Rattle.hs_core.proofs.Steps.{of_expr}
 use Rattle.hs_core.proofs.emitter.ActEmitter.expr.Goals as goal
 

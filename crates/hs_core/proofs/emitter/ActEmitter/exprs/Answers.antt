@@ -1,4 +1,4 @@
-use Rattle.rules_trees.specs.Trees.{exs_of}
+use Rattle.rules_expansion.specs.trees.Trees.{exs_of}
 use Rattle.hs_core.proofs.Steps.{of_exprs}
 use Rattle.hs_core.proofs.emitter.ActEmitter.exprs.Goals as goal
 

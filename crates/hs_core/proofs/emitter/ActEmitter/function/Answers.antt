@@ -1,6 +1,6 @@
 use Rattle.std.proofs.Common.{ap, ◌∙◌, refl}
-use Rattle.rules_trees.specs.Trees.{ex_of, wr_of}
-use Rattle.rules_trees.specs.Programs.{fn_of, bd_of, bl_of}
+use Rattle.rules_expansion.specs.trees.Trees.{ex_of, wr_of}
+use Rattle.rules_expansion.specs.trees.Programs.{fn_of, bd_of, bl_of}
 use Rattle.hs_core.proofs.Placings.{function_made, function_none}
 use Rattle.hs_core.proofs.emitter.ActEmitter.function.Goals as goal
 

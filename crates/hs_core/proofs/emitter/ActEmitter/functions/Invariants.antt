@@ -1,5 +1,5 @@
 use Rattle.std.proofs.Common.{[], take, map}
-use Rattle.rules_trees.specs.Programs.{fn_of}
+use Rattle.rules_expansion.specs.trees.Programs.{fn_of}
 use Rattle.hs_core.specs.Placing.{Functions}
 use Rattle.hs_core.proofs.emitter.ActEmitter.functions.Given as goal
 

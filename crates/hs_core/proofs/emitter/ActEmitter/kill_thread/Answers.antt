@@ -1,6 +1,6 @@
 use Rattle.rules_expansion.specs.declared.primitive.Primitive.TheVariants as p
 use Rattle.hs_base.specs.declared.exn.Exn.TheVariants as x
-use Rattle.rules_trees.specs.Trees.{exception}
+use Rattle.rules_expansion.specs.trees.Trees.{exception}
 use Rattle.rules_code.specs.Slots.{s_none, s_more, s_literal}
 use Rattle.rules_code.specs.CodeTrees.{a_perform}
 use Rattle.hs_core.proofs.Steps.{after_ex}

@@ -2,7 +2,7 @@ use Rattle.std.proofs.Common.{refl}
 use Rattle.rules_code.specs.declared.node.Node.TheVariants as n
 use Rattle.hs_base.specs.declared.exn.Exn.TheVariants as x
 use Rattle.rules_code.specs.Slots.{s_literal}
-use Rattle.rules_trees.specs.Trees.{exception}
+use Rattle.rules_expansion.specs.trees.Trees.{exception}
 use Rattle.hs_core.proofs.Steps.{leaf}
 use Rattle.hs_core.proofs.emitter.ActEmitter.killed.Goals as goal
 

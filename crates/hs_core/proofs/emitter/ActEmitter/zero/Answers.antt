@@ -1,7 +1,7 @@
 use Rattle.std.proofs.Common.{refl, pos}
 use Rattle.rules_code.specs.declared.node.Node.TheVariants as n
 use Rattle.rules_code.specs.Slots.{s_literal}
-use Rattle.rules_trees.specs.Trees.{number}
+use Rattle.rules_expansion.specs.trees.Trees.{number}
 use Rattle.hs_core.proofs.Steps.{leaf}
 use Rattle.hs_core.proofs.emitter.ActEmitter.zero.Goals as goal
 

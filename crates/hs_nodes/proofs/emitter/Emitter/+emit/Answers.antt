@@ -2,8 +2,8 @@
 use Rattle.std.proofs.Common.{ap, ◌∙◌, sym, subst, refl, ◌∷◌, ◌++◌, ◌+◌, length, drop, get_or, arith}
 use Rattle.std.specs.Prelude.{IfOk}
 use Rattle.hs_base.specs.declared.tree.forms.BinaryForm.TheVariants as b
-use Rattle.rules_trees.specs.Trees.{ex_of, exs_of, wr_of, arms_of, links_of, sum_links_of, list_links_of, compare_form, sum_form, cons_form, nothing_more, lit, name, unary, binary, chain, conses, choose, items, empty, side, given, case, maybe_arms, either_arms, list_arms, pair_arms}
-use Rattle.rules_trees.proofs.Equations.{ex-If, ex-Case, ex-Let, ex-Or, ex-And, ex-Product, ex-Sum, ex-Cons, ex-Compare, ex-Call, ex-Unary, ex-Empty, ex-Side, ex-Div, ex-Mod, ex-Pair, ex-Unit, ex-List, arms-OfMaybe, arms-OfEither, arms-OfList, arms-OfPair}
+use Rattle.rules_expansion.specs.trees.Trees.{ex_of, exs_of, wr_of, arms_of, links_of, sum_links_of, list_links_of, compare_form, sum_form, cons_form, nothing_more, lit, name, unary, binary, chain, conses, choose, items, empty, side, given, case, maybe_arms, either_arms, list_arms, pair_arms}
+use Rattle.rules_expansion.proofs.trees_lemmas.Equations.{ex-If, ex-Case, ex-Let, ex-Or, ex-And, ex-Product, ex-Sum, ex-Cons, ex-Compare, ex-Call, ex-Unary, ex-Empty, ex-Side, ex-Div, ex-Mod, ex-Pair, ex-Unit, ex-List, arms-OfMaybe, arms-OfEither, arms-OfList, arms-OfPair}
 use Rattle.rules_expansion.specs.Names.{Written}
 use Rattle.rules_code.specs.declared.node.Node.TheVariants as n
 use Rattle.hs_nodes.specs.declared.names.ScopedName.TheVariants as w

@@ -1,6 +1,6 @@
 use Rattle.std.proofs.Common.{◌≡◌, ◌+◌, ◌*◌, ◌++◌, drop, length, max}
 use Rattle.hs_base.specs.declared.tree.expr.Expr.{size-Expr}
-use Rattle.rules_trees.specs.Trees.{exs_of, links_of, sum_links_of, list_links_of}
+use Rattle.rules_expansion.specs.trees.Trees.{exs_of, links_of, sum_links_of, list_links_of}
 use Rattle.hs_nodes.specs.Emitting.{all_nodes, ids_of, link_nodes, node_links}
 use Rattle.hs_nodes.specs.Names.{scope_of}
 use Rattle.hs_nodes.proofs.emitter.Emitter.+emit.Given as goal

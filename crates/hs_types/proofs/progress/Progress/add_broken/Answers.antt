@@ -1,5 +1,5 @@
 use Rattle.std.proofs.Common.{[], ◌∷◌, ◌++◌, ap, ◌∙◌}
-use Rattle.rules_trees.specs.Programs.{fn_of}
+use Rattle.rules_expansion.specs.trees.Programs.{fn_of}
 use Rattle.rules_typing.specs.TypingScripts.{fn_extent}
 use Rattle.typing_parts.specs.Views.{broken_of, kept_of, scope_of}
 use Rattle.typing_parts.specs.Contexts.{ctx_of}

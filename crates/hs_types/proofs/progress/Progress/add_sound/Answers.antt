@@ -1,5 +1,5 @@
 use Rattle.std.proofs.Common.{[], ◌∷◌, ◌++◌, ◌||◌, cond, ltb, ap, ◌∙◌}
-use Rattle.rules_trees.specs.Programs.{fn_of}
+use Rattle.rules_expansion.specs.trees.Programs.{fn_of}
 use Rattle.rules_typing.specs.Typing.{large}
 use Rattle.rules_typing.specs.TypingSizes.{param_names, worst_body}
 use Rattle.typing_judge.specs.JudgingScripts.{is_far}

@@ -1,5 +1,5 @@
 use Rattle.std.proofs.Common.{◌≡◌, [], drop, map}
-use Rattle.rules_trees.specs.Programs.{fn_of}
+use Rattle.rules_expansion.specs.trees.Programs.{fn_of}
 use Rattle.typing_judge.specs.JudgingScripts.{faults_from}
 use Rattle.typing_judge.specs.Least.{least}
 use Rattle.typing_parts.specs.Views.{kept_of, scope_of, sigs_of}

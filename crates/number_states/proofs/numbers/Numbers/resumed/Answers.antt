@@ -1,7 +1,7 @@
 use Rattle.std.proofs.Common.{◌≡◌, Some, ap, ◌∙◌}
 use Rattle.std.proofs.lemmas.Result.{IfOk-weaker}
 use Rattle.rules_code.specs.declared.code.CodeBody.{CodeBody}
-use Rattle.term_tables.specs.Numbered.{term_in}
+use Rattle.term_graph.specs.tables.Numbered.{term_in}
 use Rattle.number_states.specs.Stocks.{Stock, term_at, or_bare}
 use Rattle.number_states.proofs.Stacked.{both_ok, term_there}
 use Rattle.number_states.proofs.numbers.Numbers.resumed.Goals as goal

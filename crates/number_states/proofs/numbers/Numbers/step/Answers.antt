@@ -2,7 +2,7 @@ use Rattle.std.proofs.Common.{◌≡◌, None, MatchOption, map, ap, ◌∙◌, 
 use Rattle.hs_base.specs.declared.mask.Mask.TheVariants.{Unmasked}
 use Rattle.slot_laws.specs.SlotRules.{local}
 use Rattle.local_steps.specs.Machine.{funs_of}
-use Rattle.term_tables.specs.Numbered.{term_in}
+use Rattle.term_graph.specs.tables.Numbered.{term_in}
 use Rattle.term_graph.specs.Steps.{Steps}
 use Rattle.number_states.specs.declared.held.HeldValue.{HeldValue}
 use Rattle.number_states.specs.declared.held.HeldExn.{HeldExn}

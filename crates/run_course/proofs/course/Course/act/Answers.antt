@@ -1,7 +1,7 @@
 use Rattle.std.proofs.Common.{arith, refl, sym, subst, Some}
 use Rattle.plain_laws.proofs.Options.{said_of}
-use Rattle.run_record.specs.Acts.{entry_of}
-use Rattle.run_record.specs.Records.{WouldExceed}
+use Rattle.run_course.specs.history.Acts.{entry_of}
+use Rattle.run_course.specs.history.Records.{WouldExceed}
 use Rattle.run_course.specs.declared.ends.RunEnd.TheVariants as end
 use Rattle.run_course.proofs.Kept.{calm_ends, calm_put, ended_none, limit_same, on_err, on_none, on_ok, rose_since, told_ends, told_failed, told_put, told_same}
 use Rattle.run_course.proofs.course.Course.act.Goals as goal

@@ -1,8 +1,8 @@
-use Rattle.run_record.specs.Records.{Same, WouldExceed}
+use Rattle.run_course.specs.history.Records.{Same, WouldExceed}
 use Rattle.hs_rules.specs.declared.entry.Entry.TheVariants as entry
 use Rattle.hs_rules.specs.declared.entry.LimitKind.TheVariants as limit
 use Rattle.std.proofs.Common.{◌≡◌, refl}
-use Rattle.clocked_record.proofs.Going.{went_so}
+use Rattle.run_course.proofs.clocked_lemmas.Going.{went_so}
 use Rattle.run_course.proofs.Going.{silently}
 use Rattle.run_course.proofs.Kept.{ended_none, told_went}
 use Rattle.run_course.proofs.course.Course.append.Goals as goal

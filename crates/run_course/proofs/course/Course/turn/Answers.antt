@@ -1,7 +1,7 @@
 use Rattle.std.proofs.Common.{ap, inr, sym, ◌∙◌, subst, refl, ◌<◌}
 use Rattle.hs_rules.specs.Histories.{steps_of}
 use Rattle.hs_rules.specs.declared.entry.Entry.TheVariants as entry
-use Rattle.run_record.specs.declared.acts.Next.TheVariants as next
+use Rattle.run_course.specs.declared.history.acts.Next.TheVariants as next
 use Rattle.run_course.specs.Endings.{IsConcluded, IsOpen}
 use Rattle.run_course.specs.Settled.{OnlyGoes}
 use Rattle.run_course.proofs.Ended.{only_goes}

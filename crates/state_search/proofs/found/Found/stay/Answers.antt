@@ -1,6 +1,6 @@
 use Rattle.std.proofs.Common.{◌≡◌, ◌<◌, None, Some, sym, ap, ◌∙◌, subst}
 use Rattle.rules_waiting.specs.Waiting.{earliest}
-use Rattle.number_waits.specs.Sleeping.{sleepers}
+use Rattle.number_states.specs.waits.Sleeping.{sleepers}
 use Rattle.state_search.proofs.Promised.{there_at}
 use Rattle.state_search.proofs.Staying.{going_settled, stays_stuck, stays_real, may_tick, stays_tick}
 use Rattle.state_search.proofs.found.Found.stay.Goals as goal

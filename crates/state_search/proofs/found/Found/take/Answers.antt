@@ -3,7 +3,7 @@ use Rattle.local_steps.specs.Machine.{funs_of}
 use Rattle.number_states.specs.States.{contents, slots}
 use Rattle.number_states.proofs.Growth.{all_in_on}
 use Rattle.number_states.proofs.Changes.{got_mapped}
-use Rattle.number_rests.proofs.Ruling.{rules_on}
+use Rattle.number_moves.proofs.rests_lemmas.Ruling.{rules_on}
 use Rattle.search_laws.specs.Found.{IsFollowed}
 use Rattle.search_laws.proofs.Growing.{followed_last}
 use Rattle.state_search.specs.declared.found.Found.{Found}

@@ -2,7 +2,7 @@ use Rattle.std.proofs.Common.{refl}
 use Rattle.std.specs.Prelude.{Some, None}
 use Rattle.std.proofs.lemmas.Bool.Decides.{Decides-eqb}
 use Rattle.std.proofs.lemmas.Slice.Eq.{strip_prefix_is}
-use Rattle.rules_traces.specs.Traces.{header}
+use Rattle.trace_text.specs.spelling.Traces.{header}
 use Rattle.trace_text.proofs.lines.Lines.of.Goals as goal
 
 pub returns-in_err-rest : goal.returns-in_err-rest

@@ -1,8 +1,8 @@
 use Rattle.std.proofs.Common.{refl, ap, ◌∙◌, sym}
 use Rattle.hs_base.specs.declared.tree.expr.ExprArms.{ExprArms}
 use Rattle.hs_base.specs.declared.tree.forms.BinaryForm.TheVariants as bf
-use Rattle.rules_trees.specs.Trees.{ex_of, exs_of, arms_of, links_of, sum_links_of, list_links_of}
-use Rattle.rules_trees.proofs.Equations.{ex-If, ex-Case, ex-Let, ex-Or, ex-And, ex-Product, ex-Sum, ex-Cons, ex-Compare, ex-Call, ex-List, ex-Unary, ex-Empty, ex-Side, ex-Div, ex-Mod, ex-Pair, ex-Int, ex-Text, ex-Constant, ex-Unit}
+use Rattle.rules_expansion.specs.trees.Trees.{ex_of, exs_of, arms_of, links_of, sum_links_of, list_links_of}
+use Rattle.rules_expansion.proofs.trees_lemmas.Equations.{ex-If, ex-Case, ex-Let, ex-Or, ex-And, ex-Product, ex-Sum, ex-Cons, ex-Compare, ex-Call, ex-List, ex-Unary, ex-Empty, ex-Side, ex-Div, ex-Mod, ex-Pair, ex-Int, ex-Text, ex-Constant, ex-Unit}
 use Rattle.rules_typing.specs.TypingSizes as rule
 use Rattle.typing_parts.specs.Views.{sigs_of}
 use Rattle.typing_extents.proofs.Steps.{At, at, tree_at, ex_at, exs_at, name_at, under_at, links_at, arms_at, both, leaf, two, over_parts, higher_parts, tail0, tail2}

@@ -1,6 +1,6 @@
 use Rattle.std.proofs.Common.{◌+◌, ◌*◌, drop, max, []}
 use Rattle.hs_base.specs.declared.tree.expr.Expr.{size-Expr}
-use Rattle.rules_trees.specs.Trees.{exs_of, links_of, sum_links_of, list_links_of}
+use Rattle.rules_expansion.specs.trees.Trees.{exs_of, links_of, sum_links_of, list_links_of}
 use Rattle.rules_typing.specs.TypingSizes.{extents, link_extents}
 use Rattle.typing_parts.specs.Views.{scope_of, sigs_of}
 use Rattle.typing_extents.specs.Measuring.{exts_of, Sofar}

@@ -1,6 +1,6 @@
 use Rattle.std.proofs.Common.{refl, ap, ◌∙◌, sym}
-use Rattle.rules_trees.specs.Programs.{act_of}
-use Rattle.rules_trees.proofs.EquationsOfActions.{act-Bare, act-NewEmptyMVar, act-ThrowIo, act-Call, act-Unary, act-Binary, act-Scoped, act-Masking, act-Restore, act-If, act-Case, act-ModifyMVar, act-Catch, act-Guard, act-Bracket, act-Timeout, act-WithAsync}
+use Rattle.rules_expansion.specs.trees.Programs.{act_of}
+use Rattle.rules_expansion.proofs.trees_lemmas.EquationsOfActions.{act-Bare, act-NewEmptyMVar, act-ThrowIo, act-Call, act-Unary, act-Binary, act-Scoped, act-Masking, act-Restore, act-If, act-Case, act-ModifyMVar, act-Catch, act-Guard, act-Bracket, act-Timeout, act-WithAsync}
 use Rattle.rules_typing.specs.TypingSizes as rule
 use Rattle.typing_parts.specs.Views.{sigs_of}
 use Rattle.typing_extents.proofs.Steps.{at, act_at, ex_at, bl_at, under_bl_at, act_arms_at, empty, worse_two, tail0}

@@ -1,5 +1,5 @@
 use Rattle.std.proofs.Common.{◌≡◌, ◌≤◌, ◌-◌, min, max, length, drop, []}
-use Rattle.rules_trees.specs.Programs.{rest_of}
+use Rattle.rules_expansion.specs.trees.Programs.{rest_of}
 use Rattle.rules_typing.specs.TypingSizes.{worst_bl}
 use Rattle.typing_parts.specs.Views.{scope_of, sigs_of}
 use Rattle.typing_extents.specs.Measuring.{exts_of}

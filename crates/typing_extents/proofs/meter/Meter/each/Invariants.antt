@@ -1,5 +1,5 @@
 use Rattle.std.proofs.Common.{drop, []}
-use Rattle.rules_trees.specs.Trees.{exs_of}
+use Rattle.rules_expansion.specs.trees.Trees.{exs_of}
 use Rattle.rules_typing.specs.TypingSizes.{worst_exs}
 use Rattle.typing_parts.specs.Views.{scope_of, sigs_of}
 use Rattle.typing_extents.specs.Measuring.{exts_of, Worst}

@@ -1,5 +1,5 @@
 use Rattle.std.proofs.Common.{◌≡◌, ◌-◌, ◌+◌, length, drop, ap, ◌∙◌, sym, arith}
-use Rattle.rules_trees.specs.Trees.{list_links_of, cons_form}
+use Rattle.rules_expansion.specs.trees.Trees.{list_links_of, cons_form}
 use Rattle.rules_typing.specs.Typing.{row_binary}
 use Rattle.typing_judge.specs.Judging.{Found, folded, own, with2}
 use Rattle.typing_judge.specs.Least.{least}

@@ -1,5 +1,5 @@
 use Rattle.std.proofs.Common.{◌≡◌, ◌≤◌, length, drop}
-use Rattle.rules_trees.specs.Trees.{list_links_of}
+use Rattle.rules_expansion.specs.trees.Trees.{list_links_of}
 use Rattle.typing_judge.specs.Judging.{folded}
 use Rattle.typing_judge.specs.Least.{least}
 use Rattle.typing_parts.specs.Views.{opt_ty, opts_of}

@@ -1,5 +1,5 @@
 use Rattle.std.proofs.Common.{◌≡◌, cond, false, Some, ltb, refl, ap, ◌∙◌, sym}
-use Rattle.rules_trees.specs.Trees.{ty_of}
+use Rattle.rules_expansion.specs.trees.Trees.{ty_of}
 use Rattle.rules_typing.specs.Typing.{wide, nodes}
 use Rattle.typing_judge.specs.Judging.{good, bad}
 use Rattle.typing_judge.specs.Least.{least}

@@ -1,6 +1,6 @@
 use Rattle.std.proofs.Common.{ap, arith, sym, ◌∙◌}
-use Rattle.rules_trees.specs.Trees.{ty_of, maybe, list, cell, async}
-use Rattle.rules_trees.proofs.Equations.{ty-Unit, ty-Int, ty-Bool, ty-Text, ty-Thread, ty-Exn, ty-Pair, ty-Maybe, ty-Either, ty-List, ty-Cell, ty-Async}
+use Rattle.rules_expansion.specs.trees.Trees.{ty_of, maybe, list, cell, async}
+use Rattle.rules_expansion.proofs.trees_lemmas.Equations.{ty-Unit, ty-Int, ty-Bool, ty-Text, ty-Thread, ty-Exn, ty-Pair, ty-Maybe, ty-Either, ty-List, ty-Cell, ty-Async}
 use Rattle.typing_table.specs.declared.base.Base.TheVariants as b
 use Rattle.typing_table.specs.declared.table.TypeNode.TheVariants as n
 use Rattle.typing_table.proofs.Interned.{interned, kept}

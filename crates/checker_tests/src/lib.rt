@@ -1,5 +1,0 @@
-//! Tests of the check of traces: traces that were written by hand, and what they come to.
-#![tactic(auto)]
-
-#[cfg(test)]
-mod verdicts;

@@ -1,5 +1,0 @@
-//! Tests of what scripts expand to, from the bytes of a script to the body of its `main`.
-#![tactic(auto)]
-
-#[cfg(test)]
-mod bodies;

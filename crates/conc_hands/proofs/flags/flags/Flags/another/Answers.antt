@@ -1,0 +1,6 @@
+use Rattle.std.proofs.Common.{rules}
+use Rattle.conc_hands.proofs.flags_lemmas.Keeps.{may_split}
+use Rattle.conc_hands.proofs.flags.flags.Flags.another.Goals as goal
+
+pub split_seat-seat-requires : goal.split_seat-seat-requires
+split_seat-seat-requires c = (search rules, search rules, may_split _ _ _ c.requires.1)

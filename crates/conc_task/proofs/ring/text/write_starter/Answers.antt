@@ -1,0 +1,7 @@
+use Rattle.std.proofs.Common.{append_assoc}
+use Rattle.conc_task.specs.ring.Ring.{starter_line}
+use Rattle.conc_task.proofs.ring.text.write_starter.Goals as goal
+
+pub returns : goal.returns
+unfolding starter_line
+returns c = simp append_assoc c.write.ensures.bytes

@@ -1,6 +1,0 @@
-use Rattle.std.proofs.Common.{rules}
-use Rattle.cut_flags.proofs.Keeps.{may_join}
-use Rattle.cut_flags.proofs.flags.Flags.absorb.Goals as goal
-
-pub join_seat-requires : goal.join_seat-requires
-join_seat-requires c = (search rules, search rules, search rules, search rules, may_join _ _ _ _ _ c.requires.0.1)

@@ -1,8 +1,0 @@
-use Rattle.ends_laws.proofs.Bounds.{bounded, not_endless}
-use Rattle.ends_laws.proofs.ranks_bound_runs.Goals as goal
-
-pub returns-clause-bound : goal.returns-clause-bound
-returns-clause-bound c = bounded
-
-pub returns-clause-ends : goal.returns-clause-ends
-returns-clause-ends c = not_endless

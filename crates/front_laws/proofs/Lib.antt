@@ -1,0 +1,2 @@
+pub mod grammar_lemmas
+pub mod typing_lemmas

@@ -1,0 +1,13 @@
+use Rattle.std.proofs.Common.{rules}
+use Rattle.hs_grammar.specs.Parser.{firsts, may_be_empty, read_then}
+use Rattle.rules_grammar.specs.Grammar.{bare_action}
+use Rattle.parse_leaves.proofs.Steps.{steps}
+use Rattle.hs_parse.proofs.actions.plain.bare.Goals as goal
+
+pub returns-in_err-word-clause-reads : goal.returns-in_err-word-clause-reads
+unfolding firsts may_be_empty read_then bare_action
+returns-in_err-word-clause-reads c = search (rules, steps)
+
+pub returns-clause-reads : goal.returns-clause-reads
+unfolding firsts may_be_empty read_then bare_action
+returns-clause-reads c = search (rules, steps)

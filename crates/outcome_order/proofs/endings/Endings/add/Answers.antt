@@ -1,8 +1,0 @@
-use Rattle.std.proofs.Common.{List, ◌≡◌, subst}
-use Rattle.std.specs.Prelude.{◌⊎◌}
-use Rattle.outcome_order.specs.declared.ended.Ended.{Ended}
-use Rattle.outcome_order.specs.Rising.{Holds}
-use Rattle.outcome_order.proofs.endings.Endings.add.Goals as goal
-
-pub returns-in-Some-clause-only : goal.returns-in-Some-clause-only
-returns-in-Some-clause-only c e h = subst (λ (xs : List Ended). Holds xs e ⊎ (e ≡ c.args.ended)) c.self.view_is (c.put.ensures.only e h)

@@ -1,5 +1,0 @@
-//! Tests of the text of what a search found, on outcomes that were written by hand.
-#![tactic(auto)]
-
-#[cfg(test)]
-mod listings;

@@ -1,0 +1,13 @@
+use Rattle.std.proofs.Common.{rules}
+use Rattle.hs_grammar.specs.Parser.{firsts, may_be_empty, read_then}
+use Rattle.rules_grammar.specs.Grammar.{atom}
+use Rattle.parse_leaves.proofs.Steps.{steps}
+use Rattle.parse_exprs.proofs.operands.operand.atom.Goals as goal
+
+pub returns-then-at_symbol-clause-reads : goal.returns-then-at_symbol-clause-reads
+unfolding firsts may_be_empty read_then atom
+returns-then-at_symbol-clause-reads b c = search (rules, steps)
+
+pub returns-clause-reads : goal.returns-clause-reads
+unfolding firsts may_be_empty read_then atom
+returns-clause-reads b c = search (rules, steps)

@@ -1,7 +1,0 @@
-use Rattle.outcome_laws.specs.Timings.{MayTick}
-use Rattle.reduction_laws.proofs.Going.{lose_steps}
-use Rattle.reduction_laws.proofs.Closed.{clock_stable}
-use Rattle.reduction_laws.proofs.no_ending_is_lost.Goals as goal
-
-pub returns : goal.returns
-returns c = λ clock code k s u z vs c d w. lose_steps code (MayTick clock code) (clock_stable clock code) k s u vs z d c w

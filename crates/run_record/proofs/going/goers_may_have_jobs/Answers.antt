@@ -1,8 +1,0 @@
-use Rattle.run_record.proofs.Goers.{may_go, doing_is}
-use Rattle.run_record.proofs.going.goers_may_have_jobs.Goals as goal
-
-pub returns-clause-may : goal.returns-clause-may
-returns-clause-may c = may_go
-
-pub returns-clause-doing : goal.returns-clause-doing
-returns-clause-doing c = λ th g. doing_is th.stack.control g.2

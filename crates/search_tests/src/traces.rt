@@ -1,0 +1,6 @@
+//! Tests of written histories: each call on texts that were written by hand.
+
+#[cfg(test)]
+mod reading;
+#[cfg(test)]
+mod writing;

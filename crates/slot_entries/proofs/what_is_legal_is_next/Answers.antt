@@ -1,5 +1,0 @@
-use Rattle.slot_entries.proofs.Legal.{legal_next}
-use Rattle.slot_entries.proofs.what_is_legal_is_next.Goals as goal
-
-pub returns : goal.returns
-returns c = λ script accepted es s u run x r e. legal_next script accepted es s run x r u e

@@ -1,5 +1,0 @@
-use Rattle.ticket_queues.proofs.Keeps.{may_split}
-use Rattle.ticket_queues.proofs.deque.Deque.another.Goals as goal
-
-pub another-requires : goal.another-requires
-another-requires g c = may_split g.J.Ticketed.number g.J.Ticketed.belongs _ _ c.requires

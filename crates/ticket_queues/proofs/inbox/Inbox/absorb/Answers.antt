@@ -1,5 +1,0 @@
-use Rattle.ticket_queues.proofs.Keeps.{may_join}
-use Rattle.ticket_queues.proofs.inbox.Inbox.absorb.Goals as goal
-
-pub absorb-requires-clause-rule : goal.absorb-requires-clause-rule
-absorb-requires-clause-rule g c = may_join g.S.Ticketed.number g.S.Ticketed.belongs _ _ _ _ c.requires.2

@@ -1,0 +1,9 @@
+use Rattle.std.proofs.Common.{◌≡◌, ◌+◌, ◌-◌, ℕ, length}
+use Rattle.trace_report.specs.tally.Tallying.{thread_at}
+use Rattle.trace_report.proofs.tally.tally.put_thread.Given as goal
+
+abbrev pub invariant-loop-list : goal.invariant-loop-list
+invariant-loop-list l = (n : ℕ) → thread_at l.list.items n ≡ thread_at l.fn.list.items n
+
+abbrev pub decreases-loop-list : goal.decreases-loop-list
+decreases-loop-list l = l.t-2 + 1 - length l.list.items

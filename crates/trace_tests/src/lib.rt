@@ -1,7 +1,0 @@
-//! Tests of written histories: each call on texts that were written by hand.
-#![tactic(auto)]
-
-#[cfg(test)]
-mod reading;
-#[cfg(test)]
-mod writing;

@@ -1,0 +1,2 @@
+pub mod exprs_lemmas
+pub mod actions_lemmas

@@ -1,0 +1,2 @@
+pub mod exprs
+pub mod actions

@@ -1,7 +1,0 @@
-use Rattle.std.proofs.Common.{◌≡◌, ◌++◌, drop}
-use Rattle.value_keys.specs.Keys.{text_key}
-use Rattle.value_keys.proofs.values.put_text.Given as goal
-
--- what was put, and the key of the bytes that are left, are the key of all
-abbrev pub invariant-loop-byte : goal.invariant-loop-byte
-invariant-loop-byte l = l.out.items ++ text_key (drop l.byte-index l.byte-items) ≡ l.fn.out.items ++ text_key l.fn.text
