@@ -1,69 +1,54 @@
-"""The picture and the table of crates in ARCHITECTURE.md."""
+"""The map of the crates: the sections of crates.txt, a line for each crate in ARCHITECTURE.md, and how large the graph may be."""
 
+import functools
 import os
 import re
 
-from tools.sources import TOP, below, blocks, lines, read, root_of, uses
+from tools.sources import TOP, lines, read, root_of, uses
 
 PAGE = "docs/ARCHITECTURE.md"
-FIRST = "<!-- Written by ./check --draw from the first lines of each crate; change those, and draw again. -->"
+FIRST = "<!-- Written by ./check --draw from crates.txt and the first lines of each crate; change those, and draw again. -->"
 LAST = "<!-- Here ends what ./check --draw writes. -->"
+# A library that comes later raises the bound of crates by one, with its reason in DECISIONS.md.
+MOST_CRATES = 80
+# `rt` goes down every path of the graph of crates, which a first run waits for.
+MOST_PATHS = 2_000_000
 
 
-def statements(text):
-    """The statements `a, b --> c --> d` of the picture, without the words at the left that name its parts."""
-    joined = []
-    for line in text.split("\n")[1:-1]:
-        said = line if line.startswith(" ") else re.sub(r"^\w+\s\s+", "", line)
-        if not said.strip():
-            continue
-        if joined and joined[-1].endswith(","):
-            joined[-1] += " " + said.strip()
-        else:
-            joined += [it.strip() for it in said.split(";")]
-    return joined
+@functools.lru_cache(maxsize=None)
+def paths(crate):
+    """How many paths go down from a crate, the one that stops there among them."""
+    return 1 + sum(paths(it) for it in uses()[crate] if it in uses())
 
 
-def picture():
-    """Where the picture says that a crate stands on another and crates.txt doesn't, or the other way round."""
-    drawn = next((it for it in blocks(PAGE) if it.kind == "code" and " --> " in it.text and "hs_items" in it.text), None)
-    if drawn is None:
-        yield f"{PAGE}: there is no picture of the crates"
-        return
-    direct, shown = {}, set()
-    for statement in statements(drawn.text):
-        if "-->" not in statement:
-            shown.update(re.findall(r"\w+", statement.split(":")[0]))
-            continue
-        sides = [re.findall(r"\w+", it) for it in statement.split("-->")]
-        for left, right in zip(sides, sides[1:]):
-            for it in right:
-                direct.setdefault(it, set()).update(left)
-            for it in left:
-                direct.setdefault(it, set())
-    for name in sorted((set(direct) | shown) - set(uses())):
-        yield f"{PAGE}: the picture has {name}, and crates.txt doesn't"
-    for name in uses():
-        if name not in direct and name not in shown:
-            yield f"{PAGE}: the picture has no {name}"
-    for name in (it for it in uses() if it in direct):
-        said = reached(name, direct)
-        for other in sorted(said - below(name) - {name}):
-            if not any(other in reached(it, direct) for it in direct[name] if it in uses() and it not in below(name)):
-                yield f"{PAGE}: the picture puts {name} above {other}, and crates.txt doesn't"
-        missed = below(name) - said
-        for other in sorted(missed - set().union(*(below(it) for it in missed))):
-            yield f"{PAGE}: crates.txt puts {name} above {other}, and the picture doesn't"
+def bounds():
+    """Whether the graph of crates is larger than a first run may wait for."""
+    if len(uses()) > MOST_CRATES:
+        yield f"crates.txt: {len(uses())} crates, and there are {MOST_CRATES} at most"
+    if sum(map(paths, uses())) > MOST_PATHS:
+        yield f"crates.txt: {sum(map(paths, uses())):,} paths, and there are {MOST_PATHS:,} at most"
 
 
-def reached(name, direct):
-    found, left = set(), [name]
-    while left:
-        for it in direct.get(left.pop(), ()):
-            if it not in found:
-                found.add(it)
-                left.append(it)
+def sections():
+    """The sections of crates.txt: the title of each, what its heading says, and its crates."""
+    found = []
+    for line in lines("crates.txt"):
+        heading = re.fullmatch(r"# (\w+): (.*)", line)
+        if heading and heading[1] != "NAME":
+            found.append((heading[1], heading[2], []))
+        elif line and not line.startswith("#"):
+            if not found:
+                return []
+            found[-1][2].append(line.partition(":")[0].split()[0])
     return found
+
+
+def headed():
+    """Crates that stand under no heading, and sections that aren't in the order of what they are for."""
+    if not sections():
+        yield "crates.txt: a crate stands under no heading `# part: what it is`"
+    elif sections()[-1][0] != "tests":
+        yield "crates.txt: tests stand at its end"
 
 
 def head(crate):
@@ -80,48 +65,46 @@ def sentences(text):
     return [it.strip() for it in re.split(r"(?<=\.)\s+(?=[A-Z`])", text) if it.strip()]
 
 
-def row(crate):
+def line_of(crate):
     """What the crate is, and its promise, in the words of its first lines."""
     paragraphs = head(crate)
     what = sentences(paragraphs[0])[0] if paragraphs and paragraphs[0] else "?"
     said = [it for paragraph in paragraphs for it in sentences(paragraph)]
     promise = next((it for it in said if re.search(r"\bpromises?\b(?! nothing)", it) and it != what), "")
     promise = re.sub(r"^(The|Its)( one)? promises?: ", "", promise)
-    promise = promise[:1].upper() + promise[1:]
-    return f"| `{crate}` | {cell(what)} | {cell(promise)} |"
+    return f"- `{crate}`: {what}" + (f" {promise[:1].upper()}{promise[1:]}" if promise else "")
 
 
-def cell(text):
-    return text.rstrip(".").replace("|", "\\|")
-
-
-def table():
-    return "\n".join([FIRST, "", "| crate | what it is | its promise |", "|---|---|---|", *(row(it) for it in uses() if root_of(it)), "", LAST])
+def drawn():
+    parts = [FIRST]
+    for title, what, crates in sections():
+        parts += ["", f"### {title}: {what}", "", *(line_of(it) for it in crates if root_of(it))]
+    return "\n".join([*parts, "", LAST])
 
 
 def parts():
-    """The page before the table, the table, and the page behind it."""
+    """The page before the lines of the crates, these, and the page behind them."""
     text = read(PAGE)
     first, last = text.find(FIRST), text.find(LAST)
     return None if first < 0 or last < first else (text[:first], text[first:last + len(LAST)], text[last + len(LAST):])
 
 
-def stale_table():
+def stale():
     cut = parts()
     if cut is None:
-        yield f"{PAGE}: it has no place for the table of crates ({FIRST})"
-    elif cut[1] != table():
-        now, wanted = cut[1].split("\n"), table().split("\n")
+        yield f"{PAGE}: it has no place for the lines of the crates ({FIRST})"
+    elif cut[1] != drawn():
+        now, wanted = cut[1].split("\n"), drawn().split("\n")
         odd = next((b for a, b in zip(now, wanted) if a != b), "its length")
-        yield f"{PAGE}: the table of crates is stale ({odd[:60]}..): ./check --draw writes it anew"
+        yield f"{PAGE}: the lines of the crates are stale ({odd[:60]}..): ./check --draw writes them anew"
 
 
 def draw():
     cut = parts()
     if cut is None:
-        print(f"{PAGE} has no place for the table of crates")
+        print(f"{PAGE} has no place for the lines of the crates")
         return 1
     with open(os.path.join(TOP, PAGE), "w", encoding="utf-8") as file:
-        file.write(cut[0] + table() + cut[2])
-    print(f"{PAGE}: the table of {len(uses())} crates is drawn")
+        file.write(cut[0] + drawn() + cut[2])
+    print(f"{PAGE}: the lines of {len(uses())} crates are drawn")
     return 0
