@@ -11,10 +11,10 @@ use Rattle.conc_task.specs.declared.words.command.Command.{Command}
 use Rattle.conc_task.specs.declared.words.command.Question.{Question}
 use Rattle.conc_task.specs.declared.words.command.Question.TheVariants.{Verify, Report, Picture}
 use Rattle.conc_caps.specs.Runs.{Shown}
-use Rattle.trace_checker.specs.declared.verdict.Verified.{Verified as VerifiedRun}
-use Rattle.trace_checker.specs.declared.verdict.RunFault.{RunFault}
-use Rattle.trace_checker.specs.declared.verdict.RunFault.TheVariants as fault
-use Rattle.trace_checker.specs.Checking.{Judges, TellsOfRun}
+use Rattle.trace_report.specs.Verified.{Verified as VerifiedRun}
+use Rattle.trace_report.specs.RunFault.{RunFault}
+use Rattle.trace_report.specs.RunFault.TheVariants as fault
+use Rattle.trace_report.specs.Checking.{Judges, TellsOfRun}
 use Rattle.trace_picture.specs.declared.fault.PictureFault.{PictureFault}
 use Rattle.trace_picture.specs.declared.fault.PictureFault.TheVariants as picture
 use Rattle.conc_task.specs.declared.task.Claim.{Claim}

@@ -15,9 +15,9 @@ use Rattle.hs_compile.specs.Verdicts.{IsRefused}
 use Rattle.hs_compile.proofs.Verdicts.{not_both}
 use Rattle.hs_compile.specs.declared.refusal.Refusal.TheVariants as refusal
 use Rattle.outcome_listing.specs.declared.bounds.Bounds.{Bounds}
-use Rattle.trace_checker.specs.declared.verdict.Verified.{Verified as VerifiedRun}
-use Rattle.trace_checker.specs.declared.verdict.RunFault.{RunFault}
-use Rattle.trace_checker.specs.declared.verdict.RunFault.TheVariants as fault
+use Rattle.trace_report.specs.Verified.{Verified as VerifiedRun}
+use Rattle.trace_report.specs.RunFault.{RunFault}
+use Rattle.trace_report.specs.RunFault.TheVariants as fault
 use Rattle.conc_task.specs.Documents.{document_limit, HasBareDocument, HasDocument, HasLongDocument, HasNoScript, IsLeft, IsParted, IsScriptOf}
 use Rattle.conc_task.specs.Commands.{Asks, AsksSomething, IsInput, ReadsSource}
 use Rattle.conc_task.specs.Inputs.{IsScript}

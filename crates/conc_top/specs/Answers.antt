@@ -35,10 +35,10 @@ use Rattle.conc_task.specs.declared.task.Search.{Search}
 use Rattle.conc_task.specs.Commands.{Asks, IsInput, ReadsSource, RunsWith, source_limit, Traces}
 use Rattle.conc_task.specs.Inputs.{IsScript}
 use Rattle.outcome_listing.specs.declared.explored.Extent.{Extent}
-use Rattle.trace_checker.specs.declared.verdict.Verified.{Verified as VerifiedRun}
+use Rattle.trace_report.specs.Verified.{Verified as VerifiedRun}
 use Rattle.trace_picture.specs.declared.fault.PictureFault.{PictureFault}
 use Rattle.trace_picture.specs.declared.fault.PictureFault.TheVariants as picture
-use Rattle.trace_checker.specs.Checking.{Judges, TellsOfRun}
+use Rattle.trace_report.specs.Checking.{Judges, TellsOfRun}
 use Rattle.trace_report.specs.tally.Reporting.{report_of}
 use Rattle.conc_top.specs.declared.ending.Ending.{Ending}
 use Rattle.conc_top.specs.declared.ending.Ending.TheVariants.{Ran, Accepted, Words, Refused, Read, Memory, Write, Verified, Reported, Pictured, NotRun, NotDrawn, Outcomes, NoOutcome}

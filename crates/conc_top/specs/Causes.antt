@@ -12,10 +12,10 @@ use Rattle.conc_task.specs.declared.words.command.Question.{Question}
 use Rattle.conc_task.specs.declared.words.command.Question.TheVariants.{Verify, Report, Picture}
 use Rattle.hs_compile.specs.Verdicts as verdict
 use Rattle.hs_compile.specs.declared.refusal.Refusal.TheVariants as refusal
-use Rattle.trace_checker.specs.declared.verdict.Verified.{Verified as VerifiedRun}
-use Rattle.trace_checker.specs.declared.verdict.RunFault.{RunFault}
-use Rattle.trace_checker.specs.declared.verdict.RunFault.TheVariants as fault
-use Rattle.trace_checker.specs.Checking.{IsRunText, Judges, TellsOfRun}
+use Rattle.trace_report.specs.Verified.{Verified as VerifiedRun}
+use Rattle.trace_report.specs.RunFault.{RunFault}
+use Rattle.trace_report.specs.RunFault.TheVariants as fault
+use Rattle.trace_report.specs.Checking.{IsRunText, Judges, TellsOfRun}
 use Rattle.trace_picture.specs.declared.fault.PictureFault.{PictureFault}
 use Rattle.trace_picture.specs.declared.fault.PictureFault.TheVariants as picture
 use Rattle.trace_picture.specs.Picturing.{IsLarge, Pictures}

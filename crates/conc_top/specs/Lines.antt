@@ -14,11 +14,11 @@ use Rattle.conc_caps.specs.RunEnd.{RunEnd}
 use Rattle.conc_caps.specs.RunEnd.TheVariants as end
 use Rattle.hs_compile.specs.declared.refusal.Refusal.{Refusal}
 use Rattle.hs_compile.specs.declared.refusal.Refusal.TheVariants as refusal
-use Rattle.trace_checker.specs.declared.verdict.Verified.{Verified as VerifiedRun}
+use Rattle.trace_report.specs.Verified.{Verified as VerifiedRun}
 use Rattle.outcome_listing.specs.declared.explored.Extent.{Extent}
 use Rattle.outcome_listing.specs.declared.explored.Extent.TheVariants.{All, NotAll}
-use Rattle.trace_checker.specs.declared.player.player.Reached.{Reached}
-use Rattle.trace_checker.specs.declared.player.player.Reached.TheVariants as reached
+use Rattle.trace_report.specs.Reached.{Reached}
+use Rattle.trace_report.specs.Reached.TheVariants as reached
 use Rattle.conc_top.specs.declared.ending.NotRun.{NotRun as NoRun}
 use Rattle.conc_top.specs.declared.ending.NotRun.TheVariants as norun
 use Rattle.conc_top.specs.declared.ending.Line.{Line}

@@ -11,9 +11,8 @@ use conc_task::words::Question;
 use hs_base::Txt;
 use hs_io::{Clock, Sink};
 use std::alloc::Global;
-use trace_checker::{RunFault, check_run};
 use trace_picture::{PictureFault, picture};
-use trace_report::report;
+use trace_report::{RunFault, check_run, report};
 
 /// Answers the question about the trace of the claim, on the output sink, or says on the error sink why it has none.
 pub(crate) fn answer<O: Sink, E: Sink, K: Clock>(

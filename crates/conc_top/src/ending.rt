@@ -11,7 +11,7 @@ use hs_rules::{History, LimitKind};
 use hs_types::TypeFault;
 use outcome_listing::Extent;
 use std::alloc::Global;
-use trace_checker::{Reached, Verified};
+use trace_report::{Reached, Verified};
 
 /// What `check` puts on the output sink where the script is accepted.
 pub const ACCEPTED: &str = "accepted\n";

@@ -26,4 +26,4 @@ pub use ending::{Done, Ending, NotRun, OUT_OF_MEMORY};
 pub use hs_compile::Refusal;
 pub use outcome_listing::Extent;
 pub use top::run;
-pub use trace_checker::{Reached, Verified};
+pub use trace_report::{Reached, Verified};

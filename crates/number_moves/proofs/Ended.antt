@@ -25,8 +25,8 @@ use Rattle.number_states.specs.Stocks.{Stock, HasGrown, term_at, text_at, or_emp
 use Rattle.number_states.specs.States.{Contents, contents, thread_of, slots_of, slots, AllIn, AreIn, Becomes}
 use Rattle.number_states.proofs.Growth.{stock_on, slots_of_on, all_in_on, text_at_on}
 use Rattle.number_states.proofs.Changes.{got_mapped}
-use Rattle.number_moves.specs.changes.Moves.{Makes, IsActing}
-use Rattle.number_moves.proofs.changes_lemmas.Made.{on_acting}
+use Rattle.number_changes.specs.Moves.{Makes, IsActing}
+use Rattle.number_changes.proofs.Made.{on_acting}
 
 -- each of these throwers is answered, and its throw is over
 abbrev pub throwers_end : List ℕ → CodeBody → SlotState → SlotState

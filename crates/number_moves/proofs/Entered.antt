@@ -4,7 +4,7 @@ use Rattle.hs_rules.specs.declared.entry.Entry.{Entry}
 use Rattle.rules_code.specs.declared.code.CodeBody.{CodeBody}
 use Rattle.number_states.specs.declared.state.NumberState.{NumberState}
 use Rattle.number_states.specs.Stocks.{Stock}
-use Rattle.number_moves.specs.changes.Moves.{Enters}
+use Rattle.number_changes.specs.Moves.{Enters}
 
 -- what an entry makes of a state by every code, one that is equal makes of it by a code
 pub entered_so : {E : Type 0} (g h : Stock) (x : NumberState) (b : CodeBody) (e one : Entry) → e ≡ one → (r : Result (Option NumberState) E)

@@ -14,7 +14,7 @@ use Rattle.number_states.specs.declared.state.NumberState.{NumberState}
 use Rattle.number_states.specs.Stocks.{Stock, value_at, exception_at}
 use Rattle.number_states.specs.States.{Contents, contents, slots_of, slots, LineIsWithin, CellIsWithin, AllIn, AreIn, Becomes}
 use Rattle.number_moves.specs.Lines.{lines_left}
-use Rattle.number_moves.proofs.changes_lemmas.Made.{contents_become}
+use Rattle.number_changes.proofs.Made.{contents_become}
 
 -- ---- lines
 

@@ -4,6 +4,5 @@ pub mod Flying
 pub mod Ended
 pub mod Strands
 pub mod Entered
-pub mod changes_lemmas
 pub mod operations_lemmas
 pub mod rests_lemmas

@@ -1,5 +1,4 @@
 pub mod Going
 pub mod Lines
-pub mod changes
 pub mod operations
 pub mod rests

@@ -7,13 +7,13 @@ ghost use Rattle.slot_laws.specs.SlotRules.{ret};
 ghost use Rattle.slot_states.specs.SlotStates.{all_resumed, all_withdrawn, finishes};
 ghost use Rattle.number_states.specs.Stocks.{HasGrown};
 ghost use Rattle.number_states.specs.States.{AreIn, Becomes};
-ghost use Rattle.number_moves.specs.changes.Moves.{Enters, Makes};
+ghost use Rattle.number_changes.specs.Moves.{Enters, Makes};
 
-use crate::changes::acting;
 use crate::lines::uncaught;
 use crate::waiting::withdraw;
 use hs_base::{NoMemory, Value};
 use local_steps::Active;
+use number_changes::acting;
 use number_states::waits::throwers_to;
 use number_states::{NumberState, Numbers};
 use std::alloc::Global;

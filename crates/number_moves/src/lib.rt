@@ -6,12 +6,10 @@
 //! Its promise: exactly that, with all numbers in tables that have only grown. So a search that takes these moves takes the
 //! moves of the rules. Which entries to try is left to the crate above.
 //!
-//! Parts with a head of their own: `changes`, the changes that the operations of threads make; `operations`, the
-//! operation that a thread stands at, and what comes of the state when it performs it; `rests`, eager local rules,
-//! taken at once.
+//! Parts with a head of their own: `operations`, the operation that a thread stands at, and what comes of the state
+//! when it performs it; `rests`, eager local rules, taken at once.
 #![tactic(auto)]
 
-pub mod changes;
 mod ending;
 mod lines;
 mod local;

@@ -3,11 +3,11 @@ ghost use Rattle.std.specs.Prelude.{◌≡◌, IfOk, IfSome, MatchOption, Some, 
 ghost use Rattle.hs_rules.specs.declared.entry.Entry.TheVariants as entry;
 ghost use Rattle.number_states.specs.Stocks.{HasGrown, IsTerm, term_at};
 ghost use Rattle.number_states.specs.States.{AreIn};
-ghost use Rattle.number_moves.specs.changes.Moves.{Enters};
+ghost use Rattle.number_changes.specs.Moves.{Enters};
 ghost use Rattle.number_moves.specs.Going.{rules_at};
 
-use crate::changes::acting;
 use hs_base::NoMemory;
+use number_changes::acting;
 use number_states::{NumberState, Numbers};
 use rules_code::CodeBody;
 use std::alloc::Global;

@@ -2,10 +2,9 @@ ghost use Rattle.std.specs.Prelude.{◌≡◌, ◌++◌, IfOk, IfSome, MatchOpti
 ghost use Rattle.slot_states.specs.Printing.{output_by, errors_by};
 ghost use Rattle.number_states.specs.Stocks.{HasGrown, text_at};
 ghost use Rattle.number_states.specs.States.{AreIn, slots};
-ghost use Rattle.number_moves.specs.changes.Moves.{Enters};
+ghost use Rattle.number_changes.specs.Moves.{Enters};
 ghost use Rattle.number_moves.specs.Going.{next_at};
 
-use crate::changes::acting;
 use crate::ending::finish;
 use crate::local::local;
 use crate::operations::operate;
@@ -14,6 +13,7 @@ use crate::stranding::strand;
 use crate::ticking::tick;
 use hs_base::NoMemory;
 use hs_rules::Entry;
+use number_changes::acting;
 use number_states::{NumberState, Numbers};
 use rules_code::CodeBody;
 use std::alloc::Global;

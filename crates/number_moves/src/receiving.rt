@@ -8,12 +8,12 @@ ghost use Rattle.slot_states.specs.SlotStates.{receives, wakes};
 ghost use Rattle.slot_states.specs.Resting as resting;
 ghost use Rattle.number_states.specs.Stocks.{HasGrown, IsTerm, exception_at};
 ghost use Rattle.number_states.specs.States.{AreIn, Becomes, thread_of};
-ghost use Rattle.number_moves.specs.changes.Moves.{Enters};
+ghost use Rattle.number_changes.specs.Moves.{Enters};
 
-use crate::changes::acting;
 use crate::waiting::{leave_lines, stop_sleeping, withdraw};
 use hs_base::{Exn, Mask, NoMemory, Value};
 use local_steps::Active;
+use number_changes::acting;
 use number_states::waits::{Thrown, due_of, first_to};
 use number_states::{NumberState, NumberThread, Numbers};
 use std::alloc::Global;

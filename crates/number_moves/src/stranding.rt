@@ -11,7 +11,7 @@ ghost use Rattle.slot_states.specs.entering.Entering as entering;
 ghost use Rattle.slot_states.specs.entering.Entering.{rest_from, waiting_from};
 ghost use Rattle.number_states.specs.Stocks.{HasGrown, IsTerm};
 ghost use Rattle.number_states.specs.States.{AreIn, Becomes, slots, thread_of};
-ghost use Rattle.number_moves.specs.changes.Moves.{Enters};
+ghost use Rattle.number_changes.specs.Moves.{Enters};
 ghost use Rattle.number_moves.specs.Lines.{is_cell_first};
 
 use crate::receiving::is_receptive;

@@ -2,7 +2,7 @@ ghost use Rattle.std.specs.Prelude.{◌≡◌, IfOk};
 ghost use Rattle.rules_code.specs.declared.code.CodeBody.{CodeBody};
 ghost use Rattle.hs_rules.specs.declared.entry.Entry.TheVariants as entry;
 ghost use Rattle.number_states.specs.States.{AreIn};
-ghost use Rattle.number_moves.specs.changes.Moves.{Enters};
+ghost use Rattle.number_changes.specs.Moves.{Enters};
 
 use hs_base::NoMemory;
 use number_states::{NumberState, Numbers};

@@ -1,3 +1,2 @@
 pub mod Exprs
 pub mod operands
-pub mod case_arms

@@ -7,9 +7,9 @@ ghost use Rattle.hs_grammar.specs.Parser as parser;
 ghost use Rattle.parse_leaves.specs.Readers.{ReadsBelow};
 ghost use Rattle.parse_leaves.specs.Reads.{Reads};
 
-use crate::case_arms::arms;
 use hs_base::{Expr, ExprArms};
 use hs_items::Boxed;
+use parse_leaves::case_arms::arms;
 use parse_leaves::{Cursor, Halt};
 use rules_tokens::symbol;
 use std::alloc::Global;

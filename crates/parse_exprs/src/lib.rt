@@ -4,12 +4,10 @@
 //! `inner`, which reads what stands in an opener, and `expr` alone calls itself, through the closure that it passes.
 //! Actions are left to the crate above.
 //!
-//! Parts with a head of their own: `operands`, constants, lists, pairs, arguments, calls and the built-in
-//! functions; `case_arms`, the arms of a `case`, whose branches are expressions or blocks.
+//! A part with a head of its own: `operands`, constants, lists, pairs, arguments, calls and the built-in functions.
 #![tactic(auto)]
 
 mod arms;
-pub mod case_arms;
 mod chains;
 mod exprs;
 mod forms;

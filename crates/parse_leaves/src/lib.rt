@@ -4,8 +4,11 @@
 //! parser of its rule does, and leaves what that leaves. `specs/Readers.antt` says the same of a closure that reads
 //! whatever stands in one opener more.
 //! Which tokens a text has is left to the lexer, and expressions, actions and scripts to the crates above.
+//!
+//! A part with a head of its own: `case_arms`, the arms of a `case`, whose branches are expressions or blocks.
 #![tactic(auto)]
 
+pub mod case_arms;
 mod cursor;
 mod halt;
 mod leaf;

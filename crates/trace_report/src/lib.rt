@@ -12,3 +12,5 @@ mod reporting;
 pub mod tally;
 
 pub use reporting::report;
+// what a checked text comes to, for those who ask of one
+pub use trace_checker::{Reached, RunFault, Verified, check_run};

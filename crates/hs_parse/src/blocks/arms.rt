@@ -8,7 +8,7 @@ ghost use Rattle.parse_leaves.specs.Readers.{ReadsBelow};
 ghost use Rattle.parse_leaves.specs.Reads.{Reads};
 
 use hs_base::{Block, BlockArms};
-use parse_exprs::case_arms::arms;
+use parse_leaves::case_arms::arms;
 use parse_leaves::{Cursor, Halt};
 use rules_tokens::symbol;
 use std::alloc::Global;

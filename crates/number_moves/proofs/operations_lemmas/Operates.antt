@@ -30,11 +30,11 @@ use Rattle.number_states.specs.Stocks.{Stock, HasGrown, term_at, text_at}
 use Rattle.number_states.specs.States.{Contents, contents, slots_of, slots, thread_of, AreIn, Becomes}
 use Rattle.number_states.proofs.Changes.{got_mapped}
 use Rattle.number_moves.specs.declared.operations.operating.Standing.{Standing}
-use Rattle.number_moves.specs.changes.Moves.{Makes, Enters, IsActing}
+use Rattle.number_changes.specs.Moves.{Makes, Enters, IsActing}
 use Rattle.number_moves.specs.operations.Standing.{IsIdle, Stands, HasTarget}
 use Rattle.number_moves.proofs.operations_lemmas.Refused.{refused}
-use Rattle.number_moves.proofs.changes_lemmas.Made.{makes, on_acting, acting_term}
-use Rattle.number_moves.proofs.changes_lemmas.Written.{on_ok}
+use Rattle.number_changes.proofs.Made.{makes, on_acting, acting_term}
+use Rattle.number_changes.proofs.Written.{on_ok}
 
 -- ---- the operation of a part
 

@@ -13,7 +13,7 @@ use Rattle.frame_stack.specs.Parts.{op_of}
 use Rattle.number_states.specs.declared.state.NumberState.{NumberState}
 use Rattle.number_states.specs.Stocks.{Stock, term_at, IsTerm}
 use Rattle.number_moves.specs.declared.operations.operating.Standing.{Standing}
-use Rattle.number_moves.specs.changes.Moves.{IsActing, Makes}
+use Rattle.number_changes.specs.Moves.{IsActing, Makes}
 
 -- a thread with this part, whoever it is, performs nothing
 abbrev pub IsIdle : SlotPart → Type 0

@@ -8,16 +8,16 @@ ghost use Rattle.local_steps.specs.Machine.{funs_of, active_of};
 ghost use Rattle.frame_stack.specs.Parts.{op_of};
 ghost use Rattle.number_states.specs.Stocks.{HasGrown, IsTerm};
 ghost use Rattle.number_states.specs.States.{AreIn, slots};
-ghost use Rattle.number_moves.specs.changes.Moves.{Enters};
+ghost use Rattle.number_changes.specs.Moves.{Enters};
 ghost use Rattle.number_moves.specs.operations.Standing.{HasDone, IsIdle, Stands, HasTarget};
 
-use crate::changes::{
-    CellCall, Child, acquire, acting, call, delay, fork, fork_unmask, make, new_timeout, print,
-    print_error, print_line, put, tell_clock, tell_masking, throw, try_put,
-};
 use frame_stack::{Prim, asked};
 use hs_base::{NoMemory, Value, Values};
 use local_steps::Active;
+use number_changes::{
+    CellCall, Child, acquire, acting, call, delay, fork, fork_unmask, make, new_timeout, print,
+    print_error, print_line, put, tell_clock, tell_masking, throw, try_put,
+};
 use number_states::{NumberState, Numbers};
 use std::alloc::Global;
 

@@ -2,7 +2,7 @@ use Rattle.std.proofs.Common.{List, ℕ, refl, subst, sym}
 use Rattle.rules_code.specs.Codes.{body_of}
 use Rattle.rules_expansion.specs.trees.Programs.{script_of}
 use Rattle.trace_report.specs.tally.Reporting.{report_of}
-use Rattle.trace_checker.specs.Checking.{TellsOfRun}
+use Rattle.trace_report.specs.Checking.{TellsOfRun}
 use Rattle.conc_task.specs.declared.words.command.Question.{Question}
 use Rattle.conc_top.specs.declared.ending.Ending.TheVariants.{Reported, Pictured}
 use Rattle.conc_top.specs.Causes.{IsPictureOf}

@@ -1,5 +1,5 @@
 use Rattle.std.proofs.Common.{drop}
-use Rattle.number_moves.proofs.changes_lemmas.Turns.{AreLeft}
+use Rattle.number_changes.proofs.Turns.{AreLeft}
 use Rattle.number_moves.proofs.Ended.{throwers_end}
 use Rattle.number_moves.proofs.ending.answer_throwers.Given as goal
 

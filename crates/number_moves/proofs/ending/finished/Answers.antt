@@ -4,7 +4,7 @@ use Rattle.number_states.specs.waits.Throwing.{thrown_to, throwers_of}
 use Rattle.number_states.specs.Stocks.{exception_at}
 use Rattle.number_states.specs.States.{slots}
 use Rattle.number_states.proofs.Changes.{becomes_then}
-use Rattle.number_moves.proofs.changes_lemmas.Made.{of_copy, becomes_as}
+use Rattle.number_changes.proofs.Made.{of_copy, becomes_as}
 use Rattle.number_moves.proofs.Ended.{throwers_end, throwers_are, finishes_so}
 use Rattle.number_moves.proofs.ending.finished.Goals as goal
 

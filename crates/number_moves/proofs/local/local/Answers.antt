@@ -9,7 +9,7 @@ use Rattle.local_steps.specs.Machine.{funs_of}
 use Rattle.number_states.specs.Stocks.{term_at}
 use Rattle.number_states.specs.States.{contents, thread_of, slots}
 use Rattle.number_states.proofs.Growth.{all_in_on}
-use Rattle.number_moves.proofs.changes_lemmas.Made.{of_copy, of_older, copy_in, makes, on_acting}
+use Rattle.number_changes.proofs.Made.{of_copy, of_older, copy_in, makes, on_acting}
 use Rattle.number_moves.proofs.Steps.{local_moves}
 use Rattle.number_moves.proofs.local.local.Goals as goal
 

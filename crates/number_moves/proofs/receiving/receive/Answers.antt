@@ -8,7 +8,7 @@ use Rattle.number_states.specs.declared.waits.flight.Thrown.{Thrown}
 use Rattle.number_states.specs.waits.Throwing.{thrown_to, first_of, map_thrown}
 use Rattle.number_states.specs.Stocks.{exception_at}
 use Rattle.number_states.specs.States.{thread_of, slots}
-use Rattle.number_moves.proofs.changes_lemmas.Made.{makes, on_acting}
+use Rattle.number_changes.proofs.Made.{makes, on_acting}
 use Rattle.number_moves.proofs.Flying.{first_flying, first_within, receive_none, receive_first}
 use Rattle.number_moves.proofs.receiving.receive.Goals as goal
 

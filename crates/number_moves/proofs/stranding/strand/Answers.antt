@@ -5,7 +5,7 @@ use Rattle.local_steps.specs.Machine.{funs_of}
 use Rattle.slot_states.specs.SlotStates.{strands}
 use Rattle.slot_states.specs.entering.Entering.{entered, rest_from}
 use Rattle.number_states.specs.States.{slots}
-use Rattle.number_moves.proofs.changes_lemmas.Made.{of_copy, makes}
+use Rattle.number_changes.proofs.Made.{of_copy, makes}
 use Rattle.number_moves.proofs.Strands.{strands_none, strands_some}
 use Rattle.number_moves.proofs.stranding.strand.Goals as goal
 

@@ -1,6 +1,6 @@
 use Rattle.std.proofs.Common.{drop}
 use Rattle.slot_states.specs.SlotStates.{strands}
-use Rattle.number_moves.proofs.changes_lemmas.Turns.{AreLeft}
+use Rattle.number_changes.proofs.Turns.{AreLeft}
 use Rattle.number_moves.proofs.stranding.strand_all.Given as goal
 
 abbrev pub invariant-loop-thread : goal.invariant-loop-thread

@@ -1,6 +1,6 @@
 use Rattle.std.proofs.Common.{rules}
 use Rattle.rules_grammar.specs.Grammar.{rule_of}
-use Rattle.parse_exprs.proofs.case_arms_lemmas.Parts.{closed_arms, closed_semicolon, closed_brace, closed_ok}
+use Rattle.parse_leaves.proofs.case_arms_lemmas.Parts.{closed_arms, closed_semicolon, closed_brace, closed_ok}
 use Rattle.hs_parse.proofs.blocks.arms.block_arms_in_braces.Goals as goal
 
 pub returns-in_err-arms-clause-reads : goal.returns-in_err-arms-clause-reads

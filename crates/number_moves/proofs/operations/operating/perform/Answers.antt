@@ -6,8 +6,8 @@ use Rattle.slot_states.specs.SlotStates.{answer, prints}
 use Rattle.slot_states.specs.entering.Operating.{delayed}
 use Rattle.rules_code.specs.declared.code.CodeBody.{CodeBody}
 use Rattle.hs_rules.specs.Primitives.{line_feed}
-use Rattle.number_moves.specs.changes.Moves.{Makes}
-use Rattle.number_moves.proofs.changes_lemmas.Written.{on_ok}
+use Rattle.number_changes.specs.Moves.{Makes}
+use Rattle.number_changes.proofs.Written.{on_ok}
 use Rattle.number_states.specs.States.{slots, Becomes}
 use Rattle.number_moves.proofs.operations_lemmas.Operates.{performed_so, quietly}
 use Rattle.number_moves.proofs.operations.operating.perform.Goals as goal
