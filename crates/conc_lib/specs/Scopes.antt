@@ -1,5 +1,5 @@
 -- Which actions are forms of async scopes (own), and what they come to.
-use Rattle.std.specs.Prelude.{◌≡◌, Option, Some, None}
+use Rattle.std.specs.Prelude.{◌≡◌, List, [], Option, Some, None}
 use Rattle.hs_base.specs.declared.tree.forms.UnaryAction.{UnaryAction}
 use Rattle.hs_base.specs.declared.tree.forms.UnaryAction.TheVariants as u
 use Rattle.hs_base.specs.declared.tree.forms.GuardAction.{GuardAction}
@@ -8,8 +8,9 @@ use Rattle.rules_expansion.specs.trees.Programs as tree
 use Rattle.rules_expansion.specs.trees.Programs.{SurfaceAction}
 use Rattle.rules_expansion.specs.declared.template.Derived.{Derived}
 use Rattle.rules_expansion.specs.declared.template.Derived.TheVariants as d
+use Rattle.rules_expansion.specs.declared.template.Step.{Step}
 use Rattle.rules_expansion.specs.Core.{OfScript, NoValue}
-use Rattle.rules_expansion.specs.Templates.{Filling}
+use Rattle.rules_expansion.specs.Templates.{Filling, template, fill, flat}
 use Rattle.rules_expansion.specs.Expansion.{core, block_core, on_subject, on_two, on_named, derived}
 
 abbrev pub unary_form : UnaryAction → Option Derived
@@ -39,3 +40,11 @@ parts_of _ = on_subject NoValue
 -- the form's template, with the action's own parts in it, is what the action comes to
 abbrev pub IsOfForm : Derived → SurfaceAction → Type 0
 IsOfForm o a = core a ≡ derived o (parts_of a)
+
+-- The action is a form of async scopes; these steps are that form's template, written out; and that template, with the action's
+-- own parts in it, is what the action comes to.
+pub record Spells (row : List Step) (a : SurfaceAction) : Type 0 where
+  pub form : Derived
+  pub is : scope_form a ≡ Some form
+  pub written : row ≡ flat (template form) []
+  pub filled : fill (parts_of a) (template form) ≡ core a
