@@ -1,8 +1,9 @@
 -- The law of async scopes follows from the fact that every entry keeps.
-use Rattle.std.proofs.Common.{◌≡◌, ◌≢◌, ◌==◌, ℕ, suc, List, [], ◌∷◌, slice_get, false, Option, Some, None, refl, sym, ap, ◌∙◌, subst, ◌⊎◌, inl, inr, ⊎_elim}
+use Rattle.std.proofs.Common.{◌≡◌, ◌≢◌, ℕ, List, [], slice_get, false, Option, Some, None, refl, sym, ap, ◌∙◌, subst, ◌⊎◌, inl, inr, ⊎_elim}
 use Rattle.std.proofs.lemmas.Bool.{false_from_ne_true}
 use Rattle.hs_base.specs.declared.tree.script.Script.{Script}
 use Rattle.hs_rules.specs.declared.entry.Entry.{Entry}
+use Rattle.rules_expansion.specs.declared.primitive.Primitive.TheVariants.{PutMVar}
 use Rattle.rules_expansion.specs.trees.Programs.{script_of}
 use Rattle.rules_typing.specs.TypingScripts.{Accepted}
 use Rattle.hs_rules.specs.Terms.{Part, Ret, Throw, Do, Performs, Frame}
@@ -10,21 +11,15 @@ use Rattle.hs_rules.specs.State.{Thread, State}
 use Rattle.hs_rules.specs.Runs.{IsRun}
 use Rattle.hs_laws.specs.BracketLaw.{count}
 use Rattle.hs_laws.specs.Standing.{IsResult, Standing}
-use Rattle.hs_laws.proofs.Lists.{equal_or, cond_false, Ones}
 use Rattle.hs_laws.proofs.Expanded.{standing_of}
 use Rattle.hs_laws.proofs.RunParts.{prefix_runs}
-use Rattle.scope_laws.specs.ScopeLaw.{acting, guards, ending, Acts, Guards, Ends, IsFull, OneGuards, ScopeLaw}
+use Rattle.scope_laws.specs.ScopeLaw.{acting, guards, ending, Acts, Guards, Ends, IsFull, OneGuards, Asks, ForItsChild, ScopeLaw}
 use Rattle.scope_laws.specs.ScopePhases.{Role, Plain, Fresh, Running, Ended, IsOf, Held}
-use Rattle.scope_laws.specs.ScopesKept.{at_values, CellFits, HeldThread, Scoped, ScopesKept}
+use Rattle.scope_laws.specs.ScopesKept.{IsForEnd, at_values, CellFits, HeldThread, Scoped, ScopesKept}
 use Rattle.scope_laws.proofs.Phases.{held_guards, held_owned, RunsIt, held_acts}
 use Rattle.scope_laws.proofs.Owing.{among_counts, Owing, bare_owes, held_owes}
 use Rattle.scope_laws.proofs.Entries.{scoped_of}
-
--- what holds of each number of a list holds of one that stands in it
-some_of : (P : ℕ → Type 0) (m : ℕ) (o : List ℕ) → Ones P o → count m o ≢ 0 → P m
-some_of P m [] h n = absurd (n refl)
-some_of P m (k ∷ o) h n =
-    ⊎_elim (λ e. subst P (sym e.1) h.0) (λ e. some_of P m o h.1 (λ z. n (cond_false (m == k) (suc (count m o)) (count m o) e.0 ∙ z))) (equal_or m k)
+use Rattle.scope_laws.proofs.Plain.{some_of}
 
 -- a value or an exception without frames guards nothing
 bare_guards : (p : Part) (fs : List Frame) → IsResult p → fs ≡ [] → guards p fs ≡ []
@@ -113,8 +108,27 @@ module _ (script : Script) (s : State) (k : Scoped (script_of script) s) (standi
       let q : Running x.0 t ≡ Running y.0 u = sym x.1 ∙ y.1 in
       let z : t ≡ u = cc q in z
 
+  -- ---- its cell
+
+  for_end : (m t : ℕ) → Acts s m t ⊎ Guards s m t → IsForEnd (slice_get k.typed.store.cells m)
+  for_end m t h = ⊎_elim (λ a. ((k.stands t a.thread a.is).acted m a.on).0) (λ g. ((k.stands t g.thread g.is).guarded m g.on).0) h
+
+  module _ (m : ℕ) (q : IsForEnd (slice_get k.typed.store.cells m)) where
+    puts_it : (t : ℕ) → Asks s PutMVar m t → RunsIt k.book.roles t m
+    puts_it t a = (k.stands t a.thread a.is).puts m a.values a.part q
+
+    is_child : (t u : ℕ) → Asks s PutMVar m t → Acts s m u ⊎ Asks s PutMVar m u → t ≡ u
+    is_child t u a h =
+        let x = puts_it t a in
+        let y = ⊎_elim (runs_it m u) (puts_it u) h in
+        let same : Running x.0 t ≡ Running y.0 u = sym x.1 ∙ y.1 in
+        let z : t ≡ u = cc same in z
+
+    for_its_child : ForItsChild s m
+    for_its_child = record { child = is_child; takes = λ w t i a. (k.stands t a.thread a.is).takes w m a.values i a.part q }
+
   law_holds : ScopeLaw s
-  law_holds = record { guarded = λ m t a. let x = runs_it m t a in one_guards m x.0 t x.1; alone = same_actor; awaited = λ m t g. waited m t (k.book.roles m) refl (owner m t g) }
+  law_holds = record { cells = λ m t h. for_its_child m (for_end m t h); guarded = λ m t a. let x = runs_it m t a in one_guards m x.0 t x.1; alone = same_actor; awaited = λ m t g. waited m t (k.book.roles m) refl (owner m t g) }
 
 pub scopes_of : (script : Script) → Accepted script → (es : List Entry) (u : State) → IsRun (script_of script) es u → ScopeLaw u
 scopes_of script accepted es u r = law_holds script u (scoped_of script accepted es u r) (standing_of (script_of script) es u r)

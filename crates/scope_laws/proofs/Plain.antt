@@ -1,5 +1,5 @@
 -- What the phase of a thread says in plain words.
-use Rattle.std.proofs.Common.{◌≡◌, ◌≢◌, ℕ, true, false, List, [], ◌∷◌, Option, Some, slice_get, refl, sym, ◌∙◌, subst}
+use Rattle.std.proofs.Common.{◌≡◌, ◌≢◌, ◌==◌, ℕ, suc, true, false, List, [], ◌∷◌, Option, Some, slice_get, refl, sym, ap, ◌∙◌, subst, ⊎_elim}
 use Rattle.hs_base.specs.declared.exn.Exn.{Exn}
 use Rattle.rules_expansion.specs.trees.Trees.{T}
 use Rattle.rules_expansion.specs.trees.Programs.{Fn}
@@ -12,16 +12,17 @@ use Rattle.rules_meaning.specs.Values.{V, Cell, Env}
 use Rattle.rules_sorts.specs.Sorts.{Sort}
 use Rattle.hs_rules.specs.Terms.{Calls, Part, Throw, Performs, Frame, BindTo, mask_at}
 use Rattle.hs_rules.specs.State.{Thread, State}
-use Rattle.hs_laws.specs.BracketLaw.{IsMasked}
+use Rattle.hs_laws.specs.BracketLaw.{count, IsMasked}
+use Rattle.hs_laws.proofs.Lists.{equal_or, cond_false, Ones}
 use Rattle.hs_progress.specs.CoreTyping.{asks_take, asks_try_take, asks_try_put}
 use Rattle.hs_progress.specs.TypedStates.{Purpose, has, for_values, OpTyped, calls_typed, one_value, PartTyped, ThreadTyped, TypedState}
 use Rattle.hs_progress.proofs.Sounds.{part_op}
-use Rattle.scope_laws.specs.ScopeLaw.{is_added, guards_here}
-use Rattle.scope_laws.specs.ScopePhases.{Role, Running, Ended, IsCell, IsCommon, Below, no_frames, below_bind, below_catch, below_mask, below_guarded, below_child, After, after_exit, after_handler}
+use Rattle.scope_laws.specs.ScopeLaw.{is_added, acting, guards_here, guards, TakesOrTries}
+use Rattle.scope_laws.specs.ScopePhases.{Role, Plain, Fresh, Running, Ended, IsOf, IsCell, IsCommon, Below, no_frames, below_bind, below_catch, below_mask, below_guarded, below_child, After, after_exit, after_handler}
 use Rattle.scope_laws.specs.ScopePhases.{Stopping, stop_whole, stop_kills, stop_awaits, stop_gives, stop_leaves}
 use Rattle.scope_laws.specs.ScopePhases.{Held, held_ret, held_throw, held_do, held_op, held_new, held_new_op, held_new_throw, held_new_cell, held_made, held_masked, held_fork, held_fork_op, held_forked, held_named, held_run, held_guarded, held_result, held_exit, held_handler, held_stop, held_stopped, held_return, held_rethrow, held_thrown, held_passing, held_child, held_action, held_fault, held_told, held_ending, held_put, held_put_op}
-use Rattle.scope_laws.specs.ScopesKept.{IsForValues, at_values, CellFits, Book, HeldThread, Fits, MaskedGuards, ThrownAtFull, TakesOrTries, StandsInScopes}
-use Rattle.scope_laws.proofs.Phases.{not_result, bind_guards, do_guards, ret_guards, after_masked, stop_masked}
+use Rattle.scope_laws.specs.ScopesKept.{IsForValues, IsForEnd, at_values, CellFits, Book, HeldThread, Fits, MaskedGuards, ThrownAtFull, StandsInScopes}
+use Rattle.scope_laws.proofs.Phases.{not_result, bind_guards, do_guards, ret_guards, held_guards, held_owned, RunsIt, held_acts, after_masked, stop_masked}
 use Rattle.scope_laws.proofs.Answers.{stop_part}
 use Rattle.scope_laws.proofs.Threads.{not_both}
 
@@ -118,10 +119,23 @@ module _ (values : ℕ → Type 0) (roles : ℕ → Role) (t : ℕ) (j : Option 
 
   -- ---- a put
 
-  put_at : {m : ℕ} {v : V} {fs : List Frame} {o : List ℕ} → (values m → ⊥) → Held values roles t j (Performs (Calls PutMVar (Cell m ∷ v ∷ []))) fs o → (p : ℕ) × (roles m ≡ Running p t)
+  put_at : {m : ℕ} {vs : List V} {fs : List Frame} {o : List ℕ} → (values m → ⊥) → Held values roles t j (Performs (Calls PutMVar (Cell m ∷ vs))) fs o → (p : ℕ) × (roles m ≡ Running p t)
   put_at n (held_op f r) = absurd (n f)
   put_at n (held_stop k s a) = absurd (stop_part values roles t j s)
   put_at n (held_put_op {p = p} e s) = (p, e.0)
+
+-- what holds of each number of a list holds of one that stands in it
+pub some_of : (P : ℕ → Type 0) (m : ℕ) (o : List ℕ) → Ones P o → count m o ≢ 0 → P m
+some_of P m [] h n = absurd (n refl)
+some_of P m (k ∷ o) h n =
+    ⊎_elim (λ e. subst P (sym e.1) h.0) (λ e. some_of P m o h.1 (λ z. n (cond_false (m == k) (suc (count m o)) (count m o) e.0 ∙ z))) (equal_or m k)
+
+-- the cell of a scope whose child is or was there is for that one's end
+for_end : (r : Role) (t : ℕ) (c : Option (Option V)) (q : Option Purpose) → IsOf t r → CellFits r c q → IsForEnd q
+for_end Plain t c q i h = absurd i
+for_end (Fresh p) t c q i h = absurd i
+for_end (Running p d) t c q i h = h.1
+for_end (Ended p) t c q i h = h.1
 
 full_of : (r : Role) (t : ℕ) (c : Option (Option V)) (q : Option Purpose) → r ≡ Ended t → CellFits r c q → (v : V) × (c ≡ Some (Some v))
 full_of r t c q e h = let k : CellFits (Ended t) c q = subst (λ x. CellFits x c q) e h in k.0
@@ -153,11 +167,25 @@ module _ (ds : List Fn) (s : State) (d : TypedState ds s) (b : Book) (h : Fits d
   takes_at {m = m} i (calls_typed (asks_try_put {t = u}) (one_value q r)) = values_at m u q
   takes_at i (calls_typed _ r) = absurd i
 
+  guarded_at : (m : ℕ) → count m (guards th.term.part th.term.frames) ≢ 0 → IsForEnd (slice_get cells m) × IsOf t (b.roles m)
+  guarded_at m n =
+      let i : IsOf t (b.roles m) =
+      some_of (λ m. IsOf t (b.roles m)) m (b.guarded t) (held_owned (at_values cells) b.roles t (b.owed t) held) (λ z. n (ap (count m) (held_guards (at_values cells) b.roles t (b.owed t) held) ∙ z)) in
+      (for_end (b.roles m) t (slice_get s.cells m) (slice_get cells m) i (h.contents m), i)
+
+  acted_at : (m : ℕ) → count m (acting th.term.part th.term.frames) ≢ 0 → IsForEnd (slice_get cells m) × (p : ℕ) × (b.roles m ≡ Running p t)
+  acted_at m n =
+      let x = some_of (RunsIt b.roles t) m (acting th.term.part th.term.frames) (held_acts (at_values cells) b.roles t (b.owed t) held) n in
+      let i : IsOf x.0 (b.roles m) = subst (IsOf x.0) (sym x.1) refl in
+      (for_end (b.roles m) x.0 (slice_get s.cells m) (slice_get cells m) i (h.contents m), x.0, x.1)
+
   pub stands : StandsInScopes cells b s t th
   stands = record {
     here = held_masked_here (at_values cells) b.roles t (b.owed t) held;
     binds = held_masked_binds (at_values cells) b.roles t (b.owed t) held;
     thrown = thrown_full th.term.part th.term.frames held;
-    puts = λ m v e i. put_at (at_values cells) b.roles t (b.owed t) (not_both (slice_get cells m) i) (subst (λ p. Held (at_values cells) b.roles t (b.owed t) p th.term.frames (b.guarded t)) e held);
+    puts = λ m vs e i. put_at (at_values cells) b.roles t (b.owed t) (not_both (slice_get cells m) i) (subst (λ p. Held (at_values cells) b.roles t (b.owed t) p th.term.frames (b.guarded t)) e held);
     takes = λ w m vs i e f. not_both (slice_get cells m) f (takes_at i (typed_call w (Cell m ∷ vs) e));
+    guarded = guarded_at;
+    acted = acted_at;
   }

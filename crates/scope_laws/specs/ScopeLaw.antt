@@ -8,7 +8,8 @@ use Rattle.std.specs.Prelude.{◌≡◌, ◌≢◌, ℕ, Bool, false, cond, ◌&
 use Rattle.rules_expansion.specs.Names.{Name, Added, same_name}
 use Rattle.rules_expansion.specs.declared.hidden.Hidden.{Hidden}
 use Rattle.rules_expansion.specs.declared.hidden.Hidden.TheVariants.{ScopeCell, Child, ChildEnding, ScopeResult}
-use Rattle.rules_expansion.specs.declared.primitive.Primitive.TheVariants.{PutMVar}
+use Rattle.rules_expansion.specs.declared.primitive.Primitive.{Primitive}
+use Rattle.rules_expansion.specs.declared.primitive.Primitive.TheVariants.{TakeMVar, PutMVar, TryTakeMVar, TryPutMVar}
 use Rattle.rules_expansion.specs.Core.{CoreEx, Read, PairRead, Core, Return, Let, Bind, Perform}
 use Rattle.rules_meaning.specs.Values.{V, Cell, Env, value_at}
 use Rattle.hs_rules.specs.Terms.{Operation, Calls, Part, Ret, Throw, Do, Performs, Frame, BindTo, CatchBy, MaskIn}
@@ -121,7 +122,7 @@ ending (Throw e) fs = []
 ending (Do a env) fs = ending_do a env
 ending (Performs op) fs = ending_op op
 
--- ---- the law
+-- ---- threads and cells
 
 -- thread t is there, hasn't finished, and is acting on cell m
 pub record Acts (s : State) (m t : ℕ) : Type 0 where
@@ -155,11 +156,37 @@ pub record OneGuards (s : State) (m : ℕ) : Type 0 where
   pub once : count m (guards guard.thread.term.part guard.thread.term.frames) ≡ 1
   pub only : (u : ℕ) → Guards s m u → u ≡ thread
 
+-- ---- what cells of scopes are for
+
+-- what takes or may take, or puts without waiting
+abbrev pub TakesOrTries : Primitive → Type 0
+TakesOrTries TakeMVar = Unit {0}
+TakesOrTries TryTakeMVar = Unit {0}
+TakesOrTries TryPutMVar = Unit {0}
+TakesOrTries w = ⊥
+
+-- thread t is at this operation on cell m
+pub record Asks (s : State) (w : Primitive) (m t : ℕ) : Type 0 where
+  pub thread : Thread
+  pub is : slice_get s.threads t ≡ Some thread
+  pub values : List V
+  pub part : thread.term.part ≡ Performs (Calls w (Cell m ∷ values))
+
+-- The cell is for the end of one child: whoever puts into it is that child, which is acting on it until then, and no other thread
+-- puts into it; and nothing takes from it.
+pub record ForItsChild (s : State) (m : ℕ) : Type 0 where
+  pub child : (t u : ℕ) → Asks s PutMVar m t → Acts s m u ⊎ Asks s PutMVar m u → t ≡ u
+  pub takes : (w : Primitive) (t : ℕ) → TakesOrTries w → Asks s w m t → ⊥
+
+-- ---- the law itself
+
 -- Each number that an unfinished thread is acting on is guarded by exactly one unfinished thread, and no other thread is acting
 -- on it. So where a thread has left an async scope, the child has ended its action. That holds where the main thread has
 -- finished, too. A number that a thread guards has its end, or an unfinished thread is acting on it or about to put that. So no STOP
--- waits for a child that has gone without leaving its end.
+-- waits for a child that has gone without leaving its end. The cell of a number that a thread is acting on or guards is put into by
+-- the scope's child alone, and never taken from.
 pub record ScopeLaw (s : State) : Type 0 where
   pub guarded : (m t : ℕ) → Acts s m t → OneGuards s m
   pub alone : (m t u : ℕ) → Acts s m t → Acts s m u → t ≡ u
   pub awaited : (m t : ℕ) → Guards s m t → IsFull s m ⊎ ((u : ℕ) × (Acts s m u ⊎ Ends s m u))
+  pub cells : (m t : ℕ) → Acts s m t ⊎ Guards s m t → ForItsChild s m

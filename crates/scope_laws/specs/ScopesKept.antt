@@ -6,7 +6,7 @@ use Rattle.std.specs.Prelude.{◌≡◌, ◌≢◌, ℕ, true, List, [], ◌∷�
 use Rattle.rules_expansion.specs.trees.Programs.{Fn}
 use Rattle.rules_expansion.specs.declared.hidden.Hidden.TheVariants.{ScopeResult}
 use Rattle.rules_expansion.specs.declared.primitive.Primitive.{Primitive}
-use Rattle.rules_expansion.specs.declared.primitive.Primitive.TheVariants.{TakeMVar, PutMVar, TryTakeMVar, TryPutMVar}
+use Rattle.rules_expansion.specs.declared.primitive.Primitive.TheVariants.{PutMVar}
 use Rattle.rules_meaning.specs.Values.{V, Cell}
 use Rattle.rules_waiting.specs.Waiting.{Reason, Taking, Reading, Putting, Throwing, Sleeping, Waiting}
 use Rattle.hs_rules.specs.Terms.{Calls, Part, Throw, Performs, Frame, BindTo, CatchBy, MaskIn, mask_at}
@@ -15,8 +15,8 @@ use Rattle.hs_rules.specs.declared.entry.Entry.{Entry}
 use Rattle.hs_rules.specs.Runs.{after}
 use Rattle.hs_laws.specs.BracketLaw.{count, IsMasked}
 use Rattle.hs_progress.specs.TypedStates.{Purpose, for_values, for_end, TypedState}
-use Rattle.scope_laws.specs.ScopeLaw.{is_added, guards_bind, guards_here, IsFull, ScopeLaw}
-use Rattle.scope_laws.specs.ScopePhases.{Role, Plain, Fresh, Running, Ended, IsCell, Held}
+use Rattle.scope_laws.specs.ScopeLaw.{is_added, acting, guards_bind, guards_here, guards, IsFull, TakesOrTries, ScopeLaw}
+use Rattle.scope_laws.specs.ScopePhases.{Role, Plain, Fresh, Running, Ended, IsOf, IsCell, Held}
 
 -- ---- what cells are for
 
@@ -90,21 +90,17 @@ abbrev pub ThrownAtFull : State → Part → List Frame → Type 0
 ThrownAtFull s (Throw e) (BindTo x b env ∷ fs) = is_added ScopeResult x ≡ true → (m : ℕ) → IsCell env m → IsFull s m
 ThrownAtFull s _ _ = Unit {0}
 
--- what takes or may take, or puts without waiting
-abbrev pub TakesOrTries : Primitive → Type 0
-TakesOrTries TakeMVar = Unit {0}
-TakesOrTries TryTakeMVar = Unit {0}
-TakesOrTries TryPutMVar = Unit {0}
-TakesOrTries w = ⊥
-
 -- What guards stands where the masking state isn't Unmasked; an exception goes directly to a bind to E only where the scope's cell is
--- full; into a cell for an end only the child of its scope puts; and nothing takes from one.
+-- full; into a cell for an end only the child of its scope puts; and nothing takes from one. What a thread guards or is acting on is
+-- such a cell, of a scope that it runs or ran, or whose child it is.
 pub record StandsInScopes (cells : List Purpose) (b : Book) (s : State) (t : ℕ) (th : Thread) : Type 0 where
   pub here : guards_here th.term.part th.term.frames ≢ [] → IsMasked (mask_at th.term.frames)
   pub binds : MaskedGuards th.term.frames
   pub thrown : ThrownAtFull s th.term.part th.term.frames
-  pub puts : (m : ℕ) (v : V) → th.term.part ≡ Performs (Calls PutMVar (Cell m ∷ v ∷ [])) → IsForEnd (slice_get cells m) → (p : ℕ) × (b.roles m ≡ Running p t)
+  pub puts : (m : ℕ) (vs : List V) → th.term.part ≡ Performs (Calls PutMVar (Cell m ∷ vs)) → IsForEnd (slice_get cells m) → (p : ℕ) × (b.roles m ≡ Running p t)
   pub takes : (w : Primitive) (m : ℕ) (vs : List V) → TakesOrTries w → th.term.part ≡ Performs (Calls w (Cell m ∷ vs)) → IsForEnd (slice_get cells m) → ⊥
+  pub guarded : (m : ℕ) → count m (guards th.term.part th.term.frames) ≢ 0 → IsForEnd (slice_get cells m) × IsOf t (b.roles m)
+  pub acted : (m : ℕ) → count m (acting th.term.part th.term.frames) ≢ 0 → IsForEnd (slice_get cells m) × (p : ℕ) × (b.roles m ≡ Running p t)
 
 -- a typed state, and a book that fits it and what its store says of cells
 pub record Scoped (ds : List Fn) (s : State) : Type 0 where
