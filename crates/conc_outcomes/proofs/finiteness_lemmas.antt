@@ -1,3 +1,3 @@
-mod Steps
-mod Moves
-mod Judging
+pub mod Steps
+pub mod Moves
+pub mod Judging

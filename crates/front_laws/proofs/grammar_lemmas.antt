@@ -1,3 +1,3 @@
 pub mod Answers
 pub mod Marks
-mod Spelled
+pub mod Spelled
