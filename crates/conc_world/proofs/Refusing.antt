@@ -7,8 +7,9 @@ use Rattle.run_course.specs.declared.history.record.Record.{Record}
 use Rattle.run_course.specs.history.Records.{Same}
 use Rattle.run_course.specs.declared.ends.RunEnd.{RunEnd}
 use Rattle.conc_world.specs.declared.answers.Committed.{Committed}
+use Rattle.conc_world.specs.declared.answers.Committed.TheVariants.{Taken, Stale, Short, Ended, NoMemory}
 use Rattle.conc_world.specs.Jobs.{left}
-use Rattle.conc_world.specs.Committing.{IsCommitted}
+use Rattle.conc_world.specs.Committing.{IsCommitted, IsTakenOrRefused, IsCommittedAnew}
 
 -- what holds anyway holds where there is an error
 pub on_err : {T E : Type 0} (P : Type 0) (r : Result T E) → P → OnErr r P
@@ -31,3 +32,12 @@ unchanged old new e = record {
   world = λ b. ap (λ (r : Record). state_of b r.world) e;
   plan = (ap (λ (r : Record). r.fuel) e, ap (λ (r : Record). r.limits) e, ap (λ (r : Record). r.of) e);
 }
+
+-- what became of a slice that was made anew in the place of a late one
+pub made_anew : (late s : Slice) (old_end : Option RunEnd) (old : Record) (new_end : Option RunEnd) (new : Record) → s.ticket ≡ late.ticket → s.tid ≡ late.tid → s.of.value ≡ late.of.value
+    → (c : Committed) → IsTakenOrRefused c → IsCommitted c s old_end old new_end new → IsCommittedAnew c late old_end old new_end new
+made_anew late s old_end old new_end new ticket tid code Ended judged h = absurd judged
+made_anew late s old_end old new_end new ticket tid code (Stale w) judged h = absurd judged
+made_anew late s old_end old new_end new ticket tid code (Short n) judged h = absurd judged
+made_anew late s old_end old new_end new ticket tid code Taken judged h = record { slice = s; ticket = ticket; tid = tid; code = code; taken = h }
+made_anew late s old_end old new_end new ticket tid code NoMemory judged h = h

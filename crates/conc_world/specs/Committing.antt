@@ -58,12 +58,29 @@ IsRefused why s end r = IsCommitted why s end r end r
 abbrev pub MayBeTaken : Slice → Option RunEnd → Record → Type 0
 MayBeTaken s end r = (end ≡ None) × Starts s r.world × (s.steps ≤ left r)
 
--- What became of a slice of the same job that was made anew in its place.
-pub record IsCommittedAnew (c : Committed) (s : Slice) (old_end : Option RunEnd) (old : Record) (new_end : Option RunEnd) (new : Record) : Type 0 where
+-- It was taken, or memory was refused.
+abbrev pub IsTakenOrRefused : Committed → Type 0
+IsTakenOrRefused Ended = ⊥
+IsTakenOrRefused (Stale w) = ⊥
+IsTakenOrRefused (Short n) = ⊥
+IsTakenOrRefused Taken = Unit {0}
+IsTakenOrRefused NoMemory = Unit {0}
+
+-- In the place of a late slice one was made anew, of the same thread, ticket and code, from where the thread stands, and it was taken.
+pub record IsTakenAnew (late : Slice) (old_end : Option RunEnd) (old : Record) (new_end : Option RunEnd) (new : Record) : Type 0 where
   pub slice : Slice
-  pub ticket : slice.ticket ≡ s.ticket
-  pub tid : slice.tid ≡ s.tid
-  pub committed : IsCommitted c slice old_end old new_end new
+  pub ticket : slice.ticket ≡ late.ticket
+  pub tid : slice.tid ≡ late.tid
+  pub code : slice.of.value ≡ late.of.value
+  pub taken : IsCommitted Taken slice old_end old new_end new
+
+-- What became of a slice of the same job that was made anew in its place: it was taken, or memory was refused. No other answer comes.
+abbrev pub IsCommittedAnew : Committed → Slice → (old_end : Option RunEnd) (old : Record) (new_end : Option RunEnd) (new : Record) → Type 0
+IsCommittedAnew Ended late old_end old new_end new = ⊥
+IsCommittedAnew (Stale w) late old_end old new_end new = ⊥
+IsCommittedAnew (Short n) late old_end old new_end new = ⊥
+IsCommittedAnew Taken late old_end old new_end new = IsTakenAnew late old_end old new_end new
+IsCommittedAnew NoMemory late old_end old new_end new = IsCommitted NoMemory late old_end old new_end new
 
 -- What became of a slice, or of the one that was judged in its place.
 abbrev pub IsCommittedBy : Made → Committed → Slice → (old_end : Option RunEnd) (old : Record) (new_end : Option RunEnd) (new : Record) → Type 0

@@ -10,7 +10,7 @@ ghost use Rattle.frame_stack.specs.Slicing.{IsDoing};
 ghost use Rattle.run_course.specs.history.Records.{Same};
 ghost use Rattle.run_course.specs.Settled.{Accepted};
 ghost use Rattle.conc_world.specs.Jobs.{left};
-ghost use Rattle.conc_world.specs.Committing.{IsCommitted, IsRefused, IsStale, MayBeTaken, TicketBack};
+ghost use Rattle.conc_world.specs.Committing.{IsCommitted, IsRefused, IsStale, IsTakenOrRefused, MayBeTaken, TicketBack};
 
 use crate::answers::{Committed, Why};
 use crate::desk::Desk;
@@ -118,6 +118,7 @@ impl<O: Sink, E: Sink, K: Clock> Desk<O, E, K> {
         requires starts { Starts slice self.old.course.clocked.record.world }
         requires fuel { slice.steps ≤ left self.old.course.clocked.record }
         ensures committed { IsCommitted result slice self.old.course.end self.old.course.clocked.record self.new.course.end self.new.course.clocked.record }
+        ensures judged { IsTakenOrRefused result }
         ensures ticket { TicketBack result slice.ticket self.old.tickets self.new.tickets }
         ensures lent { (self.new.course.out_lent ≡ self.old.course.out_lent) × (self.new.course.err_lent ≡ self.old.course.err_lent) × (self.new.course.clocked.lent ≡ self.old.course.clocked.lent) }
         ensures kept { (self.new.course.out ≡ self.old.course.out) × (self.new.course.err ≡ self.old.course.err) × (self.new.course.clocked.clock ≡ self.old.course.clocked.clock) }
@@ -137,6 +138,7 @@ impl<O: Sink, E: Sink, K: Clock> Desk<O, E, K> {
         requires starts { Starts slice self.old.course.clocked.record.world }
         requires fuel { slice.steps ≤ left self.old.course.clocked.record }
         ensures committed { IsCommitted result slice self.old.course.end self.old.course.clocked.record self.new.course.end self.new.course.clocked.record }
+        ensures judged { IsTakenOrRefused result }
         ensures lent { (self.new.course.out_lent ≡ self.old.course.out_lent) × (self.new.course.err_lent ≡ self.old.course.err_lent) × (self.new.course.clocked.lent ≡ self.old.course.clocked.lent) }
         ensures kept { (self.new.course.out ≡ self.old.course.out) × (self.new.course.err ≡ self.old.course.err) × (self.new.course.clocked.clock ≡ self.old.course.clocked.clock) }
         ensures tickets { (self.new.tickets ≡ self.old.tickets) × (self.new.given ≡ self.old.given) }

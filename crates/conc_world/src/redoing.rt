@@ -21,7 +21,8 @@ impl<O: Sink, E: Sink, K: Clock> Desk<O, E, K> {
     /// `commit` in a time that the steps of a slice bound, whatever values its thread holds.
     ///
     /// Where the values of the slice's start can't be compared with those of the thread in a few steps for each of its rules, it
-    /// is dropped, and a slice of the same job is made anew where the thread stands, and committed: that needs no comparison.
+    /// is dropped, and a slice of the same thread, ticket and code is made anew where the thread stands, and committed: that needs no
+    /// comparison. Such a one is `Taken`, or memory is refused; no other answer comes of it.
     pub fn commit_or_redo(&mut self, slice: Slice) -> (Committed, Made)
         requires code { slice.of.value ≡ self.old.course.clocked.record.of.value }
         ensures committed { IsCommittedBy result.1 result.0 slice self.old.course.end self.old.course.clocked.record self.new.course.end self.new.course.clocked.record }
@@ -45,6 +46,7 @@ impl<O: Sink, E: Sink, K: Clock> Desk<O, E, K> {
     /// Makes a slice of this one's job anew, where its thread stands, and commits it.
     fn redo(&mut self, late: &Slice) -> Committed
         requires none { self.old.course.end ≡ None }
+        requires code { late.now.of.value ≡ self.old.course.clocked.record.of.value }
         requires goes { IsAt late.now.tid Goes self.old.course.clocked.record.world.threads.list.items }
         ensures committed { IsCommittedAnew result late.now self.old.course.end self.old.course.clocked.record self.new.course.end self.new.course.clocked.record }
         ensures ticket { TicketBack result late.now.ticket self.old.tickets self.new.tickets }

@@ -35,7 +35,11 @@ judged_begins NoMemory s old_end old new_end new h = begins_alike old.history.li
 
 committed_begins : (m : Made) (c : Committed) (s : Slice) (old_end : Option RunEnd) (old : Record) (new_end : Option RunEnd) (new : Record) → IsCommittedBy m c s old_end old new_end new → Begins old.history.list new.history.list
 committed_begins Before c s old_end old new_end new h = judged_begins c s old_end old new_end new h
-committed_begins Anew c s old_end old new_end new h = judged_begins c h.slice old_end old new_end new h.committed
+committed_begins Anew Ended s old_end old new_end new h = absurd h
+committed_begins Anew (Stale w) s old_end old new_end new h = absurd h
+committed_begins Anew (Short n) s old_end old new_end new h = absurd h
+committed_begins Anew Taken s old_end old new_end new h = judged_begins Taken h.slice old_end old new_end new h.taken
+committed_begins Anew NoMemory s old_end old new_end new h = judged_begins NoMemory s old_end old new_end new h
 
 -- and so does one that went on from there
 pub went_on : (m : Made) (c : Committed) (s : Slice) (old_end : Option RunEnd) (old : Record) (new_end : Option RunEnd) (new : Record) → IsCommittedBy m c s old_end old new_end new → (last : List Entry) → Begins new.history.list last → IsPrefix old.history.list last
