@@ -24,7 +24,7 @@ use Rattle.conc_outcomes.specs.walks.Walking.{IsTimedRun, ComesBack}
 use Rattle.conc_outcomes.specs.walks.Entering.{IsAt, AreAlike}
 
 -- what is kept of a state in a timing stands for what the state stands for
-stands_kept : (clock : ClockChoice) (ds : List Fn) (c d : Shown) (s : State) → StandsAs Virtual ds c s → forget clock c.slots ≡ d.slots → c.output ≡ d.output → c.errors ≡ d.errors → StandsAs clock ds d s
+pub stands_kept : (clock : ClockChoice) (ds : List Fn) (c d : Shown) (s : State) → StandsAs Virtual ds c s → forget clock c.slots ≡ d.slots → c.output ≡ d.output → c.errors ≡ d.errors → StandsAs clock ds d s
 stands_kept clock ds c d s h slots output errors = record {
   exact = h.exact;
   represents = h.represents;

@@ -15,6 +15,8 @@ use Rattle.outcome_listing.specs.declared.explored.Explored.{Explored}
 use Rattle.outcome_listing.specs.Finals.{outcomes_of}
 use Rattle.conc_outcomes.specs.declared.order.ended.Ended.{Ended}
 use Rattle.conc_outcomes.specs.order.Rising.{outcome_by, IsRising, Has}
+use Rattle.number_states.specs.declared.state.NumberState.{NumberState}
+use Rattle.number_states.specs.Stocks.{Stock}
 use Rattle.state_search.specs.declared.found.Found.{Found}
 use Rattle.state_search.specs.declared.found.Gap.{Gap}
 use Rattle.state_search.specs.Searching.{Searched, IsClosed, IsCodeOf, AreReached, Shows, ShowsAll}
@@ -36,24 +38,25 @@ pub record HasParts (bounds : Bounds) (b : CodeBody) (f : Found) (es : List Ende
   pub right : IsRightOf f e
   pub listed : (script : Script) → IsCodeOf b script → AllByRecursion (IsListed bounds (script_of script)) x.outcomes
   pub are : outcomes_of x.outcomes ≡ map outcome_by es
-  pub extent : (script : Script) → IsCodeOf b script → IsExtentOf bounds (script_of script) x.states f.gap x.extent
+  pub extent : (script : Script) → IsCodeOf b script → IsExtentOf bounds (script_of script) b f.numbers f.states f.gap x.extent
   pub endless : (script : Script) → IsCodeOf b script → IsEndOf bounds.clock (script_of script) f.gap e x.endless
   pub states : x.states ≡ length f.states
 
-lists_by : (bounds : Bounds) (ds : List Fn) (os : List Outcome) (n : ℕ) (gap : Option Gap) (x : Extent) → IsExtentOf bounds ds n gap x → (gap ≡ None → Lists bounds ds os n All) → Lists bounds ds os n x
-lists_by bounds ds os n None x is all = subst (Lists bounds ds os n) (sym is) (all refl)
-lists_by bounds ds os n (Some g) All is all = absurd is
-lists_by bounds ds os n (Some g) (NotAll why run) is all = is
+module _ (bounds : Bounds) (ds : List Fn) (b : CodeBody) (g : Stock) (ns : List NumberState) where
+  lists_by : (os : List Outcome) (gap : Option Gap) (x : Extent) → IsExtentOf bounds ds b g ns gap x → (gap ≡ None → Lists bounds ds b g ns os All) → Lists bounds ds b g ns os x
+  lists_by os None x is all = subst (Lists bounds ds b g ns os) (sym is) (all refl)
+  lists_by os (Some why) All is all = absurd is
+  lists_by os (Some why) (NotAll cause run) is all = is
 
--- all is listed just where there is no gap
-all_if : (bounds : Bounds) (ds : List Fn) (n : ℕ) (gap : Option Gap) (x : Extent) → IsExtentOf bounds ds n gap x → gap ≡ None → x ≡ All
-all_if bounds ds n None x is none = is
-all_if bounds ds n (Some g) x is none = absurd (cc none)
+  -- all is listed just where there is no gap
+  all_if : (gap : Option Gap) (x : Extent) → IsExtentOf bounds ds b g ns gap x → gap ≡ None → x ≡ All
+  all_if None x is none = is
+  all_if (Some why) x is none = absurd (cc none)
 
-none_if : (bounds : Bounds) (ds : List Fn) (n : ℕ) (gap : Option Gap) (x : Extent) → IsExtentOf bounds ds n gap x → x ≡ All → gap ≡ None
-none_if bounds ds n None x is all = refl
-none_if bounds ds n (Some g) All is all = absurd is
-none_if bounds ds n (Some g) (NotAll why run) is all = absurd (cc all)
+  none_if : (gap : Option Gap) (x : Extent) → IsExtentOf bounds ds b g ns gap x → x ≡ All → gap ≡ None
+  none_if None x is all = refl
+  none_if (Some why) All is all = absurd is
+  none_if (Some why) (NotAll cause run) is all = absurd (cc all)
 
 module _ (bounds : Bounds) (b : CodeBody) (f : Found) (es : List Ended) (script : Script) (code : IsCodeOf b script) where
   abbrev ds : List Fn
@@ -62,9 +65,9 @@ module _ (bounds : Bounds) (b : CodeBody) (f : Found) (es : List Ended) (script 
   ends_by : (e : Ends) (x : Explored) (p : HasParts bounds b f es e x) (d : Endless) → IsRightOf f e → IsEndOf bounds.clock ds f.gap e d → HasEnds bounds ds x.extent d
   ends_by ends.Never x p endless.Never right none =
       let h = right bounds b script p.searched (p.closed none) code in
-      (all_if bounds ds x.states f.gap x.extent (p.extent script code) none, h.0, h.1)
+      (all_if bounds ds b f.numbers f.states f.gap x.extent (p.extent script code) none, h.0, h.1)
   ends_by ends.Never x p (endless.Round to round) right is = absurd is
-  ends_by ends.Never x p endless.Unknown right some = λ all. some (none_if bounds ds x.states f.gap x.extent (p.extent script code) all)
+  ends_by ends.Never x p endless.Unknown right some = λ all. some (none_if bounds ds b f.numbers f.states f.gap x.extent (p.extent script code) all)
   ends_by (ends.Round at moves) x p endless.Never right is = absurd is
   ends_by (ends.Round at moves) x p (endless.Round to round) right is = (is, right.1 bounds b script p.searched (p.reached script code) code)
   ends_by (ends.Round at moves) x p endless.Unknown right is = absurd is
@@ -76,7 +79,8 @@ module _ (bounds : Bounds) (b : CodeBody) (f : Found) (es : List Ended) (script 
   explored e x p = record {
     sound = p.listed script code;
     rising = subst AreRising (sym p.are) (outcomes_rise es p.rising);
-    lists = lists_by bounds ds x.outcomes x.states f.gap x.extent (p.extent script code) (contained e x p);
-    ends = ends_by e x p x.endless p.right (p.endless script code);
     counted = record { found = f; searched = p.searched; reached = p.reached script code; many = sym p.states };
+    seen = λ o s. subst (λ os. Contains os o) (sym p.are) (has_among es o (p.endings b o s));
+    lists = lists_by bounds ds b f.numbers f.states x.outcomes f.gap x.extent (p.extent script code) (contained e x p);
+    ends = ends_by e x p x.endless p.right (p.endless script code);
   }

@@ -11,7 +11,7 @@ ghost use Rattle.conc_outcomes.specs.Parts.{IsEndOf};
 
 use crate::finiteness::Ends;
 use crate::paths::{Bounded, Paths, walk_to};
-use crate::walks::{Walk, are_alike, works};
+use crate::walks::{Ticks, Walk, are_alike, works};
 use hs_base::NoMemory;
 use hs_rules::History;
 use number_states::Numbers;
@@ -48,7 +48,14 @@ fn go_round(
 {
     for place in places {
         if let Some(one) = moves.get(*place) {
-            walk.take(alloc, code.body, code.bounds, numbers, one.entry)?;
+            walk.take(
+                alloc,
+                code.body,
+                code.bounds,
+                numbers,
+                Ticks::Needed,
+                one.entry,
+            )?;
             walk.settle(alloc, code.body, code.bounds, numbers)?;
         }
     }

@@ -38,18 +38,19 @@ pub fn explore(alloc: Global, code: &Code, bounds: &Bounds) -> Result<Explored, 
     let found = search(alloc, code, bounds)?;
     let endings = endings(alloc, &found)?;
     let ends = ends(alloc, &found)?;
-    let states = count(&found, bounds);
+    let count = count(&found, bounds);
     let Found {
         mut numbers,
+        states,
         origins,
         moves,
         gap,
         ..
     } = found;
     endings.are_rising();
-    let outcomes = outcomes(alloc, body, bounds, &mut numbers, &origins, &endings)?;
     let bounded = Bounded { body, bounds };
-    let extent = extent(alloc, bounded, &mut numbers, &origins, &gap, states)?;
+    let extent = extent(alloc, bounded, &mut numbers, &states, &origins, &gap)?;
+    let outcomes = outcomes(alloc, body, bounds, &mut numbers, &origins, &endings)?;
     let paths = Paths {
         origins: &origins,
         moves: &moves,
@@ -59,6 +60,6 @@ pub fn explore(alloc: Global, code: &Code, bounds: &Bounds) -> Result<Explored, 
         outcomes,
         extent,
         endless,
-        states,
+        states: count,
     })
 }

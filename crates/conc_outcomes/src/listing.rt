@@ -13,7 +13,7 @@ ghost use Rattle.number_states.specs.Stocks.{text_at};
 ghost use Rattle.search_laws.specs.Shown.{Shown};
 ghost use Rattle.state_search.specs.Meaning.{states_of};
 ghost use Rattle.state_search.specs.Searching.{IsCodeOf, Shows};
-ghost use Rattle.conc_outcomes.specs.walks.Entering.{IsAt, IsWithin};
+ghost use Rattle.conc_outcomes.specs.walks.Entering.{IsAt, IsWithin, HasReadNothing};
 ghost use Rattle.conc_outcomes.specs.Exploring.{IsListed};
 
 use crate::order::{Ended, Endings};
@@ -72,7 +72,7 @@ fn is_text(numbers: &Numbers, number: u32, text: &Txt) -> bool
     }
 }
 
-/// Whether a run has no more steps than may be, and exceeds no limit.
+/// Whether a run has no more steps than may be, exceeds no limit, and in real timing reads no clock.
 fn is_within(
     body: &CodeBody,
     bounds: &Bounds,
@@ -80,9 +80,12 @@ fn is_within(
     walk: &Walk,
 ) -> Result<bool, NoMemory>
     requires { IsAt bounds.now body.now numbers.now walk.now }
-    ensures { IfOk result (λ yes. IsTrue yes → (steps_of walk.now.history.list ≤ bounds.now.fuel) × IsWithin bounds.now body.now walk.now) }
+    ensures { IfOk result (λ yes. IsTrue yes → (steps_of walk.now.history.list ≤ bounds.now.fuel) × IsWithin bounds.now body.now walk.now × HasReadNothing bounds.now body.now walk.now) }
 {
     if walk.history.steps() > bounds.fuel as u64 {
+        return Ok(false);
+    }
+    if !walk.unread {
         return Ok(false);
     }
     Ok(walk.exceeds(body, bounds, numbers)?.is_none())

@@ -1,9 +1,10 @@
 //! The walks along the entries that lead to what a search has found. Where those can't be walked, which is not promised, the answer
 //! is want of memory; of where a walk comes to nothing is promised either, and whoever asked for it looks.
 ghost use Rattle.std.specs.Prelude.{IfOk};
+ghost use Rattle.number_states.specs.Stocks.{HasGrown};
 ghost use Rattle.conc_outcomes.specs.walks.Entering.{IsAt};
 
-use crate::walks::Walk;
+use crate::walks::{Ticks, Walk};
 use hs_base::NoMemory;
 use hs_rules::Entry;
 use number_states::Numbers;
@@ -107,12 +108,14 @@ fn walked(
     body: &CodeBody,
     bounds: &Bounds,
     numbers: &mut Numbers,
+    ticks: Ticks,
     entries: &[Entry],
 ) -> Result<Walk, NoMemory>
-    ensures { IfOk result (λ w. IsAt bounds.now body.now numbers.new w) }
+    ensures at { IfOk result (λ w. IsAt bounds.now body.now numbers.new w) }
+    ensures grows { HasGrown numbers.old numbers.new }
 {
     let mut walk = Walk::begin(alloc, body, numbers)?;
-    walk.take_all(alloc, body, bounds, numbers, entries)?;
+    walk.take_all(alloc, body, bounds, numbers, ticks, entries)?;
     Ok(walk)
 }
 
@@ -125,23 +128,33 @@ pub fn walk_to(
     origins: &[Origin],
     state: u32,
 ) -> Result<Walk, NoMemory>
-    ensures { IfOk result (λ w. IsAt bounds.now body.now numbers.new w) }
+    ensures at { IfOk result (λ w. IsAt bounds.now body.now numbers.new w) }
+    ensures grows { HasGrown numbers.old numbers.new }
 {
     let entries = path_to(alloc, origins, state)?;
-    walked(alloc, body, bounds, numbers, entries.as_slice())
+    walked(
+        alloc,
+        body,
+        bounds,
+        numbers,
+        Ticks::Needed,
+        entries.as_slice(),
+    )
 }
 
-/// The walk to what was met by an origin, its last entry taken.
+/// The walk to what was met by an origin, its last entry taken, with so many Ticks.
 pub fn walk_by(
     alloc: Global,
     body: &CodeBody,
     bounds: &Bounds,
     numbers: &mut Numbers,
     origins: &[Origin],
+    ticks: Ticks,
     by: &Origin,
 ) -> Result<Walk, NoMemory>
-    ensures { IfOk result (λ w. IsAt bounds.now body.now numbers.new w) }
+    ensures at { IfOk result (λ w. IsAt bounds.now body.now numbers.new w) }
+    ensures grows { HasGrown numbers.old numbers.new }
 {
     let entries = path_by(alloc, origins, by)?;
-    walked(alloc, body, bounds, numbers, entries.as_slice())
+    walked(alloc, body, bounds, numbers, ticks, entries.as_slice())
 }

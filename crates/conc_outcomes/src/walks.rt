@@ -12,5 +12,5 @@ mod rounds;
 mod still;
 mod walk;
 
-pub use rounds::{are_alike, works};
-pub use walk::Walk;
+pub use rounds::{are_alike, is_another, works};
+pub use walk::{Ticks, Walk};

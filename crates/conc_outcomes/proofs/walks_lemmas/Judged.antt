@@ -1,5 +1,5 @@
 -- What a walk shows where it is.
-use Rattle.std.proofs.Common.{◌≡◌, List, [], ◌∷◌, ◌++◌, Some, None, slice_get, refl, ap, ◌∙◌, subst, inl, inr, append-nil}
+use Rattle.std.proofs.Common.{◌≡◌, true, List, [], ◌∷◌, ◌++◌, Some, None, slice_get, refl, ap, ◌∙◌, subst, inl, inr, append-nil}
 use Rattle.hs_base.specs.declared.clock_choice.ClockChoice.TheVariants.{Real, Virtual}
 use Rattle.hs_base.specs.declared.limits.Limits.{Limits}
 use Rattle.hs_base.specs.declared.tree.script.Script.{Script}
@@ -62,7 +62,7 @@ module _ (bounds : Bounds) (b : CodeBody) (g : Stock) (w : Walk) (at : IsAt boun
   exceeds_at kind h script code =
       let l = at.leads script code in
       let ds : List Fn = script_of script in
-      record { state = l.state; run = l.run; exceeds = exceeds_so kind bounds.limits here.slots l.state (same_used ds here.slots l.state (exactly ds here l.state l.stands)) h; before = l.before }
+      record { state = l.state; run = l.run; exceeds = exceeds_so kind bounds.limits here.slots l.state (same_used ds here.slots l.state (exactly ds here l.state l.stands)) h; before = l.before; kept = l.kept }
 
   -- ---- ends
 
@@ -82,18 +82,21 @@ module _ (bounds : Bounds) (b : CodeBody) (g : Stock) (w : Walk) (at : IsAt boun
 
   -- ---- a reading of the clock
 
-  pub reads_at : (h : Stock) (v : Walk) (e : Entry) → IsAt bounds b h v → v.history.list ≡ w.history.list ++ e ∷ [] → ReadsTime Real here.slots e → (script : Script) → IsCodeOf b script → ReadsLast bounds.clock (script_of script) v.history.list
-  reads_at h v e now list reads script code =
+  pub reads_at : w.unread ≡ true → (h : Stock) (v : Walk) (e : Entry) → IsAt bounds b h v → v.history.list ≡ w.history.list ++ e ∷ [] → ReadsTime Real here.slots e → (script : Script) → IsCodeOf b script → ReadsLast bounds.clock bounds.limits (script_of script) v.history.list
+  reads_at fresh h v e now list reads script code =
       let l = at.leads script code in
       let k = now.leads script code in
       let ds : List Fn = script_of script in
       record {
         state = k.state;
         run = k.run;
+        within = k.before;
+        kept = k.kept;
         front = w.history.list;
         last = e;
         split = list;
         before = l.state;
         there = is_after ds w.history.list l.state (run_of bounds.clock ds w.history.list l.state l.run);
         reads = (reads_named script here.slots l.state (exactly ds here l.state l.stands) e).0 reads;
+        first = at.unread fresh script code;
       }

@@ -19,6 +19,7 @@ use Rattle.hs_laws.specs.ClockLaw.{EndsInTick, IsFrom, TickStands, IsPunctual, C
 use Rattle.hs_laws.specs.ClockLaw as law
 use Rattle.hs_laws.proofs.Ticking.{last_or, clock_works, clock_ticks}
 use Rattle.hs_laws.proofs.RunParts.{is_after, same_after}
+use Rattle.outcome_laws.specs.timing.WithoutTime.{ReadsClock}
 use Rattle.outcome_laws.specs.Timings.{MayTick, TickFits, RunWithTicks}
 use Rattle.outcome_laws.proofs.Clocked.{none_due}
 use Rattle.slot_states.specs.SlotStates.{SlotState, Represents}
@@ -29,7 +30,7 @@ use Rattle.slot_states.specs.entering.Entering.{next}
 use Rattle.search_laws.specs.Shown.{Shown, StandsAs, FitsIn}
 use Rattle.search_laws.proofs.Cited.{entered}
 use Rattle.search_laws.proofs.Walking.{within_by, still_quiet, is_run}
-use Rattle.conc_outcomes.specs.walks.Walking.{IsTimedRun, StaysBefore, LeadsTo}
+use Rattle.conc_outcomes.specs.walks.Walking.{IsTimedRun, StaysBefore, NeverReads, LeadsTo}
 use Rattle.conc_outcomes.specs.walks.Entering.{TickMay, EntryMay}
 
 -- ---- runs and limits
@@ -43,6 +44,14 @@ before_more : (limits : Limits) (ds : List Fn) (es : List Entry) (e : Entry) (s 
 before_more limits ds es e s run within before front back x u split a =
     ⊎_elim
     (λ k. subst (IsWithin limits) (same_after ds es s u run (ap (after ds) (sym k.1) ∙ a)) within)
+    (λ k. before front k.0 x u k.2 a)
+    (last_or es e front x back split)
+
+-- no entry reads the clock where none before did and this one doesn't
+pub unread_more : (ds : List Fn) (es : List Entry) (e : Entry) (s : State) → IsRun ds es s → ¬ ReadsClock s e → NeverReads ds es → NeverReads ds (es ++ e ∷ [])
+unread_more ds es e s run not before front back x u split a =
+    ⊎_elim
+    (λ k reads. not (subst (λ z. ReadsClock z e) (sym (same_after ds es s u run (ap (after ds) (sym k.1) ∙ a))) (subst (ReadsClock u) k.2 reads)))
     (λ k. before front k.0 x u k.2 a)
     (last_or es e front x back split)
 

@@ -1,5 +1,5 @@
 -- Entries that were tried: where none of the candidates has a next state, no entry but a Tick has.
-use Rattle.std.proofs.Common.{◌≡◌, ◌≤◌, ◌<◌, ◌+◌, ℕ, zero, suc, false, List, [], ◌∷◌, Option, Some, None, MatchOption, length, slice_get, refl, sym, ◌∙◌, subst, arith, below_more}
+use Rattle.std.proofs.Common.{◌≡◌, ◌≤◌, ◌<◌, ◌+◌, ℕ, zero, suc, Bool, true, false, MatchBool, List, [], ◌∷◌, Option, Some, None, MatchOption, length, slice_get, refl, sym, ◌∙◌, subst, arith, below_more}
 use Rattle.std.specs.Option.{is_some}
 use Rattle.std.specs.List.{Contains}
 use Rattle.std.proofs.lemmas.Option.{same_Some}
@@ -38,6 +38,10 @@ module _ (funs : List SlottedFunction) (x : SlotState) (es : List Entry) where
 pub when_none : {T : Type 0} (o : Option T) (P : Type 0) (Q : T → Type 0) → false ≡ is_some o → MatchOption o P Q → P
 when_none None P Q e h = h
 when_none (Some x) P Q e h = absurd (cc e)
+
+pub when_false : (yes : Bool) (P Q : Type 0) → yes ≡ false → MatchBool yes P Q → Q
+when_false false P Q e h = h
+when_false true P Q e h = absurd (cc e)
 
 -- ---- entries other than Ticks
 

@@ -1,5 +1,5 @@
 -- Where a walk is: before any entry, behind one more, and when the tables have grown.
-use Rattle.std.proofs.Common.{◌≡◌, ℕ, false, List, [], ◌∷◌, ◌++◌, Some, refl, sym, ◌∙◌, subst, ⊎_elim}
+use Rattle.std.proofs.Common.{◌≡◌, ℕ, true, false, List, [], ◌∷◌, ◌++◌, Some, refl, sym, ◌∙◌, subst, ⊎_elim}
 use Rattle.hs_base.specs.declared.tree.script.Script.{Script}
 use Rattle.hs_rules.specs.declared.entry.Entry.{Entry}
 use Rattle.hs_rules.specs.declared.entry.Entry.TheVariants as entry
@@ -19,14 +19,17 @@ use Rattle.local_steps.specs.Machine.{act_of, funs_of}
 use Rattle.number_states.specs.Stocks.{Stock, HasGrown, text_at}
 use Rattle.number_states.specs.States.{AreIn, contents, slots, first_slots}
 use Rattle.number_states.proofs.Growth.{all_in_on, slots_of_on, text_at_on}
+use Rattle.search_laws.specs.time.WithoutTime.{ReadsClock}
 use Rattle.search_laws.specs.Shown.{Shown, FitsIn}
+use Rattle.search_laws.specs.Going.{ReadsTime}
+use Rattle.search_laws.proofs.Cited.{reads_named}
 use Rattle.state_search.specs.Meaning.{shown}
 use Rattle.state_search.specs.Searching.{IsCodeOf}
 use Rattle.number_states.specs.declared.state.NumberState.{NumberState}
 use Rattle.conc_outcomes.specs.declared.walks.walk.Walk.{Walk}
-use Rattle.conc_outcomes.specs.walks.Walking.{LeadsTo}
+use Rattle.conc_outcomes.specs.walks.Walking.{IsUnread, LeadsTo}
 use Rattle.conc_outcomes.specs.walks.Entering.{IsAt, EntryMay}
-use Rattle.conc_outcomes.proofs.walks_lemmas.OneMore.{one_more}
+use Rattle.conc_outcomes.proofs.walks_lemmas.OneMore.{exactly, run_of, unread_more, one_more}
 
 -- ---- the tables have grown
 
@@ -50,6 +53,7 @@ at_later bounds b g h w grown at = record {
   there = there_later g h w.state at.there grown;
   leads = λ script code. subst (LeadsTo bounds.clock bounds.limits (script_of script) w.history.list) (shown_later b g h w.state at.there grown) (at.leads script code);
   ticked = at.ticked;
+  unread = at.unread;
 }
 
 -- ---- before any entry
@@ -84,6 +88,7 @@ begun_at bounds b g w there is output errors none = record {
   there = there;
   leads = λ script code. subst (λ es. LeadsTo bounds.clock bounds.limits (script_of script) es (shown g b w.state)) (sym none) (begins bounds b script code (shown g b w.state) is output errors);
   ticked = λ q t. no_split t.0 [] (entry.Tick t.1) (sym none ∙ t.2);
+  unread = λ q script code real front back e s split a reads. no_split front back e (sym none ∙ split);
 }
 
 -- ---- one more entry
@@ -113,10 +118,19 @@ module _ (bounds : Bounds) (b : CodeBody) (g h i : Stock) (w v : Walk) (e : Entr
       (subst (λ fs. EntryMay bounds.clock fs here.slots w.ticked e) same (subst (λ (c : Shown). EntryMay bounds.clock (funs_of b) c.slots w.ticked e) shows may))
       at.ticked (subst (λ fs. next fs here.slots e ≡ Some left.slots) same is) output errors
 
+  unread_on : (w.unread ≡ true) × (ReadsTime bounds.clock (slots h b w.state) e → ⊥) → (script : Script) → IsCodeOf b script → IsUnread bounds.clock (script_of script) (w.history.list ++ e ∷ [])
+  unread_on k script code real =
+      let ds : List Fn = script_of script in
+      let l = at.leads script code in
+      let c : Shown = shown g b w.state in
+      let not : ReadsClock c.slots e → ⊥ = subst (λ x. ReadsClock x e → ⊥) (slots_later b g h w.state at.there grown) (subst (λ clock. ReadsTime clock (slots h b w.state) e → ⊥) real k.1) in
+      unread_more ds w.history.list e l.state (run_of bounds.clock ds w.history.list l.state l.run) (λ reads. not ((reads_named script c.slots l.state (exactly ds c l.state l.stands) e).1 reads)) (at.unread k.0 script code real)
+
   pub entered_at : AreIn i v.state → next (funs_of b) (slots h b w.state) e ≡ Some (slots i b v.state) → text_at i v.state.output ≡ text_at h w.state.output ++ output_by (slots h b w.state) e → text_at i v.state.errors ≡ text_at h w.state.errors ++ errors_by (slots h b w.state) e →
-      v.history.list ≡ w.history.list ++ e ∷ [] → (v.ticked ≡ false → ¬ IsTick e) → IsAt bounds b i v
-  entered_at there is output errors list plain = record {
+      v.history.list ≡ w.history.list ++ e ∷ [] → (v.ticked ≡ false → ¬ IsTick e) → (v.unread ≡ true → (w.unread ≡ true) × (ReadsTime bounds.clock (slots h b w.state) e → ⊥)) → IsAt bounds b i v
+  entered_at there is output errors list plain quiet = record {
     there = there;
     leads = λ script code. subst (λ es. LeadsTo bounds.clock bounds.limits (script_of script) es left) (sym list) (leads_on is output errors script code);
     ticked = λ q t. plain q (ends_by w.history.list e (subst EndsInTick list t));
+    unread = λ q script code. subst (λ es. IsUnread bounds.clock (script_of script) es) (sym list) (unread_on (quiet q) script code);
   }

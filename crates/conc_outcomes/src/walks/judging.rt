@@ -54,7 +54,8 @@ impl Walk {
         Ok(None)
     }
 
-    /// One entry that reads the clock in real timing; where it doesn't, or can't be entered, the answer is want of memory.
+    /// One entry that reads the clock in real timing, where none before it does; else, or where it can't be entered, the answer is
+    /// want of memory.
     pub fn enter_reading(
         &mut self,
         alloc: Global,
@@ -64,9 +65,12 @@ impl Walk {
         entry: Entry,
     ) -> Result<(), NoMemory>
         requires { IsAt bounds.now body.now numbers.old self.old }
-        ensures reads { OnOk result ((script : Script) → IsCodeOf body.now script → ReadsLast bounds.now.clock (script_of script) self.new.history.list) }
+        ensures reads { OnOk result ((script : Script) → IsCodeOf body.now script → ReadsLast bounds.now.clock bounds.now.limits (script_of script) self.new.history.list) }
         ensures grows { HasGrown numbers.old numbers.new }
     {
+        if !self.unread {
+            return Err(NoMemory);
+        }
         if !reads_time(numbers, &self.state, entry, ClockChoice::Real) {
             return Err(NoMemory);
         }

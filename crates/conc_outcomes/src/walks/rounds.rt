@@ -6,14 +6,47 @@ ghost use Rattle.number_states.specs.declared.state.NumberState.{NumberState as 
 ghost use Rattle.number_states.specs.States.{AreIn, Becomes};
 ghost use Rattle.number_states.specs.Keys.{state_key};
 ghost use Rattle.search_laws.specs.Shown.{forget};
-ghost use Rattle.conc_outcomes.specs.walks.Entering.{AreAlike};
+ghost use Rattle.conc_outcomes.specs.walks.Entering.{AreAlike, IsAnother};
 
 use hs_base::{ClockChoice, NoMemory};
 use hs_rules::{Entry, History};
 use number_states::{NumberState, Numbers};
-use number_tables::Keyed;
+use number_tables::{Keyed, Table};
 use state_search::forget_time;
 use std::alloc::Global;
+
+/// What a timing keeps of a state.
+fn kept_of(
+    alloc: Global,
+    clock: ClockChoice,
+    numbers: &Numbers,
+    state: &NumberState,
+) -> Result<NumberState, NoMemory>
+    requires { AreIn numbers.now state.now }
+    ensures { IfOk result (λ x. Becomes (λ b. forget clock) numbers.now state.now numbers.now x) }
+{
+    let mut copy = state.copy(alloc)?;
+    forget_time(&mut copy, numbers, clock);
+    Ok(copy)
+}
+
+/// Whether what a timing keeps of a state is none of these.
+pub fn is_another(
+    alloc: Global,
+    clock: ClockChoice,
+    numbers: &Numbers,
+    states: &Table<NumberState>,
+    state: &NumberState,
+) -> Result<bool, NoMemory>
+    requires { AreIn numbers.now state.now }
+    ensures { IfOk result (λ yes. IsTrue yes → IsAnother clock numbers.now states.now state.now) }
+{
+    let kept = kept_of(alloc, clock, numbers, state)?;
+    match states.known(alloc, &kept)? {
+        None => Ok(true),
+        Some(_) => Ok(false),
+    }
+}
 
 /// The key of what a timing keeps of a state.
 fn key_in(
@@ -25,10 +58,9 @@ fn key_in(
     requires { AreIn numbers.now state.now }
     ensures { IfOk result (λ key. (x : AState) × Becomes (λ b. forget clock) numbers.now state.now numbers.now x × (key.items ≡ state_key x)) }
 {
-    let mut copy = state.copy(alloc)?;
-    forget_time(&mut copy, numbers, clock);
+    let kept = kept_of(alloc, clock, numbers, state)?;
     let mut key = Vec::new(alloc);
-    copy.put_key(alloc, &mut key)?;
+    kept.put_key(alloc, &mut key)?;
     Ok(key)
 }
 

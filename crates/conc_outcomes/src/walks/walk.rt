@@ -1,5 +1,5 @@
 //! A walk, one entry after another.
-ghost use Rattle.std.specs.Prelude.{◌≡◌, ◌++◌, ◌∷◌, [], false, IfOk, OnOk, IsTrue};
+ghost use Rattle.std.specs.Prelude.{◌≡◌, ◌++◌, ◌∷◌, [], true, false, IfOk, OnOk, IsTrue};
 ghost use Rattle.outcome_listing.specs.declared.bounds.Bounds.{Bounds as AnyBounds};
 ghost use Rattle.hs_base.specs.declared.clock_choice.ClockChoice.{ClockChoice as AClock};
 ghost use Rattle.local_steps.specs.Machine.{funs_of};
@@ -17,8 +17,17 @@ use number_states::waits::{due_of, first_due};
 use number_states::{NumberState, Numbers, first};
 use outcome_listing::Bounds;
 use rules_code::CodeBody;
-use state_search::exceeded;
+use state_search::{exceeded, reads_time};
 use std::alloc::Global;
+
+/// Which Ticks a walk in real timing adds to the entries of a search, each before a Wake.
+#[derive(Clone, Copy, Debug, PartialEq, Eq)]
+pub enum Ticks {
+    /// Where the sleeper isn't due yet, to its due.
+    Needed,
+    /// Before each Wake, as a search counts its steps: where the sleeper is due already, to the next moment.
+    Each,
+}
 
 /// A run that is entered again.
 #[derive(Drop)]
@@ -29,6 +38,8 @@ pub struct Walk {
     pub history: History,
     /// Whether the last of them is a Tick.
     pub ticked: bool,
+    /// Whether, in real timing, none of them reads the clock.
+    pub unread: bool,
 }
 
 /// Whether an entry may stand behind a state, by the law of the clock and the timing. Where memory runs out the tables may have
@@ -57,16 +68,35 @@ fn may_stand(
     }
 }
 
-/// The Tick that stands before an entry: in real timing before a Wake, to its due, where the clock isn't there yet.
-fn tick_before(clock: ClockChoice, state: &NumberState, entry: Entry) -> Option<Entry> {
+/// Whether no entry has read the clock, where this is so of all but the last and of the last it is known.
+fn is_unread(before: bool, reads: bool) -> bool
+    ensures { result ≡ true → (before ≡ true) × (reads ≡ false) }
+{
+    before && !reads
+}
+
+/// The Tick that stands before an entry: in real timing before a Wake, to its due where the clock isn't there yet, else to the next
+/// moment where each Wake has one. The clock's last moment has no next.
+fn tick_before(
+    clock: ClockChoice,
+    state: &NumberState,
+    ticks: Ticks,
+    entry: Entry,
+) -> Option<Entry> {
     let (ClockChoice::Real, Entry::Wake { t }) = (clock, entry) else {
         return None;
     };
     let due = due_of(state.sleepers.as_slice(), t)?;
-    if due <= state.clock {
-        return None;
+    if state.clock < due {
+        return Some(Entry::Tick { at: due });
     }
-    Some(Entry::Tick { at: due })
+    match ticks {
+        Ticks::Needed => None,
+        Ticks::Each => {
+            let at = state.clock.checked_add(1)?;
+            Some(Entry::Tick { at })
+        }
+    }
 }
 
 impl Walk {
@@ -81,6 +111,7 @@ impl Walk {
             state,
             history: History::new(alloc),
             ticked: false,
+            unread: true,
         })
     }
 
@@ -105,22 +136,25 @@ impl Walk {
         if !may_stand(alloc, body, bounds.clock, numbers, self, entry)? {
             return Err(NoMemory);
         }
+        let reads = reads_time(numbers, &self.state, entry, bounds.clock);
         let Some(left) = next(alloc, body, numbers, &self.state, entry)? else {
             return Err(NoMemory);
         };
         self.history.push(entry)?;
+        self.unread = is_unread(self.unread, reads);
         self.ticked = matches!(entry, Entry::Tick { at: _ });
         self.state = left;
         Ok(())
     }
 
-    /// An entry of the path of a search, with the Tick that it waits for.
+    /// An entry of the path of a search, with the Tick that stands before it.
     pub fn take(
         &mut self,
         alloc: Global,
         body: &CodeBody,
         bounds: &Bounds,
         numbers: &mut Numbers,
+        ticks: Ticks,
         entry: Entry,
     ) -> Result<(), NoMemory>
         requires { IsAt bounds.now body.now numbers.old self.old }
@@ -128,7 +162,7 @@ impl Walk {
         ensures history { OnOk result (Grows self.old.history.list self.new.history.list) }
         ensures grows { HasGrown numbers.old numbers.new }
     {
-        if let Some(tick) = tick_before(bounds.clock, &self.state, entry) {
+        if let Some(tick) = tick_before(bounds.clock, &self.state, ticks, entry) {
             self.enter(alloc, body, bounds, numbers, tick)?;
         }
         self.enter(alloc, body, bounds, numbers, entry)
@@ -141,6 +175,7 @@ impl Walk {
         body: &CodeBody,
         bounds: &Bounds,
         numbers: &mut Numbers,
+        ticks: Ticks,
         entries: &[Entry],
     ) -> Result<(), NoMemory>
         requires { IsAt bounds.now body.now numbers.old self.old }
@@ -149,7 +184,7 @@ impl Walk {
         ensures grows { HasGrown numbers.old numbers.new }
     {
         for entry in entries {
-            self.take(alloc, body, bounds, numbers, *entry)?;
+            self.take(alloc, body, bounds, numbers, ticks, *entry)?;
         }
         Ok(())
     }
@@ -179,6 +214,13 @@ impl Walk {
             bounds.limits.frames,
             &mut locals,
         )?;
-        self.take_all(alloc, body, bounds, numbers, locals.as_slice())
+        self.take_all(
+            alloc,
+            body,
+            bounds,
+            numbers,
+            Ticks::Needed,
+            locals.as_slice(),
+        )
     }
 }

@@ -1,4 +1,4 @@
-use Rattle.std.proofs.Common.{false}
+use Rattle.std.proofs.Common.{true, false}
 use Rattle.conc_outcomes.proofs.walks_lemmas.Walks.{begun_at}
 use Rattle.conc_outcomes.proofs.walks.walk.Walk.begin.Goals as goal
 
@@ -6,4 +6,4 @@ use Rattle.conc_outcomes.proofs.walks.walk.Walk.begin.Goals as goal
 pub returns-clause-at : goal.returns-clause-at
 returns-clause-at c = λ bounds.
     let e = c.in_ok-state.ensures in
-    begun_at bounds c.args.body.now c.first.new.numbers (record { state = c.in_ok-state.state; history = c.new.result; ticked = false }) e.there (e.is c.args.body.now) e.output e.errors c.new.ensures
+    begun_at bounds c.args.body.now c.first.new.numbers (record { state = c.in_ok-state.state; history = c.new.result; ticked = false; unread = true }) e.there (e.is c.args.body.now) e.output e.errors c.new.ensures

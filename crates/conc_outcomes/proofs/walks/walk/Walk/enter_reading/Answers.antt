@@ -11,5 +11,5 @@ on_both (Err e) f p q = tt
 pub returns-clause-reads : goal.returns-clause-reads
 returns-clause-reads c =
     on_both c.enter.result
-    (λ at list. reads_at c.args.bounds.now c.args.body.now c.args.numbers.now c.args.self.now c.requires c.enter.new.numbers c.enter.new.self c.args.entry at list (c.if-not-reads_time.ensures {u = tt} c.args.body.now))
+    (λ at list. reads_at c.args.bounds.now c.args.body.now c.args.numbers.now c.args.self.now c.requires c.if-not-self.false c.enter.new.numbers c.enter.new.self c.args.entry at list (c.if-not-reads_time.ensures {u = tt} c.args.body.now))
     c.enter.ensures.at c.enter.ensures.history
