@@ -130,7 +130,8 @@ async function begin() {
   document.documentElement.dataset.ready = Math.round(performance.now());
 }
 
-globalThis.playground = { last, load, act, stop, compiled };
+// For the tests.
+globalThis.playground = { last, load, act, stop, call, compiled };
 listExamples();
 listenToEditor();
 listenToFiles();
