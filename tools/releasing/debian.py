@@ -54,8 +54,8 @@ def zipped(content: bytes) -> bytes:
 
 def changelog(facts: Facts) -> bytes:
     date = email.utils.formatdate(facts.epoch)
-    what = "Release, of the proved program." if facts.is_proved else "Of a program without proof, for tests of the package alone."
-    return f"{NAME} ({facts.package_version}) unstable; urgency=medium\n\n  * {what} CHANGELOG.md has what is new.\n\n -- {MAINTAINER}  {date}\n".encode()
+    what = "Of the proved program." if facts.is_proved else "Of a program without proof, for tests of the package."
+    return f"{NAME} ({facts.package_version}) unstable; urgency=medium\n\n  * {what}\n  * CHANGELOG.md has what is new.\n\n -- {MAINTAINER}  {date}\n".encode()
 
 
 def entries(facts: Facts, page: bytes) -> list[Entry]:

@@ -106,6 +106,12 @@ function goTo(place) {
   showCaret();
 }
 
+// All of a long script is printed.
+function listenToPrinter() {
+  addEventListener('beforeprint', () => { if (isLong) paper.replaceChildren(...lines.map((line, n) => make('div', {}, line))); });
+  addEventListener('afterprint', paintVisible);
+}
+
 function listenToEditor() {
   text.addEventListener('scroll', paintVisible);
   new ResizeObserver(paintVisible).observe(text);

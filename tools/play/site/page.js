@@ -134,6 +134,7 @@ async function begin() {
 globalThis.playground = { last, load, act, stop, call, compiled };
 listExamples();
 listenToEditor();
+listenToPrinter();
 listenToFiles();
 listenToButtons();
 $('unstarted').remove();

@@ -16,33 +16,45 @@ async function compile() {
 const compiled = () => compiling ??= compile();
 
 // The answer: status, or the engine's failure; the words, the streams, how long it took and how much memory it had.
-async function call(words, input, { onPiece = () => {}, quiet = false } = {}) {
-  const module = await compiled(), worker = spare ?? newWorker(), streams = { 1: [], 2: [] };
-  spare = null;
+function answerOf(worker, words, onPiece, end) {
+  const streams = { 1: [], 2: [] };
+  worker.onmessage = async ({ data: answer }) => {
+    for (const [stream, piece] of answer.pieces ?? []) {
+      streams[stream].push(piece);
+      onPiece(stream, piece);
+    }
+    if (!('status' in answer)) return;
+    const [out, err] = await Promise.all([joined(streams[1]), joined(streams[2])]);
+    end({ ...answer, words, out, err });
+  };
+  worker.onerror = problem => {
+    problem.preventDefault();
+    const failure = /memory/i.test(problem.message ?? '') ? 'memory' : problem.message || 'the browser ended the worker';
+    end({ words, status: null, failure, milliseconds: 0, memory: 0, out: new Uint8Array(), err: new Uint8Array() });
+  };
+}
+
+// It can be stopped from the first moment on, also before the program is compiled.
+function call(words, input, { onPiece = () => {}, quiet = false } = {}) {
   return new Promise((resolve, reject) => {
+    let worker = null, isOver = false;
     const handle = { quiet, stop: () => end(() => reject(new Stopped())) };
     function end(act) {
+      if (isOver) return;
+      isOver = true;
       running.delete(handle);
-      worker.terminate();
-      spare ??= newWorker();
+      worker?.terminate();
+      if (worker) spare ??= newWorker();
       act();
     }
     running.add(handle);
-    worker.onmessage = async ({ data: answer }) => {
-      for (const [stream, piece] of answer.pieces ?? []) {
-        streams[stream].push(piece);
-        onPiece(stream, piece);
-      }
-      if (!('status' in answer)) return;
-      const [out, err] = await Promise.all([joined(streams[1]), joined(streams[2])]);
-      end(() => resolve({ ...answer, words, out, err }));
-    };
-    worker.onerror = problem => {
-      problem.preventDefault();
-      const failure = /memory/i.test(problem.message ?? '') ? 'memory' : problem.message || 'the browser ended the worker';
-      end(() => resolve({ words, status: null, failure, milliseconds: 0, memory: 0, out: new Uint8Array(), err: new Uint8Array() }));
-    };
-    worker.postMessage({ module, words, input, limit: option('memory') * 1048576 });
+    compiled().then(module => {
+      if (isOver) return;
+      worker = spare ?? newWorker();
+      spare = null;
+      answerOf(worker, words, onPiece, answer => end(() => resolve(answer)));
+      worker.postMessage({ module, words, input, limit: option('memory') * 1048576 });
+    }).catch(problem => end(() => reject(problem)));
   });
 }
 function stop({ quietOnly = false } = {}) {

@@ -36,12 +36,12 @@ class Stop(PageTest):
         self.page.until("return document.querySelector('.history')?.textContent.includes('Stopped')")
 
     def test_by_escape(self) -> None:
-        self.page.load(ENDLESS)
-        self.page.run("playground.act('run'); setTimeout(() => document.dispatchEvent(new KeyboardEvent('keydown', {key: 'Escape'})), 300)")
+        self.page.load(SLEEPER)
+        self.page.run("document.getElementById('clock').value = 'real'; playground.act('run'); setTimeout(() => document.dispatchEvent(new KeyboardEvent('keydown', {key: 'Escape'})), 300)")
         self.page.until("return document.getElementById('said').innerText.startsWith('Stopped')")
 
     def test_another_act_takes_the_place(self) -> None:
-        self.page.load(ENDLESS)
+        self.page.load(SLEEPER)
         self.page.run("playground.act('run')")
         script = examples()["hello"]
         self.same(self.page.act("outcomes", script, fuel=1000000), script)
