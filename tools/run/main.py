@@ -6,7 +6,7 @@ import errno
 import os
 import sys
 
-from tools.run import input, programs, reading, running
+from tools.run import input, programs, reading, release, running
 from tools.run.reading import Call
 from tools.run.running import Run
 from tools.run.saying import CANNOT_BUILD, TOO_LITTLE, Refused, hold_closed, is_closed, is_terminal, put, say
@@ -19,6 +19,7 @@ if TYPE_CHECKING:
 def _other_action(call: Call) -> int:
     """What the wrapper does alone."""
     if call.action == "test":
+        release.refuse("test")
         from tools.run import gate
         return gate.run_tests(call.words)
     from tools.run import page
@@ -53,6 +54,7 @@ def run(words: list[str]) -> int:
     input.check_files(call)
     input.open_file(call)
     if call.wants_proof:
+        release.refuse("--prove")
         from tools.run import building
         building.prove()
         if not call.words:

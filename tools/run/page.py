@@ -5,7 +5,7 @@ from __future__ import annotations
 import os
 
 from tools.crates import TOP
-from tools.run import programs
+from tools.run import programs, release
 from tools.run.words import COMMANDS, OWN_OPTIONS, PROGRAM_OPTIONS, STATUSES
 
 CALL = "./conc_run"
@@ -82,6 +82,9 @@ def _kit() -> str:
 
 
 def version_page() -> str:
+    told = release.page()
+    if told is not None:
+        return told
     build = "none yet; the first run builds one without proof"
     if programs.is_new(programs.PROVED):
         build = "proved"

@@ -5,6 +5,7 @@ from __future__ import annotations
 import os
 
 from tools.crates import TOP, below
+from tools.run import release
 from tools.run.saying import say
 
 PROGRAM = "conc_run"
@@ -65,6 +66,7 @@ def is_new(program: str) -> bool:
 def pick() -> Program:
     """The program that runs. One is built where none is there."""
     if is_new(PROVED):
+        release.check_system()
         return Program(PROVED, is_proved=True)
     if not is_new(CHECKED):
         from tools.run import building

@@ -22,7 +22,8 @@ class Stop(PageTest):
         for number in range(21):
             kind, script = states[number % 3]
             with self.subTest(kind=kind, number=number):
-                took.append(self.page.wait_for(PRESSED, script, kind, 40 * number))
+                # A counting thread has used up its steps in half a second.
+                took.append(self.page.wait_for(PRESSED, script, kind, 5 * number if script == ENDLESS else 40 * number))
                 self.assertTrue(self.page.said().startswith("Stopped"), self.page.said())
                 self.assertTrue(self.page.run("return document.getElementById('stop').disabled"))
         print(f"stopped {len(took)} times, at most {max(took):.0f} ms after")
