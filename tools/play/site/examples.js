@@ -56,23 +56,30 @@ function keepSoon() {
   keeping = setTimeout(keepNow, 300);
 }
 
-// The script that somebody wrote, and that another one took the place of.
-let aside = null;
-function setAside(script, name) {
-  aside = { script, name };
-  toStore(ASIDE, script.length < 1 << 20 ? aside : null);
-  showBack();
+// The scripts that somebody wrote, and that others took the place of; the last one comes back first.
+const ASIDES = 10, ASIDE_SIZE = 2 << 20;
+let asides = [];
+function keepAsides() {
+  let size = 0;
+  asides = asides.slice(-ASIDES);
+  toStore(ASIDE, asides.filter(it => (size += it.script.length) < ASIDE_SIZE));
+  const name = asides.at(-1)?.name.replace(', changed', '') || 'your script';
+  $('back').hidden = !asides.length;
+  $('back').textContent = asides.length ? `Back to ${name}` : '';
 }
-function showBack() {
-  $('back').hidden = !aside;
-  $('back').textContent = aside ? `Back to ${aside.name || 'your script'}` : '';
+function takeAsides() {
+  const kept = fromStore(ASIDE);
+  asides = Array.isArray(kept) ? kept.filter(it => typeof it?.script === 'string' && typeof it.name === 'string') : [];
+  keepAsides();
+}
+function setAside(script, name) {
+  asides.push({ script, name: String(name ?? '') });
+  keepAsides();
 }
 function takeBack() {
-  const { script, name } = aside;
-  aside = null;
+  const { script, name } = asides.pop();
   load(script, name);
   edited = true;
-  toStore(ASIDE, aside);
-  showBack();
+  keepAsides();
   text.focus({ preventScroll: true });
 }

@@ -18,7 +18,7 @@ async function fragmentOf(script, options) {
 
 // The script of an address; null where it names none. One that can't be read is told.
 async function fromAddress() {
-  const code = decodeURIComponent(location.hash.slice(1));
+  const code = location.hash.slice(1);
   if (Object.hasOwn(data.examples, code)) return { script: data.examples[code].script, name: code, isOurs: true };
   const link = /^1\.([0-9]+(?:-[0-9]+)*)\.([\w-]+)$/.exec(code);
   try {

@@ -108,8 +108,7 @@ function listenToButtons() {
 const HELLO = { head: 'What may this script come to?', rest: 'Outcomes lists all that it may print and how it may end, over all schedules; Run shows one of them' };
 async function begin() {
   const kept = fromStore(KEPT), own = typeof kept?.script === 'string' ? kept : { script: data.examples.update.script, name: 'update' };
-  aside = fromStore(ASIDE);
-  showBack();
+  takeAsides();
   const sent = location.hash.length > 1 ? await fromAddress() : null;
   if (kept) takeOptions(kept);
   if (!$('said').textContent) say(HELLO);

@@ -5,7 +5,7 @@ from __future__ import annotations
 import re
 import unittest
 
-from tools.play import page, sums
+from tools.play import page, sums, tables, wasm
 from tools.play.tests import settings
 
 
@@ -41,3 +41,26 @@ class Made(unittest.TestCase):
                 if re.match(r"(async )?function ", line):
                     end = next(it for it in range(begin, len(lines)) if lines[it] == "}")
                     self.assertLessEqual(end - begin, 40, f"{name}.js:{begin + 1}")
+
+
+class Tables(unittest.TestCase):
+    """What is read from the documents and from a module."""
+
+    def test_cells(self) -> None:
+        self.assertEqual(["`a || b`", "Bool"], tables.cells(r"| `a \|\| b` | Bool |"))
+        self.assertEqual(["a lone `|` here", "x"], tables.cells("| a lone `|` here | x |"))
+
+    def test_for_the_page(self) -> None:
+        self.assertEqual("**Fuel**, under Options, up to 4", tables.for_the_page("`--fuel N`, up to 4 (`MEASURES.md`)"))
+
+    def test_about(self) -> None:
+        self.assertEqual("What is it? ".strip(), tables.about("-- What is it?\n-- More.\nmain"))
+
+    def test_all_examples_are_in_a_group(self) -> None:
+        data = tables.data()
+        grouped = [name for group in data["groups"] for name in group["names"]]  # type: ignore[attr-defined]
+        self.assertEqual(sorted(data["examples"]), sorted(grouped))  # type: ignore[call-overload]
+
+    def test_numbers_of_webassembly(self) -> None:
+        self.assertEqual((624485, 4), wasm.number_at(b"\0\xe5\x8e\x26", 1))
+        self.assertEqual(set(), wasm.imports_of(b"\0asm\1\0\0\0"))

@@ -130,7 +130,7 @@ class Links(PageTest):
         self.page.until(f"{VERDICT} === 'accepted'")
 
     def test_broken_links(self) -> None:
-        for behind in ("#1.broken", "#1.0-15-0.AAAA", "#9.x.y", "#1.0-1-0." + "A" * 100000):
+        for behind in ("#1.broken", "#1.%", "#1.0-15-0.AAAA", "#9.x.y", "#1.0-1-0." + "A" * 100000):
             with self.subTest(behind[:20]):
                 self.page.open(behind, address=self.address)
                 self.assertIn("The link is broken", self.page.said())
