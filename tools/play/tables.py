@@ -128,4 +128,4 @@ def data() -> dict[str, object]:
     examples, mistakes = scripts("examples/*.conc"), scripts("examples/mistakes/*.conc")
     groups = tour(examples) + ([{"title": "Mistakes and their cures", "names": list(mistakes)}] if mistakes else [])
     return {"examples": {**examples, **mistakes}, "groups": groups, "faults": faults(), "causes": causes(), "words": reserved_words(),
-            "commands": commands()}
+            "commands": commands(), "translates": os.path.isdir(os.path.join(TOP, "from-haskell"))}

@@ -36,7 +36,8 @@ function paintLine(line, n) {
       if (layer[at[k]]?.[0] <= from) over.push(layer[at[k]]);
     }
     const code = over.find(it => it[3])?.[3], className = over.map(it => it[2]).join(' '), part = line.slice(from, to);
-    div.append(className ? make('span', { className, ...(code ? { 'data-code': code } : {}) }, part) : part);
+    // What turns the direction stands as nothing here, so that the line reads as it is run.
+    div.append(className ? make('span', { className, ...(code ? { 'data-code': code } : {}) }, code && TURNS.test(part) ? '\u200b' : part) : part);
   }
   if (isWrong && wrong.range?.[0] >= line.length) div.append(make('span', { className: 'mark' }, '\u00a0'));
   return div;

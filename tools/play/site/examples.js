@@ -6,18 +6,26 @@ function listExamples() {
       const { script, about } = data.examples[name];
       return make('button', { type: 'button', onclick: () => {
         $('choose').close();
-        load(script, name);
+        loadFresh(script, name);
         text.focus({ preventScroll: true });
       } }, make('b', {}, name), make('span', {}, ...sentence(about)));
     })));
   }
 }
 
+// Of a script that was in its place nothing is left to be seen.
+function loadFresh(script, name) {
+  stop();
+  clear();
+  load(script, name);
+  say(HELLO);
+}
+
 async function openFile(file) {
   if (!file) return;
   if (file.size > 4 << 20) return say({ head: 'Not opened', kind: 'bad', rest: 'a script has at most 1,048,576 bytes' });
   try {
-    load(new TextDecoder('utf-8', { fatal: true, ignoreBOM: true }).decode(await file.arrayBuffer()), file.name);
+    loadFresh(new TextDecoder('utf-8', { fatal: true, ignoreBOM: true }).decode(await file.arrayBuffer()), file.name);
   } catch {
     say({ head: 'Not opened', kind: 'bad', rest: 'the file is not UTF-8, as a script has to be', cure: 'Save it as UTF-8, and open it again.' });
   }
@@ -78,7 +86,7 @@ function setAside(script, name) {
 }
 function takeBack() {
   const { script, name } = asides.pop();
-  load(script, name);
+  loadFresh(script, name);
   edited = true;
   keepAsides();
   text.focus({ preventScroll: true });

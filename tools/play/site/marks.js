@@ -29,7 +29,8 @@ function haskellCard() {
       'the type stands before the `=`, and parameters with theirs: `add (n :: Int) :: Int = n + 1;`',
       'an argument that is a call needs parentheses, and `$` is none of the operators: `putStrLn (show 3)`',
       'a block in place of a function that is given: `forkIO { .. }`, `catch { .. } e { .. }`, `modifyMVar_ m x { return (x + 1) }`'].map(it => make('li', {}, ...sentence(it)))),
-    make('p', {}, 'Examples has scripts to begin with. The program itself may translate a module for you, where it has a command for that: see its page on Haskell.'));
+    make('p', {}, 'Examples has scripts to begin with. ', ...(data.translates ? sentence('The program itself takes a module as it is, `conc_run outcomes Main.hs`, and ' +
+      '`conc_run script Main.hs` prints the script for this page.') : [])));
 }
 
 let asked = 0, timer = 0, foreign = false;
@@ -82,6 +83,7 @@ function changed({ loaded = false } = {}) {
     return showVerdict('From a link: nothing of it has run', 'stuck', ['Look at it, and press Check, Run or Outcomes.']);
   }
   foreign = false;
+  if (!loaded && $('shown').childElementCount) $('stale').hidden = false;
   showVerdict('', '');
   askSoon(loaded ? 0 : isLong ? 900 : 350);
   if (!loaded && location.hash) history.replaceState(null, '', location.href.split('#')[0]);

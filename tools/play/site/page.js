@@ -41,6 +41,7 @@ function clear() {
   addresses.splice(0).forEach(address => URL.revokeObjectURL(address));
   $('shown').replaceChildren();
   $('histories').replaceChildren();
+  $('stale').hidden = true;
 }
 
 async function act(kind) {
@@ -105,6 +106,14 @@ function listenToButtons() {
   addEventListener('pagehide', keepNow);
 }
 
+// A mistake of the page itself is told, so that nothing that is missing looks like an answer.
+function listenToMistakes() {
+  const tell = problem => say({ head: 'This page has made a mistake', kind: 'bad', rest: String(problem?.message ?? problem),
+    cure: 'What is shown may not be whole. Load the page again, or take another browser.' });
+  addEventListener('error', event => tell(event.error ?? event.message));
+  addEventListener('unhandledrejection', event => tell(event.reason));
+}
+
 const HELLO = { head: 'What may this script come to?', rest: 'Outcomes lists all that it may print and how it may end, over all schedules; Run shows one of them' };
 async function begin() {
   const kept = fromStore(KEPT), own = typeof kept?.script === 'string' ? kept : { script: data.examples.update.script, name: 'update' };
@@ -136,5 +145,6 @@ listenToEditor();
 listenToPrinter();
 listenToFiles();
 listenToButtons();
+listenToMistakes();
 $('unstarted').remove();
-begin();
+begin().catch(problem => say({ head: 'This browser cannot run it', kind: 'bad', rest: cannotRun(problem) }));

@@ -67,6 +67,14 @@ class Writing(PageTest):
         self.page.load("main :: IO () = { return () };")
         self.assertTrue(self.page.run("return document.getElementById('unseen').hidden"))
 
+    def test_a_result_of_another_text_is_told(self) -> None:
+        self.page.act("outcomes", examples()["update"], clock="real")
+        self.assertTrue(self.page.run("return document.getElementById('stale').hidden"))
+        self.page.run("const it = document.getElementById('text'); it.focus(); document.execCommand('insertText', false, '-- mine\\n')")
+        self.assertFalse(self.page.run("return document.getElementById('stale').hidden"))
+        self.page.act("outcomes")
+        self.assertTrue(self.page.run("return document.getElementById('stale').hidden"))
+
     def test_own_script_is_not_lost(self) -> None:
         self.page.open()
         self.page.run("const it = document.getElementById('text'); it.focus(); it.setSelectionRange(0, 0); document.execCommand('insertText', false, '-- mine\\n')")
@@ -225,7 +233,7 @@ class Looks(PageTest):
         self.page.run("document.querySelectorAll('.cards .card .bar button')[0].click()")
         self.page.until("return document.querySelector('.history .story li')")
         self.page.act("check", HASKELL[0])
-        self.assertEqual(400, self.page.run("return document.documentElement.scrollWidth"))
+        self.assertEqual(0, self.page.run("return document.documentElement.scrollWidth - document.documentElement.clientWidth"))
 
 
 class Old(unittest.TestCase):
@@ -251,8 +259,14 @@ class Old(unittest.TestCase):
         self.assertIn("Chrome or Edge 97", page.said())
 
     def test_script_does_not_begin(self) -> None:
-        page = self.opened("Object.defineProperty(Array.prototype, 'entries', {get() { throw new Error('old'); }})")
+        page = self.opened("delete globalThis.ResizeObserver")
         page.until("const it = document.getElementById('unstarted'); return it && getComputedStyle(it).visibility === 'visible'", 30)
+
+    def test_a_mistake_of_the_page(self) -> None:
+        page = self.opened("Object.defineProperty(Array.prototype, 'entries', {get() { throw new Error('old'); }})")
+        page.until("return /cannot run it/.test(document.getElementById('said').innerText)")
+        page.run("setTimeout(() => { throw new Error('one'); })")
+        page.until("return /made a mistake/.test(document.getElementById('said').innerText)")
 
     def test_no_memory(self) -> None:
         page = self.opened("""const real = WebAssembly.compile, Plain = Worker; globalThis.Worker = class { constructor() { this.terminate = () => {}; }
