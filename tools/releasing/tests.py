@@ -125,6 +125,12 @@ class Release(unittest.TestCase):
         self.ends(as_nobody("conc_run", "run", "/nowhere.conc"), 66, b"", b"there is no file")
         self.ends(as_nobody("conc_run", "--help"), 0)
 
+    def test_i_claims(self) -> None:
+        from tools.run.words import COMMANDS
+        if "claims" not in COMMANDS:
+            self.skipTest("this version has no claims")
+        self.ends(as_nobody("conc_run", "claims", script=b"--! never deadlock\nmain :: IO () = { return () };\n"), 0)
+
     def test_j_version(self) -> None:
         told = as_nobody("conc_run", "--version").stdout.decode().split("\n")
         self.assertTrue(told[0].startswith("conc_run "))
