@@ -123,7 +123,9 @@ class Release(unittest.TestCase):
         self.ends(as_nobody("conc_run", "check", script=b"main :: IO () = { putStrLn 3 };"), 3, b"", b"refused: Mismatch at 1:19\n")
         self.ends(as_nobody("conc_run", "check", "--explain", script=b"main :: IO () = { putStrLn 3 };"), 3, b"", b"What to do")
         self.ends(as_nobody("conc_run", "run", "/nowhere.conc"), 66, b"", b"there is no file")
-        self.ends(as_nobody("conc_run", "--help"), 0)
+        page = as_nobody("conc_run", "--help")
+        self.ends(page, 0)
+        self.assertNotIn(b"./conc_run", page.stdout)
 
     def test_i_claims(self) -> None:
         from tools.run.words import COMMANDS

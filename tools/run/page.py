@@ -6,9 +6,9 @@ import os
 
 from tools.crates import TOP
 from tools.run import programs, release
+from tools.run.saying import CALL
 from tools.run.words import COMMANDS, OWN_OPTIONS, PROGRAM_OPTIONS, STATUSES
 
-CALL = "./conc_run"
 HELP_COLUMN = 60
 
 PAGE = """conc_run: what interrupted and masked Concurrent Haskell code may really do
@@ -28,9 +28,12 @@ What the script prints goes to standard output, and the line of its ending to st
 
 Ctrl-C ends it with 130, and the signal TERM with 143. Of several files the status is that of the one that went wrong most.
 
-examples/*.conc are scripts to begin with, and docs/TOUR.md leads through them; docs/LANGUAGE.md has the language and what
-each refusal means.
+{documents}
 """
+DOCUMENTS = """examples/*.conc are scripts to begin with, and docs/TOUR.md leads through them; docs/LANGUAGE.md has the language and what
+each refusal means."""
+INSTALLED_DOCUMENTS = """/usr/share/doc/conc-run has scripts to begin with, in examples/, and TOUR.md leads through them; LANGUAGE.md there has the
+language and what each refusal means, and play.html does the same in a browser."""
 
 
 def usage_of(command: str) -> str:
@@ -58,6 +61,7 @@ def help_page() -> str:
         options="\n".join(f"  {it.usage:11}  {it.help}" for it in PROGRAM_OPTIONS.values()),
         own_options="\n".join(f"  {it.usage:11}  {it.help}" for it in OWN_OPTIONS.values()),
         statuses=_statuses(),
+        documents=INSTALLED_DOCUMENTS if release.IS_INSTALLED else DOCUMENTS,
     )
 
 

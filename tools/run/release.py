@@ -9,11 +9,10 @@ from __future__ import annotations
 import os
 
 from tools.crates import TOP
-from tools.run.saying import CANNOT_BUILD, Refused
+from tools.run.saying import CALL, CANNOT_BUILD, Refused
 
 RELEASE = os.path.join(TOP, "RELEASE")
-# How a release is called: by the command that was installed, or by the file beside it.
-IS_INSTALLED = TOP.startswith("/usr/")
+IS_INSTALLED = CALL == "conc_run"
 
 
 def page() -> str | None:

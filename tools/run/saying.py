@@ -8,6 +8,10 @@ from __future__ import annotations
 import os
 import time
 
+from tools.crates import TOP
+
+# How the script is called: by the command that was installed, or by its file.
+CALL = "conc_run" if TOP.startswith("/usr/") else "./conc_run"
 WRITE_FAILED = 8
 CANNOT_BUILD = 70
 TOO_LITTLE = 71
@@ -70,7 +74,7 @@ def tell(text: str) -> None:
 
 
 def say(sentence: str) -> None:
-    tell(f"conc_run: {sentence}\n")
+    tell(f"conc_run: {sentence.replace('./conc_run', CALL)}\n")
 
 
 def put(text: str) -> int:
