@@ -15,7 +15,7 @@ HOME = f"usr/lib/{NAME}"
 DOCUMENTS = f"usr/share/doc/{NAME}"
 MAINTAINER = "Nezdraupe maintainers <maintainers@users.noreply.nezdraupe.example>"
 # The package that has each library which the program may be linked to.
-LIBRARIES = {"libc.so.6": "libc6", "libm.so.6": "libc6", "libpthread.so.0": "libc6", "libdl.so.2": "libc6", "ld-linux-x86-64.so.2": "libc6", "libgcc_s.so.1": "libgcc-s1"}
+LIBRARIES = {**dict.fromkeys(("libc.so.6", "libm.so.6", "libpthread.so.0", "libdl.so.2", "ld-linux-x86-64.so.2"), "libc6"), "libgcc_s.so.1": "libgcc-s1"}
 
 SYNOPSIS = "what interrupted and masked Concurrent Haskell code may do"
 DESCRIPTION = """conc_run checks and runs small scripts with the threads, MVars and
@@ -55,7 +55,8 @@ def zipped(content: bytes) -> bytes:
 def changelog(facts: Facts) -> bytes:
     date = email.utils.formatdate(facts.epoch)
     what = "Of the proved program." if facts.is_proved else "Of a program without proof, for tests of the package."
-    return f"{NAME} ({facts.package_version}) unstable; urgency=medium\n\n  * {what}\n  * CHANGELOG.md has what is new.\n\n -- {MAINTAINER}  {date}\n".encode()
+    return (f"{NAME} ({facts.package_version}) unstable; urgency=medium\n\n  * {what}\n  * CHANGELOG.md has what is new.\n\n"
+            f" -- {MAINTAINER}  {date}\n").encode()
 
 
 def entries(facts: Facts, page: bytes) -> list[Entry]:
@@ -96,6 +97,7 @@ def package(facts: Facts, page: bytes) -> bytes:
     files = entries(facts, page)
     size = sum((len(it.content) + 1023) // 1024 for it in files) + len(archive.folders_of(files))
     hashes = "".join(f"{hashlib.md5(it.content).hexdigest()}  {it.place}\n" for it in sorted(files) if not it.link)
-    about = [Entry("control", control(facts, size)), Entry("md5sums", hashes.encode()), Entry("postinst", AFTER.encode(), True), Entry("prerm", BEFORE.encode(), True)]
+    about = [Entry("control", control(facts, size)), Entry("md5sums", hashes.encode()),
+             Entry("postinst", AFTER.encode(), True), Entry("prerm", BEFORE.encode(), True)]
     return archive.ar({"debian-binary": b"2.0\n", "control.tar.xz": archive.packed(archive.tar(about, facts.epoch, "")),
                        "data.tar.xz": archive.packed(archive.tar(files, facts.epoch, ""))}, facts.epoch)

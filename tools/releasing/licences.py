@@ -81,17 +81,21 @@ def copyright_file() -> str:
     with open(os.path.join(TOP, "LICENSE"), encoding="utf-8") as file:
         own = file.read().strip()
     holder = re.search(r"Copyright \(c\) (.*)", own)
-    stanzas = ["Format: https://www.debian.org/doc/packaging-manuals/copyright-format/1.0/\nUpstream-Name: conc_run\nSource: the repository that RELEASE names by its commit\n"
-               "Comment: The program is linked from crates of the Rattle kit beside its own. They are named below, each as if its sources stood in the folder kit/.",
+    stanzas = ["Format: https://www.debian.org/doc/packaging-manuals/copyright-format/1.0/\nUpstream-Name: conc_run\n"
+               "Source: the repository that RELEASE names by its commit\n"
+               "Comment: The program is linked from crates of the Rattle kit beside its own. They are named below, each as if its sources\n"
+               " stood in the folder kit/.",
                f"Files: *\nCopyright: {holder[1] if holder else 'the Nezdraupe authors'}\nLicense: {OURS}"]
     parts = [part(it) for it in linked()]
     texts: dict[str, str] = {OURS: own.split("\n\n", 2)[2]}
     for it in (it for it in parts if it.text):
         texts.setdefault(it.licence.split(" and ")[0], without_holders(it.text))
         holders = "\n           ".join(it.holders) or f"the authors of the Rust crate {it.name.replace('_', '-')} and of its port"
-        stanzas.append(f"Files: kit/{it.name}/*\nCopyright: {holders}\nLicense: {it.licence}\nComment: linked into the program; of the crate's licences this one is taken")
+        stanzas.append(f"Files: kit/{it.name}/*\nCopyright: {holders}\nLicense: {it.licence}\n"
+                       "Comment: linked into the program; of the crate's licences this one is taken")
     unstated = [it.name for it in parts if not it.text] + ["the kit's C parts (libos_c, liblibc_c)"]
-    stanzas.append("Files: kit/*\nCopyright: the makers of the Rattle kit\nLicense: Rattle-kit\nComment: linked into the program: " + ", ".join(unstated))
+    stanzas.append("Files: kit/*\nCopyright: the makers of the Rattle kit\nLicense: Rattle-kit\n"
+                   f"Comment: linked into the program: {', '.join(unstated)}")
     texts["Rattle-kit"] = "The kit states no licence of these parts of its own. Whoever hands this package on asks its makers."
     stanzas += [f"License: {name}\n{indented(text)}" for name, text in sorted(texts.items())]
     return "\n\n".join(stanzas) + "\n"

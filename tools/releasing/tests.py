@@ -12,13 +12,14 @@ import unittest
 dist = package = archive = root = work = ""
 
 HELLO = "/usr/share/doc/conc-run/examples/hello.conc"
+OF_THE_SYSTEM = ("/proc", "/sys", "/dev", "/var/cache", "/var/log", "/var/lib/apt", "/var/lib/dpkg", "/tmp", "/run")
 UPDATE = "/usr/share/doc/conc-run/examples/update.conc"
 
 
 def within(*words: str, script: bytes = b"", folder: str = "/", **env: str) -> subprocess.CompletedProcess[bytes]:
     """Runs a command in the clean root."""
-    return subprocess.run(["chroot", root, "/usr/bin/env", "-i", "-C", folder, "PATH=/usr/sbin:/usr/bin:/sbin:/bin", "LANG=C.UTF-8", "DEBIAN_FRONTEND=noninteractive",
-                           *(f"{name}={value}" for name, value in env.items()), *words], input=script, capture_output=True, check=False)
+    return subprocess.run(["chroot", root, "/usr/bin/env", "-i", "-C", folder, "PATH=/usr/sbin:/usr/bin:/sbin:/bin", "LANG=C.UTF-8",
+                           "DEBIAN_FRONTEND=noninteractive", *(f"{name}={value}" for name, value in env.items()), *words], input=script, capture_output=True, check=False)
 
 
 def as_nobody(*words: str, script: bytes = b"", folder: str = "/", **env: str) -> subprocess.CompletedProcess[bytes]:
@@ -29,7 +30,7 @@ def files() -> set[str]:
     """All files of the root but those that the system keeps of every package that it has seen."""
     found = set()
     for folder, inside, names in os.walk(root):
-        inside[:] = [it for it in inside if os.path.join(folder, it)[len(root):] not in ("/proc", "/sys", "/dev", "/var/cache", "/var/log", "/var/lib/apt", "/var/lib/dpkg", "/tmp", "/run")]
+        inside[:] = [it for it in inside if os.path.join(folder, it)[len(root):] not in OF_THE_SYSTEM]
         found.update(os.path.join(folder, it)[len(root):] for it in names)
     return found
 
@@ -104,7 +105,8 @@ class Release(unittest.TestCase):
             file.write("\n".join("Version: 0.0.1" if it.startswith("Version:") else it for it in text.split("\n")))
         with open(os.path.join(folder, "usr/lib/conc-run/tools/run/left.py"), "w", encoding="utf-8") as file:
             file.write('"""Only the older one has this."""\n')
-        subprocess.run(["dpkg-deb", "--root-owner-group", "-Znone", "-b", folder, os.path.join(root, "tmp", "conc-run_old_amd64.deb")], check=True, stdout=subprocess.DEVNULL)
+        older = os.path.join(root, "tmp", "conc-run_old_amd64.deb")
+        subprocess.run(["dpkg-deb", "--root-owner-group", "-Znone", "-b", folder, older], check=True, stdout=subprocess.DEVNULL)
         shutil.rmtree(folder)
 
     def test_h_upgrade(self) -> None:
@@ -159,8 +161,9 @@ class Release(unittest.TestCase):
         self.ends(as_nobody("conc_run", "run", HELLO, TMPDIR="/mnt", HOME="/mnt"), 0, b"hello\n")
 
     def test_n_completions_and_manual(self) -> None:
-        said = within("bash", "-c", ". /usr/share/bash-completion/completions/conc_run; COMP_WORDS=(conc_run outcomes --cl); COMP_CWORD=2; _conc_run; echo ${COMPREPLY[@]}; "
-                      "COMP_WORDS=(conc_run outcomes --clock v); COMP_CWORD=3; _conc_run; echo ${COMPREPLY[@]}; COMP_WORDS=(conc_run ou); COMP_CWORD=1; _conc_run; echo ${COMPREPLY[@]}")
+        asked = "".join(f"COMP_WORDS=(conc_run {words}); COMP_CWORD={len(words.split())}; _conc_run; echo ${{COMPREPLY[@]}}; "
+                        for words in ("outcomes --cl", "outcomes --clock v", "ou"))
+        said = within("bash", "-c", f". /usr/share/bash-completion/completions/conc_run; {asked}")
         self.ends(said, 0, b"--clock\nvirtual\noutcomes\n")
         for shell, words in (("zsh", ["-n"]), ("fish", ["--no-execute"])):
             path = {"zsh": "usr/share/zsh/vendor-completions/_conc_run", "fish": "usr/share/fish/vendor_completions.d/conc_run.fish"}[shell]

@@ -37,14 +37,17 @@ def read_bytes(path: str) -> bytes:
 
 def tracked(*begins: str) -> list[str]:
     """The files of the commit that begin so, without those of tests."""
-    return [it for it in of_git("ls-files", "-z").split("\0") if it and it.startswith(begins) and it not in NOT_READ and not any(part in f"/{it}" for part in NOT_RUN)]
+    files = [it for it in of_git("ls-files", "-z").split("\0") if it and it.startswith(begins) and it not in NOT_READ]
+    return [it for it in files if not any(part in f"/{it}" for part in NOT_RUN)]
 
 
 def running(facts: Facts) -> list[Entry]:
     """What is needed to run it."""
     with open(facts.program, "rb") as file:
         program = Entry(PROGRAM, file.read(), runs=True)
-    files = [Entry(it, read_bytes(it), runs=os.access(os.path.join(TOP, it), os.X_OK)) for it in tracked(*RUNS) if it in RUNS or it.startswith(tuple(r for r in RUNS if r.endswith("/")))]
+    folders = tuple(it for it in RUNS if it.endswith("/"))
+    paths = [it for it in tracked(*RUNS) if it in RUNS or it.startswith(folders)]
+    files = [Entry(it, read_bytes(it), runs=os.access(os.path.join(TOP, it), os.X_OK)) for it in paths]
     return [*files, program, Entry("RELEASE", facts.page().encode())]
 
 

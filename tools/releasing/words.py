@@ -15,10 +15,6 @@ def options_of(command: Command) -> list[Option]:
     return [OPTIONS[it] for it in dict.fromkeys(names)]
 
 
-def values_of(option: Option) -> list[str]:
-    return list(option.choices)
-
-
 # ---- the manual ----
 
 def plain(text: str) -> str:
@@ -29,7 +25,8 @@ def plain(text: str) -> str:
 
 def manual(version: str, epoch: int) -> str:
     day = datetime.datetime.fromtimestamp(epoch, datetime.timezone.utc).strftime("%Y-%m-%d")
-    lines = [f'.TH CONC_RUN 1 "{day}" "conc_run {version}" "User Commands"', ".SH NAME", "conc_run \\- what interrupted and masked Concurrent Haskell code may really do",
+    lines = [f'.TH CONC_RUN 1 "{day}" "conc_run {version}" "User Commands"', ".SH NAME",
+             "conc_run \\- what interrupted and masked Concurrent Haskell code may really do",
              ".SH SYNOPSIS"]
     for command in COMMANDS.values():
         lines += [f".B conc_run {command.name}", plain(command.usage.removeprefix(command.name).strip()), ".br"]
@@ -60,7 +57,8 @@ def sentence(text: str) -> str:
 
 def bash() -> str:
     cases = "\n".join(f"    {it.name}) options='{' '.join(option.name for option in options_of(it))}' ;;" for it in COMMANDS.values())
-    values = "\n".join(f"    {it.name}) COMPREPLY=($(compgen -W '{' '.join(values_of(it))}' -- \"$word\")); return ;;" for it in OPTIONS.values() if it.choices)
+    choices = [(it.name, " ".join(it.choices)) for it in OPTIONS.values() if it.choices]
+    values = "\n".join(f"    {name}) COMPREPLY=($(compgen -W '{values}' -- \"$word\")); return ;;" for name, values in choices)
     numbers = "|".join(it.name for it in OPTIONS.values() if it.value and not it.choices)
     return f"""# Completion of conc_run for bash.
 _conc_run() {{
@@ -100,7 +98,7 @@ def zsh_option(option: Option) -> str:
 
 def zsh() -> str:
     commands = "\n".join(f"    '{it.name}:{in_zsh(it.help)}'" for it in COMMANDS.values())
-    cases = "\n".join(f"    {it.name}) _arguments {' '.join(zsh_option(option) for option in options_of(it))}{_zsh_files(it)} ;;" for it in COMMANDS.values())
+    cases = "\n".join(f"    {it.name}) _arguments {' '.join(map(zsh_option, options_of(it)))}{_zsh_files(it)} ;;" for it in COMMANDS.values())
     return f"""#compdef conc_run
 # Completion of conc_run for zsh.
 _conc_run() {{

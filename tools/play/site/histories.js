@@ -27,7 +27,8 @@ async function showHistory(place, title, history) {
     place.append(make('p', {}, `${head}: ${rest}. `, ...sentence(cure ?? '')));
     return;
   }
-  const [picture, report] = await Promise.all([call(['picture'], history.out), call(['report'], history.out)]), bar = make('div', { className: 'bar' });
+  const [picture, report] = await Promise.all([call(['picture'], history.out), call(['report'], history.out)]);
+  const bar = make('div', { className: 'bar' });
   keepLast({ history, picture, report });
   if (picture.status === 0) place.append(pictureOf(picture, title, bar), storyList(picture) ?? '');
   else {

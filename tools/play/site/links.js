@@ -27,7 +27,8 @@ async function fromAddress() {
     if (typeof kept.script !== 'string') throw new Error(code);
     return { ...kept, name: 'from a link', version: link[1].replace(/-/g, '.') };
   } catch {
-    if (/^\d+\./.test(code)) say({ head: 'The link is broken', kind: 'bad', rest: 'so the script that was here is shown', cure: 'Ask for it again, or for a file.' });
+    if (!/^\d+\./.test(code)) return null;
+    say({ head: 'The link is broken', kind: 'bad', rest: 'so the script that was here is shown', cure: 'Ask for it again, or for a file.' });
     return null;
   }
 }
@@ -42,7 +43,8 @@ function takeLink(sent) {
 
 function offerFile(why) {
   say({ head: 'No link, but a file', kind: 'stuck', rest: why });
-  $('shown').replaceChildren(make('p', {}, button('Save the script as a file', saveFile), ' to send it; whoever has this page opens it by Open file.'));
+  const send = button('Save the script as a file', saveFile);
+  $('shown').replaceChildren(make('p', {}, send, ' to send it; whoever has this page opens it by Open file.'));
 }
 async function makeLink() {
   if (!/^https?:$/.test(location.protocol)) return offerFile('this page was opened from a file, so it has no address to send');
@@ -50,6 +52,9 @@ async function makeLink() {
   if (address.length > LONGEST) return offerFile(`a link would have ${number(address.length)} characters, and many programs cut one off`);
   history.replaceState(null, '', address);
   const copied = await navigator.clipboard?.writeText(address).then(() => true, () => false);
-  say({ head: copied ? 'The link is copied' : 'The link stands in the address', rest: `it has ${number(address.length)} characters and holds the script and the options` });
-  if (!copied) $('shown').replaceChildren(make('label', {}, 'Link ', make('input', { className: 'address', readOnly: true, value: address, onfocus: event => event.target.select() })));
+  say({ head: copied ? 'The link is copied' : 'The link stands in the address',
+    rest: `it has ${number(address.length)} characters and holds the script and the options` });
+  if (copied) return;
+  const field = make('input', { className: 'address', readOnly: true, value: address, onfocus: event => event.target.select() });
+  $('shown').replaceChildren(make('label', {}, 'Link ', field));
 }

@@ -14,23 +14,30 @@ function placeOf(line) {
     length: token.length };
 }
 
-// What a script that is none looks like where it is a module of Haskell.
-const HASKELL = [/^\s*import\s+(qualified\s+)?[A-Z]/m, /^\s*module\s+[A-Z][\w.']*(\s*\(|\s+where)/m, /\{-[\s\S]*?-\}/, /(=|->|\$|<-|\()\s*do\b/, /^\s*(data|newtype|class|instance)\s+[A-Z]/m,
-  /^\s*[a-z_][\w']*\s*::\s*(\(?[A-Z]\w*|[a-z]\w*)[^={}]*$/m, /\bwhere\s*$/m];
-const looksLikeHaskell = script => {
+// What a script that is none looks like where it is a module of Haskell: one of the first five says so, of the others two.
+const HASKELL = [
+  /^\s*import\s+(qualified\s+)?[A-Z]/m, /^\s*module\s+[A-Z][\w.']*(\s*\(|\s+where)/m, /\{-[\s\S]*?-\}/, /(=|->|\$|<-|\()\s*do\b/,
+  /^\s*(data|newtype|class|instance)\s+[A-Z]/m, /^\s*[a-z_][\w']*\s*::\s*(\(?[A-Z]\w*|[a-z]\w*)[^={}]*$/m, /\bwhere\s*$/m,
+];
+function looksLikeHaskell(script) {
   const code = script.replace(/--.*/g, '').replace(/"(?:\\.|[^"\\\n])*"/g, '""');
   return HASKELL.slice(0, 5).some(it => it.test(code)) || HASKELL.filter(it => it.test(code)).length > 1;
-};
+}
+
+const HOW_TO_WRITE = [
+  'no `import` and no `module`: all forms are there',
+  'in place of `do` a block with braces, whose statements end with `;`: `main :: IO () = { m <- newMVar 0; takeMVar m };`',
+  'the type stands before the `=`, and parameters with theirs: `add (n :: Int) :: Int = n + 1;`',
+  'an argument that is a call needs parentheses, and `$` is none of the operators: `putStrLn (show 3)`',
+  'a block in place of a function that is given: `forkIO { .. }`, `catch { .. } e { .. }`, `modifyMVar_ m x { return (x + 1) }`',
+];
+const TRANSLATED = 'The program itself takes a module as it is, `conc_run outcomes Main.hs`, and `conc_run script Main.hs` prints the script for this page.';
 function haskellCard() {
   return make('article', { className: 'card stuck haskell' }, make('h3', {}, 'This looks like Haskell, and this page takes scripts'),
     make('p', {}, 'A script is written as Concurrent Haskell without layout, modules and functions as values. To get one, keep the few lines ' +
       'that the question is about, and write them so:'),
-    make('ul', {}, ...['no `import` and no `module`: all forms are there', 'in place of `do` a block with braces, whose statements end with `;`: `main :: IO () = { m <- newMVar 0; takeMVar m };`',
-      'the type stands before the `=`, and parameters with theirs: `add (n :: Int) :: Int = n + 1;`',
-      'an argument that is a call needs parentheses, and `$` is none of the operators: `putStrLn (show 3)`',
-      'a block in place of a function that is given: `forkIO { .. }`, `catch { .. } e { .. }`, `modifyMVar_ m x { return (x + 1) }`'].map(it => make('li', {}, ...sentence(it)))),
-    make('p', {}, 'Examples has scripts to begin with. ', ...(data.translates ? sentence('The program itself takes a module as it is, `conc_run outcomes Main.hs`, and ' +
-      '`conc_run script Main.hs` prints the script for this page.') : [])));
+    make('ul', {}, ...HOW_TO_WRITE.map(it => make('li', {}, ...sentence(it)))),
+    make('p', {}, 'Examples has scripts to begin with. ', ...(data.translates ? sentence(TRANSLATED) : [])));
 }
 
 let asked = 0, timer = 0, foreign = false;
@@ -53,7 +60,8 @@ function judged(result) {
   text.setAttribute('aria-invalid', String(refused));
   const cure = data.faults[wrong?.fault]?.cure;
   if (refused) {
-    showVerdict(line, 'bad', looksLikeHaskell(text.value) ? ['This looks like Haskell; Check says how a script is written.'] : cure ? sentence(cure) : []);
+    const advice = cure ? sentence(cure) : [];
+    showVerdict(line, 'bad', looksLikeHaskell(text.value) ? ['This looks like Haskell; Check says how a script is written.'] : advice);
     return explainAtMark();
   }
   if (result.failure) return showVerdict('not checked', 'stuck', [endingOf(result).rest]);

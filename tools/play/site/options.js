@@ -12,7 +12,11 @@ function option(name) {
   return taken;
 }
 const ofRun = () => ['--clock', option('clock'), '--fuel', String(option('fuel'))];
-const wordsOf = { check: () => ['check'], run: () => ['run', ...ofRun()], outcomes: () => ['outcomes', ...ofRun(), '--states', String(option('states'))] };
+const wordsOf = {
+  check: () => ['check'],
+  run: () => ['run', ...ofRun()],
+  outcomes: () => ['outcomes', ...ofRun(), '--states', String(option('states'))],
+};
 
 function takeOptions(given) {
   for (const name of OPTIONS) {

@@ -25,14 +25,19 @@ function readList(list) {
   return { head: rows[0], extent: rows[1] ?? '', cause: head[2], items };
 }
 
+// What an ending means, where its name doesn't say it.
+function remark(item) {
+  if (item.end === 'deadlock') return 'Nothing more can be done, and nobody sleeps.';
+  return item.end === 'uncaught' && WAITS_FOR_EVER.test(item.errors) ? 'main waits at a cell that nobody can serve any more, and is told so.' : '';
+}
+
 function outcomeCard(item, witnesses) {
   const { head, kind } = named(item.end), title = `Outcome ${item.number}: ${head.toLowerCase()}`;
   const open = button('Show its history', () => openHistory(title, () => witnesses.of(item.number), open), 'small');
   open.setAttribute('aria-label', `Show the history of outcome ${item.number}`);
   return make('article', { className: `card ${kind}` },
     make('h3', {}, `${item.number}. `, make('span', { className: kind }, head), make('small', {}, count(item.entries, 'entry', 'entries'))),
-    item.end === 'uncaught' && WAITS_FOR_EVER.test(item.errors) ? make('p', {}, 'main waits at a cell that nobody can serve any more, and is told so.') : null,
-    item.end === 'deadlock' ? make('p', {}, 'Nothing more can be done, and nobody sleeps.') : null,
+    remark(item) ? make('p', {}, remark(item)) : null,
     stream('Output', encoded(item.output)), item.errors ? stream('Error output', encoded(item.errors), 'errors') : null,
     make('div', { className: 'bar' }, open));
 }

@@ -33,8 +33,8 @@ function showResult(kind, result, words, input, isWanted) {
   const ran = kind === 'run' && ![2, 3].includes(result.status) && (result.status !== null || result.out.length || result.err.length);
   if (!ran) return;
   const draw = button('Draw a run', () => openHistory('A run', () => call(['trace', ...words.slice(1)], input), draw), 'small');
-  $('shown').append(make('article', { className: `card ${ending.kind}` }, make('h3', { className: 'spoken' }, 'What it printed'), stream('Output', result.out),
-    stream('Error output', result.err, 'errors'), make('div', { className: 'bar' }, draw)));
+  $('shown').append(make('article', { className: `card ${ending.kind}` }, make('h3', { className: 'spoken' }, 'What it printed'),
+    stream('Output', result.out), stream('Error output', result.err, 'errors'), make('div', { className: 'bar' }, draw)));
 }
 
 function clear() {
@@ -114,7 +114,8 @@ function listenToMistakes() {
   addEventListener('unhandledrejection', event => tell(event.reason));
 }
 
-const HELLO = { head: 'What may this script come to?', rest: 'Outcomes lists all that it may print and how it may end, over all schedules; Run shows one of them' };
+const HELLO = { head: 'What may this script come to?',
+  rest: 'Outcomes lists all that it may print and how it may end, over all schedules; Run shows one of them' };
 async function begin() {
   const kept = fromStore(KEPT), own = typeof kept?.script === 'string' ? kept : { script: data.examples.update.script, name: 'update' };
   takeAsides();

@@ -34,7 +34,8 @@ function tellUnseen(lines) {
   for (const [n, line] of lines.entries()) {
     for (const [from, to, character] of unseenIn(line)) {
       all++;
-      if (found.length < 5) found.push({ line: n + 1, column: [...line.slice(0, from)].length + 1, character, start: start + from, length: to - from });
+      const column = found.length < 5 ? [...line.slice(0, from)].length + 1 : 0;
+      if (column) found.push({ line: n + 1, column, character, start: start + from, length: to - from });
     }
     start += line.length + 1;
   }
