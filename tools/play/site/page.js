@@ -140,7 +140,7 @@ async function begin() {
 }
 
 // For the tests.
-globalThis.playground = { last, load, act, stop, call, compiled };
+globalThis.playground = { last, load, act, stop, call, compiled, running };
 listExamples();
 listenToEditor();
 listenToPrinter();

@@ -57,6 +57,16 @@ class Examples(PageTest):
                     seen += 1
         print(f"{seen} histories with picture and report")
 
+    def test_a_history_opens_at_once(self) -> None:
+        """Where the search took long its histories are made meanwhile, so that one opens in less than the time of another search."""
+        searched = self.page.act("outcomes", examples()["pool"], clock="real").milliseconds
+        self.page.until("return playground.running.size === 0", 120)
+        took = self.page.wait_for("""const done = arguments[0], start = performance.now();
+          document.querySelector('.cards .card .bar button').click();
+          const wait = () => document.querySelector('.history img') ? done(performance.now() - start) : setTimeout(wait, 5); wait();""")
+        print(f"the search took {searched:.0f} ms, and its history opens in {took:.0f} ms")
+        self.assertLess(took, searched)
+
     def history(self, script: str, number: int) -> None:
         parts = self.page.wait_for("""const done = arguments[1], last = playground.last; last.report = null;
           document.querySelectorAll('.cards .card .bar button')[arguments[0]].click();
