@@ -13,7 +13,7 @@ from typing import Any, Sequence
 from selenium import webdriver
 from selenium.webdriver.common.by import By
 
-from tools.play.tests import native, settings
+from tools.play.tests import marionette, native, settings
 
 ENCODED = """const encoded = bytes => { let all = ''; for (let i = 0; i < bytes.length; i += 8192) all += String.fromCharCode(...bytes.subarray(i, i + 8192));
   return btoa(all); };
@@ -39,17 +39,9 @@ def chromium() -> Any:
     return webdriver.Chrome(service=service, options=options)
 
 
-def firefox() -> Any:
-    if not shutil.which("geckodriver"):
-        raise unittest.SkipTest("no geckodriver here")
-    options = webdriver.FirefoxOptions()
-    options.add_argument("-headless")
-    return webdriver.Firefox(options=options)
-
-
 class Page:
     def __init__(self) -> None:
-        self.driver = {"chromium": chromium, "firefox": firefox}[settings.browser]()
+        self.driver = {"chromium": chromium, "firefox": marionette.Firefox}[settings.browser]()
         self.driver.set_script_timeout(600)
         self.address = "file://" + os.path.abspath(settings.page)
 
@@ -117,7 +109,7 @@ class Page:
         below = {str(self.driver.service.process.pid)}
         for _ in range(6):
             below |= {row[0] for row in rows if row[1] in below}
-        return sum(int(row[2]) for row in rows if row[0] in below and "--type=renderer" in row[3]) // 1024
+        return sum(int(row[2]) for row in rows if row[0] in below and ("--type=renderer" in row[3] or "-contentproc" in row[3])) // 1024
 
 
 def page() -> Page:

@@ -158,6 +158,11 @@ class Links(PageTest):
 
 
 class Keyboard(PageTest):
+    def setUp(self) -> None:
+        super().setUp()
+        if settings.browser != "chromium":
+            self.skipTest("keys are pressed in Chromium")
+
     def key(self, *keys: str) -> None:
         self.page.driver.switch_to.active_element.send_keys(*keys)
 
