@@ -5,7 +5,8 @@ import glob
 import os
 import re
 
-TOP = os.path.dirname(os.path.dirname(os.path.abspath(__file__)))
+from tools.crates import TOP, below, uses
+
 NOT_OURS = {".git", "out", "__pycache__"}
 # What stands between backquotes.
 SPAN = re.compile(r"`([^`]+)`")
@@ -36,28 +37,9 @@ def files():
     return found
 
 
-@functools.lru_cache(maxsize=None)
-def uses():
-    """Each crate of crates.txt, in order, with all that its line names."""
-    found = {}
-    for line in lines("crates.txt"):
-        line = line.split("#")[0].strip()
-        if line:
-            name, _, rest = line.partition(":")
-            found[name.split()[0]] = rest.split()
-    return found
-
-
 def kit_crates():
     """The crates of the kit that crates.txt names. `std` comes with each crate, unnamed."""
     return {it for names in uses().values() for it in names if it not in uses()} | {"std"}
-
-
-@functools.lru_cache(maxsize=None)
-def below(crate):
-    """All crates of the repository that this one stands on."""
-    direct = [it for it in uses()[crate] if it in uses()]
-    return frozenset(direct).union(*(below(it) for it in direct))
 
 
 def root_of(crate):
@@ -85,7 +67,7 @@ def words_of(crate):
 @functools.lru_cache(maxsize=None)
 def all_words():
     found = set(uses()) | kit_crates() | {it for it in files() if "/" not in it}
-    for text in [*(read(it) for it in ["conc_run", *here("tools/wrapper/*.sh")]), *(it.text for it in blocks("docs/LANGUAGE.md") if it.kind == "code")]:
+    for text in [*(read(it) for it in ["conc_run", *here("tools/run/*.py")]), *(it.text for it in blocks("docs/LANGUAGE.md") if it.kind == "code")]:
         found.update(re.findall(r"\w+", text))
     return found.union(*(words_of(it) for it in uses()))
 

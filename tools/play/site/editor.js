@@ -1,0 +1,129 @@
+// ---- the editor: a text area, and below it the same text with colours, numbers and marks ----
+
+// Beyond so many characters lines aren't wrapped, and those that can be seen are painted alone.
+const LONG = 60000;
+// Of a line so many characters have colours.
+const COLOURED = 20000;
+const ROW = 20, ABOVE = 8;
+const TYPES = new Set('Int Bool Text ThreadId SomeException Maybe Either MVar IO Async'.split(' '));
+const KEYS = new Set('if then else case of let in'.split(' '));
+const FORMS = new Set(data.words);
+const TOKEN = /(--.*)|("(?:\\.|[^"\\])*"?)|([\p{L}_][\p{L}\p{N}_']*)|(\d+)/gu;
+let lines = [], wrong = null, here = -1, isLong = false;
+
+// The coloured stretches of a line: [from, to, class].
+function coloursOf(line) {
+  const found = [];
+  for (const it of line.slice(0, COLOURED).matchAll(TOKEN)) {
+    const [all, comment, string, word] = it;
+    const kind = comment ? 'comment' : string ? 'string' : !word || TYPES.has(word) ? 'type' : KEYS.has(word) ? 'key' : FORMS.has(word) ? 'form' : '';
+    if (kind) found.push([it.index, it.index + all.length, kind]);
+  }
+  return found;
+}
+
+// Pieces end wherever a colour, the mark or an unseen character begins or ends.
+function paintLine(line, n) {
+  const isWrong = wrong?.line === n + 1, div = make('div', { className: (n === here ? 'here ' : '') + (isWrong ? 'wrong' : '') });
+  const layers = [coloursOf(line), unseenIn(line).map(([from, to, it]) => [from, to, 'unseen', codeOf(it)]),
+    isWrong && wrong.range ? [[...wrong.range, 'mark']] : []];
+  const ends = layers.flat().flatMap(([from, to]) => [Math.min(from, line.length), Math.min(to, line.length)]);
+  const cuts = [...new Set([0, line.length, ...ends])].sort((one, other) => one - other), at = layers.map(() => 0);
+  for (let i = 0; i + 1 < cuts.length; i++) {
+    const [from, to] = [cuts[i], cuts[i + 1]], over = [];
+    for (const [k, layer] of layers.entries()) {
+      while (layer[at[k]]?.[1] <= from) at[k]++;
+      if (layer[at[k]]?.[0] <= from) over.push(layer[at[k]]);
+    }
+    const code = over.find(it => it[3])?.[3], className = over.map(it => it[2]).join(' '), part = line.slice(from, to);
+    // What turns the direction stands as nothing here, so that the line reads as it is run.
+    div.append(className ? make('span', { className, ...(code ? { 'data-code': code } : {}) }, code && TURNS.test(part) ? '\u200b' : part) : part);
+  }
+  if (isWrong && wrong.range?.[0] >= line.length) div.append(make('span', { className: 'mark' }, '\u00a0'));
+  return div;
+}
+
+// All lines stand below the text, and only those that changed are painted.
+function paintWhole(next, all) {
+  let head = 0, tail = 0;
+  if (!all) {
+    while (head < lines.length && head < next.length && lines[head] === next[head]) head++;
+    while (tail < lines.length - head && tail < next.length - head && lines.at(-1 - tail) === next.at(-1 - tail)) tail++;
+  }
+  const old = [...paper.children].slice(head, lines.length - tail), after = paper.children[lines.length - tail] ?? null;
+  const fresh = document.createDocumentFragment();
+  for (let i = head; i < next.length - tail; i++) fresh.append(paintLine(next[i], i));
+  old.forEach(element => element.remove());
+  paper.insertBefore(fresh, after);
+}
+
+// Of a long script the lines that can be seen.
+function paintVisible() {
+  if (!isLong) return;
+  const first = Math.max(0, Math.floor(text.scrollTop / ROW) - 4), behind = first + Math.ceil(text.clientHeight / ROW) + 8;
+  paper.style.counterReset = `row ${first}`;
+  paper.style.transform = `translate(${-text.scrollLeft}px, ${first * ROW - text.scrollTop}px)`;
+  paper.style.setProperty('--across', `${text.scrollLeft}px`);
+  paper.replaceChildren(...lines.slice(first, behind).map((line, i) => paintLine(line, first + i)));
+}
+
+function paint(all = false) {
+  const next = text.value.split('\n'), was = isLong;
+  isLong = text.value.length > LONG;
+  editor.classList.toggle('long', isLong);
+  editor.style.setProperty('--gutter', `${Math.max(4, String(next.length).length + 2)}ch`);
+  if (was !== isLong) {
+    paper.replaceChildren();
+    paper.removeAttribute('style');
+    text.scrollTop = editor.scrollTop = 0;
+    lines = [];
+  }
+  if (!isLong) paintWhole(next, all);
+  lines = next;
+  paintVisible();
+}
+
+function showCaret() {
+  const before = text.value.slice(0, text.selectionStart), n = before.split('\n').length - 1, was = here;
+  $('caret').textContent = `line ${n + 1}, column ${[...before.slice(before.lastIndexOf('\n') + 1)].length + 1}`;
+  if (n === was) return;
+  here = n;
+  if (isLong) return paintVisible();
+  paper.children[was]?.classList.remove('here');
+  paper.children[n]?.classList.add('here');
+}
+
+// Selects a place, and brings it into view.
+function goTo(place) {
+  text.focus({ preventScroll: isLong });
+  text.setSelectionRange(place.start, place.start + (place.length ?? 0));
+  if (isLong) {
+    const width = paper.querySelector('div')?.scrollWidth ? 7.83 : 8;
+    text.scrollTop = Math.max(0, (place.line - 4) * ROW);
+    text.scrollLeft = Math.max(0, (place.column ?? 0) * width - text.clientWidth / 2);
+    paintVisible();
+  } else paper.children[place.line - 1]?.scrollIntoView({ block: 'nearest' });
+  editor.scrollIntoView({ block: 'nearest' });
+  showCaret();
+}
+
+// All of a long script is printed.
+function listenToPrinter() {
+  addEventListener('beforeprint', () => { if (isLong) paper.replaceChildren(...lines.map((line, n) => make('div', {}, line))); });
+  addEventListener('afterprint', paintVisible);
+}
+
+function listenToEditor() {
+  text.addEventListener('scroll', paintVisible);
+  new ResizeObserver(paintVisible).observe(text);
+  document.addEventListener('selectionchange', () => document.activeElement === text && showCaret());
+  let leaving = false;
+  text.addEventListener('keydown', event => {
+    const plain = !event.shiftKey && !event.ctrlKey && !event.altKey && !event.metaKey;
+    if (event.key === 'Tab' && plain && !leaving) {
+      event.preventDefault();
+      document.execCommand('insertText', false, '  ');
+    }
+    if (event.key !== 'Shift') leaving = event.key === 'Escape';
+  });
+}

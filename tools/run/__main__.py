@@ -1,0 +1,37 @@
+"""Begins ./conc_run. An older Python reads this file too, and looks for a newer one."""
+
+import os
+import sys
+
+NEEDED = (3, 9)
+# More than there are by now.
+NEWEST = 30
+
+
+def find_newer():
+    # type: () -> str | None
+    """A Python that is new enough and has its version in its name, or None."""
+    for minor in range(NEWEST, NEEDED[1] - 1, -1):
+        for folder in os.environ.get("PATH", os.defpath).split(os.pathsep):
+            path = os.path.join(folder, "python3.%d" % minor)
+            if os.access(path, os.X_OK):
+                return path
+    return None
+
+
+def begin():
+    # type: () -> None
+    if sys.version_info[:2] < NEEDED:
+        newer = find_newer()
+        if newer:
+            os.execv(newer, [newer, "-I", "-S"] + sys.argv)
+        sys.stderr.write("conc_run: it needs Python 3.9 or newer, and %s is %d.%d; install a newer one, for example by: apt-get install python3\n"
+                         % (sys.executable or "python3", sys.version_info[0], sys.version_info[1]))
+        sys.exit(70)
+    sys.path.insert(0, os.path.dirname(os.path.dirname(os.path.dirname(os.path.abspath(__file__)))))
+    from tools.run.main import main
+    main(sys.argv[1:])
+
+
+if __name__ == "__main__":
+    begin()

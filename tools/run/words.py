@@ -1,0 +1,108 @@
+"""The words of the command line, as data: the commands, the options, what each takes, and a line of help for each.
+
+The page of --help, the hints and the reading of the words are made from these tables, and so can be whatever else is to know
+the words: completions, a page of the manual, the syntax files of editors.
+"""
+
+from __future__ import annotations
+
+# One more than is accepted, so that the program sees what is too long.
+SCRIPT_BYTES = 1_048_576 + 1
+DOCUMENT_BYTES = 100_663_296 + 1
+
+# Of several files the status that comes first here is that of all.
+STATUS_ORDER = (66, 70, 71, 2, 3, 6, 7, 8, 9, 14, 15, 11, 12, 0)
+
+
+class Option:
+    """An option: what stands behind it, what that may be, and its line of help."""
+
+    def __init__(self, name: str, value: str, help: str, least: int = 0, most: int = 0, choices: tuple[str, ...] = ()) -> None:
+        self.name, self.value, self.help = name, value, help
+        self.least, self.most, self.choices = least, most, choices
+
+    @property
+    def usage(self) -> str:
+        return f"{self.name} {self.value}".rstrip()
+
+
+class Command:
+    """A command: its operand, its options, its line of help, and what it reads."""
+
+    def __init__(self, name: str, operand: str, options: tuple[str, ...], help: str, document: int = 0,
+                 status_order: tuple[int, ...] = (), options_usage: str = "") -> None:
+        self.name, self.operand, self.options, self.help = name, operand, options, help
+        # The most bytes that are handed to it of a script or another document; 0 where it reads none.
+        self.document = document
+        # Where it takes several files, which of their statuses is that of all.
+        self.status_order = status_order
+        self.options_usage = options_usage
+
+    @property
+    def usage(self) -> str:
+        options = self.options_usage or " ".join(f"[{OPTIONS[it].usage}]" for it in self.options)
+        return " ".join(it for it in (self.name, self.operand, options) if it)
+
+
+def _by_name(*options: Option) -> dict[str, Option]:
+    return {it.name: it for it in options}
+
+
+# Those of the program, each with one value.
+PROGRAM_OPTIONS = _by_name(
+    Option("--caps", "N", "threads that evaluate at the same time, 1 to 16 (1)", 1, 16),
+    Option("--fuel", "N", "the most steps of a run, 1 to 4000000 (1000000)", 1, 4_000_000),
+    Option("--clock", "C", "real, or virtual: it stands until all threads wait, and then jumps (real)", choices=("real", "virtual")),
+    Option("--states", "N", "the most states that a search keeps, 1 to 4000000 (1000000)", 1, 4_000_000),
+    Option("--witness", "K", "prints a history that comes to the K-th outcome, in place of the list", 1, 4_294_967_295),
+)
+# Those of the script around it.
+OWN_OPTIONS = _by_name(
+    Option("--memory", "MB", "the most memory of the run, 0 for no limit (2048, or what CONC_RUN_MEMORY says)", 0, 9_999_999),
+    Option("--explain", "", "shows the line of a refusal and what to do, as on a terminal"),
+    Option("--prove", "", "proves and builds the program first; until then the checked build without proof runs"),
+    Option("--version", "", "the version, the kit, and which build there is"),
+)
+# Those that the page has no line for.
+OTHER_OPTIONS = _by_name(
+    Option("--help", "", "the page of commands and options"),
+    Option("--quick", "", "the rows alone"),
+)
+OPTIONS = {**PROGRAM_OPTIONS, **OWN_OPTIONS, **OTHER_OPTIONS}
+
+RUN_OPTIONS = ("--caps", "--fuel", "--clock")
+COMMANDS = {it.name: it for it in (
+    Command("run", "[FILE]", RUN_OPTIONS, "checks a script and runs it", SCRIPT_BYTES),
+    Command("check", "[FILE..]", (), "says whether it is accepted", SCRIPT_BYTES, STATUS_ORDER),
+    Command("bench", "N", ("--caps", "--fuel"), "runs a ring of N threads (1 to 4000)"),
+    Command("trace", "[FILE]", RUN_OPTIONS, "runs it and writes its history, in place of what it prints", SCRIPT_BYTES),
+    Command("outcomes", "[FILE]", ("--clock", "--states", "--fuel", "--witness"), "lists all that it may come to, over all schedules", SCRIPT_BYTES),
+    Command("verify", "[FILE]", (), "says whether a written history is a run of its script", DOCUMENT_BYTES),
+    Command("report", "[FILE]", (), "says what each thread and each cell of such a history did", DOCUMENT_BYTES),
+    Command("picture", "[FILE]", RUN_OPTIONS, "draws such a history as SVG, or that of a script that it runs first", DOCUMENT_BYTES,
+            options_usage="[options of trace]"),
+    Command("test", "", ("--quick",), "proves and tries everything; --quick: the rows alone"),
+)}
+# These read a history with its script in one document.
+HISTORY_COMMANDS = ("verify", "report", "picture")
+
+# How a call ended.
+STATUSES = {
+    0: "done, accepted, a run,\nor no other outcomes",
+    1: "main ended by an exception",
+    2: "words not understood",
+    3: "the script is refused",
+    4: "deadlock",
+    5: "out of fuel",
+    6: "out of memory",
+    7: "a read failed",
+    8: "a write failed",
+    9: "a limit",
+    10: "not a run",
+    11: "there may be other outcomes",
+    12: "no outcome of this number",
+    13: "too long to be drawn",
+    66: "the file can't be read",
+    70: "the program could not be built",
+    71: "too little stack",
+}
