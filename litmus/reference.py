@@ -11,6 +11,7 @@ import argparse
 import sys
 from collections.abc import Callable
 from dataclasses import dataclass
+from typing import Generic, TypeVar
 
 # --- tokens ---
 
@@ -121,13 +122,17 @@ class Type:
     parts: tuple[Type, ...] = ()
 
 
+# What stands behind the arrow of an arm: an expression, or a block.
+Body = TypeVar("Body", "Expression", "Block")
+
+
 @dataclass(frozen=True)
-class Arms:
-    """The arms of a case, by what they are of: Maybe, Either, list or pair. The bodies are expressions, or blocks."""
+class Arms(Generic[Body]):
+    """The arms of a case, by what they are of: Maybe, Either, list or pair."""
 
     of: str
     names: tuple[str, ...]
-    bodies: tuple[Expression, ...] | tuple[Block, ...]
+    bodies: tuple[Body, ...]
 
 
 @dataclass(frozen=True)
@@ -139,7 +144,7 @@ class Expression:
     parts: tuple[Expression, ...] = ()
     types: tuple[Type, ...] = ()
     words: tuple[str, ...] = ()
-    arms: Arms | None = None
+    arms: Arms[Expression] | None = None
 
 
 @dataclass(frozen=True)
@@ -153,7 +158,7 @@ class Action:
     parts: tuple[Expression, ...] = ()
     types: tuple[Type, ...] = ()
     blocks: tuple[Block, ...] = ()
-    arms: Arms | None = None
+    arms: Arms[Block] | None = None
 
 
 @dataclass(frozen=True)
@@ -197,7 +202,8 @@ UNARY_WORDS = frozenset("Just ErrorCall not fst snd show".split())
 # What stands behind the word of an action: e an argument, t a type behind @, x a name, b a block.
 ACTION_SHAPES = {
     **dict.fromkeys("myThreadId clockMicros getMaskingState".split(), ""),
-    **dict.fromkeys("return putStr putStrLn newMVar takeMVar readMVar tryTakeMVar killThread threadDelay wait cancel".split(), "e"),
+    **dict.fromkeys("return putStr putStrLn newMVar takeMVar readMVar tryTakeMVar".split(), "e"),
+    **dict.fromkeys("killThread threadDelay wait cancel".split(), "e"),
     **dict.fromkeys("putMVar tryPutMVar throwTo".split(), "ee"),
     **dict.fromkeys("forkIO mask_ uninterruptibleMask_".split(), "b"),
     **dict.fromkeys("forkIOWithUnmask mask uninterruptibleMask restore".split(), "xb"),
@@ -270,7 +276,7 @@ class Parser:
         is_action = self.may_take("IO")
         result = self.closed_type() if is_action else self.type()
         self.want("=")
-        body = self.block() if is_action else self.expression()
+        body: Expression | Block = self.block() if is_action else self.expression()
         self.want(";")
         return Definition(name, tuple(parameters), result, body)
 
@@ -365,7 +371,7 @@ class Parser:
                 blocks.append(self.block())
         return Action(token.text, token.line, token.column, tuple(names), tuple(parts), tuple(types), tuple(blocks))
 
-    def subject_and_arms(self, body: Callable[[], Expression] | Callable[[], Block]) -> tuple[Expression, Arms]:
+    def subject_and_arms(self, body: Callable[[], Body]) -> tuple[Expression, Arms[Body]]:
         subject = self.expression()
         self.want("of")
         self.want("{")
@@ -374,7 +380,7 @@ class Parser:
         self.want("}")
         return subject, arms
 
-    def arms(self, body: Callable[[], Expression] | Callable[[], Block]) -> Arms:
+    def arms(self, body: Callable[[], Body]) -> Arms[Body]:
         if self.may_take("Nothing"):
             first = self.arm_body(body)
             self.want(";")
@@ -399,7 +405,7 @@ class Parser:
         self.want(")")
         return Arms("pair", (one, other), (self.arm_body(body),))
 
-    def arm_body(self, body: Callable[[], Expression] | Callable[[], Block]) -> Expression | Block:
+    def arm_body(self, body: Callable[[], Body]) -> Body:
         self.want("->")
         return body()
 
@@ -522,7 +528,8 @@ CONSTANTS = {
 FUNCTIONS = {"Just": "just", "ErrorCall": "errorCall", "-": "negate", "Left": "left", "Right": "right"}
 # The forms that take the environment of their thread, and those of which each block is run by a thread of its own.
 WITH_ENVIRONMENT = frozenset(
-    "myThreadId clockMicros putStr putStrLn hPutStrLn threadDelay timeout forkIO forkIOWithUnmask withAsync race concurrently".split()
+    """myThreadId clockMicros putStr putStrLn hPutStrLn threadDelay timeout forkIO forkIOWithUnmask withAsync race
+    concurrently""".split()
 )
 FORKING = frozenset("forkIO forkIOWithUnmask race concurrently".split())
 
@@ -558,7 +565,7 @@ def type_text(it: Type) -> str:
     return f"({' '.join([it.word, *parts])})" if parts else it.word
 
 
-def arms_text(arms: Arms, body: Callable[[Expression], str] | Callable[[Block], str]) -> str:
+def arms_text(arms: Arms[Body], body: Callable[[Body], str]) -> str:
     names, bodies = [name_text(it) for it in arms.names], [body(it) for it in arms.bodies]
     if arms.of == "Maybe":
         return f"Nothing -> {bodies[0]}; Just {names[0]} -> {bodies[1]}"
@@ -624,7 +631,8 @@ def action_text(it: Action) -> str:
         case "restore":
             return f"({names[0]} {blocks[0]})"
         case _:
-            return f"({' '.join([it.word, *(['en'] if it.word in WITH_ENVIRONMENT else []), *parts, *form_blocks(it, names, blocks)])})"
+            environment = ["en"] if it.word in WITH_ENVIRONMENT else []
+            return f"({' '.join([it.word, *environment, *parts, *form_blocks(it, names, blocks)])})"
 
 
 def form_blocks(it: Action, names: list[str], blocks: list[str]) -> list[str]:

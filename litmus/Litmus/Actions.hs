@@ -154,7 +154,9 @@ report env exception
   | Just Async.AsyncCancelled <- fromException exception = Prelude.return ()
   | Just BlockedIndefinitelyOnMVar <- fromException exception = Prelude.return ()
   | Just BlockedIndefinitelyOnSTM <- fromException exception = Prelude.return ()
-  | otherwise = hPutStrLn env (Text.pack ("uncaught exception in thread " <> show (envNumber env) <> ": ") <> exceptionText exception)
+  | otherwise = hPutStrLn env (Text.pack ("uncaught exception in thread " <> number <> ": ") <> exceptionText exception)
+  where
+    number = show (envNumber env)
 
 -- | Begins the run of a script, in a thread of its own, whose end is that of the run.
 forkMain :: Env -> (Env -> IO ()) -> IO ()
@@ -163,10 +165,11 @@ forkMain env script = Exception.uninterruptibleMask $ \restore -> do
     result <- Exception.try (restore (script env))
     case result of
       Right () -> close run (Just Done) Text.empty
-      Left exception -> close run (Just Uncaught) (Text.pack "uncaught exception in main: " <> exceptionText exception <> Text.pack "\n")
+      Left exception -> close run (Just Uncaught) (lineOf exception)
   register run thread
   where
     run = envRun env
+    lineOf exception = Text.pack "uncaught exception in main: " <> exceptionText exception <> Text.pack "\n"
 
 myThreadId :: Env -> IO ThreadId
 myThreadId env = ThreadId (envNumber env) <$> Concurrent.myThreadId

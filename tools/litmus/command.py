@@ -13,8 +13,17 @@ from dataclasses import dataclass
 from pathlib import Path
 
 from tools.litmus.differences import TOP, Difference, known_name, read_differences
-from tools.litmus.haskell import SUPPORT, Broken, Missing, RunOptions, compile_scripts, find_compiler, module_text, run_script
-from tools.litmus.outcomes import Listed, Unreadable, read_list
+from tools.litmus.haskell import (
+    SUPPORT,
+    Broken,
+    Missing,
+    RunOptions,
+    compile_scripts,
+    find_compiler,
+    module_text,
+    run_script,
+)
+from tools.litmus.outcomes import Listed, Shown, Unreadable, read_list
 from tools.litmus.table import Table, table_of, table_text
 
 # The statuses: a list isn't complete, GHC showed what isn't listed, a file can't be read, no program can be built.
@@ -65,9 +74,10 @@ def seconds_above_zero(word: str) -> float:
 def read_words(arguments: Sequence[str]) -> argparse.Namespace:
     parser = argparse.ArgumentParser(
         prog="./conc_run litmus",
-        description="Lists the outcomes of each script, runs it many times by GHC, and prints both side by side: first what GHC"
-        " showed and the list doesn't have, then what both have, then what GHC never showed.",
-        epilog="Status 0: GHC showed nothing that isn't listed, but for known differences; 15: it did; 11: a list isn't complete.",
+        description="Lists the outcomes of each script, runs it many times by GHC, and prints both side by side: first what"
+        " GHC showed and the list doesn't have, then what both have, then what GHC never showed.",
+        epilog="Status 0: GHC showed nothing that isn't listed, but for known differences; 15: it did; 11: a list isn't"
+        " complete.",
     )
     parser.add_argument("files", nargs="*", metavar="FILE", type=Path)
     parser.add_argument("--runs", type=number_above_zero, default=20_000, help="at most so many runs a script (else 20000)")
@@ -120,8 +130,7 @@ def list_outcomes(path: Path, program: Sequence[str]) -> Script:
         raise Stop(1, f"{path}: {fault}") from fault
 
 
-def print_table(script: Script, differences: tuple[Difference, ...], program: Path, number: int, options: RunOptions) -> Table:
-    shown = run_script(program, number, options)
+def print_table(script: Script, shown: Shown, differences: tuple[Difference, ...]) -> Table:
     table = table_of(script.listed, shown, lambda outcome: known_name(differences, script.path, outcome))
     say_nothing()
     print(table_text(str(script.path), table), flush=True)
@@ -160,7 +169,7 @@ def litmus(words: argparse.Namespace, program: Sequence[str]) -> int:
         compiled = compile_scripts(compiler, [module_text(script.text) for script in scripts], Path(folder))
         for place, script in enumerate(scripts, 1):
             say(f"{place} of {len(scripts)}: runs {script.path}, for {words.seconds:g} s at most")
-            tables.append(print_table(script, differences, compiled, place, options))
+            tables.append(print_table(script, run_script(compiled, place, options), differences))
     print_sum(tables, compiler.version, begun)
     return status_of(tables)
 

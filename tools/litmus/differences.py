@@ -1,4 +1,4 @@
-"""The file of known differences: what GHC shows of a script and its list doesn't have, and why."""
+"""The file of known differences: where GHC shows what a list doesn't have, or never comes to what it has, and why."""
 
 from __future__ import annotations
 
@@ -14,36 +14,36 @@ FILE = TOP / "litmus" / "differences.toml"
 
 @dataclass(frozen=True)
 class Difference:
-    """A difference: its name, the row of LANGUAGE that says it, the reason, and where it is seen."""
+    """A difference: its name, the row of LANGUAGE that says it, the reason, and the outcomes of scripts that it explains."""
 
     name: str
     line: str
     reason: str
-    shown: dict[tuple[str, Outcome], None]
+    shown: frozenset[tuple[str, Outcome]]
+    never: frozenset[tuple[str, Outcome]]
 
 
 def read_differences(file: Path = FILE) -> tuple[Difference, ...]:
     with open(file, "rb") as opened:
         read = tomllib.load(opened)
     return tuple(
-        Difference(
-            name,
-            it["line"],
-            it["reason"],
-            {(shown["script"], outcome_of(shown)): None for shown in it.get("shown", ())},
-        )
+        Difference(name, it["line"], it["reason"], places_of(it.get("shown", ())), places_of(it.get("never", ())))
         for name, it in read.items()
     )
 
 
-def outcome_of(shown: dict[str, str]) -> Outcome:
-    return Outcome(shown["end"], shown["output"].encode(), shown.get("errors", "").encode())
+def places_of(tables: list[dict[str, str]]) -> frozenset[tuple[str, Outcome]]:
+    return frozenset((it["script"], outcome_of(it)) for it in tables)
+
+
+def outcome_of(table: dict[str, str]) -> Outcome:
+    return Outcome(table["end"], table["output"].encode(), table.get("errors", "").encode())
 
 
 def known_name(differences: tuple[Difference, ...], script: Path, outcome: Outcome) -> str | None:
-    """The name of the difference that explains this outcome of this script."""
+    """The name of the difference that explains this outcome of this script: that GHC shows it, or that it never does."""
     resolved = script.resolve()
     if not resolved.is_relative_to(TOP):
         return None
-    here = resolved.relative_to(TOP).as_posix()
-    return next((it.name for it in differences if (here, outcome) in it.shown), None)
+    place = (resolved.relative_to(TOP).as_posix(), outcome)
+    return next((it.name for it in differences if place in it.shown or place in it.never), None)

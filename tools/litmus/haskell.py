@@ -82,8 +82,9 @@ def compile_scripts(compiler: Compiler, texts: Sequence[bytes], room: Path) -> P
         (room / f"Script{number}.hs").write_bytes(f"module Script{number} (script) where\n".encode() + text)
     (room / "Main.hs").write_text(main_text(len(texts)))
     program = room / "program"
-    words = [compiler.path, "-v0", "-O0", "-threaded", "-rtsopts", "-j4", f"-i{room}:{SUPPORT}", "-outputdir", str(room / "objects")]
-    done = subprocess.run([*words, str(room / "Main.hs"), "-o", str(program)], capture_output=True, text=True, check=False)
+    words = [compiler.path, "-v0", "-O0", "-threaded", "-rtsopts", "-j4", f"-i{room}:{SUPPORT}"]
+    words += ["-outputdir", str(room / "objects"), "-o", str(program), str(room / "Main.hs")]
+    done = subprocess.run(words, capture_output=True, text=True, check=False)
     if done.returncode != 0:
         raise Broken(f"GHC {compiler.version} doesn't compile it:\n{done.stderr}")
     return program

@@ -7,7 +7,7 @@ from dataclasses import dataclass
 
 from tools.litmus.outcomes import Listed, Outcome, Shown
 
-# The mark of an outcome that GHC showed and the list, though complete, doesn't have; and of one that a known difference explains.
+# The mark of an outcome that GHC showed and the list, though complete, doesn't have; and where a known difference explains it.
 UNLISTED, KNOWN = "!", "~"
 ESCAPES = {"\n": "\\n", "\t": "\\t", '"': '\\"', "\\": "\\\\", "\r": "\\r"}
 
@@ -46,9 +46,10 @@ def table_of(listed: Listed, shown: Shown, known_of: Callable[[Outcome], str | N
     numbers = {outcome: number for number, outcome in enumerate(listed.outcomes, 1)}
     others = sorted(set(shown.counts) - set(numbers), key=Outcome.place)
     rows = [unlisted_row(listed, outcome, shown.counts[outcome], known_of(outcome)) for outcome in others]
-    listed_rows = [Row(" ", shown.counts.get(outcome, 0), number, outcome) for outcome, number in numbers.items()]
-    rows += [row for row in listed_rows if row.count > 0]
-    rows += [row for row in listed_rows if row.count == 0]
+    seen = [(outcome, number) for outcome, number in numbers.items() if outcome in shown.counts]
+    rows += [Row(" ", shown.counts[outcome], number, outcome) for outcome, number in seen]
+    never = [(outcome, number) for outcome, number in numbers.items() if outcome not in shown.counts]
+    rows += [Row(" ", 0, number, outcome, known_of(outcome)) for outcome, number in never]
     return Table(tuple(rows), listed, shown)
 
 
@@ -64,19 +65,22 @@ def quoted(text: bytes) -> str:
     return '"' + "".join(ESCAPES.get(it) or (it if it.isprintable() else f"\\u{{{ord(it):x}}}") for it in characters) + '"'
 
 
+def row_lines(row: Row) -> list[str]:
+    number = "-" if row.number is None else str(row.number)
+    errors = f"  errors {quoted(row.outcome.errors)}" if row.outcome.errors else ""
+    line = f"{row.mark} {row.count:>8}  {number:>5}  {row.outcome.end:<8}  {quoted(row.outcome.output)}{errors}"
+    return [line, f"{'':>29}known difference: {row.known}"] if row.known else [line]
+
+
 def table_text(name: str, table: Table) -> str:
-    """The table with a line above it, and below it what its marks mean."""
+    """The table, with a line above it, and one below it where something isn't as it should be."""
     listed, shown = table.listed, table.shown
     count = len(listed.outcomes)
     lines = [f"{name}: {shown.runs()} runs; {count} outcome{'' if count == 1 else 's'} listed, and {listed.others}"]
     if table.rows:
         lines.append(f"  {'runs':>8}  {'no.':>5}  {'ends':<8}  output")
     for row in table.rows:
-        number = "-" if row.number is None else str(row.number)
-        errors = f"  errors {quoted(row.outcome.errors)}" if row.outcome.errors else ""
-        lines.append(f"{row.mark} {row.count:>8}  {number:>5}  {row.outcome.end:<8}  {quoted(row.outcome.output)}{errors}")
-        if row.known:
-            lines.append(f"{'':>29}known difference: {row.known}")
+        lines += row_lines(row)
     if shown.without_end:
         lines.append(f"  {shown.without_end:>8}  {'-':>5}  no end within the limit of a run")
     if table.unlisted():
