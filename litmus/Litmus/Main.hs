@@ -80,8 +80,8 @@ run script = runScripts [("", script)]
 -- | The same of several scripts, by their names.
 runScripts :: [(String, Env -> IO ())] -> IO ()
 runScripts scripts = do
-  words' <- getArgs
-  settings <- either refuse return (settingsOf words')
+  arguments <- getArgs
+  settings <- either refuse return (settingsOf arguments)
   when (settingHelp settings) (usage >>= putStr >> exitWith ExitSuccess)
   unless rtsSupportsBoundThreads (refuse "the program has to be linked with -threaded")
   let chosen = [script | script@(name, _) <- scripts, maybe True (== name) (settingScript settings)]
@@ -104,7 +104,7 @@ usage = do
   return (usageInfo ("Usage: " ++ name ++ " [OPTION..]") options)
 
 settingsOf :: [String] -> Either String Settings
-settingsOf words' = case getOpt Permute options words' of
+settingsOf arguments = case getOpt Permute options arguments of
   (changes, [], []) -> foldM (flip ($)) defaults changes
   (_, word : _, _) -> Left ("no option: " ++ word)
   (_, _, faults) -> Left (concat faults)

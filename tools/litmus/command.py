@@ -4,6 +4,7 @@ from __future__ import annotations
 
 import argparse
 import math
+import os
 import subprocess
 import sys
 import tempfile
@@ -26,8 +27,9 @@ from tools.litmus.haskell import (
 from tools.litmus.outcomes import Listed, Shown, Unreadable, read_list
 from tools.litmus.table import Table, table_of, table_text
 
-# The statuses: a list isn't complete, GHC showed what isn't listed, a file can't be read, no program can be built.
-INCOMPLETE, UNLISTED, UNREADABLE, UNBUILT, INTERRUPTED = 11, 15, 66, 70, 130
+# The statuses: a write failed, a list isn't complete, GHC showed what isn't listed, a file can't be read, no program can be
+# built, the command was interrupted.
+UNWRITTEN, INCOMPLETE, UNLISTED, UNREADABLE, UNBUILT, INTERRUPTED = 8, 11, 15, 66, 70, 130
 # The statuses of `outcomes` with a list.
 WITH_LIST = (0, 11)
 
@@ -188,6 +190,10 @@ def main(arguments: Sequence[str], program: Sequence[str] | None = None) -> int:
         status, line = UNBUILT, str(missing)
     except (Broken, Unreadable) as broken:
         status, line = UNBUILT, str(broken)
+    except BrokenPipeError:
+        # What is still to be written has nowhere to go.
+        os.dup2(os.open(os.devnull, os.O_WRONLY), sys.stdout.fileno())
+        status, line = UNWRITTEN, "the tables can't be written"
     except KeyboardInterrupt:
         status, line = INTERRUPTED, "interrupted"
     say_nothing()
