@@ -1,0 +1,50 @@
+-- | The points at which a run is made to wait a little. None of them can be interrupted.
+module Litmus.Point
+  ( at
+  , end
+  )
+where
+
+import Control.Concurrent (threadDelay, yield)
+import Control.Concurrent.MVar (newEmptyMVar, takeMVar)
+import Control.Exception (uninterruptibleMask_)
+import Control.Monad (replicateM_, unless)
+import Data.IORef (atomicModifyIORef', modifyIORef')
+import qualified Data.Set as Set
+import Litmus.Plan (Pause (..), Place (..), Side (..), isKnown, pauseAt)
+import Litmus.Run (Env (..), Run (..), draw, isOver)
+
+-- | A point, and then the action that stands at this line and column of the script.
+at :: Env -> Int -> Int -> IO a -> IO a
+at env line column action = do
+  point env (Place (envNumber env) line column Before)
+  action
+
+-- | A point, the last action of a block, and a point behind it.
+end :: Env -> Int -> Int -> IO a -> IO a
+end env line column action = do
+  point env (Place (envNumber env) line column Before)
+  result <- action
+  point env (Place (envNumber env) line column Behind)
+  return result
+
+point :: Env -> Place -> IO ()
+point env place = do
+  over <- isOver run
+  if over
+    then uninterruptibleMask_ (newEmptyMVar >>= takeMVar)
+    else do
+      atomicModifyIORef' (runProgress run) (\count -> (count + 1, ()))
+      unless (isKnown (runPlan run) place) $
+        atomicModifyIORef' (runPlaces run) (\places -> (Set.insert place places, ()))
+      number <- draw env
+      pause env (pauseAt (runPlan run) place number)
+  where
+    run = envRun env
+
+pause :: Env -> Pause -> IO ()
+pause env todo = case todo of
+  GoOn -> return ()
+  Yield count -> replicateM_ count yield
+  Spin rounds -> replicateM_ rounds (modifyIORef' (envRow env) (+ 1))
+  Hold time -> uninterruptibleMask_ (threadDelay time)
