@@ -61,13 +61,21 @@ translate request = do
 
 translateIn :: World -> Request -> Ghc Answer
 translateIn world request = do
-  if requestTrust request
-    then liftIO (runTranslate world (noteAt (Place (requestFile request) 1 1) NoteTrust "What the modules make GHC run isn't looked at."))
-    else checkModules (requestFile request) (requestFolders request)
-  compiled <- compile (Target [requestFile request, requestPrelude request </> "FromHaskellPrelude.hs"] (requestFolders request) (requestPrelude request))
-  case compiled of
+  prepare target
+  checked <-
+    if requestTrust request
+      then liftIO (Just <$> runTranslate world trusted)
+      else guarded (checkModules (requestFile request) (requestFolders request))
+  case checked of
     Nothing -> return NotCompiled
-    Just modules -> liftIO (runTranslate world (translateModules request modules))
+    Just () -> do
+      compiled <- guarded (compile target)
+      case compiled of
+        Just (Just modules) -> liftIO (runTranslate world (translateModules request modules))
+        _ -> return NotCompiled
+ where
+  target = Target [requestFile request, requestPrelude request </> "FromHaskellPrelude.hs"] (requestFolders request) (requestPrelude request)
+  trusted = noteAt (Place (requestFile request) 1 1) NoteTrust "What the modules make GHC run isn't looked at."
 
 translateModules :: Request -> [Compiled] -> Translate Answer
 translateModules request modules = do

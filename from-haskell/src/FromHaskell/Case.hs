@@ -151,16 +151,16 @@ residualData b e t value k xs body = case t of
   BoolType | [false, true] <- constructors -> Chosen <$> (ChooseIf e <$> arm true [] <*> arm false [])
   MaybeType inner | occurrence tyCon == "Maybe", [none, some] <- constructors -> do
     y <- fresh (hint b some 0)
-    Chosen . ChooseCase e <$> (MaybeArms <$> arm none [] <*> pure y <*> (residual (Variable y) inner >>= \v -> arm some [v]))
+    Chosen . ChooseCase t e <$> (MaybeArms <$> arm none [] <*> pure y <*> (residual (Variable y) inner >>= \v -> arm some [v]))
   EitherType left right | occurrence tyCon == "Either", [l, r] <- constructors -> do
     y <- fresh (hint b l 0)
     z <- fresh (hint b r 0)
-    Chosen . ChooseCase e
+    Chosen . ChooseCase t e
       <$> (EitherArms y <$> (residual (Variable y) left >>= \v -> arm l [v]) <*> pure z <*> (residual (Variable z) right >>= \v -> arm r [v]))
   ListType element | [nil, cons] <- constructors -> do
     y <- fresh (hint b cons 0)
     z <- fresh (hint b cons 1)
-    Chosen . ChooseCase e <$> (ListArms <$> arm nil [] <*> pure y <*> pure z <*> (residual (Variable y) element >>= \v -> arm cons [v, Residual (Variable z) t]))
+    Chosen . ChooseCase t e <$> (ListArms <$> arm nil [] <*> pure y <*> pure z <*> (residual (Variable y) element >>= \v -> arm cons [v, Residual (Variable z) t]))
   TextType
     | occurrence k == "C#" -> boxed
     | occurrence k == "ErrorCallWithLocation" -> evaluate (foldl' (\en (x, a) -> bind en x a) here (zip xs [value, KnownText ""])) body
@@ -170,7 +170,7 @@ residualData b e t value k xs body = case t of
     OnlyOne one -> fieldsOf e t (dataConSourceArity one) >>= arm one
     OneWithout bare others | MaybeType inner <- t -> do
       y <- fresh "y"
-      Chosen . ChooseCase e <$> (MaybeArms <$> arm bare [] <*> pure y <*> sumChain b (Variable y) inner value others)
+      Chosen . ChooseCase t e <$> (MaybeArms <$> arm bare [] <*> pure y <*> sumChain b (Variable y) inner value others)
     _ -> sumChain b e t value constructors
  where
   tyCon = dataConTyCon k
@@ -224,7 +224,7 @@ sumChain b e t value chain = case (chain, t) of
     y <- fresh "y"
     yes <- fieldsOf (Variable x) left (dataConSourceArity dc) >>= inShown b value dc
     no <- sumChain b (Variable y) right value rest
-    return (Chosen (ChooseCase e (EitherArms x yes y no)))
+    return (Chosen (ChooseCase t e (EitherArms x yes y no)))
   _ -> defaultOf b (withBinders b value)
 
 -- | The fields of a constructor, as parts of nested pairs.

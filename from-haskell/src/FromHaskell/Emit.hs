@@ -10,12 +10,13 @@ module FromHaskell.Emit
 
 import Control.Monad (foldM, when)
 import Data.Maybe (fromMaybe)
+import qualified Data.Set as Set
 
 import FromHaskell.Encode
 import {-# SOURCE #-} FromHaskell.Evaluate (apply, evaluateBody, saturate)
 import FromHaskell.Exceptions
 import FromHaskell.Force
-import FromHaskell.Ghc
+import FromHaskell.Ghc hiding (Let)
 import FromHaskell.Join
 import FromHaskell.Language (Answer (..), Form (..), Part (..), formOf)
 import FromHaskell.Monad
@@ -41,9 +42,9 @@ emitAction answer hint value0 = do
     Chosen (ChooseIf c a b) -> do
       c' <- hoist c
       branch (ChooseIf c' a b)
-    Chosen (ChooseCase c arms) -> do
+    Chosen (ChooseCase s c arms) -> do
       c' <- hoist c
-      branch (ChooseCase c' arms)
+      branch (ChooseCase s c' arms)
     Doing name arguments here -> do
       outer <- place
       at (if here == nowhere then outer else here) (emitKnown answer hint name arguments)
@@ -58,15 +59,25 @@ emitAction answer hint value0 = do
 
 -- | A choice between actions.
 emitBranches :: Maybe Type -> String -> Choice (Translate Value) -> Translate Value
-emitBranches answer hint choice = emitJoined hint answer (foldr (:) [] choice) (Branch . refilled choice)
+emitBranches answer hint choice = do
+  joined <- joinBlocks answer (foldr (:) [] choice)
+  x <- fresh hint
+  case mapM onlyReturns (joinedBlocks joined) of
+    Just es | not (joinedNever joined) -> emit (Let x (decide (joinedType joined) (refilled choice es)))
+    _ -> emit (Do (Just x) (Branch (refilled choice (joinedBlocks joined))) (joinedType joined))
+  if joinedNever joined then endsHere else rebuild (Variable x) (joinedOutcome joined)
+ where
+  onlyReturns b = case b of
+    [Do Nothing (Script.Form [Word "return", Argument e]) _] | not (mayThrow e) -> Just e
+    _ -> Nothing
 
 -- | The choice with these in place of its branches, in their order.
 refilled :: Choice a -> [b] -> Choice b
 refilled choice bs = case (choice, bs) of
   (ChooseIf c _ _, [a, b]) -> ChooseIf c a b
-  (ChooseCase c (MaybeArms _ x _), [a, b]) -> ChooseCase c (MaybeArms a x b)
-  (ChooseCase c (EitherArms x _ y _), [a, b]) -> ChooseCase c (EitherArms x a y b)
-  (ChooseCase c (ListArms _ x y _), [a, b]) -> ChooseCase c (ListArms a x y b)
+  (ChooseCase s c (MaybeArms _ x _), [a, b]) -> ChooseCase s c (MaybeArms a x b)
+  (ChooseCase s c (EitherArms x _ y _), [a, b]) -> ChooseCase s c (EitherArms x a y b)
+  (ChooseCase s c (ListArms _ x y _), [a, b]) -> ChooseCase s c (ListArms a x y b)
   _ -> error "refilled: a choice has two branches"
 
 throwHere :: Maybe Type -> Expression -> Translate a
@@ -180,7 +191,8 @@ emitForm :: Form -> String -> [Value] -> Translate Value
 emitForm form hint arguments = do
   pieces <- mapM piece (zip [0 :: Int ..] (zip (formArguments form) arguments))
   let word = formFunction form
-      made bs = Script.Form (withoutUnusedName word (concatMap (filledWith bs) pieces))
+  when (word `elem` ["killThread", "throwTo", "timeout", "myThreadId"]) $ modify worldThrowers (Set.insert word)
+  let made bs = Script.Form (withoutUnusedName word (concatMap (filledWith bs) pieces))
       filledWith bs p = case p of
         Right ps -> ps
         Left (names, _) -> map Binder names ++ map Body bs
@@ -252,7 +264,7 @@ emitCatch hint t a dictionary m h = do
         | typeName t == "SomeException" = apply handler exception
         | otherwise = matchException t dictionary exception >>= onMatch (apply handler) again
   emitJoined hint (typeOf a) [emitAction (typeOf a) "" m, masked True (handling >>= emitAction (typeOf a) "")] $ \bs -> case bs of
-    [guarded, handled] -> Script.Form [Word "catch", Body guarded, Binder e, Body handled]
+    [inner, handled] -> Script.Form [Word "catch", Body inner, Binder e, Body handled]
     _ -> Script.Form []
 
 -- | What is done with what is in a Maybe, and what else.
@@ -309,7 +321,7 @@ emitEvaluate answer hint a x = do
     _ -> True
   scrutineeThrows choice = case choice of
     ChooseIf e _ _ -> mayThrow e
-    ChooseCase e _ -> mayThrow e
+    ChooseCase _ e _ -> mayThrow e
     Evaluated {} -> True
 
 emitHandle :: String -> Value -> Value -> Translate Value

@@ -93,7 +93,7 @@ recursive :: Environment -> [(Id, CoreExpr)] -> Translate Environment
 recursive environment pairs = do
   refs <- forM pairs $ \_ -> liftIO (newIORef (Waiting (return CoercionValue)))
   let group = map fst pairs
-      inner = foldl' (\e (v, value) -> bind e v value) environment (zip group values)
+      inner = foldl' (\e (v, x) -> bind e v x) environment (zip group values)
       values = zipWith value pairs refs
       value (v, e) ref
         | isFunction v = Named (Function v e inner True group False) []
@@ -242,7 +242,8 @@ callPure f arguments result
     (definition, holes, _) <- specialise f arguments result False
     put worldPlace here
     total <- get worldTotal
-    return (Residual (Call definition (definition `notElem` total) holes t) t)
+    open <- get worldOpen
+    return (Residual (Call definition (definition `notElem` total && definition `notElem` open) holes t) t)
   decides (Just t) a
     | isNothing (splitFunction t), not (isDictionary t), isNothing (ioResult t) = do
         value <- attempt (trial (force a))

@@ -20,6 +20,7 @@ import FromHaskell.Print
 import FromHaskell.Reify (strictHere)
 import FromHaskell.Report
 import FromHaskell.Script
+import FromHaskell.Share (share)
 import FromHaskell.Specialise (settlePending)
 import FromHaskell.Tidy
 
@@ -39,7 +40,7 @@ finish entry = do
       taken = Set.unions [Set.insert "main" functions, Set.fromList integerNames, reservedWords]
   unless (null helpers) $
     noteAt nowhere NoteInteger "Where an Integer leaves 64 bits, the script throws `text too long`, and its list isn't exact."
-  return (helpers ++ concatMap (printDefinition . tidy taken) plain)
+  return (helpers ++ concatMap (printDefinition . tidy taken . share) plain)
  where
   asMain d = d {definitionName = "main"}
 
@@ -69,6 +70,10 @@ settlePrints :: Translate ()
 settlePrints = do
   prints <- get worldPrints
   let threads = Set.fromList [thread | (thread, _, _) <- prints]
+  throwers <- get worldThrowers
+  let mayBeHit thread
+        | thread == 0 = any (`Set.member` throwers) ["timeout", "myThreadId"]
+        | otherwise = not (Set.null throwers)
   when (Set.size threads > 1) $
-    forM_ (reverse prints) $ \(_, isMasked, here) ->
-      when isMasked $ noteAt here NoteMaskedPrint "A print under a mask: GHC may interrupt it where another thread prints, a script never."
+    forM_ (reverse prints) $ \(thread, isMasked, here) ->
+      when (isMasked && mayBeHit thread) $ noteAt here NoteMaskedPrint "A print under a mask: GHC may interrupt it where another thread prints, a script never."

@@ -97,6 +97,8 @@ module FromHaskell.Ghc
     -- * Modules
   , Compiled (..)
   , Target (..)
+  , prepare
+  , guarded
   , compile
   , Inspection (..)
   , inspect
@@ -142,6 +144,7 @@ import GHC
   , moduleNameString
   , parseDynamicFlags
   , parseModule
+  , printException
   , runGhc
   , setSessionDynFlags
   , setTargets
@@ -161,7 +164,7 @@ import GHC.Data.FastString (unpackFS)
 import GHC.Data.StringBuffer (stringToStringBuffer)
 import GHC.Driver.Pipeline (doCpp)
 import GHC.Driver.Session (GeneralFlag (..), gopt_unset, parseDynamicFilePragma, xopt)
-import GHC.Driver.Types (mg_binds)
+import GHC.Driver.Types (handleSourceError, mg_binds, throwErrors)
 import GHC.Hs
 import GHC.LanguageExtensions (Extension (Cpp))
 import GHC.Parser.Header (getOptions)
@@ -277,11 +280,20 @@ data Target = Target
 withGhc :: FilePath -> Ghc a -> IO a
 withGhc libraryFolder = runGhc (Just libraryFolder)
 
+-- | Makes the session one for this target. It reads no package environment and no file of GHCi.
+prepare :: Target -> Ghc ()
+prepare target = do
+  flags <- sessionFlags target
+  _ <- setSessionDynFlags flags
+  return ()
+
+-- | The answer, or nothing where GHC finds a fault: then it tells it in its own words.
+guarded :: Ghc a -> Ghc (Maybe a)
+guarded act = handleSourceError (\e -> printException e >> return Nothing) (Just <$> act)
+
 -- | Parses, checks and desugars the target's modules, without optimisation. Nothing where GHC refuses one: it has told why.
 compile :: Target -> Ghc (Maybe [Compiled])
 compile target = do
-  flags <- sessionFlags target
-  _ <- setSessionDynFlags flags
   targets <- mapM (`guessTarget` Nothing) (targetFiles target)
   setTargets targets
   loaded <- load LoadAllTargets
@@ -342,8 +354,8 @@ placeOf (RealSrcSpan s _) = spanPlace s
 placeOf (UnhelpfulSpan _) = Place "?" 0 0
 
 -- | Reads a module whose header was found harmless: runs the preprocessor where it asks for it (the function gets a text
--- from the file that it leaves), and parses. Nothing is loaded. On the left are GHC's own words.
-inspect :: FilePath -> String -> ((FilePath -> IO ()) -> IO String) -> Ghc (Either String Inspection)
+-- from the file that it leaves), and parses. Nothing is loaded.
+inspect :: FilePath -> String -> ((FilePath -> IO ()) -> IO String) -> Ghc Inspection
 inspect file source throughFile = do
   flags0 <- getSessionDynFlags
   let options0 = getOptions flags0 (stringToStringBuffer source) file
@@ -353,13 +365,13 @@ inspect file source throughFile = do
       processed <- liftIO (throughFile (doCpp flags1 True file))
       let options = getOptions flags0 (stringToStringBuffer processed) file
       (flags2, _, _) <- parseDynamicFilePragma flags0 options
-      return (parsed flags2 options processed)
-    else return (parsed flags1 options0 source)
+      parsed flags2 options processed
+    else parsed flags1 options0 source
  where
   parsed flags options textOf = case GHC.parser textOf flags file of
-    (_, Left _) -> Left ""
+    (_, Left errors) -> throwErrors errors
     (_, Right (L _ m)) ->
-      Right
+      return
         Inspection
           { inspectedOptions = map located options
           , inspectedDeclarations = mapMaybe declaration (hsmodDecls m)

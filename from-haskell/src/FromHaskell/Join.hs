@@ -82,7 +82,7 @@ leavesOf tree = case tree of
 
 answerOf :: [Template] -> ScriptType -> Tree -> Expression
 answerOf templates t tree = case tree of
-  Node choice -> Decide t (fmap (answerOf templates t) choice)
+  Node choice -> decide t (fmap (answerOf templates t) choice)
   Leaf key holes _ -> tagged (position key) (length templates) t (carried (map holeExpression holes))
  where
   position key = fromMaybe 0 (findIndex ((== key) . templateKey) templates)
@@ -110,16 +110,16 @@ fromTemplates e t templates = case (templates, t) of
     q <- fresh "q"
     yes <- filled (Variable p) one
     no <- fromTemplates (Variable q) r rest
-    return (Chosen (ChooseCase e (EitherArms p yes q no)))
+    return (Chosen (ChooseCase t e (EitherArms p yes q no)))
   _ -> refuse CauseEvaluator "What came out of a block."
 
 filled :: Expression -> Template -> Translate Value
-filled e template = substituteHoles (Map.fromList (zip (map fst (templateHoles template)) (partsOf e (templateHoles template)))) (templateValue template)
+filled e template = substituteHoles (Map.fromList (zip (map fst (templateHoles template)) (carried e (templateHoles template)))) (templateValue template)
  where
-  partsOf x holes = case holes of
+  carried x holes = case holes of
     [] -> []
     [_] -> [x]
-    _ : rest -> first x : partsOf (second x) rest
+    _ : rest -> first x : carried (second x) rest
 
 -- | A form whose answer is that of its blocks.
 emitJoined :: String -> Maybe Type -> [Translate Value] -> ([Block] -> Action) -> Translate Value

@@ -91,6 +91,8 @@ data World = World
   , worldThread :: IORef Int                                 -- ^ which thread's text this is, main being 0
   , worldThreads :: IORef Int
   , worldTotal :: IORef (Set.Set Name)                       -- ^ pure functions that never throw and always end
+  , worldOpen :: IORef (Set.Set Name)                        -- ^ definitions that are being made
+  , worldThrowers :: IORef (Set.Set String)                  -- ^ forms by which an exception comes from outside
   , worldUndo :: IORef [IO ()]                               -- ^ what takes back the evaluations of a trial, the last first
   , worldPending :: IORef [(Place, Name, Int)]               -- ^ arguments that may throw: of which function, which one
   , worldPrints :: IORef [(Int, Bool, Place)]                -- ^ prints: in which thread, masked or not
@@ -127,6 +129,8 @@ newWorld settings =
     <*> newIORef False
     <*> newIORef 0
     <*> newIORef 0
+    <*> newIORef Set.empty
+    <*> newIORef Set.empty
     <*> newIORef Set.empty
     <*> newIORef []
     <*> newIORef []
@@ -240,6 +244,8 @@ restoring = do
       , kept worldThread
       , kept worldTotal
       , kept worldPending
+      , kept worldOpen
+      , kept worldThrowers
       ]
   return (sequence_ resets)
  where

@@ -92,7 +92,7 @@ decision level c = case c of
   ChooseIf x a (Truth False) -> binary level "&&" x a
   ChooseIf x (Truth True) b -> binary level "||" x b
   ChooseIf x a b -> open (group (text "if " <> expression 0 x <> nest 2 (lineOr " " <> text "then " <> expression 0 a <> lineOr " " <> text "else " <> expression 0 b)))
-  ChooseCase x arms -> open (caseOf x (fmap (expression 0) arms))
+  ChooseCase _ x arms -> open (caseOf x (fmap (expression 0) arms))
   Evaluated x _ a b -> open (group (text ("let " ++ x ++ " = ") <> expression 0 a <> text " in" <> lineOr " " <> expression 0 b))
  where
   open = enclosed (level > 0)
@@ -131,7 +131,7 @@ action a = case a of
   CallAction f as -> group (nest 4 (separated (lineOr " ") (text f : map (expression 8) as)))
   Form ps -> foldr1 (\x y -> x <> text " " <> y) (map piece ps)
   Branch (ChooseIf x p q) -> text "if " <> expression 0 x <> text " then " <> block p <> text " else " <> block q
-  Branch (ChooseCase x arms) -> caseOf x (fmap block arms)
+  Branch (ChooseCase _ x arms) -> caseOf x (fmap block arms)
   Branch (Evaluated x _ e b) -> block (Do (Just x) (returnAction e) UnitType : b)
 
 piece :: Piece -> Layout

@@ -20,7 +20,7 @@ import Data.Maybe (isNothing)
 import FromHaskell.Encode
 import {-# SOURCE #-} FromHaskell.Exceptions (reifyException)
 import FromHaskell.Force
-import FromHaskell.Ghc
+import FromHaskell.Ghc hiding (Let)
 import FromHaskell.Monad
 import FromHaskell.Print (printType)
 import FromHaskell.Report
@@ -35,7 +35,7 @@ reify t value0 = do
     Residual e _ -> return e
     Shown _ _ e _ -> return e
     Throwing e -> return (Raise t e)
-    Chosen choice -> Decide t <$> traverse (reify t) choice
+    Chosen choice -> decide t <$> traverse (reify t) choice
     KnownNumber n
       | t == IntType, n < -9223372036854775808 || n > 9223372036854775807 -> refuse CauseNumber ("The Integer " ++ show n ++ " has more than 64 bits.")
       | t == IntType -> return (Number n)
@@ -171,12 +171,12 @@ hoistChoice t choice = case choice of
   ChooseIf c a b -> do
     c' <- hoist c
     branches (ChooseIf c' a b)
-  ChooseCase c arms -> do
+  ChooseCase s c arms -> do
     c' <- hoist c
-    branches (ChooseCase c' arms)
+    branches (ChooseCase s c' arms)
  where
   branches decided
-    | not (any needsAction decided) = return (Decide t decided)
+    | not (any needsAction decided) = return (decide t decided)
     | otherwise = do
         made <- traverse (inBlock . hoist) decided
         x <- fresh "r"
@@ -191,6 +191,7 @@ endBlock :: ScriptType -> Expression -> Block -> Block
 endBlock t e b = case (e, reverse b) of
   (Unit, Do _ a UnitType : rest) | t == UnitType -> reverse (Do Nothing a UnitType : rest)
   (Variable x, Do (Just y) a u : rest) | x == y -> reverse (Do Nothing a u : rest)
+  (Variable x, Let y value : rest) | x == y -> reverse (Do Nothing (returnAction value) t : rest)
   _ -> b ++ [Do Nothing (returnAction e) t]
 
 -- | A block that never ends by a value, at the type that is wanted.

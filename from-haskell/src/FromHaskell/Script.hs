@@ -19,6 +19,7 @@ module FromHaskell.Script
   , Definition (..)
   , pairType
   , pairOf
+  , decide
   , first
   , second
   , throwAction
@@ -62,7 +63,7 @@ data Arms a
 -- and goes on.
 data Choice a
   = ChooseIf Expression a a
-  | ChooseCase Expression (Arms a)
+  | ChooseCase ScriptType Expression (Arms a)   -- ^ the type is that of what is looked at
   | Evaluated Name ScriptType Expression a
   deriving (Eq, Foldable, Functor, Ord, Show, Traversable)
 
@@ -133,6 +134,21 @@ pairOf :: Expression -> Expression -> Expression
 pairOf (Builtin "fst" [x]) (Builtin "snd" [y]) | x == y && not (mayThrow x) = x
 pairOf a b = Pair a b
 
+-- | A choice, and not one that makes again what it takes apart.
+decide :: ScriptType -> Choice Expression -> Expression
+decide t choice = case choice of
+  ChooseIf c (Truth True) (Truth False) -> c
+  ChooseIf c a b | a == b, not (mayThrow c) -> a
+  ChooseCase s e (EitherArms x a y b)
+    | s == t, LeftOf l _ a' <- a, RightOf _ r b' <- b, same l x a', same r y b' -> e
+  ChooseCase s e (MaybeArms (NothingOf _) x (JustOf b))
+    | s == t, MaybeType inner <- t, same inner x b -> e
+  ChooseCase s e (ListArms (EmptyOf _) x y (Binary ":" (Variable x') (Variable y')))
+    | s == t, x == x', y == y' -> e
+  _ -> Decide t choice
+ where
+  same s x e = e == Variable x || (s == UnitType && e == Unit)
+
 -- | The parts of a pair, without the pair where that evaluates nothing less.
 first, second :: Expression -> Expression
 first (Pair a b) | not (mayThrow b) = a
@@ -165,7 +181,7 @@ partsOf e = case e of
  where
   scrutinee c = case c of
     ChooseIf x _ _ -> x
-    ChooseCase x _ -> x
+    ChooseCase _ x _ -> x
     Evaluated _ _ x _ -> x
 
 -- | Whether evaluation may throw or not end. What this says no of can be evaluated anywhere.
@@ -207,7 +223,7 @@ freeOfBlock = concatMap statement
   piece _ = []
   scrutinee c = case c of
     ChooseIf x _ _ -> variablesOf x
-    ChooseCase x _ -> variablesOf x
+    ChooseCase _ x _ -> variablesOf x
     Evaluated _ _ x _ -> variablesOf x
 
 -- | Whether a value of the type has no parts that Haskell could leave unevaluated.
@@ -231,7 +247,7 @@ expressionsOf = concatMap statement
   piece _ = []
   scrutinee c = case c of
     ChooseIf x _ _ -> x
-    ChooseCase x _ -> x
+    ChooseCase _ x _ -> x
     Evaluated _ _ x _ -> x
 
 -- | The definition with this done to each expression in it, the innermost first.
@@ -252,7 +268,7 @@ overExpressions f d = d {definitionBody = block (definitionBody d)}
   decided :: (a -> a) -> Choice a -> Choice a
   decided inside c = case fmap inside c of
     ChooseIf x a b -> ChooseIf (within x) a b
-    ChooseCase x arms -> ChooseCase (within x) arms
+    ChooseCase t x arms -> ChooseCase t (within x) arms
     Evaluated x t e a -> Evaluated x t (within e) a
   within e = f $ case e of
     Binary o a b -> Binary o (within a) (within b)

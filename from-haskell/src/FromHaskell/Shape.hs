@@ -20,13 +20,14 @@ module FromHaskell.Shape
 import Control.Monad (foldM)
 import Control.Monad.IO.Class (liftIO)
 import Data.IORef
-import Data.List (foldl')
+import Data.List (elemIndex, foldl')
 import qualified Data.Map.Strict as Map
 
 import FromHaskell.Encode
 import FromHaskell.Force
 import FromHaskell.Ghc
 import FromHaskell.Monad
+import FromHaskell.Print (printExpression)
 import FromHaskell.Reify (reify)
 import FromHaskell.Report
 import FromHaskell.Script
@@ -44,12 +45,13 @@ data Shape = Shape
   { shapeKey :: IORef [String]
   , shapeHoles :: IORef [Hole]
   , shapeMasking :: IORef Bool
+  , shapeBound :: IORef [Name]      -- ^ names that a case inside of the value binds
   , shapeNaming :: String -> [Name] -> Translate Name
   }
 
 -- | A shape of nothing yet; the function names a hole, by a hint and the names of the holes so far.
 newShape :: (String -> [Name] -> Translate Name) -> Translate Shape
-newShape naming = liftIO (Shape <$> newIORef [] <*> newIORef [] <*> newIORef False <*> pure naming)
+newShape naming = liftIO (Shape <$> newIORef [] <*> newIORef [] <*> newIORef False <*> newIORef [] <*> pure naming)
 
 -- | The key so far.
 keyOf :: Shape -> Translate String
@@ -70,6 +72,19 @@ markShape shape s = liftIO (modifyIORef' (shapeKey shape) (s :))
 -- | A hole for this part. What is met again is the same hole, but for constants.
 hole :: Shape -> String -> Expression -> ScriptType -> Translate Value
 hole shape hintName e t = do
+  bound <- liftIO (readIORef (shapeBound shape))
+  if any (`elem` bound) (variablesOf e) then boundHole shape bound e t else freeHole shape hintName e t
+
+-- | A part that is made of names which a case inside of the value binds stays as it is.
+boundHole :: Shape -> [Name] -> Expression -> ScriptType -> Translate Value
+boundHole shape bound e t
+  | all (`elem` bound) (variablesOf e) = do
+      markShape shape ("bound" ++ show (map (`elemIndex` reverse bound) (variablesOf e)) ++ printExpression e)
+      return (Residual e t)
+  | otherwise = refuse CauseUnknownFunction "A choice between functions or actions, made by a pattern, goes into a function or out of a block."
+
+freeHole :: Shape -> String -> Expression -> ScriptType -> Translate Value
+freeHole shape hintName e t = do
   holes <- liftIO (readIORef (shapeHoles shape))
   case [(i, h) | (i, h) <- zip [0 :: Int ..] (reverse holes), holeExpression h == e, holeType h == t, isShared e] of
     (i, h) : _ -> do
@@ -146,6 +161,17 @@ shapeOfForced shape hintName value = case value of
     return $ case c' of
       Residual x _ -> Chosen (ChooseIf x a' b')
       _ -> value
+  Chosen (ChooseCase s e arms) -> do
+    mark "(case"
+    e' <- hole shape "c" e s
+    bound <- liftIO (readIORef (shapeBound shape))
+    liftIO (writeIORef (shapeBound shape) (namesOf arms ++ bound))
+    arms' <- traverse (shapeOf shape "" Nothing) arms
+    liftIO (writeIORef (shapeBound shape) bound)
+    mark ")"
+    return $ case e' of
+      Residual x _ -> Chosen (ChooseCase s x arms')
+      _ -> value
   Chosen _ -> refuse CauseUnknownFunction "A choice between functions or actions, made by a pattern, goes into a function or out of a block."
   Thunk _ -> refuse CauseEvaluator "A value that isn't evaluated."
  where
@@ -156,6 +182,10 @@ shapeOfForced shape hintName value = case value of
     as' <- mapM (shapeOf shape "" Nothing) as
     mark ")"
     return (make as')
+  namesOf arms = case arms of
+    MaybeArms _ x _ -> [x]
+    EitherArms x _ y _ -> [y, x]
+    ListArms _ x y _ -> [y, x]
   exceptionalOf as = case as of
     [TypeValue t, d, x] -> Exceptional t d x
     _ -> value
@@ -223,6 +253,7 @@ substituteIn shape expressions value0 = do
       f' <- substituteFunction again f
       return (Named f' as')
     Chosen (ChooseIf c a b) -> (\a' b' -> Chosen (ChooseIf (replaced c) a' b')) <$> again a <*> again b
+    Chosen (ChooseCase s c arms) -> Chosen . ChooseCase s (replaced c) <$> traverse again arms
     _ -> return value
 
 stepIn :: (Value -> Translate Value) -> Environment -> Environment -> Var -> Translate Environment

@@ -90,6 +90,7 @@ define f arguments holes result isActionFunction key = do
   outerDepth <- get worldDepth
   outerNames <- get worldNames
   outerMasked <- get worldMasked
+  modify worldOpen (Set.insert definition)
   put worldDepth emptyVarEnv
   put worldNames (Set.fromList (map holeName holes))
   (body, t, outcome) <- if isActionFunction then actionBody answer else pureBody answer
@@ -97,6 +98,7 @@ define f arguments holes result isActionFunction key = do
   put worldDepth outerDepth
   put worldNames outerNames
   put worldMasked outerMasked
+  modify worldOpen (Set.delete definition)
   let made = Definition definition [(holeName h, holeType h) | h <- holes] t body (originOf f)
   total <- get worldTotal
   unless isActionFunction $ when (isTotal (`Set.member` total) made) $ modify worldTotal (Set.insert definition)

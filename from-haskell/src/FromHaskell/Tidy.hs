@@ -78,7 +78,7 @@ renameBlock r = map statement
 renameChoice :: (Name -> Name) -> (a -> a) -> Choice a -> Choice a
 renameChoice r inside c = case c of
   ChooseIf x a b -> ChooseIf (renameExpression r x) (inside a) (inside b)
-  ChooseCase x arms -> ChooseCase (renameExpression r x) (arm arms)
+  ChooseCase t x arms -> ChooseCase t (renameExpression r x) (arm arms)
   Evaluated x t e a -> Evaluated (r x) t (renameExpression r e) (inside a)
  where
   arm arms = case arms of
@@ -121,7 +121,7 @@ boundInBlock = concatMap statement
 boundInChoice :: (a -> [Name]) -> Choice a -> [Name]
 boundInChoice inside c = case c of
   ChooseIf x a b -> boundIn x ++ inside a ++ inside b
-  ChooseCase x arms ->
+  ChooseCase _ x arms ->
     boundIn x ++ case arms of
       MaybeArms a y b -> inside a ++ [y] ++ inside b
       EitherArms y a z b -> [y] ++ inside a ++ [z] ++ inside b

@@ -65,7 +65,7 @@ actionCalls total d facts sizes a = case a of
   Branch (ChooseIf c p q)
     | mayThrow c -> Nothing
     | otherwise -> (++) <$> inBlockCalls total d (facts ++ whenTrue c) sizes p <*> inBlockCalls total d (facts ++ whenFalse c) sizes q
-  Branch (ChooseCase c arms)
+  Branch (ChooseCase _ c arms)
     | mayThrow c -> Nothing
     | otherwise -> concat <$> mapM (\(names, b) -> inBlockCalls total d facts (withParts c names) b) (armsOf arms)
   _ -> Nothing
@@ -126,7 +126,7 @@ strictParameters d = map ((`elem` evaluated) . fst) (definitionParameters d)
  where
   evaluated = case definitionBody d of
     Do _ (Branch (ChooseIf c _ _)) _ : _ -> always c
-    Do _ (Branch (ChooseCase c _)) _ : _ -> always c
+    Do _ (Branch (ChooseCase _ c _)) _ : _ -> always c
     [Do _ (Form [Word "return", Argument e]) t] | isFlat t -> always e
     _ -> []
   always e = case e of
@@ -136,5 +136,5 @@ strictParameters d = map ((`elem` evaluated) . fst) (definitionParameters d)
     Binary o a b | o `notElem` [":", "++"] -> always a ++ always b
     Builtin f as | f `elem` ["not", "div", "mod", "show"] -> concatMap always as
     Decide _ (ChooseIf c _ _) -> always c
-    Decide _ (ChooseCase c _) -> always c
+    Decide _ (ChooseCase _ c _) -> always c
     _ -> []
