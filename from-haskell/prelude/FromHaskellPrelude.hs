@@ -17,6 +17,8 @@ import qualified GHC.Conc as C
 import qualified Data.IORef as R
 import qualified Control.Monad.Catch as MC
 import Control.Concurrent (MVar, ThreadId)
+import Control.Concurrent.QSem (QSem)
+import Control.Concurrent.QSemN (QSemN)
 import qualified Control.Concurrent as C
 import Prelude ((>>=), (>>), return, pure, fmap, (+), (-), (==), (<), (>), (<=), (&&), (||), (++), not, showsPrec, show, Foldable, Traversable)
 
@@ -30,6 +32,18 @@ referenceCell = referenceCell
 cellReference :: MVar a -> R.IORef a
 cellReference = cellReference
 {-# NOINLINE cellReference #-}
+semaphoreCell :: QSem -> MVar Waiters
+semaphoreCell = semaphoreCell
+{-# NOINLINE semaphoreCell #-}
+cellSemaphore :: MVar Waiters -> QSem
+cellSemaphore = cellSemaphore
+{-# NOINLINE cellSemaphore #-}
+quantityCell :: QSemN -> MVar Wanters
+quantityCell = quantityCell
+{-# NOINLINE quantityCell #-}
+cellQuantity :: MVar Wanters -> QSemN
+cellQuantity = cellQuantity
+{-# NOINLINE cellQuantity #-}
 getMaskingText :: IO String
 getMaskingText = getMaskingText
 {-# NOINLINE getMaskingText #-}
@@ -520,3 +534,73 @@ catches io handlers = E.catch io (\e -> catchesHandler handlers e)
 catchesHandler :: [E.Handler a] -> SomeException -> IO a
 catchesHandler handlers e = P.foldr tryHandler (E.throwIO e) handlers
   where tryHandler (E.Handler h) res = case E.fromException e of { Just e' -> h e'; Nothing -> res }
+
+-- Control.Concurrent.QSem: the units that are free, and the gates of those who wait, the first ones in order and the
+-- later ones the last first. A waiter that is killed fills its gate, or hands on the unit that it has got meanwhile.
+type Waiters = (Int, [MVar ()], [MVar ()])
+
+newQSem :: Int -> IO QSem
+newQSem units = if units < 0 then P.fail "newQSem: Initial quantity must be non-negative" else C.newMVar (units, [], []) >>= \cell -> return (cellSemaphore cell)
+
+waitQSem, signalQSem :: QSem -> IO ()
+waitQSem semaphore = E.mask_ (C.takeMVar cell >>= \state -> case state of
+  (units, early, late) ->
+    if units == 0
+      then C.newEmptyMVar >>= \gate -> C.putMVar cell (units, early, gate : late) >> (C.takeMVar gate `E.onException` E.uninterruptibleMask_ (leave gate))
+      else C.putMVar cell (units - 1, early, late))
+ where
+  cell = semaphoreCell semaphore
+  leave gate = C.takeMVar cell >>= \state -> C.tryPutMVar gate () >>= \waited -> (if waited then return state else signalOne state) >>= \after -> C.putMVar cell after
+signalQSem semaphore = E.uninterruptibleMask_ (C.takeMVar cell >>= \state -> signalOne state >>= \after -> C.putMVar cell after)
+ where
+  cell = semaphoreCell semaphore
+
+signalOne :: Waiters -> IO Waiters
+signalOne state = case state of
+  (units, early, late) -> if units == 0 then openOne early late else return (units + 1, early, late)
+
+openOne :: [MVar ()] -> [MVar ()] -> IO Waiters
+openOne early late = case early of
+  gate : rest -> C.tryPutMVar gate () >>= \waited -> if waited then return (0, rest, late) else openOne rest late
+  [] -> case late of
+    [] -> return (1, [], [])
+    _ -> openOne (reverse late) []
+
+-- Control.Concurrent.QSemN: the same, where each waiter wants a number of units and the first one that wants more than
+-- there are holds up the others.
+type Wanters = (Int, [(Int, MVar ())], [(Int, MVar ())])
+
+newQSemN :: Int -> IO QSemN
+newQSemN units = if units < 0 then P.fail "newQSemN: Initial quantity must be non-negative" else C.newMVar (units, [], []) >>= \cell -> return (cellQuantity cell)
+
+waitQSemN, signalQSemN :: QSemN -> Int -> IO ()
+waitQSemN semaphore wanted = E.mask_ (E.uninterruptibleMask_ (C.takeMVar cell) >>= \state -> case state of
+  (units, early, late) ->
+    if units < wanted
+      then C.newEmptyMVar >>= \gate -> C.putMVar cell (units, early, (wanted, gate) : late) >> (C.takeMVar gate `E.onException` E.uninterruptibleMask_ (leave gate))
+      else C.putMVar cell (units - wanted, early, late))
+ where
+  cell = quantityCell semaphore
+  leave gate = C.takeMVar cell >>= \state -> C.tryPutMVar gate () >>= \waited -> (if waited then return state else signalSome state wanted) >>= \after -> C.putMVar cell after
+signalQSemN semaphore given = E.uninterruptibleMask_ (C.takeMVar cell >>= \state -> signalSome state given >>= \after -> C.putMVar cell after)
+ where
+  cell = quantityCell semaphore
+
+signalSome :: Wanters -> Int -> IO Wanters
+signalSome state given = case state of
+  (units, early, late) -> openSome (units + given) early late
+
+openSome :: Int -> [(Int, MVar ())] -> [(Int, MVar ())] -> IO Wanters
+openSome units early late =
+  if units == 0
+    then return (0, early, late)
+    else case early of
+      [] -> case late of
+        [] -> return (units, [], [])
+        _ -> openSome units (reverse late) []
+      (wanted, gate) : rest ->
+        if units < wanted
+          then C.tryTakeMVar gate >>= \left -> case left of
+            Nothing -> return (units, early, late)
+            Just _ -> C.putMVar gate () >> openSome units rest late
+          else C.tryPutMVar gate () >>= \waited -> openSome (if waited then units - wanted else units) rest late

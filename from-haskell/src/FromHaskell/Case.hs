@@ -8,6 +8,7 @@ module FromHaskell.Case
   ( caseOf
   ) where
 
+import Control.Monad ((>=>))
 import Data.List (foldl')
 import Data.Maybe (isJust)
 
@@ -34,7 +35,7 @@ caseOf environment _ binders alternativesOf scrutinee = force scrutinee >>= sele
 
 select :: Branches -> Value -> Translate Value
 select b value = case value of
-  Chosen choice -> overChoice (\v -> force v >>= select b) choice
+  Chosen choice -> overChoice (force >=> select b) choice
   Throwing e -> return (Throwing e)
   _ | [(DEFAULT, _, body)] <- branchAlternatives b -> onlyEvaluated b value body
   Constructed dc arguments -> known b dc arguments value
@@ -57,7 +58,7 @@ select b value = case value of
 onlyEvaluated :: Branches -> Value -> CoreExpr -> Translate Value
 onlyEvaluated b value body = case value of
   Residual e t | mayThrow e -> do
-    x <- fresh (hintOf (branchBinders b))
+    x <- freshArm (hintOf (branchBinders b))
     Chosen . Evaluated x t e <$> evaluate (withBinders b (Residual (Variable x) t)) body
   _ -> evaluate (withBinders b value) body
  where
@@ -150,16 +151,16 @@ residualData b e t value k xs body = case t of
     | isEnumeration tyCon -> enumerationChain b e value (zip [0 ..] constructors)
   BoolType | [false, true] <- constructors -> Chosen <$> (ChooseIf e <$> arm true [] <*> arm false [])
   MaybeType inner | occurrence tyCon == "Maybe", [none, some] <- constructors -> do
-    y <- fresh (hint b some 0)
+    y <- freshArm (hint b some 0)
     Chosen . ChooseCase t e <$> (MaybeArms <$> arm none [] <*> pure y <*> (residual (Variable y) inner >>= \v -> arm some [v]))
   EitherType left right | occurrence tyCon == "Either", [l, r] <- constructors -> do
-    y <- fresh (hint b l 0)
-    z <- fresh (hint b r 0)
+    y <- freshArm (hint b l 0)
+    z <- freshArm (hint b r 0)
     Chosen . ChooseCase t e
       <$> (EitherArms y <$> (residual (Variable y) left >>= \v -> arm l [v]) <*> pure z <*> (residual (Variable z) right >>= \v -> arm r [v]))
   ListType element | [nil, cons] <- constructors -> do
-    y <- fresh (hint b cons 0)
-    z <- fresh (hint b cons 1)
+    y <- freshArm (hint b cons 0)
+    z <- freshArm (hint b cons 1)
     Chosen . ChooseCase t e <$> (ListArms <$> arm nil [] <*> pure y <*> pure z <*> (residual (Variable y) element >>= \v -> arm cons [v, Residual (Variable z) t]))
   TextType
     | occurrence k == "C#" -> boxed
@@ -169,7 +170,7 @@ residualData b e t value k xs body = case t of
   _ -> case alternatives constructors of
     OnlyOne one -> fieldsOf e t (dataConSourceArity one) >>= arm one
     OneWithout bare others | MaybeType inner <- t -> do
-      y <- fresh "y"
+      y <- freshArm "y"
       Chosen . ChooseCase t e <$> (MaybeArms <$> arm bare [] <*> pure y <*> sumChain b (Variable y) inner value others)
     _ -> sumChain b e t value constructors
  where
@@ -220,8 +221,8 @@ sumChain :: Branches -> Expression -> ScriptType -> Value -> [DataCon] -> Transl
 sumChain b e t value chain = case (chain, t) of
   ([dc], _) -> fieldsOf e t (dataConSourceArity dc) >>= inShown b value dc
   (dc : rest, EitherType left right) -> do
-    x <- fresh (if dataConSourceArity dc == 1 then hint b dc 0 else "x")
-    y <- fresh "y"
+    x <- freshArm (if dataConSourceArity dc == 1 then hint b dc 0 else "x")
+    y <- freshArm "y"
     yes <- fieldsOf (Variable x) left (dataConSourceArity dc) >>= inShown b value dc
     no <- sumChain b (Variable y) right value rest
     return (Chosen (ChooseCase t e (EitherArms x yes y no)))

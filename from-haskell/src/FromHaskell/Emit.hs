@@ -8,8 +8,9 @@ module FromHaskell.Emit
   ( emitAction
   ) where
 
-import Control.Monad (foldM, when)
-import Data.Maybe (fromMaybe)
+import Control.Monad (foldM, when, (>=>))
+import Data.Either (fromRight)
+import Data.Maybe (fromMaybe, isJust)
 import qualified Data.Set as Set
 
 import FromHaskell.Encode
@@ -105,7 +106,7 @@ encoded what value = case value of
               | otherwise -> refuse (if isFunctionLike t then CauseKept else CauseType) (what ++ " of the type " ++ showType t ++ ".")
   _ -> refuse CauseEvaluator (what ++ " of a type that isn't known.")
  where
-  isFunctionLike t = maybe False (const True) (ioResult t) || maybe False (const True) (splitFunction t)
+  isFunctionLike t = isJust (ioResult t) || isJust (splitFunction t)
 
 typeOf :: Value -> Maybe Type
 typeOf value = case value of
@@ -162,7 +163,7 @@ emitKnown answer hint name arguments = case (name, arguments) of
  where
   ioErrorOf v = case v of
     Residual e ExceptionType -> return e
-    Chosen choice -> Decide ExceptionType <$> traverse (\x -> force x >>= ioErrorOf) choice
+    Chosen choice -> Decide ExceptionType <$> traverse (force >=> ioErrorOf) choice
     Throwing e -> return e
     Constructed dc _ -> reifyException (Exceptional (mkTyConTy (dataConTyCon dc)) CoercionValue v)
     _ -> refuse CauseExceptionKind "An IOException is thrown."
@@ -236,7 +237,7 @@ emitForm form hint arguments = do
       block (Just k) [name] (emitBlockOf index (Just k) (apply f content))
   forks = formAnswer form == AnswerThread
   block k names act
-    | formAnswer form == maybe AnswerUnit AnswerOfBlock k, k /= Nothing = return (Left (names, act))
+    | formAnswer form == maybe AnswerUnit AnswerOfBlock k, isJust k = return (Left (names, act))
     | otherwise = do
         joined <- joinBlocks (k >>= typeOf . argument) [act]
         return (Right (map Binder names ++ map Body (joinedBlocks joined)))
@@ -263,9 +264,9 @@ emitCatch hint t a dictionary m h = do
       handling
         | typeName t == "SomeException" = apply handler exception
         | otherwise = matchException t dictionary exception >>= onMatch (apply handler) again
-  emitJoined hint (typeOf a) [emitAction (typeOf a) "" m, masked True (handling >>= emitAction (typeOf a) "")] $ \bs -> case bs of
-    [inner, handled] -> Script.Form [Word "catch", Body inner, Binder e, Body handled]
-    _ -> Script.Form []
+  emitJoined hint (typeOf a) [emitAction (typeOf a) "" m, masked True (handling >>= emitAction (typeOf a) "")] (caught e)
+ where
+  caught e bs = Script.Form (Word "catch" : concat [[Body inner, Binder e, Body handled] | [inner, handled] <- [bs]])
 
 -- | What is done with what is in a Maybe, and what else.
 onMatch :: (Value -> Translate Value) -> Value -> Value -> Translate Value
@@ -390,7 +391,7 @@ emitCall f arguments t = do
 hasKnownSpine :: Bool -> Value -> Translate Bool
 hasKnownSpine inside a = case a of
   TypeValue _ -> return False
-  _ -> either (const False) id <$> attempt (trial (spine (if inside then 60 else 61 :: Int) a))
+  _ -> fromRight False <$> attempt (trial (spine (if inside then 60 else 61 :: Int) a))
  where
   spine 0 _ = return False
   spine n value = do
@@ -406,5 +407,5 @@ hasKnownSpine inside a = case a of
 getsMaskingName :: Function -> [Value] -> Translate Bool
 getsMaskingName f arguments = do
   shape <- newShape (\h _ -> return h)
-  mapM_ (\(t, a) -> shapeOf shape "" t a) (zip (argumentTypes (substituted (functionEnvironment f) (idType (functionId f))) arguments) arguments)
+  mapM_ (uncurry (shapeOf shape "")) (zip (argumentTypes (substituted (functionEnvironment f) (idType (functionId f))) arguments) arguments)
   holdsMaskingName shape

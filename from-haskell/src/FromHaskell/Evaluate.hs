@@ -16,7 +16,7 @@ module FromHaskell.Evaluate
   , applyPrelude
   ) where
 
-import Control.Monad (foldM, forM, forM_, zipWithM)
+import Control.Monad (foldM, forM, forM_, when, zipWithM)
 import Control.Monad.IO.Class (liftIO)
 import Data.IORef
 import Data.List (foldl', isPrefixOf)
@@ -162,7 +162,7 @@ global v
           known
             | moduleName == "FromHaskellPrelude", Just arity <- lookup name preludePrimitives = Just (name, arity)
             | isJust (lookupVarEnv program v) || isJust (isClassOpId_maybe v) = Nothing
-            | otherwise = (\arity -> (name, arity)) <$> functionArity moduleName name
+            | otherwise = (,) name <$> functionArity moduleName name
       case (known, lookupVarEnv program v) of
         (Just (primitive, 0), _) -> runPrimitive primitive []
         (Just (primitive, arity), _) -> return (Primitive primitive arity [])
@@ -281,12 +281,12 @@ unrolled f act = do
       limit = fromMaybe (work + 3000) (lookupVarEnv limits key)
       leave = do
         put worldDepth depths
-        if depth == 0 then modify worldWorkLimit (`delVarEnv` key) else return ()
+        when (depth == 0) $ modify worldWorkLimit (`delVarEnv` key)
   put worldWork (work + 1)
   if depth > 40 || work > limit
     then tooDeep key
     else do
-      if depth == 0 then modify worldWorkLimit (\l -> extendVarEnv l key limit) else return ()
+      when (depth == 0) $ modify worldWorkLimit (\l -> extendVarEnv l key limit)
       put worldDepth (extendVarEnv depths key (depth + 1))
       value <- act `finallyDo` leave
       leave

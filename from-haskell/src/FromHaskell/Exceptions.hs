@@ -161,8 +161,7 @@ matchException t dictionary exception = do
     "BlockedIndefinitelyOnMVar" -> testedConstructor "BlockedIndefinitelyOnMVar" (isBlocked e)
     "SomeAsyncException" -> do
       yes <- asyncValue value
-      no <- nothingValue
-      return (Chosen (ChooseIf (isAsync e) yes no))
+      Chosen . ChooseIf (isAsync e) yes <$> nothingValue
     name
       | name `elem` neverComing -> do
           here <- place
@@ -175,14 +174,12 @@ matchException t dictionary exception = do
       here <- place
       modify worldErrorHandlers (here :)
       yes <- justValue (Constructed dc [Residual (Builtin "show" [e]) TextType, KnownText ""])
-      no <- nothingValue
-      return (Chosen (ChooseIf (isErrorCall e) yes no))
+      Chosen . ChooseIf (isErrorCall e) yes <$> nothingValue
   testedConstructor name test = case constructorOf t name of
     Nothing -> nothingValue
     Just dc -> do
       yes <- justValue (Constructed dc [])
-      no <- nothingValue
-      return (Chosen (ChooseIf test yes no))
+      Chosen . ChooseIf test yes <$> nothingValue
   oneOf e names = case names of
     [] -> nothingValue
     name : rest -> case constructorOf t name of

@@ -15,6 +15,7 @@ import qualified Data.Set as Set
 import FromHaskell.Exceptions (settleHandlers)
 import FromHaskell.Integers
 import FromHaskell.Language (reservedWords)
+import FromHaskell.Limits
 import FromHaskell.Monad
 import FromHaskell.Print
 import FromHaskell.Reify (strictHere)
@@ -38,6 +39,7 @@ finish entry = do
       ordered = reverse others ++ map asMain mains
       (helpers, plain) = integers ordered
       taken = Set.unions [Set.insert "main" functions, Set.fromList integerNames, reservedWords]
+  forM_ plain $ \d -> mapM_ (refuseAt (definitionPlace d) CauseLimit) (beyondLimits d)
   unless (null helpers) $
     noteAt nowhere NoteInteger "Where an Integer leaves 64 bits, the script throws `text too long`, and its list isn't exact."
   return (helpers ++ concatMap (printDefinition . tidy taken . share) plain)

@@ -106,8 +106,8 @@ fromTemplates :: Expression -> ScriptType -> [Template] -> Translate Value
 fromTemplates e t templates = case (templates, t) of
   ([one], _) -> filled e one
   (one : rest, EitherType _ r) -> do
-    p <- fresh "p"
-    q <- fresh "q"
+    p <- freshArm "p"
+    q <- freshArm "q"
     yes <- filled (Variable p) one
     no <- fromTemplates (Variable q) r rest
     return (Chosen (ChooseCase t e (EitherArms p yes q no)))

@@ -59,7 +59,9 @@ isAction name = name `Set.member` names
 
 -- | The primitives that the prelude declares, with their number of arguments.
 preludePrimitives :: [(String, Int)]
-preludePrimitives = [("showNumber", 1), ("referenceCell", 2), ("cellReference", 2), ("getMaskingText", 0)]
+preludePrimitives =
+  [ ("showNumber", 1), ("referenceCell", 2), ("cellReference", 2), ("getMaskingText", 0)
+  , ("semaphoreCell", 1), ("cellSemaphore", 1), ("quantityCell", 1), ("cellQuantity", 1) ]
 
 -- | Names that are refused for a reason of their own.
 refusedNames :: String -> Maybe (Cause, String)

@@ -10,9 +10,10 @@ module FromHaskell.Method
   , showBy
   ) where
 
+import Control.Monad ((>=>))
 import Data.List (elemIndex, foldl', isPrefixOf)
 import qualified Data.Map.Strict as Map
-import Data.Maybe (fromMaybe, mapMaybe)
+import Data.Maybe (fromMaybe)
 
 import FromHaskell.Encode
 import {-# SOURCE #-} FromHaskell.Evaluate (applyAll, applyPrelude, evaluate)
@@ -42,7 +43,7 @@ data Call' = Call' Id Class [Value]
 
 methodAt :: Call' -> Value -> [Value] -> Translate Value
 methodAt call@(Call' selector classOf _) dictionary rest = case dictionary of
-  Chosen choice -> overChoice (\d -> force d >>= \d' -> methodAt call d' rest) choice
+  Chosen choice -> overChoice (force >=> \d -> methodAt call d rest) choice
   Constructed dc fields
     | isClassTyCon (dataConTyCon dc), Just method <- nth (methodIndex selector classOf) fields -> force method >>= (`applyAll` rest)
   Primitive "unknownException" _ _ -> ofUnknownException (occurrence selector) rest
@@ -147,6 +148,6 @@ showBy dictionary x = do
       | DFunUnfolding _ dc _ <- unfoldingOf d -> tyConClass_maybe (dataConTyCon dc)
       | otherwise -> fst <$> instanceClass d
     _ -> Nothing
-  instanceClass d = case mapMaybe (\(t, as) -> (\c -> (c, as)) <$> tyConClass_maybe t) (maybe [] pure (splitTyConApp_maybe (snd (splitForAllTys (idType d))))) of
+  instanceClass d = case [(c, as) | Just (t, as) <- [splitTyConApp_maybe (snd (splitForAllTys (idType d)))], Just c <- [tyConClass_maybe t]] of
     found : _ -> Just found
     [] -> Nothing

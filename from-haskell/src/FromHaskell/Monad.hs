@@ -39,6 +39,7 @@ module FromHaskell.Monad
   , emit
   , inBlock
   , fresh
+  , freshArm
   , freshFunction
   , cleanName
   , isFreeName
@@ -91,6 +92,7 @@ data World = World
   , worldThread :: IORef Int                                 -- ^ which thread's text this is, main being 0
   , worldThreads :: IORef Int
   , worldTotal :: IORef (Set.Set Name)                       -- ^ pure functions that never throw and always end
+  , worldArmNames :: IORef (Set.Set Name)                    -- ^ names that the alternatives of choices bind, in any definition
   , worldOpen :: IORef (Set.Set Name)                        -- ^ definitions that are being made
   , worldThrowers :: IORef (Set.Set String)                  -- ^ forms by which an exception comes from outside
   , worldUndo :: IORef [IO ()]                               -- ^ what takes back the evaluations of a trial, the last first
@@ -129,6 +131,7 @@ newWorld settings =
     <*> newIORef False
     <*> newIORef 0
     <*> newIORef 0
+    <*> newIORef Set.empty
     <*> newIORef Set.empty
     <*> newIORef Set.empty
     <*> newIORef Set.empty
@@ -322,6 +325,13 @@ fresh hint = do
       name = head (filter free (wanted : [wanted ++ show i | i <- [1 :: Int ..]]))
   modify worldNames (Set.insert name)
   modify worldAllNames (Set.insert name)
+  return name
+
+-- | A name that an alternative of a choice binds. A choice may go into another definition, so no parameter is called so.
+freshArm :: String -> Translate Name
+freshArm hint = do
+  name <- fresh hint
+  modify worldArmNames (Set.insert name)
   return name
 
 -- | A function's name that is free, like this one.

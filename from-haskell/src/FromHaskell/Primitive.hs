@@ -10,6 +10,7 @@ module FromHaskell.Primitive
 
 import Data.Int (Int64)
 import Data.List (stripPrefix)
+import Data.Maybe (catMaybes, mapMaybe)
 import System.FilePath (takeFileName)
 
 import FromHaskell.Encode
@@ -43,6 +44,7 @@ runPrimitive name arguments
       ("pushCallStack", _) -> return CoercionValue
       ("referenceCell", [_, x]) -> force x
       ("cellReference", [_, x]) -> force x
+      (_, [x]) | name `elem` ["semaphoreCell", "cellSemaphore", "quantityCell", "cellQuantity"] -> force x
       ("fromIntegral", [TypeValue a, TypeValue b, _, _, x]) -> converted a b x
       _ | Just result <- numeric name arguments -> result
         | Just result <- textual name arguments -> result
@@ -191,7 +193,7 @@ equality o a b = do
     (Throwing e, _) -> return (Throwing e)
     _
       | Just c <- bare x, Just d <- bare y -> answer (c == d)
-      | t : _ <- [t | Just t <- [typeOfValue x, typeOfValue y]] -> compared t
+      | t : _ <- catMaybes [typeOfValue x, typeOfValue y] -> compared t
       | otherwise -> compared IntType
  where
   bare v = case v of
@@ -208,14 +210,14 @@ typeOfValue v = case v of
   Residual _ t -> Just t
   Shown _ _ _ t -> Just t
   Constructed dc [] | occurrence dc `elem` ["True", "False"] -> Just BoolType
-  Chosen choice | t : _ <- [t | Just t <- map typeOfValue (foldr (:) [] choice)] -> Just t
+  Chosen choice | t : _ <- mapMaybe typeOfValue (foldr (:) [] choice) -> Just t
   _ -> Nothing
 
 ordering :: String -> Value -> Value -> Translate Value
 ordering o a b = do
   x <- force a
   y <- force b
-  let t = if TextType `elem` [u | Just u <- [typeOfValue x, typeOfValue y]] then TextType else IntType
+  let t = if TextType `elem` catMaybes [typeOfValue x, typeOfValue y] then TextType else IntType
   case (x, y) of
     _ | o `elem` ["max", "min"] -> two (if o == "max" then max else min) extreme x y
     (KnownNumber m, KnownNumber n) -> truthValue (compared m n)

@@ -150,7 +150,6 @@ data NoteClass
   | NoteUserError
   | NotePattern
   | NoteHandler
-  | NoteReference
   | NoteMaskedPrint
   | NoteInteger
   | NoteTrust
@@ -173,7 +172,6 @@ noteName kind = case kind of
   NoteUserError -> "user-error"
   NotePattern -> "pattern"
   NoteHandler -> "handler"
-  NoteReference -> "reference"
   NoteMaskedPrint -> "masked-print"
   NoteInteger -> "integer"
   NoteTrust -> "trust"

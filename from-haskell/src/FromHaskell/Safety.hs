@@ -110,7 +110,7 @@ refusedOption option
 
 -- | Files that a module includes must lie in its own folders, and are looked at as it is.
 checkIncludes :: FilePath -> [FilePath] -> String -> IO ()
-checkIncludes file folders source = go Set.empty file source
+checkIncludes file folders = go Set.empty file
  where
   go seen path textOf = forM_ (includesOf textOf) $ \(line, included) -> case included of
     Just name | name `elem` ofGhc -> return ()

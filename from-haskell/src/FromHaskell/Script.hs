@@ -34,6 +34,8 @@ module FromHaskell.Script
   , overExpressions
   ) where
 
+import FromHaskell.Report (Place)
+
 -- | A name of the script.
 type Name = String
 
@@ -121,6 +123,7 @@ data Definition = Definition
   , definitionResult :: ScriptType
   , definitionBody :: Block
   , definitionOrigin :: String                 -- ^ the line above it: where it comes from
+  , definitionPlace :: Place
   }
   deriving (Eq, Show)
 
@@ -241,7 +244,7 @@ expressionsOf = concatMap statement
   statement (Do _ a _) = action a
   action (CallAction _ as) = as
   action (Form ps) = concatMap piece ps
-  action (Branch c) = [scrutinee c] ++ concatMap expressionsOf (foldr (:) [] c)
+  action (Branch c) = scrutinee c : concatMap expressionsOf (foldr (:) [] c)
   piece (Argument e) = [e]
   piece (Body b) = expressionsOf b
   piece _ = []

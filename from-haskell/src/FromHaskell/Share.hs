@@ -13,6 +13,7 @@ import qualified Data.Map.Strict as Map
 import Data.Ord (comparing)
 import qualified Data.Set as Set
 
+import FromHaskell.Report (nowhere)
 import FromHaskell.Script
 
 -- | The definition with a name for each larger expression that stands twice in it.
@@ -56,7 +57,7 @@ inside scope names block = case block of
   action a = case a of
     CallAction _ _ -> Nothing
     Form ps -> Form <$> pieces Set.empty ps
-    Branch (ChooseIf c p q) -> Branch <$> firstOf (\p' -> ChooseIf c p' q) (\q' -> ChooseIf c p q') (again [] p) (again [] q)
+    Branch (ChooseIf c p q) -> Branch <$> firstOf (\p' -> ChooseIf c p' q) (ChooseIf c p) (again [] p) (again [] q)
     Branch (ChooseCase t c arms) -> Branch . ChooseCase t c <$> inArms arms
     Branch Evaluated {} -> Nothing
   pieces binders ps = case ps of
@@ -75,7 +76,7 @@ inside scope names block = case block of
     Nothing -> g <$> q
 
 wrapped :: Block -> Definition
-wrapped b = Definition "" [] UnitType b ""
+wrapped b = Definition "" [] UnitType b "" nowhere
 
 bound :: Statement -> [Name]
 bound s = case s of
@@ -91,7 +92,7 @@ worth = filter isWorth . subexpressions
   large e = case e of
     Builtin f [x] | f `elem` ["fst", "snd"] -> size x > 1
     Builtin _ _ -> size e > 3
-    Binary _ _ _ -> size e > 3
+    Binary {} -> size e > 3
     Decide _ _ -> closed e
     _ -> False
   -- A case that binds names is shared whole or not at all.

@@ -72,7 +72,8 @@ holeNaming hintName taken = do
       | n `elem` taken -> firstFree rest
       | otherwise -> do
           free <- isFreeName n
-          if free then return n else firstFree rest
+          arms <- get worldArmNames
+          if free && n `Set.notMember` arms then return n else firstFree rest
     [] -> return "x"
 
 -- | Makes the definition.
@@ -92,14 +93,15 @@ define f arguments holes result isActionFunction key = do
   outerMasked <- get worldMasked
   modify worldOpen (Set.insert definition)
   put worldDepth emptyVarEnv
-  put worldNames (Set.fromList (map holeName holes))
+  arms <- get worldArmNames
+  put worldNames (Set.union arms (Set.fromList (map holeName holes)))
   (body, t, outcome) <- if isActionFunction then actionBody answer else pureBody answer
   put worldBlock outerBlock
   put worldDepth outerDepth
   put worldNames outerNames
   put worldMasked outerMasked
   modify worldOpen (Set.delete definition)
-  let made = Definition definition [(holeName h, holeType h) | h <- holes] t body (originOf f)
+  let made = Definition definition [(holeName h, holeType h) | h <- holes] t body (originOf f) (fromMaybe nowhere (definedAt (functionId f)))
   total <- get worldTotal
   unless isActionFunction $ when (isTotal (`Set.member` total) made) $ modify worldTotal (Set.insert definition)
   modify worldDefinitions (made :)

@@ -29,7 +29,7 @@ tidy taken d0 =
   renamed x = Map.findWithDefault x x names
 
 number :: Set.Set Name -> [Name] -> [(Name, Name)]
-number taken = go taken
+number = go
  where
   go _ [] = []
   go used (x : rest) =
