@@ -38,6 +38,7 @@ select b value = case value of
   Chosen choice -> overChoice (force >=> select b) choice
   Throwing e -> return (Throwing e)
   _ | [(DEFAULT, _, body)] <- branchAlternatives b -> onlyEvaluated b value body
+  Constructed dc [] | hasLiterals b, occurrence dc `elem` ["True", "False"] -> truth b (occurrence dc == "True") value
   Constructed dc arguments -> known b dc arguments value
   Shown dc arguments _ _ -> known b dc arguments value
   KnownNumber n -> number b n value
@@ -95,7 +96,21 @@ inAlternative b environment dc arguments = case alternativeFor b dc of
   Nothing -> defaultOf b environment
 
 known :: Branches -> DataCon -> [Value] -> Value -> Translate Value
-known b dc arguments value = inAlternative b (withBinders b value) dc arguments
+known b dc arguments value = case [k | (DataAlt k, _, _) <- branchAlternatives b] of
+  k : _ | isUnit dc, not (isUnit k), [one] <- tyConDataCons (dataConTyCon k) ->
+    -- A type with one value is () in the script.
+    inAlternative b (withBinders b value) one [value | dataConSourceArity one == 1]
+  _ -> inAlternative b (withBinders b value) dc arguments
+ where
+  isUnit k = occurrence k == "()"
+
+-- | Whether the alternatives are constants.
+hasLiterals :: Branches -> Bool
+hasLiterals b = or [True | (LitAlt _, _, _) <- branchAlternatives b]
+
+-- | A comparison inside of GHC gives 1 or 0, which is a truth here.
+truth :: Branches -> Bool -> Value -> Translate Value
+truth b yes = literal b (isNumberLiteral (if yes then 1 else 0)) "I#"
 
 -- | A number or character: by a literal, or by the constructor that boxes it.
 literal :: Branches -> (CoreAlt -> Bool) -> String -> Value -> Translate Value
@@ -116,11 +131,12 @@ isCharacterLiteral c alternative = case alternative of
 number :: Branches -> Integer -> Value -> Translate Value
 number b n value = case [(x, body) | (DataAlt k, [x], body) <- branchAlternatives b, occurrence k `elem` ["I#", "IS"]] of
   (x, body) : _ -> evaluate (bind (withBinders b value) x value) body
-  [] -> literal b matches "I#" value
- where
-  matches alternative = case alternative of
-    (LitAlt l, _, _) | Just (LiteralNumber k) <- literalValue l -> k == n
-    _ -> False
+  [] -> literal b (isNumberLiteral n) "I#" value
+
+isNumberLiteral :: Integer -> CoreAlt -> Bool
+isNumberLiteral n alternative = case alternative of
+  (LitAlt l, _, _) | Just (LiteralNumber k) <- literalValue l -> k == n
+  _ -> False
 
 text :: Branches -> String -> Value -> Translate Value
 text b s value = case (s, [(k, xs, body) | (DataAlt k, xs, body) <- branchAlternatives b]) of
@@ -140,6 +156,7 @@ exceptional b arguments value = case [(xs, body) | (DataAlt k, xs, body) <- bran
 -- | A case on what only a run knows.
 residualCase :: Branches -> Expression -> ScriptType -> Value -> Translate Value
 residualCase b e t value = case [a | a@(k, _, _) <- branchAlternatives b, k /= DEFAULT] of
+  (LitAlt _, _, _) : _ | t == BoolType -> Chosen <$> (ChooseIf e <$> truth b True value <*> truth b False value)
   (LitAlt _, _, _) : _ -> literalChain b e value [(l, body) | (LitAlt l, _, body) <- branchAlternatives b]
   (DataAlt k, xs, body) : _ -> residualData b e t value k xs body
   _ -> defaultOf b (withBinders b value)

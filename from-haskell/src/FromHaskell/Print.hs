@@ -50,6 +50,7 @@ expression level e = case e of
   Variable x -> text x
   Constant x -> text x
   Number n
+    | n == -9223372036854775808 -> text "(-9223372036854775807 - 1)"
     | n < 0 -> text ("(-" ++ show (negate n) ++ ")")
     | otherwise -> text (show n)
   Text s -> text ("\"" ++ concatMap escape s ++ "\"")
