@@ -10,7 +10,7 @@ import System.IO
 import System.Process (readProcess)
 
 import FromHaskell
-import FromHaskell.Ghc (libraryVersion)
+import FromHaskell.Ghc (libraryVersion, signalIn)
 import FromHaskell.Options
 import FromHaskell.Report
 import Paths_from_haskell (getDataDir)
@@ -53,8 +53,7 @@ tell :: String -> Answer -> IO ()
 tell name answer = case answer of
   Translated notes script -> do
     mapM_ (hPutStr stderr . renderNote) notes
-    putStr script
-    hFlush stdout
+    (putStr script >> hFlush stdout) `Exception.catch` unwritten
   Refused notes refusal -> do
     mapM_ (hPutStr stderr . renderNote) notes
     hPutStr stderr (renderRefusal refusal)
@@ -63,6 +62,13 @@ tell name answer = case answer of
   NoSuchMain _ -> do
     hPutStrLn stderr ("from-haskell: the module exports no action " ++ name ++ " of type IO ()")
     exitWith (ExitFailure 2)
+
+unwritten :: IOError -> IO a
+unwritten e = do
+  hPutStrLn stderr ("from-haskell: the script can't be written: " ++ show e)
+  -- What is left in the buffer would fail again at the end.
+  hClose stdout `Exception.catch` (const (return ()) :: IOError -> IO ())
+  exitWith (ExitFailure 8)
 
 checkReadable :: FilePath -> IO ()
 checkReadable file = do
@@ -91,6 +97,7 @@ findGhc = do
 
 -- | A failure that isn't a refusal: GHC's own words where it has some.
 failed :: FilePath -> Exception.SomeException -> IO Answer
+failed _ e | Just n <- signalIn e = exitWith (ExitFailure (128 + n))
 failed file e = case Exception.fromException e of
   Just asynchronous -> Exception.throwIO (asynchronous :: Exception.SomeAsyncException)
   Nothing -> return (Refused [] (Refusal (Place file 1 1) CauseEvaluator (concatMap oneLine (show e))))

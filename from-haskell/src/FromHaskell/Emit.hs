@@ -125,7 +125,7 @@ emitKnown answer hint name arguments = case (name, arguments) of
   ("thenIO", [a, _, m, k]) -> do
     _ <- emitAction (typeOf a) "x" m
     emitAction answer hint k
-  ("call", [Named f came, TypeValue t]) -> emitCall f (reverse came) t
+  ("call", [Named f came, TypeValue t]) -> emitCall hint f (reverse came) t
   ("getMaskingText", []) -> simple hint TextType (Script.Form [Word "getMaskingState"])
   ("yield", _) -> unitValue
   ("hFlush", _) -> unitValue
@@ -361,8 +361,8 @@ throwsFirst e
 
 -- | A call of an action function: a list whose end is known is unrolled, and a function that gets a masking name is
 -- written out; else it is a call of a definition.
-emitCall :: Function -> [Value] -> Type -> Translate Value
-emitCall f arguments t = do
+emitCall :: String -> Function -> [Value] -> Type -> Translate Value
+emitCall hint f arguments t = do
   depths <- get worldDepth
   let depth = fromMaybe 0 (lookupVarEnv depths (functionId f))
   unrolls <- if functionRecursive f && depth < 60 then anyM (hasKnownSpine (depth > 0)) arguments else return False
@@ -370,7 +370,7 @@ emitCall f arguments t = do
   if unrolls || masks
     then do
       put worldDepth (extendVarEnv depths (functionId f) (depth + 1))
-      answer <- (evaluateBody f arguments >>= emitAction (ioResult t) "") `finallyDo` put worldDepth depths
+      answer <- (evaluateBody f arguments >>= emitAction (ioResult t) hint) `finallyDo` put worldDepth depths
       put worldDepth depths
       return answer
     else do
@@ -378,7 +378,7 @@ emitCall f arguments t = do
       (name, holes, outcome) <- specialise f arguments t True
       put worldPlace here
       holes' <- mapM hoist holes
-      x <- fresh "r"
+      x <- fresh (if hint `elem` ["", "x"] || take 2 hint == "ds" then "r" else hint)
       let statement = emit . Do (Just x) (CallAction name holes')
       case outcome of
         AnswersNever -> statement UnitType >> endsHere

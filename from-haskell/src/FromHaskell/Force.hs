@@ -36,7 +36,9 @@ force = \case
     liftIO (readIORef ref) >>= \case
       Ready v -> return v
       waiting@(Waiting act) -> do
-        v <- liftIO act >>= force
+        needsItself <- suspended (refuse CauseEndless "A value needs itself before it is known.")
+        liftIO (writeIORef ref (Waiting needsItself))
+        v <- (liftIO act >>= force) `finallyDo` liftIO (writeIORef ref waiting)
         modify worldUndo (writeIORef ref waiting :)
         liftIO (writeIORef ref (Ready v))
         return v

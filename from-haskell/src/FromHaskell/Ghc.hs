@@ -75,6 +75,7 @@ module FromHaskell.Ghc
   , dataConTag
   , dataConSourceArity
   , dataConFieldTypes
+  , fieldNames
   , dataConUnivTyVars
   , dataConExTyCoVars
   , dataConTheta
@@ -106,11 +107,12 @@ module FromHaskell.Ghc
   , withGhc
   , Ghc
   , libraryVersion
+  , signalIn
   ) where
 
 
+import qualified Control.Exception as Exception
 import Control.Monad.IO.Class (liftIO)
-import qualified Data.ByteString.Char8 as Bytes
 import Data.List (sortOn)
 import Data.Maybe (mapMaybe)
 import System.FilePath (takeDirectory)
@@ -176,13 +178,21 @@ import GHC.Types.Unique (Unique, getKey, getUnique)
 import GHC.Types.Unique.Set (nonDetEltsUniqSet)
 import GHC.Types.Var.Env
 import GHC.Types.Var.Set
+import GHC.Utils.Encoding (utf8DecodeByteString)
 import GHC.Utils.Outputable (Outputable, ppr, showSDocUnsafe)
+import GHC.Utils.Panic (GhcException (Signal))
 
 import FromHaskell.Report (Place (..))
 
 -- | The version of GHC that this module is written for.
 libraryVersion :: String
 libraryVersion = "9.0.2"
+
+-- | The signal by which a session of GHC was ended.
+signalIn :: Exception.SomeException -> Maybe Int
+signalIn e = case Exception.fromException e of
+  Just (Signal n) -> Just n
+  _ -> Nothing
 
 -- | The unfolding that the interface of the defining module has, or no unfolding.
 unfoldingOf :: Id -> Unfolding
@@ -203,7 +213,7 @@ literalValue :: Literal -> Maybe LiteralValue
 literalValue l = case l of
   LitNumber _ n -> Just (LiteralNumber n)
   LitChar c -> Just (LiteralCharacter c)
-  LitString b -> Just (LiteralText (Bytes.unpack b))
+  LitString b -> Just (LiteralText (utf8DecodeByteString b))
   _ -> Nothing
 
 -- | The name without its module.
@@ -252,6 +262,10 @@ dataConFieldTypes constructor arguments
   | null (dataConExTyCoVars constructor) && null (dataConTheta constructor) =
       Just (map scaledThing (dataConInstOrigArgTys constructor arguments))
   | otherwise = Nothing
+
+-- | The names of a constructor's fields, if they have names.
+fieldNames :: DataCon -> [String]
+fieldNames = map (unpackFS . flLabel) . dataConFieldLabels
 
 -- | The variables of a set, in an order that a run keeps.
 variablesInOrder :: VarSet -> [Var]

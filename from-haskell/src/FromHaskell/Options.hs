@@ -58,5 +58,5 @@ usage =
     , "  --strict      takes evaluations that Haskell may leave out, with a note"
     , "  --trust       loads the modules without a look at what they make GHC run"
     , ""
-    , "Status: 0 the script is written; 2 the words, or no such action; 3 refused; 66 the file can't be read; 70 no GHC 9.0.2."
+    , "Status: 0 the script is written; 2 the words, or no such action; 3 refused; 8 it can't be written; 66 the file can't be read; 70 no GHC 9.0.2."
     ]

@@ -19,6 +19,7 @@ module FromHaskell.Shape
 
 import Control.Monad (foldM)
 import Control.Monad.IO.Class (liftIO)
+import Data.Char (toLower)
 import Data.IORef
 import Data.List (elemIndex, foldl')
 import qualified Data.Map.Strict as Map
@@ -104,13 +105,22 @@ hintFor hintName e = case e of
   Variable x | hintName `elem` ["", "x", "y", "t"] -> x
   _ -> hintName
 
+-- | A name for a parameter that the source gives none: that of its type, if the program has that.
+hintFromType :: String -> Type -> String
+hintFromType hintName t = case splitTyConApp_maybe t of
+  Just (tyCon, _) | unnamed, isOfProgram tyCon, c : rest <- occurrence tyCon -> toLower c : rest
+  _ -> hintName
+ where
+  unnamed = take 2 hintName == "ds" || hintName `elem` ["", "x"]
+  isOfProgram tyCon = takeWhile (/= '.') (moduleOf tyCon) `notElem` ["GHC", "Data", "Control", "System"] && isAlgTyCon tyCon
+
 -- | The value with holes in place of what only a run knows. The type, where it is known, says what can be one hole.
 shapeOf :: Shape -> String -> Maybe Type -> Value -> Translate Value
 shapeOf shape hintName known value0 = case known >>= encode of
   Just UnitType -> markShape shape "()" >> return value0
   Just t -> do
     e <- reify t value0
-    hole shape hintName e t
+    hole shape (maybe hintName (hintFromType hintName) known) e t
   Nothing -> force value0 >>= shapeOfForced shape hintName
 
 shapeOfForced :: Shape -> String -> Value -> Translate Value
@@ -128,7 +138,11 @@ shapeOfForced shape hintName value = case value of
     return $ case inner of
       Residual x _ -> Throwing x
       _ -> value
-  Constructed dc as -> within (occurrence dc) as (Constructed dc)
+  Constructed dc as -> do
+    mark ("(" ++ occurrence dc)
+    as' <- mapM (\(h, a) -> shapeOf shape h Nothing a) (zip (fieldNames dc ++ repeat hintName) as)
+    mark ")"
+    return (Constructed dc as')
   Constructing dc types missing as -> within (occurrence dc ++ show (types, missing)) as (Constructing dc types missing)
   Primitive name missing as -> within (name ++ show missing) as (Primitive name missing)
   Doing name as here -> within name as (\as' -> Doing name as' here)
