@@ -91,6 +91,7 @@ translateModules request modules = do
       case lookupVarEnv program v of
         Nothing -> return (NoSuchMain (requestMain request))
         Just f -> do
+          mapM_ (put worldEntry) (definedAt v)
           (name, _, _) <- specialise f [] (idType v) True
           Translated [] <$> finish name
  where

@@ -143,7 +143,10 @@ emitKnown answer hint name arguments = case (name, arguments) of
     case v of
       Residual e ExceptionType -> throwHere answer e
       Throwing e -> throwHere answer e
-      _ -> reifyException (Exceptional t dictionary x) >>= throwHere answer
+      _ -> do
+        e <- reifyException (Exceptional t dictionary x)
+        when (mayThrow e) $ strictHere CauseStrict "An exception that is thrown has a part that may throw or not end."
+        throwHere answer e
   ("failIO", [_, s]) -> do
     note NoteUserError "An IOException of `fail` becomes an ErrorCall with the text `user error (..)`."
     thrown "IOException"
@@ -262,7 +265,10 @@ emitCatch hint t a dictionary m h = do
   let exception = Residual (Variable e) ExceptionType
       again = Doing "throwIO" [TypeValue t, a, CoercionValue, exception] nowhere
       handling
-        | typeName t == "SomeException" = apply handler exception
+        | typeName t == "SomeException" = do
+            here <- place
+            modify worldCatchAll (here :)
+            apply handler exception
         | otherwise = matchException t dictionary exception >>= onMatch (apply handler) again
   emitJoined hint (typeOf a) [emitAction (typeOf a) "" m, masked True (handling >>= emitAction (typeOf a) "")] (caught e)
  where

@@ -40,11 +40,18 @@ finish entry = do
       (helpers, plain) = integers ordered
       taken = Set.unions [Set.insert "main" functions, Set.fromList integerNames, reservedWords]
   forM_ plain $ \d -> mapM_ (refuseAt (definitionPlace d) CauseLimit) (beyondLimits d)
-  unless (null helpers) $
-    noteAt nowhere NoteInteger "Where an Integer leaves 64 bits, the script throws `text too long`, and its list isn't exact."
+  unless (null helpers) settleIntegers
   return (helpers ++ concatMap (printDefinition . tidy taken . share) plain)
  where
   asMain d = d {definitionName = "main"}
+
+-- | Where Integers are checked, a handler of all exceptions takes the mark too.
+settleIntegers :: Translate ()
+settleIntegers = do
+  handlers <- get worldCatchAll
+  entry <- get worldEntry
+  noteAt entry NoteInteger "Where an Integer leaves 64 bits, the script throws `text too long`, and its list isn't exact."
+  forM_ (reverse handlers) $ \here -> noteAt here NoteInteger "This handler takes the mark of an Integer beyond 64 bits."
 
 -- | The definitions that this one needs, and it.
 reachable :: Name -> [Definition] -> [Definition]

@@ -69,6 +69,7 @@ newtype Settings = Settings
 data World = World
   { worldSettings :: Settings
   , worldPlace :: IORef Place                                -- ^ where the evaluation is in the source
+  , worldEntry :: IORef Place                                -- ^ where the action that is asked is defined
   , worldBlock :: IORef [Statement]                          -- ^ of the block that is being made, the last first
   , worldNames :: IORef (Set.Set Name)                       -- ^ names of the definition that is being made
   , worldAllNames :: IORef (Set.Set Name)                    -- ^ names of all definitions
@@ -85,6 +86,7 @@ data World = World
   , worldThrown :: IORef (Set.Set String)                    -- ^ types of exceptions that became ErrorCalls
   , worldLeftOut :: IORef [(Place, String)]                  -- ^ handlers that were left out, by their type
   , worldErrorHandlers :: IORef [Place]                      -- ^ handlers of ErrorCall
+  , worldCatchAll :: IORef [Place]                           -- ^ handlers of all exceptions
   , worldConstructors :: IORef (Map.Map String DataCon)      -- ^ those that the evaluator makes itself
   , worldStackThrown :: IORef [Place]                        -- ^ where `error` may throw in the script
   , worldStackShown :: IORef [Place]                         -- ^ where the text of an unknown exception is shown
@@ -109,6 +111,7 @@ newWorld :: Settings -> IO World
 newWorld settings =
   World settings
     <$> newIORef nowhere
+    <*> newIORef nowhere
     <*> newIORef []
     <*> newIORef Set.empty
     <*> newIORef Set.empty
@@ -123,6 +126,7 @@ newWorld settings =
     <*> newIORef emptyVarEnv
     <*> newIORef []
     <*> newIORef Set.empty
+    <*> newIORef []
     <*> newIORef []
     <*> newIORef []
     <*> newIORef Map.empty
@@ -240,6 +244,7 @@ restoring = do
       , kept worldThrown
       , kept worldLeftOut
       , kept worldErrorHandlers
+      , kept worldCatchAll
       , kept worldStackThrown
       , kept worldStackShown
       , kept worldPrints

@@ -8,6 +8,7 @@ module FromHaskell.Primitive
   , wrapped
   ) where
 
+import Control.Monad (when)
 import Data.Int (Int64)
 import Data.List (stripPrefix)
 import Data.Maybe (catMaybes, mapMaybe)
@@ -331,13 +332,12 @@ joined a b = do
 throwing :: String -> [Value] -> Maybe (Translate Value)
 throwing name arguments = case (name, arguments) of
   ("error", [_, _, _, s]) -> Just $ do
-    here <- place
     note NoteCallStack "The text of `error` has no call stack in the script."
-    modify worldStackThrown (here :)
+    stackThrown
     errorWith s
   ("errorWithoutStackTrace", [_, _, s]) -> Just (errorWith s)
-  ("undefined", _) -> Just (constant "Prelude.undefined")
-  ("throw", [_, _, TypeValue t, dictionary, x]) -> Just (Throwing <$> reifyException (Exceptional t dictionary x))
+  ("undefined", _) -> Just (stackThrown >> constant "Prelude.undefined")
+  ("throw", [_, _, TypeValue t, dictionary, x]) -> Just (thrownException t dictionary x)
   ("patError", _) -> Just (failed "Non-exhaustive patterns")
   ("recSelError", _) -> Just (failed "No match in record selector")
   ("recConError", _) -> Just (failed "Missing field in record construction")
@@ -349,12 +349,22 @@ throwing name arguments = case (name, arguments) of
   ("$dmdisplayException", [_, dictionary, x]) -> Just (showBy dictionary x)
   _ -> Nothing
  where
+  thrownException t dictionary x = do
+    e <- reifyException (Exceptional t dictionary x)
+    when (mayThrow e) $ strictHere CauseStrict "An exception that is thrown has a part that may throw or not end."
+    return (Throwing e)
   constant s = return (Throwing (Builtin "ErrorCall" [Text s]))
+  -- The text isn't that of GHC, so it must not be shown.
+  stackThrown = do
+    here <- place
+    modify worldStackThrown (here :)
   errorWith s = do
     e <- reify TextType s
+    when (mayThrow e) $ strictHere CauseStrict "The text of an error has a part that may throw or not end."
     return (Throwing (Builtin "ErrorCall" [e]))
   failed why = do
     Place file line _ <- place
     note NotePattern "A pattern that may fail: its exception becomes an ErrorCall."
     thrown "PatternMatchFail"
+    stackThrown
     constant (takeFileName file ++ ":" ++ show line ++ ": " ++ why)
