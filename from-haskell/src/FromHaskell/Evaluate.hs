@@ -34,7 +34,7 @@ import FromHaskell.Primitive (runPrimitive)
 import FromHaskell.Print (printType)
 import FromHaskell.Report
 import FromHaskell.Script hiding (Let)
-import FromHaskell.Specialise (isPreludeFile, specialise)
+import FromHaskell.Specialise (isOwnFile, specialise)
 import FromHaskell.Value
 
 -- | The value of an expression.
@@ -64,7 +64,7 @@ evaluate environment = \case
     caseOf environment (substituted environment t) (binder : lookedAt scrutinee) alternativesOf value
   Cast e _ -> evaluate environment e
   Tick (SourceNote s _) e
-    | not (isPreludeFile (placeFile (spanPlace s))) -> at (spanPlace s) (evaluate environment e)
+    | not (isOwnFile (placeFile (spanPlace s))) -> at (spanPlace s) (evaluate environment e)
   Tick _ e -> evaluate environment e
   Type t -> return (TypeValue (substituted environment t))
   Coercion _ -> return CoercionValue

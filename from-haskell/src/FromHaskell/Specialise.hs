@@ -7,11 +7,12 @@
 module FromHaskell.Specialise
   ( specialise
   , isPreludeFile
+  , isOwnFile
   , settlePending
   ) where
 
 import Control.Monad (forM_, unless, when)
-import Data.List (find)
+import Data.List (find, isSuffixOf)
 import qualified Data.Map.Strict as Map
 import Data.Maybe (fromMaybe, isNothing)
 import qualified Data.Set as Set
@@ -122,8 +123,12 @@ define f arguments holes result isActionFunction key = do
 
 originOf :: Function -> String
 originOf f = case definedAt (functionId f) of
-  Just (Place file line _) | not (isPreludeFile file) -> takeFileName file ++ ":" ++ show line
+  Just (Place file line _) | not (isOwnFile file) -> takeFileName file ++ ":" ++ show line
   _ -> "base: " ++ occurrence (functionId f)
+
+-- | Whether this is a source that comes with the translator: no place of it is told.
+isOwnFile :: FilePath -> Bool
+isOwnFile file = isPreludeFile file || "prelude/Control/Concurrent/Async.hs" `isSuffixOf` file
 
 -- | Whether this is the source of the prelude.
 isPreludeFile :: FilePath -> Bool
