@@ -1,0 +1,105 @@
+-- |
+-- The executable: reads the words of the command line, looks for GHC, and writes the script.
+module Main (main) where
+
+import qualified Control.Exception as Exception
+import Control.Monad (unless)
+import System.Environment (getArgs)
+import System.Exit
+import System.IO
+import System.Process (readProcess)
+
+import FromHaskell
+import FromHaskell.Ghc (libraryVersion, signalIn)
+import FromHaskell.Options
+import FromHaskell.Report
+import Paths_from_haskell (getDataDir)
+
+main :: IO ()
+main = do
+  mapM_ (`hSetEncoding` utf8) [stdout, stderr]
+  arguments <- getArgs
+  case arguments of
+    ["--help"] -> putStr usage
+    _ -> either wrongWords run (readOptions arguments)
+
+wrongWords :: String -> IO a
+wrongWords why = do
+  hPutStrLn stderr ("from-haskell: " ++ why)
+  hPutStr stderr usage
+  exitWith (ExitFailure 2)
+
+run :: Options -> IO ()
+run options = do
+  checkReadable (optionFile options)
+  library <- findGhc
+  prelude <- maybe ((++ "/prelude") <$> getDataDir) return (optionPrelude options)
+  answer <-
+    translate
+      Request
+        { requestFile = optionFile options
+        , requestMain = optionMain options
+        , requestFolders = optionFolders options
+        , requestStrict = optionStrict options
+        , requestTrust = optionTrust options
+        , requestLibrary = library
+        , requestPrelude = prelude
+        }
+      `Exception.catch` failed (optionFile options)
+  tell (optionMain options) answer
+
+-- | Writes what came of it, and ends with its status.
+tell :: String -> Answer -> IO ()
+tell name answer = case answer of
+  Translated notes script -> do
+    mapM_ (hPutStr stderr . renderNote) notes
+    (putStr script >> hFlush stdout) `Exception.catch` unwritten
+  Refused notes refusal -> do
+    mapM_ (hPutStr stderr . renderNote) notes
+    hPutStr stderr (renderRefusal refusal)
+    exitWith (ExitFailure 3)
+  NotCompiled -> exitWith (ExitFailure 3)
+  NoSuchMain _ -> do
+    hPutStrLn stderr ("from-haskell: the module exports no action " ++ name ++ " of type IO ()")
+    exitWith (ExitFailure 2)
+
+unwritten :: IOError -> IO a
+unwritten e = do
+  hPutStrLn stderr ("from-haskell: the script can't be written: " ++ show e)
+  -- What is left in the buffer would fail again at the end.
+  hClose stdout `Exception.catch` (const (return ()) :: IOError -> IO ())
+  exitWith (ExitFailure 8)
+
+checkReadable :: FilePath -> IO ()
+checkReadable file = do
+  opened <- Exception.try (withFile file ReadMode (const (return ()))) :: IO (Either IOError ())
+  case opened of
+    Right () -> return ()
+    Left _ -> do
+      hPutStrLn stderr ("from-haskell: " ++ file ++ " can't be read")
+      exitWith (ExitFailure 66)
+
+-- | GHC's folder of libraries.
+findGhc :: IO FilePath
+findGhc = do
+  version <- asked "--numeric-version"
+  unless (version == Just libraryVersion) $ do
+    hPutStrLn stderr $ case version of
+      Nothing -> "from-haskell: there is no ghc; on Debian 12, apt-get install ghc"
+      Just other -> "from-haskell: ghc is " ++ other ++ ", and this needs " ++ libraryVersion ++ " (that of Debian 12)"
+    exitWith (ExitFailure 70)
+  library <- asked "--print-libdir"
+  maybe (exitWith (ExitFailure 70)) return library
+ where
+  asked option = do
+    answer <- Exception.try (readProcess "ghc" [option] "") :: IO (Either IOError String)
+    return (either (const Nothing) (Just . takeWhile (/= '\n')) answer)
+
+-- | A failure that isn't a refusal: GHC's own words where it has some.
+failed :: FilePath -> Exception.SomeException -> IO Answer
+failed _ e | Just n <- signalIn e = exitWith (ExitFailure (128 + n))
+failed file e = case Exception.fromException e of
+  Just asynchronous -> Exception.throwIO (asynchronous :: Exception.SomeAsyncException)
+  Nothing -> return (Refused [] (Refusal (Place file 1 1) CauseEvaluator (concatMap oneLine (show e))))
+ where
+  oneLine c = if c == '\n' then "\n    " else [c]

@@ -1,0 +1,128 @@
+-- |
+-- Module      : FromHaskell
+-- Description : A Haskell module as a script
+--
+-- GHC parses, checks and desugars a module; a partial evaluator over its Core leaves a first-order script of the language
+-- of @docs/LANGUAGE.md@, whose outcomes can be listed.
+module FromHaskell
+  ( Request (..)
+  , Answer (..)
+  , translate
+  ) where
+
+import qualified Control.Exception as Exception
+import Control.Monad (forM_, when)
+import Control.Monad.IO.Class (liftIO)
+import Data.IORef (readIORef)
+import Data.List (find)
+import qualified Data.Map.Strict as Map
+import qualified Data.Set as Set
+import System.FilePath ((</>))
+
+import FromHaskell.Encode (ioResult)
+import FromHaskell.Finish (finish)
+import FromHaskell.Ghc
+import FromHaskell.Integers (integerNames)
+import FromHaskell.Monad
+import FromHaskell.Report
+import FromHaskell.Safety (checkModules)
+import FromHaskell.Specialise (isPreludeFile, specialise)
+import FromHaskell.Value
+
+-- | What is asked.
+data Request = Request
+  { requestFile :: FilePath
+  , requestMain :: String          -- ^ the action that is asked
+  , requestFolders :: [FilePath]   -- ^ where modules are looked for, as GHC's @-i@
+  , requestStrict :: Bool
+  , requestTrust :: Bool
+  , requestLibrary :: FilePath     -- ^ GHC's folder of libraries
+  , requestPrelude :: FilePath     -- ^ the folder of the prelude
+  }
+
+-- | What came of it, with the notes that were made.
+data Answer
+  = Translated [Note] String
+  | Refused [Note] Refusal
+  | NotCompiled                    -- ^ GHC has told why
+  | NoSuchMain String              -- ^ the module exports no such action of the type IO ()
+
+-- | Translates a module.
+translate :: Request -> IO Answer
+translate request = do
+  world <- newWorld (Settings (requestStrict request))
+  result <- Exception.try (withGhc (requestLibrary request) (translateIn world request))
+  notes <- reverse <$> readIORef (worldNotes world)
+  return $ case result of
+    Left refusal -> Refused notes refusal
+    Right answer -> case answer of
+      Translated _ script -> Translated notes script
+      _ -> answer
+
+translateIn :: World -> Request -> Ghc Answer
+translateIn world request = do
+  prepare target
+  checked <-
+    if requestTrust request
+      then liftIO (Just <$> runTranslate world trusted)
+      else guarded (checkModules (requestFile request) (requestFolders request))
+  case checked of
+    Nothing -> return NotCompiled
+    Just () -> do
+      compiled <- guarded (compile target)
+      case compiled of
+        Just (Just modules) -> liftIO (runTranslate world (translateModules request modules))
+        _ -> return NotCompiled
+ where
+  target = Target [requestFile request, requestPrelude request </> "FromHaskellPrelude.hs"] (requestFolders request) (requestPrelude request)
+  trusted = noteAt (Place (requestFile request) 1 1) NoteTrust "What the modules make GHC run isn't looked at."
+
+translateModules :: Request -> [Compiled] -> Translate Answer
+translateModules request modules = do
+  forM_ modules readModule
+  prelude <- get worldPrelude
+  forM_ (words "constructorTrue constructorFalse constructorUnit constructorNothing constructorJust") $ \name ->
+    mapM_ (learnConstructor . functionBody) (Map.lookup name prelude)
+  put worldFunctions (Set.fromList integerNames)
+  case find ((== requestFile request) . compiledFile) modules >>= entryOf of
+    Nothing -> return (NoSuchMain (requestMain request))
+    Just v -> do
+      program <- get worldProgram
+      case lookupVarEnv program v of
+        Nothing -> return (NoSuchMain (requestMain request))
+        Just f -> do
+          mapM_ (put worldEntry) (definedAt v)
+          (name, _, _) <- specialise f [] (idType v) True
+          Translated [] <$> finish name
+ where
+  entryOf m
+    | requestMain request `elem` compiledExports m || isMain m = find isEntry (concatMap (map fst . pairsOf) (compiledBindings m))
+    | otherwise = Nothing
+  isMain m = compiledModule m == "Main" && requestMain request == "main"
+  isEntry v = occurrence v == requestMain request && maybe False isUnit (ioResult (idType v))
+  isUnit t = showType t == "()"
+
+pairsOf :: CoreBind -> [(Id, CoreExpr)]
+pairsOf b = flattenBinds [b]
+
+-- | The functions of a module, by their names.
+readModule :: Compiled -> Translate ()
+readModule m = forM_ (compiledBindings m) $ \binding -> forM_ (pairsOf binding) $ \(v, body) -> do
+  let isPrelude = isPreludeFile (compiledFile m)
+      f = Function v body emptyEnvironment (isGroup binding) [] (not isPrelude && isFromSource v)
+  modify worldProgram (\known -> extendVarEnv known v f)
+  when isPrelude $ modify worldPrelude (Map.insert (occurrence v) f)
+ where
+  isGroup binding = case binding of
+    Rec _ -> True
+    NonRec _ _ -> False
+  isFromSource v = maybe False (const (take 1 (occurrence v) /= "$")) (definedAt v)
+
+-- | A constructor that the prelude names for the evaluator.
+learnConstructor :: CoreExpr -> Translate ()
+learnConstructor e = case e of
+  Tick _ x -> learnConstructor x
+  Lam _ x -> learnConstructor x
+  App x _ -> learnConstructor x
+  Var v | Just dc <- isDataConId_maybe v -> modify worldConstructors (Map.insert (occurrence dc) dc)
+  _ -> return ()

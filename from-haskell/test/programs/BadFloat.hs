@@ -1,0 +1,5 @@
+module Main (main) where
+
+
+main :: IO ()
+main = print (2.5 :: Double)

@@ -1,0 +1,7 @@
+{-# OPTIONS_GHC -fplugin=Plugin #-}
+
+module Main (main) where
+
+
+main :: IO ()
+main = putStrLn "x"

@@ -1,0 +1,7 @@
+{-# LANGUAGE QuasiQuotes #-}
+
+module Main (main) where
+
+
+main :: IO ()
+main = putStrLn "x"

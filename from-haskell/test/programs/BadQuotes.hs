@@ -1,0 +1,8 @@
+module Main (main) where
+
+import Control.Concurrent
+
+main :: IO ()
+main = do
+  v <- newMVar "abc"
+  readMVar v >>= print
