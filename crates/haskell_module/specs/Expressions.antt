@@ -1,6 +1,6 @@
 -- Expressions of a script, as a Haskell module has them: its functions and operators are those of the support module, which are
 -- strict and go from the left to the right (own; what each computes is said by the Haskell 2010 Language Report, 6 and 9).
-use Rattle.std.specs.Prelude.{ℕ, List, [], ◌++◌, codes, Bool, true, false}
+use Rattle.std.specs.Prelude.{ℕ, List, [], ◌++◌, codes, true, false}
 use Rattle.std.specs.Fmt.{signed_decimal}
 use Rattle.hs_base.specs.declared.exn.Exn.{Exn}
 use Rattle.hs_base.specs.declared.exn.Exn.TheVariants as x
@@ -12,7 +12,7 @@ use Rattle.hs_base.specs.declared.tree.forms.EmptyForm.{EmptyForm}
 use Rattle.hs_base.specs.declared.tree.forms.EmptyForm.TheVariants as o
 use Rattle.hs_base.specs.declared.tree.forms.SideForm.{SideForm}
 use Rattle.hs_base.specs.declared.tree.forms.SideForm.TheVariants as s
-use Rattle.rules_expansion.specs.trees.Trees.{Wr, Lit, number, letters, truth, nothing_more, exception, Ex, lit, name, unary, binary, chain, conses, choose, items, empty, side, given, case, Exs, none, more, Links, end, link, Arms, maybe_arms, either_arms, list_arms, pair_arms}
+use Rattle.rules_expansion.specs.trees.Trees.{Lit, number, letters, truth, nothing_more, exception, Ex, lit, name, unary, binary, chain, conses, choose, items, empty, side, given, case, Exs, none, more, Links, end, link, Arms, maybe_arms, either_arms, list_arms, pair_arms}
 use Rattle.haskell_module.specs.Names.{name_text, literal_text}
 use Rattle.haskell_module.specs.Types.{type_text}
 use Rattle.haskell_module.specs.Forms.{applied, applied_two, chained, typed, bound, choice, case_of, arms_of_maybe, arms_of_either, arms_of_list, arms_of_pair}
