@@ -36,7 +36,7 @@ unary_word u.Snd = codes "snd"
 unary_word u.Show = codes "show"
 unary_word u.Negate = codes "negate"
 
--- the operator between two operands; the three that a script writes otherwise stand in one place alone, below
+-- the operator between two operands; no chain of a script has one of the first three
 abbrev pub operator : BinaryForm → List ℕ
 operator b.Pair = codes " `pair` "
 operator b.Div = codes " `div` "
