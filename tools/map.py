@@ -10,7 +10,7 @@ PAGE = "docs/ARCHITECTURE.md"
 FIRST = "<!-- Written by ./check --draw from crates.txt and the first lines of each crate; change those, and draw again. -->"
 LAST = "<!-- Here ends what ./check --draw writes. -->"
 # A library that comes later raises the bound of crates by one, with its reason in DECISIONS.md.
-MOST_CRATES = 80
+MOST_CRATES = 81
 # `rt` goes down every path of the graph of crates, which a first run waits for.
 MOST_PATHS = 2_000_000
 
