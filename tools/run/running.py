@@ -4,7 +4,6 @@ from __future__ import annotations
 
 import os
 import resource
-import signal
 import time
 
 from tools.run import signals
@@ -140,7 +139,7 @@ def stop(child: int, number: int) -> None:
         send(child, number)
         while ended(child, os.WNOHANG) is None:
             if time.monotonic() > until:
-                send(child, signal.SIGKILL)
+                send(child, signals.KILL)
                 ended(child)
                 return
             time.sleep(0.01)

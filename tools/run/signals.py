@@ -5,9 +5,18 @@ That is a status like any other, so a shell that called it goes on as behind any
 
 from __future__ import annotations
 
-import signal
+TYPE_CHECKING = False
+if TYPE_CHECKING:
+    import signal
+else:
+    try:
+        # The same without the enumerations, which take longer to load than all else that a run needs.
+        import _signal as signal
+    except ImportError:
+        import signal
 
 ENDING = (signal.SIGINT, signal.SIGTERM, signal.SIGHUP, signal.SIGQUIT)
+KILL = signal.SIGKILL
 # Python ignores these, and a program that it starts is to have them as they are.
 IGNORED_BY_PYTHON = (signal.SIGPIPE, signal.SIGXFSZ)
 
@@ -34,14 +43,14 @@ def _stop(number: int, _frame: object) -> None:
 def heed() -> None:
     """From now on a signal that ends the wrapper is raised where it is. One that its caller ignores stays ignored."""
     for it in ENDING:
-        if signal.getsignal(it) is not signal.SIG_IGN:
+        if signal.getsignal(it) != signal.SIG_IGN:
             signal.signal(it, _stop)
 
 
 def restore() -> None:
     """In a program that is to be started: signals are as they were for the wrapper."""
     for it in ENDING:
-        if signal.getsignal(it) is not signal.SIG_IGN:
+        if signal.getsignal(it) != signal.SIG_IGN:
             signal.signal(it, signal.SIG_DFL)
     for it in IGNORED_BY_PYTHON:
         signal.signal(it, signal.SIG_DFL)
