@@ -69,6 +69,9 @@ def all_words():
     found = set(uses()) | kit_crates() | {it for it in files() if "/" not in it}
     for text in [*(read(it) for it in ["conc_run", *here("tools/run/*.py")]), *(it.text for it in blocks("docs/LANGUAGE.md") if it.kind == "code")]:
         found.update(re.findall(r"\w+", text))
+    for path in files():
+        if path.endswith(".hs"):
+            found.update(re.findall(r"\w+", read(path)))
     return found.union(*(words_of(it) for it in uses()))
 
 
