@@ -37,7 +37,23 @@ reifyException value0 = do
 
 exceptionOfType :: Type -> Value -> Value -> Translate Expression
 exceptionOfType t dictionary x = do
-  inner <- known <$> force x
+  whole <- force x
+  case whole of
+    -- One of base's that no script throws: what is looked at here was never it.
+    Shown dc _ _ _ | typeName t `elem` ["AsyncException", "ArithException"], occurrence dc `notElem` inScripts -> return (errorCall (Text (occurrence dc)))
+    _ -> exceptionKnown t dictionary x (known whole)
+ where
+  known v = case v of
+    Shown dc fields _ _ -> Constructed dc fields
+    _ -> v
+
+-- | The exceptions without a text that the language names.
+inScripts :: [String]
+inScripts = ["ThreadKilled", "UserInterrupt", "DivideByZero", "Overflow"]
+
+-- | An exception of this type, with its dictionary, and what is known of it.
+exceptionKnown :: Type -> Value -> Value -> Value -> Translate Expression
+exceptionKnown t dictionary x inner =
   case (name, inner) of
     (_, Chosen choice) -> Decide ExceptionType <$> traverse (exceptionOfType t dictionary) choice
     (_, Throwing e) -> return (Raise ExceptionType e)
@@ -54,12 +70,9 @@ exceptionOfType t dictionary x = do
       | otherwise -> ownException name dictionary x
  where
   name = typeName t
-  known v = case v of
-    Shown dc fields _ _ -> Constructed dc fields
-    _ -> v
   ofBase v = case v of
     Constructed dc _
-      | occurrence dc `elem` ["ThreadKilled", "UserInterrupt", "DivideByZero", "Overflow"] -> return (Constant (occurrence dc))
+      | occurrence dc `elem` inScripts -> return (Constant (occurrence dc))
       | otherwise -> refuse CauseExceptionKind ("The exception " ++ occurrence dc ++ " is thrown.")
     Residual e _
       | name == "ArithException" -> return (Decide ExceptionType (ChooseIf (Binary "==" e (Number 0)) (Constant "Overflow") (Constant "DivideByZero")))
