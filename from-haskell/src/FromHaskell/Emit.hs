@@ -138,6 +138,11 @@ emitKnown answer hint name arguments = case (name, arguments) of
     emitJoined hint (typeOf a) [masked False (emitAction (typeOf a) "" m)] (\bs -> Script.Form (Word "restore" : Binder r : map Body bs))
   ("catch", [TypeValue t, a, dictionary, m, h]) -> emitCatch hint t a dictionary m h
   ("catchException", [TypeValue t, a, dictionary, m, h]) -> emitCatch hint t a dictionary m h
+  _ -> emitOther answer hint name arguments
+
+-- | Actions that throw, release, evaluate or print, and the forms.
+emitOther :: Maybe Type -> String -> String -> [Value] -> Translate Value
+emitOther answer hint name arguments = case (name, arguments) of
   ("throwIO", [TypeValue t, _, dictionary, x]) -> do
     v <- force x
     case v of
@@ -190,67 +195,86 @@ inThread act = do
   put worldThread outer
   return answer
 
+-- | A form that is being made: its row, and the arguments of its function.
+data FormCall = FormCall Form [Value]
+
+-- | A part of a form: pieces, or the block that gives its answer, with the names that it binds.
+type FormPart = Either ([Name], Translate Value) [Piece]
+
 -- | A form by its row in the table.
 emitForm :: Form -> String -> [Value] -> Translate Value
 emitForm form hint arguments = do
-  pieces <- mapM piece (zip [0 :: Int ..] (zip (formArguments form) arguments))
-  let word = formFunction form
   when (word `elem` ["killThread", "throwTo", "timeout", "myThreadId"]) $ modify worldThrowers (Set.insert word)
-  let made bs = Script.Form (withoutUnusedName word (concatMap (filledWith bs) pieces))
-      filledWith bs p = case p of
-        Right ps -> ps
-        Left (names, _) -> map Binder names ++ map Body bs
+  formParts <- mapM (formPart call) (zip [0 ..] (zip (formArguments form) arguments))
+  let made bs = Script.Form (withoutUnusedName word (concatMap (filledWith bs) formParts))
+      ofType k wrap = encoded (whatOf call) (argumentAt call k) >>= \t -> simple hint (wrap t) (made [])
   case formAnswer form of
-    AnswerOfBlock k -> case [act | Left (_, act) <- pieces] of
-      [act] -> emitJoined hint (typeOf (argument k)) [act] made
+    AnswerOfBlock k -> case [act | Left (_, act) <- formParts] of
+      [act] -> emitJoined hint (typeOf (argumentAt call k)) [act] made
       _ -> refuse CauseEvaluator ("The form " ++ word ++ " has a row that isn't understood.")
     AnswerUnit -> simple hint UnitType (made [])
     AnswerBool -> simple hint BoolType (made [])
     AnswerThread -> simple hint ThreadType (made [])
-    AnswerType k -> encoded what (argument k) >>= \t -> simple hint t (made [])
-    AnswerMaybe k -> encoded what (argument k) >>= \t -> simple hint (MaybeType t) (made [])
-    AnswerCell k -> encoded what (argument k) >>= \t -> simple hint (CellType t) (made [])
+    AnswerType k -> ofType k id
+    AnswerMaybe k -> ofType k MaybeType
+    AnswerCell k -> ofType k CellType
  where
-  what = "`" ++ formFunction form ++ "`: a value"
-  argument k = case drop k arguments of
-    a : _ -> a
-    [] -> CoercionValue
+  call = FormCall form arguments
+  word = formFunction form
+  filledWith bs formPart' = case formPart' of
+    Right ps -> ps
+    Left (names, _) -> map Binder names ++ map Body bs
+
+argumentAt :: FormCall -> Int -> Value
+argumentAt (FormCall _ arguments) k = case drop k arguments of
+  a : _ -> a
+  [] -> CoercionValue
+
+whatOf :: FormCall -> String
+whatOf (FormCall form _) = "`" ++ formFunction form ++ "`: a value"
+
+-- | What stands for an argument: its number, its part of the row, and the argument.
+formPart :: FormCall -> (Int, (Part, Value)) -> Translate FormPart
+formPart call@(FormCall form _) (index, (part, a)) = case part of
+  Passed -> return (Right [])
+  Marked -> (\t -> Right [At t]) <$> encoded (whatOf call) a
+  CellOf k -> encoded (whatOf call) (argumentAt call k) >>= \t -> plain <$> expressionHere (CellType t) a
+  ValueOf k -> encoded (whatOf call) (argumentAt call k) >>= \t -> plain <$> expressionWhereUsed ("What `" ++ formFunction form ++ "` keeps") t a
+  NumberPart -> plain <$> expressionHere IntType a
+  ThreadPart -> plain <$> expressionHere ThreadType a
+  TextPart -> plain <$> printed a
+  ExceptionPart t d -> case argumentAt call t of
+    TypeValue u -> plain <$> expressionWhereUsed "An exception that is thrown" ExceptionType (Exceptional u (argumentAt call d) a)
+    _ -> refuse CauseEvaluator "An exception of a type that isn't known."
+  BlockPart k -> formBlock call index k [] (return a)
+  MaskingPart k -> do
+    f <- force a
+    r <- fresh (if parameterOf f `elem` ["restore", ""] then (if formAnswer form == AnswerThread then "unmask" else "r") else parameterOf f)
+    formBlock call index k [r] (apply f (MaskingName r))
+  NamedPart x k -> do
+    t <- encoded (whatOf call) (argumentAt call x)
+    f <- force a
+    name <- fresh (parameterOf f)
+    content <- residual (Variable name) t
+    formBlock call index (Just k) [name] (apply f content)
+ where
   plain e = Right [Argument e]
-  piece (index, (part, a)) = case part of
-    Passed -> return (Right [])
-    Marked -> (\t -> Right [At t]) <$> encoded what a
-    CellOf k -> encoded what (argument k) >>= \t -> plain <$> expressionHere (CellType t) a
-    ValueOf k -> encoded what (argument k) >>= \t -> plain <$> expressionWhereUsed ("What `" ++ formFunction form ++ "` keeps") t a
-    NumberPart -> plain <$> expressionHere IntType a
-    ThreadPart -> plain <$> expressionHere ThreadType a
-    TextPart -> plain <$> printed a
-    ExceptionPart t d -> case argument t of
-      TypeValue u -> plain <$> expressionWhereUsed "An exception that is thrown" ExceptionType (Exceptional u (argument d) a)
-      _ -> refuse CauseEvaluator "An exception of a type that isn't known."
-    BlockPart k -> block k [] (emitBlock index k a)
-    MaskingPart k -> do
-      f <- force a
-      r <- fresh (if parameterOf f `elem` ["restore", ""] then (if forks then "unmask" else "r") else parameterOf f)
-      block k [r] (emitBlockOf index k (apply f (MaskingName r)))
-    NamedPart x k -> do
-      t <- encoded what (argument x)
-      f <- force a
-      name <- fresh (parameterOf f)
-      content <- residual (Variable name) t
-      block (Just k) [name] (emitBlockOf index (Just k) (apply f content))
-  forks = formAnswer form == AnswerThread
-  block k names act
-    | formAnswer form == maybe AnswerUnit AnswerOfBlock k, isJust k = return (Left (names, act))
-    | otherwise = do
-        joined <- joinBlocks (k >>= typeOf . argument) [act]
-        return (Right (map Binder names ++ map Body (joinedBlocks joined)))
-  emitBlock index k a = emitBlockOf index k (return a)
-  emitBlockOf index k act = around index (act >>= \v -> emitAction (k >>= typeOf . argument) "" v)
-  around index act
-    | forks = inThread act
-    | formFunction form `elem` ["mask", "mask_", "uninterruptibleMask", "uninterruptibleMask_"] = masked True act
-    | formFunction form `elem` ["finally", "onException"], index == 3 = masked True act
-    | otherwise = act
+
+-- | A block of a form: the number of its argument, the type of its answer, the names that it binds, its action.
+formBlock :: FormCall -> Int -> Maybe Int -> [Name] -> Translate Value -> Translate FormPart
+formBlock call@(FormCall form _) index k names act
+  | formAnswer form == maybe AnswerUnit AnswerOfBlock k, isJust k = return (Left (names, block))
+  | otherwise = do
+      joined <- joinBlocks answer [block]
+      return (Right (map Binder names ++ map Body (joinedBlocks joined)))
+ where
+  answer = k >>= typeOf . argumentAt call
+  block = around (act >>= emitAction answer "")
+  around
+    | formAnswer form == AnswerThread = inThread
+    | formFunction form `elem` ["mask", "mask_", "uninterruptibleMask", "uninterruptibleMask_"] = masked True
+    | formFunction form `elem` ["finally", "onException"], index == 3 = masked True
+    | otherwise = id
 
 -- | A mask whose name nobody uses has none.
 withoutUnusedName :: String -> [Piece] -> [Piece]

@@ -37,7 +37,23 @@ reifyException value0 = do
 
 exceptionOfType :: Type -> Value -> Value -> Translate Expression
 exceptionOfType t dictionary x = do
-  inner <- known <$> force x
+  whole <- force x
+  case whole of
+    -- One of base's that no script throws: what is looked at here was never it.
+    Shown dc _ _ _ | typeName t `elem` ["AsyncException", "ArithException"], occurrence dc `notElem` inScripts -> return (errorCall (Text (occurrence dc)))
+    _ -> exceptionKnown t dictionary x (known whole)
+ where
+  known v = case v of
+    Shown dc fields _ _ -> Constructed dc fields
+    _ -> v
+
+-- | The exceptions without a text that the language names.
+inScripts :: [String]
+inScripts = ["ThreadKilled", "UserInterrupt", "DivideByZero", "Overflow"]
+
+-- | An exception of this type, with its dictionary, and what is known of it.
+exceptionKnown :: Type -> Value -> Value -> Value -> Translate Expression
+exceptionKnown t dictionary x inner =
   case (name, inner) of
     (_, Chosen choice) -> Decide ExceptionType <$> traverse (exceptionOfType t dictionary) choice
     (_, Throwing e) -> return (Raise ExceptionType e)
@@ -54,12 +70,9 @@ exceptionOfType t dictionary x = do
       | otherwise -> ownException name dictionary x
  where
   name = typeName t
-  known v = case v of
-    Shown dc fields _ _ -> Constructed dc fields
-    _ -> v
   ofBase v = case v of
     Constructed dc _
-      | occurrence dc `elem` ["ThreadKilled", "UserInterrupt", "DivideByZero", "Overflow"] -> return (Constant (occurrence dc))
+      | occurrence dc `elem` inScripts -> return (Constant (occurrence dc))
       | otherwise -> refuse CauseExceptionKind ("The exception " ++ occurrence dc ++ " is thrown.")
     Residual e _
       | name == "ArithException" -> return (Decide ExceptionType (ChooseIf (Binary "==" e (Number 0)) (Constant "Overflow") (Constant "DivideByZero")))
@@ -148,60 +161,67 @@ matchException t dictionary exception = do
   ofKnownType u x value
     | eqType u t = justValue x
     | typeName t == "SomeException" = justValue value
-    | typeName t == "SomeAsyncException", typeName u == "AsyncException" = asyncValue value
+    | typeName t == "SomeAsyncException", typeName u == "AsyncException" = asynchronous t value
     | otherwise = nothingValue
-  asyncValue value = case constructorOf t "SomeAsyncException" of
-    Just dc -> justValue (Constructed dc [TypeValue t, Primitive "unknownException" 1 [], value])
-    Nothing -> nothingValue
-  ofUnknown e value = case typeName t of
-    "SomeException" -> justValue value
-    "ErrorCall" -> errorCallIn e
-    "AsyncException" -> oneOf e ["ThreadKilled", "UserInterrupt"]
-    "ArithException" -> oneOf e ["DivideByZero", "Overflow"]
-    "BlockedIndefinitelyOnMVar" -> testedConstructor "BlockedIndefinitelyOnMVar" (isBlocked e)
-    "SomeAsyncException" -> do
-      yes <- asyncValue value
-      Chosen . ChooseIf (isAsync e) yes <$> nothingValue
-    name
-      | name `elem` neverComing -> do
-          here <- place
-          modify worldLeftOut ((here, name) :)
-          nothingValue
-      | otherwise -> ownHandler name e
-  errorCallIn e = case constructorOf t "ErrorCallWithLocation" of
-    Nothing -> nothingValue
-    Just dc -> do
-      here <- place
-      modify worldErrorHandlers (here :)
-      yes <- justValue (Constructed dc [Residual (Builtin "show" [e]) TextType, KnownText ""])
-      Chosen . ChooseIf (isErrorCall e) yes <$> nothingValue
-  testedConstructor name test = case constructorOf t name of
-    Nothing -> nothingValue
-    Just dc -> do
-      yes <- justValue (Constructed dc [])
-      Chosen . ChooseIf test yes <$> nothingValue
-  oneOf e names = case names of
-    [] -> nothingValue
-    name : rest -> case constructorOf t name of
-      Nothing -> oneOf e rest
-      Just dc -> do
-        yes <- justValue (Constructed dc [])
-        no <- oneOf e rest
-        return (Chosen (ChooseIf (Binary "==" e (Constant name)) yes no))
-  ownHandler name e
-    | null constructors || any ((> 0) . dataConSourceArity) constructors =
+  ofUnknown = matchUnknown t dictionary
+
+-- | A value of SomeAsyncException with this exception in it, if the type is that.
+asynchronous :: Type -> Value -> Translate Value
+asynchronous t value = case constructorOf t "SomeAsyncException" of
+  Just dc -> justValue (Constructed dc [TypeValue t, Primitive "unknownException" 1 [], value])
+  Nothing -> nothingValue
+
+-- | The same at an exception that only a run knows: a test of the script says whether it is of the type.
+matchUnknown :: Type -> Value -> Expression -> Value -> Translate Value
+matchUnknown t dictionary e value = case typeName t of
+  "SomeException" -> justValue value
+  "ErrorCall" -> do
+    here <- place
+    modify worldErrorHandlers (here :)
+    tested t "ErrorCallWithLocation" [Residual (Builtin "show" [e]) TextType, KnownText ""] (isErrorCall e)
+  "AsyncException" -> oneOf t e ["ThreadKilled", "UserInterrupt"]
+  "ArithException" -> oneOf t e ["DivideByZero", "Overflow"]
+  "BlockedIndefinitelyOnMVar" -> tested t "BlockedIndefinitelyOnMVar" [] (isBlocked e)
+  "SomeAsyncException" -> do
+    yes <- asynchronous t value
+    Chosen . ChooseIf (isAsync e) yes <$> nothingValue
+  name
+    | name `elem` neverComing -> do
+        here <- place
+        modify worldLeftOut ((here, name) :)
+        nothingValue
+    | null constructors || any ((> 0) . dataConSourceArity) constructors ->
         refuse CauseExceptionFields ("A handler of the exception type " ++ name ++ ", whose values have fields.")
-    | otherwise = do
-        ownChain e constructors
-   where
-    constructors = maybe [] (tyConDataCons . fst) (splitTyConApp_maybe t)
-  ownChain e constructors = case constructors of
-    [] -> nothingValue
-    dc : rest -> do
-      shown <- showBy dictionary (Constructed dc []) >>= reify TextType
+    | otherwise -> ownChain dictionary e constructors
+ where
+  constructors = maybe [] (tyConDataCons . fst) (splitTyConApp_maybe t)
+
+-- | The exception of this constructor where the test holds.
+tested :: Type -> String -> [Value] -> Expression -> Translate Value
+tested t name fields test = case constructorOf t name of
+  Nothing -> nothingValue
+  Just dc -> do
+    yes <- justValue (Constructed dc fields)
+    Chosen . ChooseIf test yes <$> nothingValue
+
+-- | One of the exceptions that the language names.
+oneOf :: Type -> Expression -> [String] -> Translate Value
+oneOf t e names = case names of
+  [] -> nothingValue
+  name : rest -> case constructorOf t name of
+    Nothing -> oneOf t e rest
+    Just dc -> do
       yes <- justValue (Constructed dc [])
-      no <- ownChain e rest
-      return (Chosen (ChooseIf (Binary "==" e (errorCall shown)) yes no))
+      Chosen . ChooseIf (Binary "==" e (Constant name)) yes <$> oneOf t e rest
+
+-- | One of the program's exceptions without fields, by its text.
+ownChain :: Value -> Expression -> [DataCon] -> Translate Value
+ownChain dictionary e constructors = case constructors of
+  [] -> nothingValue
+  dc : rest -> do
+    shown <- showBy dictionary (Constructed dc []) >>= reify TextType
+    yes <- justValue (Constructed dc [])
+    Chosen . ChooseIf (Binary "==" e (errorCall shown)) yes <$> ownChain dictionary e rest
 
 -- | Exceptions of base that nothing in a script throws.
 neverComing :: [String]

@@ -147,20 +147,39 @@ shapeOfForced shape hintName value = case value of
   Primitive name missing as -> within (name ++ show missing) as (Primitive name missing)
   Doing name as here -> within name as (\as' -> Doing name as' here)
   Exceptional t d x -> within "exception" [TypeValue t, d, x] exceptionalOf
-  Dictionary d as -> within (unique d) as (Dictionary d)
-  Method m as -> within (unique m) as (Method m)
+  Dictionary d as -> within (uniqueName d) as (Dictionary d)
+  Method m as -> within (uniqueName m) as (Method m)
   MaskingName r -> do
     mark ("restore " ++ r)
     liftIO (writeIORef (shapeMasking shape) True)
     return value
-  UnknownName v -> mark (unique v) >> return value
+  UnknownName v -> mark (uniqueName v) >> return value
+  _ -> shapeOfCode shape value
+ where
+  mark = markShape shape
+  within name as make = do
+    mark ("(" ++ name)
+    as' <- mapM (shapeOf shape "" Nothing) as
+    mark ")"
+    return (make as')
+  exceptionalOf as = case as of
+    [TypeValue t, d, x] -> Exceptional t d x
+    _ -> value
+
+-- | A name that no other thing of the program has.
+uniqueName :: Id -> String
+uniqueName v = occurrence v ++ show (getKey (getUnique v))
+
+-- | Functions, and choices between values.
+shapeOfCode :: Shape -> Value -> Translate Value
+shapeOfCode shape value = case value of
   Closure environment v body -> do
-    mark ("(\\" ++ unique v)
+    mark ("(\\" ++ uniqueName v)
     environment' <- shapeOfEnvironment shape [] environment (freeVariables (Lam v body))
     mark ")"
     return (Closure environment' v body)
   Named f as -> do
-    mark ("(" ++ unique (functionId f))
+    mark ("(" ++ uniqueName (functionId f))
     as' <- mapM (shapeOf shape "" Nothing) (reverse as)
     f' <- shapeOfFunction shape f
     mark ")"
@@ -172,9 +191,7 @@ shapeOfForced shape hintName value = case value of
     mark "|"
     b' <- shapeOf shape "" Nothing b
     mark ")"
-    return $ case c' of
-      Residual x _ -> Chosen (ChooseIf x a' b')
-      _ -> value
+    return (chosenBy c' (\x -> ChooseIf x a' b'))
   Chosen (ChooseCase s e arms) -> do
     mark "(case"
     e' <- hole shape "c" e s
@@ -183,26 +200,18 @@ shapeOfForced shape hintName value = case value of
     arms' <- traverse (shapeOf shape "" Nothing) arms
     liftIO (writeIORef (shapeBound shape) bound)
     mark ")"
-    return $ case e' of
-      Residual x _ -> Chosen (ChooseCase s x arms')
-      _ -> value
-  Chosen _ -> refuse CauseUnknownFunction "A choice between functions or actions, made by a pattern, goes into a function or out of a block."
-  Thunk _ -> refuse CauseEvaluator "A value that isn't evaluated."
+    return (chosenBy e' (\x -> ChooseCase s x arms'))
+  Chosen _ -> refuse CauseUnknownFunction "A choice between functions or actions goes into a function or out of a block."
+  _ -> refuse CauseEvaluator "A value that isn't evaluated."
  where
   mark = markShape shape
-  unique v = occurrence v ++ show (getKey (getUnique v))
-  within name as make = do
-    mark ("(" ++ name)
-    as' <- mapM (shapeOf shape "" Nothing) as
-    mark ")"
-    return (make as')
+  chosenBy c make = case c of
+    Residual x _ -> Chosen (make x)
+    _ -> value
   namesOf arms = case arms of
     MaybeArms _ x _ -> [x]
     EitherArms x _ y _ -> [y, x]
     ListArms _ x y _ -> [y, x]
-  exceptionalOf as = case as of
-    [TypeValue t, d, x] -> Exceptional t d x
-    _ -> value
 
 shapeOfEnvironment :: Shape -> [Id] -> Environment -> VarSet -> Translate Environment
 shapeOfEnvironment shape skipped environment free =

@@ -81,12 +81,6 @@ holeNaming hintName taken = do
 define :: Function -> [Value] -> [Hole] -> Type -> Bool -> String -> Translate (Name, Outcome)
 define f arguments holes result isActionFunction key = do
   definition <- freshFunction (occurrence (functionId f))
-  let answer = if isActionFunction then fromMaybe result (ioResult result) else result
-      declared = case encode answer of
-        Just t -> Just (AnswersType t)
-        Nothing
-          | isTyVarTy answer -> Just AnswersNever
-          | otherwise -> Nothing
   modify worldSpecialisations (Map.insert key (Specialisation definition declared))
   outerBlock <- get worldBlock
   outerDepth <- get worldDepth
@@ -96,7 +90,7 @@ define f arguments holes result isActionFunction key = do
   put worldDepth emptyVarEnv
   arms <- get worldArmNames
   put worldNames (Set.union arms (Set.fromList (map holeName holes)))
-  (body, t, outcome) <- if isActionFunction then actionBody answer else pureBody answer
+  (body, t, outcome) <- if isActionFunction then actionBody else pureBody
   put worldBlock outerBlock
   put worldDepth outerDepth
   put worldNames outerNames
@@ -110,12 +104,18 @@ define f arguments holes result isActionFunction key = do
   return (definition, outcome)
  where
   value = evaluateBody f arguments
-  actionBody answer = do
+  answer = if isActionFunction then fromMaybe result (ioResult result) else result
+  declared = case encode answer of
+    Just t -> Just (AnswersType t)
+    Nothing
+      | isTyVarTy answer -> Just AnswersNever
+      | otherwise -> Nothing
+  actionBody = do
     joined <- joinBlocks (Just answer) [value >>= emitAction (Just answer) ""]
     let t = joinedType joined
         outcome = if joinedNever joined then AnswersType t else joinedOutcome joined
     return (concat (take 1 (joinedBlocks joined)), t, outcome)
-  pureBody answer = case encode answer of
+  pureBody = case encode answer of
     Nothing -> refuse CauseType ("A function answers what a script can't keep: " ++ showType answer ++ ".")
     Just t -> do
       (e, b) <- inBlock (value >>= reify t >>= hoist)

@@ -6,6 +6,7 @@
 module Perturb (perturbed) where
 
 import "base" Control.Concurrent (yield)
+import Control.Monad (when)
 import Data.IORef
 import Data.Word (Word64)
 import GHC.Clock (getMonotonicTimeNSec)
@@ -34,5 +35,5 @@ spin nanoseconds = do
   begin <- getMonotonicTimeNSec
   let go = do
         now <- getMonotonicTimeNSec
-        if now - begin < nanoseconds then go else return ()
+        when (now - begin < nanoseconds) go
   go
