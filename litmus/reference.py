@@ -13,6 +13,9 @@ from collections.abc import Callable
 from dataclasses import dataclass
 from typing import Generic, TypeVar
 
+# How deep the functions below call each other at most: scripts nest 200 openers, and each is some calls.
+DEPTH = 100_000
+
 # --- tokens ---
 
 RESERVED = frozenset(
@@ -681,7 +684,7 @@ def module_text(script: bytes) -> bytes:
 
 def main() -> int:
     argparse.ArgumentParser(description="Prints the Haskell module of the script on standard input.").parse_args()
-    sys.setrecursionlimit(100_000)
+    sys.setrecursionlimit(DEPTH)
     try:
         sys.stdout.buffer.write(module_text(sys.stdin.buffer.read()))
     except Refused as fault:

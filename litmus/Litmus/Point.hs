@@ -8,7 +8,7 @@ where
 import Control.Concurrent (threadDelay, yield)
 import Control.Concurrent.MVar (newEmptyMVar, takeMVar)
 import Control.Exception (uninterruptibleMask_)
-import Control.Monad (replicateM_, unless)
+import Control.Monad (replicateM_, unless, when)
 import Data.IORef (atomicModifyIORef', modifyIORef')
 import qualified Data.Set as Set
 import Litmus.Plan (Pause (..), Place (..), Side (..), isKnown, pauseAt)
@@ -34,13 +34,17 @@ point env place = do
   if over
     then uninterruptibleMask_ (newEmptyMVar >>= takeMVar)
     else do
-      atomicModifyIORef' (runProgress run) (\count -> (count + 1, ()))
+      count <- atomicModifyIORef' (runProgress run) (\count -> (count + 1, count))
       unless (isKnown (runPlan run) place) $
         atomicModifyIORef' (runPlaces run) (\places -> (Set.insert place places, ()))
       number <- draw env
-      pause env (pauseAt (runPlan run) place number)
+      when (count < patience) (pause env (pauseAt (runPlan run) place number))
   where
     run = envRun env
+
+-- | Behind so many points a run waits at none any more, so that one of many steps is over in time.
+patience :: Int
+patience = 1000
 
 pause :: Env -> Pause -> IO ()
 pause env todo = case todo of

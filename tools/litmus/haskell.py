@@ -2,12 +2,14 @@
 
 from __future__ import annotations
 
+import importlib.util
 import shutil
 import subprocess
 import sys
 from collections.abc import Sequence
 from dataclasses import dataclass
 from pathlib import Path
+from types import ModuleType
 
 from tools.litmus.outcomes import Shown, read_counts
 
@@ -60,12 +62,25 @@ def find_compiler() -> Compiler:
     return Compiler(path, version)
 
 
+def load_reference() -> ModuleType:
+    """The printer of modules, which is a program of its own beside the support module."""
+    spec = importlib.util.spec_from_file_location("litmus_reference", SUPPORT / "reference.py")
+    assert spec is not None and spec.loader is not None
+    module = importlib.util.module_from_spec(spec)
+    sys.modules[spec.name] = module
+    spec.loader.exec_module(module)
+    return module
+
+
 def module_text(script: bytes) -> bytes:
     """The module of an accepted script."""
-    done = subprocess.run([sys.executable, str(SUPPORT / "reference.py")], input=script, capture_output=True, check=False)
-    if done.returncode != 0:
-        raise Broken(done.stderr.decode(errors="replace").strip())
-    return done.stdout
+    reference = load_reference()
+    sys.setrecursionlimit(max(sys.getrecursionlimit(), reference.DEPTH))
+    try:
+        text: bytes = reference.module_text(script)
+    except reference.Refused as fault:
+        raise Broken(f"no module is made of a script: {fault}") from fault
+    return text
 
 
 def main_text(count: int) -> str:
