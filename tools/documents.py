@@ -47,7 +47,7 @@ class Reader:
         if span.endswith(".md"):
             known = here(span) + here(f"docs/{span}")
         elif span.endswith(".conc"):
-            known = here(f"examples/{span}") or span == "mine.conc"
+            known = here(f"examples/{span}") or here(f"litmus/{span}") or span == "mine.conc"
         elif span.endswith(".rows"):
             known = here(f"crates/*/data/{span}")
         elif span.endswith((".rt", ".antt")):
@@ -83,8 +83,8 @@ def is_public(crate, name):
 
 def names():
     """Paths, crates, laws and other names between backquotes that the repository doesn't have."""
-    # (a change log speaks of the names of its time)
-    for path in (it for it in documents() if it != "CHANGELOG.md"):
+    # (a change log speaks of the names of its time, and a page on Haskell of Haskell's)
+    for path in (it for it in documents() if it not in ("CHANGELOG.md", "docs/HASKELL.md")):
         heading = None
         for block in blocks(path):
             if block.kind == "code":
@@ -159,7 +159,7 @@ def value(number):
 def counts(known):
     """Counts of what the repository has that are not its own, or that nothing here can count. Small ones pass."""
     for path in documents():
-        if os.path.basename(path) in ("MEASURES.md", "CHANGELOG.md"):
+        if os.path.basename(path) in ("MEASURES.md", "CHANGELOG.md", "LITMUS.md"):
             continue
         for block in blocks(path):
             for it in COUNTED.finditer(block.text.replace("\n", " ")):
@@ -174,7 +174,7 @@ MEASURED = re.compile(r"\b(?:measured|ratios?|times as (?:long|much|fast))\b")
 def measured():
     """Paragraphs that speak of what was measured and don't say that MEASURES.md has it: no other page has figures."""
     for path in documents():
-        if os.path.basename(path) in ("MEASURES.md", "CHANGELOG.md"):
+        if os.path.basename(path) in ("MEASURES.md", "CHANGELOG.md", "LITMUS.md"):
             continue
         for block in blocks(path):
             it = None if block.kind == "code" or "MEASURES.md" in block.text else MEASURED.search(block.text.replace("\n", " "))
