@@ -1,5 +1,5 @@
 -- What writing the history of a run comes to.
-use Rattle.std.proofs.Common.{◌≡◌, ◌≤◌, ◌<◌, ◌⊎◌, ℕ, List, [], length, take, true, false, sym, ap, subst, ◌∙◌, inl, inr, arith}
+use Rattle.std.proofs.Common.{◌≡◌, ◌≤◌, ◌<◌, ◌⊎◌, ℕ, List, [], length, take, true, false, refl, sym, ap, subst, ◌∙◌, inl, inr, arith}
 use Rattle.std.specs.Prelude.{Option, Some, None, IfSome, IsSome}
 use Rattle.std.specs.Io.KnownBytes.{Appends}
 use Rattle.std.specs.declared.alloc.Global.{Global}
@@ -20,6 +20,7 @@ use Rattle.hs_laws.specs.HistoryEndings.{StaysWithin}
 use Rattle.conc_caps.specs.RunEnd.{RunEnd}
 use Rattle.conc_caps.specs.RunEnd.TheVariants as end
 use Rattle.conc_caps.specs.Endings.{EndedBy}
+use Rattle.conc_caps.specs.Told.{is_write}
 use Rattle.conc_task.specs.declared.words.command.Command.{Command}
 use Rattle.conc_task.specs.declared.words.command.Command.TheVariants as command
 use Rattle.conc_caps.specs.Runs.{IsRunOf, Shown, script}
@@ -35,7 +36,7 @@ use Rattle.conc_top.specs.declared.ending.Ending.TheVariants.{Ran, Memory, Write
 use Rattle.conc_top.specs.Lines.{line_of, run_line, status_of}
 use Rattle.conc_top.specs.Causes.{HasFault}
 use Rattle.conc_top.specs.Searches.{limits}
-use Rattle.conc_top.specs.Answers.{Call, HasRun, IsPlayed, IsWritten, PutsDocument, RunsScript, Tells, TellsAnswer, TellsLine, TellsTrace, WriteFault, Writes, WritesRun}
+use Rattle.conc_top.specs.Answers.{Call, HasRun, IsPlayed, IsWritten, PutsDocument, PutsTrace, RunsScript, Tells, TellsAnswer, TellsLine, TellsTrace, WriteFault, Writes, WritesRun}
 use Rattle.conc_top.proofs.Playing.{keeps_laws, program_through, retold}
 use Rattle.conc_top.proofs.Answering.{few_through, line_counted, memory_written, never_rose}
 
@@ -59,6 +60,15 @@ ended_quiet end.Memory ds es most bounds a b c d ended = ended
 ended_quiet end.Write ds es most bounds a b c d ended = absurd (no_rise ended)
 ended_quiet (end.Limit kind e) ds es most bounds a b c d ended = ended
 
+unwritten_end : (r : RunEnd) (ds : List Fn) (es : List Entry) (most : ℕ) (bounds : Limits) → ∥ EndedBy (Some r) ds es most bounds 0 0 0 0 ∥₁ → is_write (Some r) ≡ false
+unwritten_end end.Done ds es most bounds ended = refl
+unwritten_end end.Uncaught ds es most bounds ended = refl
+unwritten_end end.Deadlock ds es most bounds ended = refl
+unwritten_end end.Fuel ds es most bounds ended = refl
+unwritten_end end.Memory ds es most bounds ended = refl
+unwritten_end end.Write ds es most bounds ended = absurd (∥∥₁_elim ended (hlevel props) no_rise)
+unwritten_end (end.Limit kind e) ds es most bounds ended = refl
+
 fault_quiet : (r : RunEnd) (ds : List Fn) (es : List Entry) (most : ℕ) (bounds : Limits) (write_fault : Type 0) → ∥ EndedBy (Some r) ds es most bounds 0 0 0 0 ∥₁ → HasFault r write_fault
 fault_quiet end.Done ds es most bounds write_fault ended = tt
 fault_quiet end.Uncaught ds es most bounds write_fault ended = tt
@@ -79,16 +89,16 @@ run_fault p (end.Limit kind e) es last last_now early early_now write_fault run 
 
 -- ---- what was told
 
-tells_trace : (bytes : List ℕ) (r : RunEnd) (given : Ending) (es : List Entry) (lent now : Shown)
-    → PutsDocument (document_of es bytes) r given lent.output now.output lent.out_faults now.out_faults lent.errors now.errors lent.err_faults now.err_faults → TellsTrace bytes r given es lent now
-tells_trace bytes r given es lent now (inl both) = inl (both.0, by both.2)
+puts_trace : (bytes : List ℕ) (r : RunEnd) (given : Ending) (es : List Entry) (lent now : Shown)
+    → PutsDocument (document_of es bytes) r given lent.output now.output lent.out_faults now.out_faults lent.errors now.errors lent.err_faults now.err_faults → PutsTrace bytes r given es lent now
+puts_trace bytes r given es lent now (inl both) = inl (both.0, by both.2)
   where
     by : TellsLine (run_line r) (Ran r) given lent.errors now.errors lent.err_faults now.err_faults
         → ((given ≡ Ran r) × Appends lent.errors now.errors (run_line r))
         ⊎ ((given ≡ Write) × ((n : ℕ) × Appends lent.errors now.errors (take n (run_line r))) × (run_line r ≡ [] → ⊥) × Rose lent.err_faults now.err_faults)
     by (inl same) = inl (same.0, same.1)
     by (inr failed) = inr (failed.0, failed.1, failed.2, failed.3)
-tells_trace bytes r given es lent now (inr failed) = inr (failed.0, failed.1, failed.4, failed.2)
+puts_trace bytes r given es lent now (inr failed) = inr (failed.0, failed.1, failed.4, failed.2)
 
 module _ (fuel : ℕ) (s : Script) (bytes : List ℕ) (given : Ending) (es es_now : List Entry) (lent now : Shown) where
   runs_quiet : (p : Plan) (r : RunEnd) → p.body.of.value ≡ s → p.fuel ≡ fuel → p.limits ≡ limits → IsAccepted bytes s → IsRunOf p (Some r) es (quiet lent.last lent.early) (quiet now.last now.early)
@@ -113,7 +123,7 @@ module _ (fuel : ℕ) (s : Script) (bytes : List ℕ) (given : Ending) (es es_no
       → WritesRun bytes r given es es_now lent.output now.output lent.out_faults now.out_faults lent.errors now.errors lent.err_faults now.err_faults → Writes fuel bytes given es_now lent now
   writes_run p r script_is fuel_is limits_is accepted run (inl put) =
       subst (λ z. Writes fuel bytes given z lent now) (sym put.0)
-      (inr (r, fault_quiet r (script p) es p.fuel p.limits (WriteFault lent now) run.ended, runs_quiet p r script_is fuel_is limits_is accepted run (tells_trace bytes r given es lent now put.1)))
+      (inr (r, fault_quiet r (script p) es p.fuel p.limits (WriteFault lent now) run.ended, runs_quiet p r script_is fuel_is limits_is accepted run (unwritten_end r (script p) es p.fuel p.limits run.ended, puts_trace bytes r given es lent now put.1)))
   writes_run p r script_is fuel_is limits_is accepted run (inr memory) =
       inl (record { no_entry = memory.0; no_output = (memory.1, memory.2); told = memory.3 })
 

@@ -64,14 +64,18 @@ TellsBy false r given ds es lent now = Appends lent.output now.output (out ds es
     × (((given ≡ Ran r) × Appends lent.errors now.errors (err ds es ++ run_line r))
     ⊎ ((given ≡ Write) × AppendsPart lent.errors now.errors (err ds es) (err ds es ++ run_line r) × (run_line r ≢ []) × Rose lent.err_faults now.err_faults))
 
--- What `trace` told: the document of the history and of the bytes that were read, and then the line of the ending; where a put
--- failed, a part of the one and nothing of the other, or all of the one and a part of the other, and the answer is Write.
-abbrev pub TellsTrace : (bytes : List ℕ) → RunEnd → (given : Ending) → List Entry → (lent now : Shown) → Type 0
-TellsTrace bytes r given es lent now =
+-- The document of a history and of the bytes that were read was put, and then the line of the ending; where a put failed, a part of
+-- the one and nothing of the other, or all of the one and a part of the other, and the answer is Write.
+abbrev pub PutsTrace : (bytes : List ℕ) → RunEnd → (given : Ending) → List Entry → (lent now : Shown) → Type 0
+PutsTrace bytes r given es lent now =
     (Appends lent.output now.output (document_of es bytes)
     × (((given ≡ Ran r) × Appends lent.errors now.errors (run_line r))
     ⊎ ((given ≡ Write) × ((n : ℕ) × Appends lent.errors now.errors (take n (run_line r))) × (run_line r ≢ []) × Rose lent.err_faults now.err_faults)))
     ⊎ ((given ≡ Write) × ((n : ℕ) × Appends lent.output now.output (take n (document_of es bytes))) × (now.errors ≡ lent.errors) × Rose lent.out_faults now.out_faults)
+
+-- What `trace` told of its run. The run itself puts nothing, so no failed put ended it: it went on to an ending of its own.
+abbrev pub TellsTrace : (bytes : List ℕ) → RunEnd → (given : Ending) → List Entry → (lent now : Shown) → Type 0
+TellsTrace bytes r given es lent now = (is_write (Some r) ≡ false) × PutsTrace bytes r given es lent now
 
 -- what the command told of a run
 abbrev pub Tells : Option Command → (bytes : List ℕ) → RunEnd → (given : Ending) → List Entry → (lent now : Shown) → List Fn → Type 0
