@@ -1,10 +1,10 @@
 """What is said in two places: the language's page, the sources, and the script around the program."""
 
-import os
 import re
-import subprocess
 
-from tools.sources import SPAN, TOP, code, here, read
+from tools.run import refusals
+from tools.run.words import STATUSES
+from tools.sources import SPAN, code, here, read
 
 PAGE = "docs/LANGUAGE.md"
 
@@ -31,38 +31,11 @@ def same_as_code():
 def wrapper_texts():
     """The statuses that ./conc_run --help lists stand on the language's page, and each refusal has its sentences."""
     language = read(PAGE)
-    help_page = "\n".join(read(it) for it in ["conc_run", *here("tools/wrapper/help.sh")])
-    for block in re.findall(r"says how it ended:\n\n(.*?)\n\n", help_page, re.S):
-        for status in re.findall(r"(?:^|  )\s*(\d+)  [a-z]", block, re.M):
-            if f"| {status} |" not in language and not re.search(rf"\b[Ss]tatus\s+{status}\b", language):
-                yield f"{PAGE}: it doesn't have the status {status}, which ./conc_run --help lists"
-    for path in here("tools/wrapper/refusals.sh"):
-        told = set(re.findall(r'codes "([A-Z]\w+)"', code("crates/conc_top/specs/Lines.antt")))
-        told |= set(re.findall(r'codes "refused: ([A-Z]\w+)', code("crates/conc_top/specs/Lines.antt")))
-        for table in ("broken", "remedies"):
-            given = re.search(rf"declare -A {table}=\((.*?)\n\)", read(path), re.S)
-            said = set(re.findall(r"^\s*\[(\w+)\]=", given[1], re.M)) if given else set()
-            for it in sorted(told ^ said):
-                yield f"{path}: {table} " + (f"has nothing of {it}" if it in told else f"has {it}, which is no refusal")
-
-
-class WrapperTests:
-    """The tests of the script around the program, beside the other checks. A program that stands in for the real one is run."""
-
-    def __init__(self):
-        self.test = os.path.join(TOP, "tools", "test-wrapper")
-        self.ran = self.start() if os.access(self.test, os.X_OK) else None
-
-    def start(self):
-        return subprocess.Popen([self.test], stdout=subprocess.PIPE, stderr=subprocess.STDOUT, stdin=subprocess.DEVNULL)
-
-    def problems(self):
-        if self.ran is None:
-            return
-        said = self.ran.communicate()[0].decode(errors="replace").strip()
-        if self.ran.returncode:
-            # They stop builds while these run, which a machine with too much to do may spoil once.
-            again = self.start()
-            said = again.communicate()[0].decode(errors="replace").strip()
-            if again.returncode:
-                yield f"conc_run: its tests end with status {again.returncode}: {said[-2000:]}"
+    for status in STATUSES:
+        if f"| {status} |" not in language and not re.search(rf"\b[Ss]tatus\s+{status}\b", language):
+            yield f"{PAGE}: it doesn't have the status {status}, which ./conc_run --help lists"
+    lines = code("crates/conc_top/specs/Lines.antt")
+    told = set(re.findall(r'codes "(?:refused: )?([A-Z]\w+)', lines))
+    for name, table in (("BROKEN", refusals.BROKEN), ("REMEDIES", refusals.REMEDIES)):
+        for it in sorted(told ^ set(table)):
+            yield f"tools/run/refusals.py: {name} " + (f"has nothing of {it}" if it in told else f"has {it}, which is no refusal")

@@ -2,6 +2,7 @@
 
 from __future__ import annotations
 
+import errno
 import os
 import stat
 
@@ -11,6 +12,8 @@ from tools.run.saying import Refused, cannot_build, is_terminal, opens, quoted, 
 from tools.run.words import HISTORY_COMMANDS
 
 CANNOT_READ = 66
+# Of the process, and of the system.
+TOO_MANY_OPEN = (errno.EMFILE, errno.ENFILE)
 PIECE = 1 << 16
 
 
@@ -45,7 +48,9 @@ def check_files(call: Call) -> None:
 def opened(name: str) -> int:
     try:
         return os.open(name, os.O_RDONLY)
-    except OSError:
+    except OSError as fault:
+        if fault.errno in TOO_MANY_OPEN:
+            raise
         raise bad_input(f"{quoted(name)} can't be opened") from None
 
 
@@ -75,7 +80,6 @@ def unnamed_file() -> int:
     except (IsADirectoryError, NotImplementedError):
         pass
     except OSError as fault:
-        import errno
         if fault.errno not in (errno.EOPNOTSUPP, errno.EINVAL, errno.ENOENT) or not os.path.isdir(room()):
             raise
     # The folder knows no such files. So it has a name for a moment, in which no signal comes.

@@ -64,7 +64,7 @@ def run(words: list[str]) -> int:
 
 def _of_system(fault: OSError) -> Refused:
     """A fault that no part of the wrapper expects, in words."""
-    if fault.errno in (errno.EMFILE, errno.ENFILE):
+    if fault.errno in input.TOO_MANY_OPEN:
         return Refused(TOO_LITTLE, f"the system allows too few open files (ulimit -n): {fault.strerror}")
     if fault.errno in (errno.EAGAIN, errno.ENOMEM):
         return Refused(TOO_LITTLE, f"the system allows no further process: {fault.strerror}")

@@ -14,7 +14,8 @@ from typing import Any, Callable
 TOP = os.path.dirname(os.path.dirname(os.path.dirname(os.path.dirname(os.path.abspath(__file__)))))
 # One that another user may run too.
 PYTHON = "/usr/bin/python3" if os.access("/usr/bin/python3", os.X_OK) else sys.executable
-PATIENCE = 60
+# A machine that proves meanwhile may take long.
+PATIENCE = 300
 
 # Takes the words that the program takes, and does what the lines of the script say, as '-- prints: TEXT'.
 PROGRAM = f"""#!{PYTHON} -IS
@@ -71,7 +72,7 @@ for it in said("sleeps"):
     with open(it + ".part", "w") as file:
         file.write(str(os.getpid()))
     os.rename(it + ".part", it)
-    time.sleep(20)
+    time.sleep(120)
 for it in said("takes"):
     time.sleep(float(it))
 for it in said("refused"):
@@ -108,8 +109,9 @@ elif words[0] == "try":
     folder = tempfile.mkdtemp(prefix="rt-try.", dir=os.environ["TMPDIR"])
     shutil.copy(os.path.join(here, "program"), os.path.join(folder, "program"))
     open(os.path.join(folder, "stdout"), "w").close()
-    time.sleep(20)
+    time.sleep(120)
 elif words[0] == "run":
+    time.sleep(float(os.environ.get("STAND_IN_SECONDS", "0")))
     os.makedirs("out", exist_ok=True)
     shutil.copy(os.path.join(here, "program"), "out/conc_run")
 elif words[0] == "ci":
