@@ -9,7 +9,7 @@ import subprocess
 import sys
 import tempfile
 import time
-from collections.abc import Sequence
+from collections.abc import Callable, Sequence
 from dataclasses import dataclass
 from pathlib import Path
 
@@ -26,12 +26,16 @@ from tools.litmus.haskell import (
 )
 from tools.litmus.outcomes import Listed, Shown, Unreadable, read_list
 from tools.litmus.table import Table, table_of, table_text
+from tools.run.saying import CALL
+from tools.run.several import worst
+from tools.run.words import STATUS_ORDER
 
 # The statuses: a write failed, a list isn't complete, GHC showed what isn't listed, a file can't be read, no program can be
 # built, the command was interrupted.
 UNWRITTEN, INCOMPLETE, UNLISTED, UNREADABLE, UNBUILT, INTERRUPTED = 8, 11, 15, 66, 70, 130
 # The statuses of `outcomes` with a list.
 WITH_LIST = (0, 11)
+PROGRAM = TOP / "conc_run"
 
 
 class Stop(Exception):
@@ -75,7 +79,9 @@ def seconds_above_zero(word: str) -> float:
 
 def read_words(arguments: Sequence[str]) -> argparse.Namespace:
     parser = argparse.ArgumentParser(
-        prog="./conc_run litmus",
+        prog=f"{CALL} litmus",
+        add_help=False,
+        allow_abbrev=False,
         description="Lists the outcomes of each script, runs it many times by GHC, and prints both side by side: first what"
         " GHC showed and the list doesn't have, then what both have, then what GHC never showed.",
         epilog="Status 0: GHC showed nothing that isn't listed, but for known differences; 15: it did; 11: a list isn't"
@@ -132,10 +138,34 @@ def list_outcomes(path: Path, program: Sequence[str]) -> Script:
         raise Stop(1, f"{path}: {fault}") from fault
 
 
+def list_all(paths: Sequence[Path], program: Sequence[str]) -> list[Script]:
+    """The lists of all scripts. Where some can't be had, each fault is told, and the one that comes first in the order is the status."""
+    scripts, faults = [], []
+    for place, path in enumerate(paths, 1):
+        say(f"{place} of {len(paths)}: lists {path}")
+        try:
+            scripts.append(list_outcomes(path, program))
+        except Stop as stop:
+            faults.append(stop)
+    if faults:
+        raise Stop(worst([it.status for it in faults], STATUS_ORDER), "\n".join(map(str, faults)))
+    return scripts
+
+
+def put(text: str) -> None:
+    """Writes to standard output."""
+    try:
+        print(text, flush=True)
+    except OSError as fault:
+        # What is still to be written has nowhere to go.
+        os.dup2(os.open(os.devnull, os.O_WRONLY), sys.stdout.fileno())
+        raise Stop(UNWRITTEN, f"the tables can't be written: {fault.strerror}") from fault
+
+
 def print_table(script: Script, shown: Shown, differences: tuple[Difference, ...]) -> Table:
     table = table_of(script.listed, shown, lambda outcome: known_name(differences, script.path, outcome))
     say_nothing()
-    print(table_text(str(script.path), table), flush=True)
+    put(table_text(str(script.path), table))
     return table
 
 
@@ -145,8 +175,8 @@ def print_sum(tables: Sequence[Table], version: str, begun: float) -> None:
     listed = sum(len(table.listed.outcomes) for table in tables)
     seen = sum(table.seen() for table in tables)
     unlisted, known = sum(table.unlisted() for table in tables), sum(table.known() for table in tables)
-    print(
-        f"{len(tables)} scripts, {runs} runs by GHC {version} on 1, 2 and 4 capabilities, {time.monotonic() - begun:.0f} s: "
+    put(
+        f"{len(tables)} script{'' if len(tables) == 1 else 's'}, {runs} runs by GHC {version} on 1, 2 and 4 capabilities, {time.monotonic() - begun:.0f} s: "
         f"{seen} of {listed} listed outcomes seen, {unlisted} unlisted, {known} by known differences"
     )
 
@@ -157,18 +187,17 @@ def status_of(tables: Sequence[Table]) -> int:
     return 0 if all(table.listed.is_complete() for table in tables) else INCOMPLETE
 
 
-def litmus(words: argparse.Namespace, program: Sequence[str]) -> int:
-    begun, scripts = time.monotonic(), []
+def litmus(words: argparse.Namespace, program: Sequence[str], prepare: Callable[[], object]) -> int:
+    begun = time.monotonic()
     compiler = find_compiler()
-    for place, path in enumerate(words.files, 1):
-        say(f"{place} of {len(words.files)}: lists {path}")
-        scripts.append(list_outcomes(path, program))
+    prepare()
+    scripts = list_all(words.files, program)
     differences = read_differences()
     options = RunOptions(words.runs, words.seconds, words.seed, words.forks)
     tables = []
     with tempfile.TemporaryDirectory(prefix="litmus-") as folder:
         say(f"GHC {compiler.version} compiles {len(scripts)} modules")
-        compiled = compile_scripts(compiler, [module_text(script.text) for script in scripts], Path(folder))
+        compiled = compile_scripts(compiler, [module_text(script.text, program) for script in scripts], Path(folder))
         for place, script in enumerate(scripts, 1):
             say(f"{place} of {len(scripts)}: runs {script.path}, for {words.seconds:g} s at most")
             tables.append(print_table(script, run_script(compiled, place, options), differences))
@@ -176,28 +205,21 @@ def litmus(words: argparse.Namespace, program: Sequence[str]) -> int:
     return status_of(tables)
 
 
-def main(arguments: Sequence[str], program: Sequence[str] | None = None) -> int:
-    """Runs the command with these words; `program` is what lists outcomes, with its first words."""
+def main(arguments: Sequence[str], program: Sequence[str] = (str(PROGRAM),), prepare: Callable[[], object] = lambda: None) -> int:
+    """Runs the command with these words. `program` lists outcomes, with its first words; `prepare` is called before it is needed."""
     words = read_words(arguments)
-    if words.where:
-        print(SUPPORT)
-        return 0
     try:
-        return litmus(words, program or [str(TOP / "conc_run")])
+        if words.where:
+            put(str(SUPPORT))
+            return 0
+        return litmus(words, program, prepare)
     except Stop as stop:
-        status, line = stop.status, str(stop)
-    except Missing as missing:
-        status, line = UNBUILT, str(missing)
-    except (Broken, Unreadable) as broken:
-        status, line = UNBUILT, str(broken)
-    except BrokenPipeError:
-        # What is still to be written has nowhere to go.
-        os.dup2(os.open(os.devnull, os.O_WRONLY), sys.stdout.fileno())
-        status, line = UNWRITTEN, "the tables can't be written"
+        status, lines = stop.status, str(stop)
+    except (Missing, Broken, Unreadable) as fault:
+        status, lines = UNBUILT, str(fault)
     except KeyboardInterrupt:
-        status, line = INTERRUPTED, "interrupted"
+        status, lines = INTERRUPTED, "interrupted"
     say_nothing()
-    print(f"litmus: {line}", file=sys.stderr)
+    for line in lines.split("\n"):
+        print(f"litmus: {line}", file=sys.stderr)
     return status
-
-

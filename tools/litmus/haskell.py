@@ -3,7 +3,9 @@
 from __future__ import annotations
 
 import importlib.util
+import os
 import shutil
+import signal
 import subprocess
 import sys
 from collections.abc import Sequence
@@ -62,6 +64,20 @@ def find_compiler() -> Compiler:
     return Compiler(path, version)
 
 
+def run_all(words: Sequence[str], room: Path | None = None, seconds: float | None = None) -> subprocess.CompletedProcess[bytes]:
+    """Runs a command, with a folder for its files. It is ended with all that it started where it isn't waited for."""
+    environment = {**os.environ, "TMPDIR": str(room)} if room else None
+    with subprocess.Popen(
+        words, stdin=subprocess.DEVNULL, stdout=subprocess.PIPE, stderr=subprocess.PIPE, start_new_session=True, env=environment
+    ) as started:
+        try:
+            output, errors = started.communicate(timeout=seconds)
+        except BaseException:
+            os.killpg(started.pid, signal.SIGKILL)
+            raise
+    return subprocess.CompletedProcess(words, started.returncode, output, errors)
+
+
 def load_reference() -> ModuleType:
     """The printer of modules, which is a program of its own beside the support module."""
     spec = importlib.util.spec_from_file_location("litmus_reference", SUPPORT / "reference.py")
@@ -72,8 +88,8 @@ def load_reference() -> ModuleType:
     return module
 
 
-def module_text(script: bytes) -> bytes:
-    """The module of an accepted script."""
+def module_by_reference(script: bytes, program: Sequence[str]) -> bytes:
+    """The module of an accepted script, by the tests' own printer of them."""
     reference = load_reference()
     sys.setrecursionlimit(max(sys.getrecursionlimit(), reference.DEPTH))
     try:
@@ -81,6 +97,18 @@ def module_text(script: bytes) -> bytes:
     except reference.Refused as fault:
         raise Broken(f"no module is made of a script: {fault}") from fault
     return text
+
+
+def module_by_program(script: bytes, program: Sequence[str]) -> bytes:
+    """The module of an accepted script, by the program's command `haskell`."""
+    done = subprocess.run([*program, "haskell"], input=script, capture_output=True, check=False)
+    if done.returncode != 0:
+        raise Broken(f"no module is made of a script: {done.stderr.decode(errors='replace').strip()}")
+    return done.stdout
+
+
+# By which of the two the modules are made: by the program, once it has the command.
+module_text = module_by_reference
 
 
 def main_text(count: int) -> str:
@@ -99,9 +127,9 @@ def compile_scripts(compiler: Compiler, texts: Sequence[bytes], room: Path) -> P
     program = room / "program"
     words = [compiler.path, "-v0", "-O0", "-threaded", "-rtsopts", "-j4", f"-i{room}:{SUPPORT}"]
     words += ["-outputdir", str(room / "objects"), "-o", str(program), str(room / "Main.hs")]
-    done = subprocess.run(words, capture_output=True, text=True, check=False)
+    done = run_all(words, room)
     if done.returncode != 0:
-        raise Broken(f"GHC {compiler.version} doesn't compile it:\n{done.stderr}")
+        raise Broken(f"GHC {compiler.version} doesn't compile it:\n{done.stderr.decode(errors='replace')}")
     return program
 
 
@@ -110,9 +138,7 @@ def run_script(program: Path, number: int, options: RunOptions) -> Shown:
     words = [f"--script={number}", f"--runs={options.runs}", f"--seconds={options.seconds}"]
     words += [f"--seed={options.seed}", f"--forks={options.forks}"]
     try:
-        done = subprocess.run(
-            [str(program), *RUNTIME, *words], capture_output=True, check=False, timeout=options.seconds + PATIENCE
-        )
+        done = run_all([str(program), *RUNTIME, *words], seconds=options.seconds + PATIENCE)
     except subprocess.TimeoutExpired as fault:
         raise Broken(f"its program goes on {PATIENCE} seconds behind its time") from fault
     if done.returncode != 0:

@@ -1,6 +1,7 @@
 """Begins ./conc_run. An older Python reads this file too, and looks for a newer one."""
 
 import os
+import resource
 import sys
 
 NEEDED = (3, 9)
@@ -28,9 +29,16 @@ def begin():
         sys.stderr.write("conc_run: it needs Python 3.9 or newer, and %s is %d.%d; install a newer one, for example by: apt-get install python3\n"
                          % (sys.executable or "python3", sys.version_info[0], sys.version_info[1]))
         sys.exit(70)
-    sys.path.insert(0, os.path.dirname(os.path.dirname(os.path.dirname(os.path.abspath(__file__)))))
-    from tools.run.main import main
-    main(sys.argv[1:])
+    here = os.path.dirname(os.path.abspath(__file__))
+    sys.path.insert(0, os.path.dirname(os.path.dirname(here)))
+    # Python keeps modules in files, and where no file may grow it leaves those cut off.
+    sys.dont_write_bytecode = resource.getrlimit(resource.RLIMIT_FSIZE)[0] != resource.RLIM_INFINITY
+    try:
+        from tools.run.main import main
+        main(sys.argv[1:])
+    except EOFError:
+        sys.stderr.write("conc_run: what Python keeps in %s is cut off, as a full disk leaves it; remove that folder\n" % os.path.join(here, "__pycache__"))
+        sys.exit(70)
 
 
 if __name__ == "__main__":

@@ -17,7 +17,7 @@ if TYPE_CHECKING:
 NOT_UNDERSTOOD, REFUSED, MAY_BE_OTHERS, NO_OUTCOME = 2, 3, 11, 12
 
 
-def _takes_words(run: Run) -> bool:
+def takes_words(run: Run) -> bool:
     """Whether the program takes the words: on an empty script it says so without a run. So nothing is read where it refuses them."""
     nothing = os.open(os.devnull, os.O_RDWR)
     try:
@@ -28,7 +28,7 @@ def _takes_words(run: Run) -> bool:
 
 def _reads(run: Run, call: Call) -> bool:
     """Whether the program would read a document: it is told what it waits for, and no more is read where it refuses its words."""
-    if not call.document or is_closed(0) or not (input.is_file(0) or _takes_words(run)):
+    if not call.document or is_closed(0) or not (input.is_file(0) or takes_words(run)):
         return False
     input.tell_waiting(call)
     return True
@@ -77,6 +77,22 @@ def run_explained(run: Run, call: Call) -> int:
     file = kept.file if kept else 0
     status = _run_search(run, file) if call.command == "outcomes" else running.run_below(run, (file, 1, 2))
     _explain(run, call, status, kept)
+    return status
+
+
+def run_made_up(run: Run, call: Call, explains: bool) -> int:
+    """A command of one file whose answer the wrapper makes."""
+    if call.command == "picture":
+        return run_picture(run, call, explains)
+    from tools.run import module
+    kept = None
+    if not explains:
+        input.tell_waiting(call)
+    elif _reads(run, call):
+        kept = input.keep_if_can(0, call.document)
+    status = module.print_module(run, kept.file if kept else 0, call.files)
+    if explains:
+        _explain(run, call, status, kept)
     return status
 
 

@@ -145,7 +145,7 @@ def keep(source: int, most: int) -> Kept:
         os.close(copy)
         raise
     except OSError:
-        raise cannot_build(f"no room in {room()} to keep the script; without a terminal and --explain none is needed") from None
+        raise cannot_build(f"no room in {room()} to keep the script; for one in a file none is needed") from None
     os.lseek(copy, 0, os.SEEK_SET)
     return Kept(copy)
 

@@ -17,7 +17,7 @@ if TYPE_CHECKING:
 
 
 def _other_action(call: Call) -> int:
-    """What the wrapper does alone."""
+    """What needs neither a script nor the program."""
     if call.action == "test":
         release.refuse("test")
         from tools.run import gate
@@ -34,20 +34,20 @@ def _run_program(call: Call, memory: int) -> int:
         from tools.run import memory as limits
         limits.check(run)
     explains = call.explains or is_terminal(2)
-    if len(call.files) > 1:
+    if call.takes_several and (len(call.files) > 1 or call.command == "claims"):
         from tools.run import several
         return several.run_several(run, call, explains)
     # A closed standard input is the program's to tell.
-    if not is_closed(0) and (explains or call.command == "picture"):
+    if not is_closed(0) and (explains or call.is_made_up):
         from tools.run import explained
-        return explained.run_picture(run, call, explains) if call.command == "picture" else explained.run_explained(run, call)
+        return explained.run_made_up(run, call, explains) if call.is_made_up else explained.run_explained(run, call)
     input.tell_waiting(call)
     running.become(run)
 
 
 def run(words: list[str]) -> int:
     call = reading.read(words)
-    if call.action != "program":
+    if call.action in ("help", "version", "test"):
         return _other_action(call)
     memory = call.megabytes()
     reading.check_order(call)
@@ -59,6 +59,9 @@ def run(words: list[str]) -> int:
         building.prove()
         if not call.words:
             return 0
+    if call.action == "litmus":
+        from tools.run import by_ghc
+        return by_ghc.run_litmus(call, memory)
     return _run_program(call, memory)
 
 

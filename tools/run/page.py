@@ -7,7 +7,7 @@ import os
 from tools.crates import TOP
 from tools.run import programs, release
 from tools.run.saying import CALL
-from tools.run.words import COMMANDS, OWN_OPTIONS, PROGRAM_OPTIONS, STATUSES
+from tools.run.words import COMMAND_OPTIONS, COMMANDS, OWN_OPTIONS, STATUSES
 
 HELP_COLUMN = 60
 
@@ -58,14 +58,14 @@ def _statuses() -> str:
 def help_page() -> str:
     return PAGE.format(
         commands="\n".join(usage_of(it) for it in COMMANDS),
-        options="\n".join(f"  {it.usage:11}  {it.help}" for it in PROGRAM_OPTIONS.values()),
+        options="\n".join(f"  {it.usage:11}  {it.help}" for it in COMMAND_OPTIONS.values()),
         own_options="\n".join(f"  {it.usage:11}  {it.help}" for it in OWN_OPTIONS.values()),
         statuses=_statuses(),
         documents=INSTALLED_DOCUMENTS if release.IS_INSTALLED else DOCUMENTS,
     )
 
 
-def _version() -> str:
+def version() -> str:
     try:
         with open(os.path.join(TOP, "VERSION"), encoding="utf-8") as file:
             return file.read().strip()
@@ -94,4 +94,4 @@ def version_page() -> str:
         build = "proved"
     elif programs.is_new(programs.CHECKED):
         build = "checked, without proof"
-    return f"conc_run {_version()}\nkit: {_kit()}\nbuild: {build}\n"
+    return f"conc_run {version()}\nkit: {_kit()}\nbuild: {build}\n"

@@ -8,11 +8,15 @@ from __future__ import annotations
 import os
 
 from tools.run.saying import Refused, as_word
-from tools.run.words import COMMANDS, OPTIONS, PROGRAM_OPTIONS
+from tools.run.words import COMMAND_OPTIONS, COMMANDS, OPTIONS
 
 NOT_UNDERSTOOD = 2
 MEMORY = "2048"
 MOST_MEMORY_DIGITS = 7
+# Commands of the wrapper alone, which the program doesn't know.
+OWN_COMMANDS = ("litmus", "test")
+# Those whose answer for one file is more than what one call of the program says.
+MADE_UP = ("haskell", "picture")
 
 
 class Call:
@@ -37,6 +41,11 @@ class Call:
     @property
     def takes_several(self) -> bool:
         return bool(self.document and COMMANDS[self.command].status_order)
+
+    @property
+    def is_made_up(self) -> bool:
+        """Whether the wrapper makes its answer of what the program says, and doesn't hand that on as it is."""
+        return self.command in COMMANDS and self.command in MADE_UP
 
     def megabytes(self) -> int:
         if not (self.memory.isascii() and self.memory.isdigit() and len(self.memory) <= MOST_MEMORY_DIGITS):
@@ -101,15 +110,15 @@ def read(words: list[str]) -> Call:
             call.words.append(rest.pop(0))
     if call.words == ["help"]:
         call.action = "help"
-    elif call.command == "test" and call.action == "program":
-        call.action = "test"
+    elif call.command in OWN_COMMANDS and call.action == "program":
+        call.action = call.command
     return call
 
 
 def check_order(call: Call) -> None:
     """The command stands first. Where options of the program stand before it, the right order is told."""
     before = call.words[:call.words.index(call.command)] if call.command in COMMANDS else []
-    if before and before[0].split("=")[0] in PROGRAM_OPTIONS:
+    if before and before[0].split("=")[0] in COMMAND_OPTIONS:
         behind = call.words[len(before) + 1:]
         files = ["--", *call.files] if any(it.startswith("-") and it != "-" for it in call.files) else call.files
         right = " ".join(as_word(it) for it in [call.command, *before, *behind, *files])

@@ -5,6 +5,7 @@ from __future__ import annotations
 import re
 
 from tools.run.saying import tell
+from tools.run.words import COMMANDS
 
 # For each kind of refusal what is broken there, and what to do.
 BROKEN = {
@@ -47,6 +48,10 @@ REMEDIES = {
     "Large": "make the definitions smaller",
     "NoMain": "define it: main :: IO () = { .. };",
 }
+
+if "claims" in COMMANDS:
+    BROKEN["Claim"] = "this line begins as a claim, and what stands here, or lacks, makes it none"
+    REMEDIES["Claim"] = "write always, never or sometimes and then what an outcome is, or terminates; a comment has no ! at its begin"
 
 LINE = re.compile(r"refused: ([A-Za-z0-9]+)(?: at ([0-9]+):([0-9]+))?")
 # Of a long line only the part round the column is shown.

@@ -47,10 +47,12 @@ class Head:
         self.outcomes, self.cause = (int(found[1]), found[2]) if found else (None, "")
 
 
-def _run_shown(run: Run, progress: Progress, streams: tuple[int, int, int]) -> int:
-    """Runs the program below, and rewrites the line each second."""
-    states = states_of(run.words)
-    signal.signal(signal.SIGALRM, lambda _number, _frame: progress.show(f"searches, up to {states} states"))
+def run_shown(run: Run, streams: tuple[int, int, int], name: str = "") -> int:
+    """Runs the program below, and on a terminal rewrites a line each second."""
+    if not is_terminal(2):
+        return running.run_below(run, streams)
+    states, progress = states_of(run.words), Progress()
+    signal.signal(signal.SIGALRM, lambda _number, _frame: progress.show(f"{name}searches, up to {states} states"))
     signal.setitimer(signal.ITIMER_REAL, 1, 1)
     try:
         return running.run_below(run, streams)
@@ -77,7 +79,7 @@ def run_search(run: Run, script: int) -> tuple[int, Head]:
         listed = unnamed_file() if is_terminal(1) else 1
     except OSError:
         return running.run_below(run, (script, 1, 2)), Head()
-    status = _run_shown(run, Progress(), (script, listed, told))
+    status = run_shown(run, (script, listed, told))
     head = Head()
     try:
         if listed != 1:
@@ -89,12 +91,18 @@ def run_search(run: Run, script: int) -> tuple[int, Head]:
     return status, head
 
 
+def explain_cause(cause: str) -> None:
+    """What to do where a search met this cause."""
+    if cause in OTHERS:
+        say(f"{cause}: {OTHERS[cause]}")
+
+
 def explain_others(head: Head) -> None:
     """What stands below a list that may lack outcomes: of the cause that it names, or where that isn't seen of each."""
     if head.outcomes == 0:
         say("no outcome found yet")
     if head.cause in OTHERS:
-        say(f"{head.cause}: {OTHERS[head.cause]}")
+        explain_cause(head.cause)
         return
     say("there may be other outcomes; the first line of the list names the cause")
     for cause, remedy in OTHERS.items():

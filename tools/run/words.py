@@ -13,6 +13,9 @@ DOCUMENT_BYTES = 100_663_296 + 1
 # Of several files the status that comes first here is that of all.
 STATUS_ORDER = (66, 70, 71, 2, 3, 6, 7, 8, 9, 14, 15, 11, 12, 0)
 
+# Commands of this table that the program is still to get: nobody is told of them. The name of one that it has is taken away here.
+COMING = ("claims", "haskell")
+
 
 class Option:
     """An option: what stands behind it, what that may be, and its line of help."""
@@ -56,6 +59,14 @@ PROGRAM_OPTIONS = _by_name(
     Option("--states", "N", "the most states that a search keeps, 1 to 4000000 (1000000)", 1, 4_000_000),
     Option("--witness", "K", "prints a history that comes to the K-th outcome, in place of the list", 1, 4_294_967_295),
 )
+# Those of `litmus`.
+LITMUS_OPTIONS = _by_name(
+    Option("--runs", "N", "the most runs of a script by GHC (20000)", 1),
+    Option("--seconds", "S", "the most seconds that a script is run for (20)"),
+    Option("--seed", "N", "where the rows of random numbers begin (1)"),
+    Option("--forks", "F", "reported, or plain as GHC forks: of what hits a thread before its first step no line is told (reported)", choices=("reported", "plain")),
+    Option("--where", "", "prints the folder of the support module, which each Haskell module imports"),
+)
 # Those of the script around it.
 OWN_OPTIONS = _by_name(
     Option("--memory", "MB", "the most memory of the run, 0 for no limit (2048, or what CONC_RUN_MEMORY says)", 0, 9_999_999),
@@ -68,21 +79,28 @@ OTHER_OPTIONS = _by_name(
     Option("--help", "", "the page of commands and options"),
     Option("--quick", "", "the rows alone"),
 )
-OPTIONS = {**PROGRAM_OPTIONS, **OWN_OPTIONS, **OTHER_OPTIONS}
+OPTIONS = {**PROGRAM_OPTIONS, **LITMUS_OPTIONS, **OWN_OPTIONS, **OTHER_OPTIONS}
+# What stands behind a command.
+COMMAND_OPTIONS = {**PROGRAM_OPTIONS, **LITMUS_OPTIONS}
 
 RUN_OPTIONS = ("--caps", "--fuel", "--clock")
+SEARCH_OPTIONS = ("--clock", "--states", "--fuel")
 COMMANDS = {it.name: it for it in (
     Command("run", "[FILE]", RUN_OPTIONS, "checks a script and runs it", SCRIPT_BYTES),
     Command("check", "[FILE..]", (), "says whether it is accepted", SCRIPT_BYTES, STATUS_ORDER),
     Command("bench", "N", ("--caps", "--fuel"), "runs a ring of N threads (1 to 4000)"),
     Command("trace", "[FILE]", RUN_OPTIONS, "runs it and writes its history, in place of what it prints", SCRIPT_BYTES),
-    Command("outcomes", "[FILE]", ("--clock", "--states", "--fuel", "--witness"), "lists all that it may come to, over all schedules", SCRIPT_BYTES),
+    Command("outcomes", "[FILE]", (*SEARCH_OPTIONS, "--witness"), "lists all that it may come to, over all schedules", SCRIPT_BYTES),
+    Command("claims", "[FILE..]", SEARCH_OPTIONS, "says which of its claims hold: lines of it such as --! never stuck", SCRIPT_BYTES, STATUS_ORDER),
     Command("verify", "[FILE]", (), "says whether a written history is a run of its script", DOCUMENT_BYTES),
     Command("report", "[FILE]", (), "says what each thread and each cell of such a history did", DOCUMENT_BYTES),
     Command("picture", "[FILE]", RUN_OPTIONS, "draws such a history as SVG, or that of a script that it runs first", DOCUMENT_BYTES,
             options_usage="[options of trace]"),
+    Command("haskell", "[FILE]", (), "prints it as a Haskell module", SCRIPT_BYTES),
+    Command("litmus", "FILE..", tuple(LITMUS_OPTIONS), "runs it many times by GHC, and holds that beside its list of outcomes",
+            options_usage="[--runs N] [--seconds S] [--seed N] [--forks F]"),
     Command("test", "", ("--quick",), "proves and tries everything; --quick: the rows alone"),
-)}
+) if it.name not in COMING}
 # These read a history with its script in one document.
 HISTORY_COMMANDS = ("verify", "report", "picture")
 
@@ -102,7 +120,16 @@ STATUSES = {
     11: "there may be other outcomes",
     12: "no outcome of this number",
     13: "too long to be drawn",
+    15: "GHC showed another outcome",
     66: "the file can't be read",
     70: "the program could not be built",
     71: "too little stack",
 }
+if "claims" in COMMANDS:
+    STATUSES = dict(sorted({
+        **STATUSES,
+        0: "done, accepted, a run, no\nother outcomes, or each\nclaim holds",
+        11: "there may be other outcomes,\nor a claim is open",
+        12: "no outcome of this number,\nor no claim",
+        14: "a claim fails",
+    }.items()))

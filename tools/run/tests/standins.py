@@ -3,6 +3,7 @@
 from __future__ import annotations
 
 import os
+import re
 import shutil
 import subprocess
 import sys
@@ -40,7 +41,7 @@ def say(line):
     except OSError:
         end(8)
 
-if not words or words[0] not in "run check trace outcomes verify report picture bench".split():
+if not words or words[0] not in "run check trace outcomes claims verify report picture haskell bench".split():
     end(2, "words not understood")
 if words[0] == "bench":
     say(" ".join(words))
@@ -120,6 +121,25 @@ elif words[0] == "ci":
     sys.stdout.flush()
     time.sleep(0.5)
     sys.exit(int(os.environ.get("STAND_IN_STATUS", "0")))
+"""
+
+# Makes a program that prints the file STAND_IN_COUNTS; with STAND_IN_ASLEEP it says there which process it is, and sleeps.
+GHC = f"""#!{PYTHON} -IS
+import os, sys, time
+words = sys.argv[1:]
+if words == ["--numeric-version"]:
+    print("9.0.2")
+elif "-e" not in words:
+    if os.environ.get("STAND_IN_ASLEEP"):
+        open(os.environ["TMPDIR"] + "/left", "w").close()
+        with open(os.environ["STAND_IN_ASLEEP"] + ".part", "w") as file:
+            file.write(str(os.getpid()))
+        os.rename(os.environ["STAND_IN_ASLEEP"] + ".part", os.environ["STAND_IN_ASLEEP"])
+        time.sleep(120)
+    program = words[words.index("-o") + 1]
+    with open(program, "w") as file:
+        file.write("#!/bin/sh\\ncat " + os.environ["STAND_IN_COUNTS"] + "\\n")
+    os.chmod(program, 0o755)
 """
 
 
@@ -210,6 +230,19 @@ class WrapperTest(unittest.TestCase):
             os.makedirs(os.path.join(self.copy, folders[build]))
             shutil.copy(os.path.join(self.room, "program"), os.path.join(self.copy, folders[build], "conc_run"))
         return self.copy
+
+    def with_coming(self) -> None:
+        """In the copy the program has the commands too that it is still to get."""
+        with open(self.path("tools/run/words.py"), encoding="utf-8") as file:
+            text, count = re.subn(r"^COMING = .*$", "COMING = ()", file.read(), flags=re.M)
+        self.assertEqual(count, 1)
+        self.write("tools/run/words.py", text)
+
+    def with_litmus(self) -> None:
+        """The copy has `litmus`, with what stands for GHC."""
+        for folder in ("tools/litmus", "litmus"):
+            shutil.copytree(os.path.join(TOP, folder), self.path(folder), ignore=shutil.ignore_patterns("*.conc"))
+        write_executable(os.path.join(self.bin, "ghc"), GHC)
 
     def path(self, name: str) -> str:
         return os.path.join(self.copy, name)

@@ -2,6 +2,7 @@
 
 from __future__ import annotations
 
+import glob
 import os
 import resource
 
@@ -9,6 +10,10 @@ from tools.run.tests.standins import Answer, WrapperTest
 from tools.run.tests.test_refusals import EXPLAINED
 
 FULL = "/dev/full"
+
+
+def no_file_grows() -> None:
+    resource.setrlimit(resource.RLIMIT_FSIZE, (1024, 1024))
 
 
 class StandardError(WrapperTest):
@@ -104,13 +109,21 @@ class NoRoom(WrapperTest):
         self.copy_with("proved")
         self.write("long.conc", "-- prints: hello\n" + "-- a comment\n" * 3000)
         self.write("wrong.conc", "-- refused: Mismatch at 2:19\nmain :: IO () = { putStrLn 3 };\n" + "-- a comment\n" * 3000)
-        none_grows = lambda: resource.setrlimit(resource.RLIMIT_FSIZE, (1024, 1024))  # noqa: E731
-        self.assertEqual(self.call("--explain", "run", "long.conc", limits=none_grows).all, ("hello\n", "", 0))
-        self.assertEqual(self.call("--explain", "run", "wrong.conc", limits=none_grows).all, ("", EXPLAINED, 3))
+        for words in (["run", "long.conc"], ["--explain", "run", "long.conc"]):
+            self.assertEqual(self.call(*words, limits=no_file_grows).all, ("hello\n", "", 0))
+        self.assertEqual(self.call("--explain", "run", "wrong.conc", limits=no_file_grows).all, ("", EXPLAINED, 3))
+        self.assertEqual(glob.glob(self.path("tools/**/__pycache__"), recursive=True), [], "and no module of Python is kept cut off")
 
     def test_a_pipe_that_can_not_be_kept_is_told(self) -> None:
         self.copy_with("proved")
         given = "-- prints: hello\n" + "-- a comment\n" * 3000
-        answer = self.call("--explain", "run", given=given, limits=lambda: resource.setrlimit(resource.RLIMIT_FSIZE, (1024, 1024)))
-        self.assert_line(answer, f"no room in {self.temporary} to keep the script; without a terminal and --explain none is needed", 70)
-        self.assertEqual(self.call("run", given=given, limits=lambda: resource.setrlimit(resource.RLIMIT_FSIZE, (1024, 1024))).out, "hello\n")
+        answer = self.call("--explain", "run", given=given, limits=no_file_grows)
+        self.assert_line(answer, f"no room in {self.temporary} to keep the script; for one in a file none is needed", 70)
+        self.assertEqual(self.call("run", given=given, limits=no_file_grows).out, "hello\n")
+
+    def test_what_python_keeps_cut_off_is_told(self) -> None:
+        self.copy_with("proved")
+        self.call("run", "hello.conc")
+        kept = glob.glob(self.path("tools/run/__pycache__/running.*.pyc"))[0]
+        os.truncate(kept, 100)
+        self.assert_line(self.call("run", "hello.conc"), f"what Python keeps in {os.path.dirname(kept)} is cut off, as a full disk leaves it", 70)
