@@ -98,7 +98,7 @@ def read_words(arguments: Sequence[str]) -> argparse.Namespace:
         help="plain: as GHC has it, what comes before a thread's first step is told by nobody (else reported)",
     )
     parser.add_argument("--where", action="store_true", help="prints where the support module is, and does nothing else")
-    words = parser.parse_args(arguments)
+    words = parser.parse_intermixed_args(arguments)
     if not words.where and not words.files:
         parser.error("no FILE")
     return words

@@ -5,6 +5,7 @@ from __future__ import annotations
 import os
 import re
 import shutil
+import signal
 import subprocess
 import sys
 import tempfile
@@ -170,6 +171,12 @@ def wait_until(holds: Callable[[], object], seconds: float = PATIENCE) -> bool:
     return True
 
 
+def heed_signals() -> None:
+    """In a process that is to be started: tests that run in the background of a shell are among those that ignore these."""
+    for it in (signal.SIGINT, signal.SIGQUIT):
+        signal.signal(it, signal.SIG_DFL)
+
+
 def is_running(process: int) -> bool:
     try:
         os.kill(process, 0)
@@ -231,10 +238,10 @@ class WrapperTest(unittest.TestCase):
             shutil.copy(os.path.join(self.room, "program"), os.path.join(self.copy, folders[build], "conc_run"))
         return self.copy
 
-    def with_coming(self) -> None:
-        """In the copy the program has the commands too that it is still to get."""
+    def set_coming(self, *names: str) -> None:
+        """In the copy these are the commands that the program is still to get."""
         with open(self.path("tools/run/words.py"), encoding="utf-8") as file:
-            text, count = re.subn(r"^COMING = .*$", "COMING = ()", file.read(), flags=re.M)
+            text, count = re.subn(r"^COMING = .*$", f"COMING = {names}", file.read(), flags=re.M)
         self.assertEqual(count, 1)
         self.write("tools/run/words.py", text)
 
@@ -269,7 +276,8 @@ class WrapperTest(unittest.TestCase):
 
     def start(self, *words: str, more: dict[str, str] | None = None, **streams: Any) -> subprocess.Popen[bytes]:
         """Starts the wrapper of the copy."""
-        streams = {"stdin": subprocess.DEVNULL, "stdout": subprocess.PIPE, "stderr": subprocess.PIPE, "cwd": self.copy, **streams}
+        streams = {"stdin": subprocess.DEVNULL, "stdout": subprocess.PIPE, "stderr": subprocess.PIPE, "cwd": self.copy,
+                   "preexec_fn": heed_signals, **streams}
         return subprocess.Popen(["./conc_run", *words], env={**self.environment, **(more or {})}, **streams)
 
     def calls(self) -> list[str]:

@@ -11,7 +11,7 @@ import signal
 import time
 from typing import Callable
 
-from tools.run.tests.standins import PATIENCE, Answer, WrapperTest, wait_until
+from tools.run.tests.standins import PATIENCE, Answer, WrapperTest, heed_signals, wait_until
 
 
 class Terminal:
@@ -24,6 +24,7 @@ class Terminal:
         self.process, self.terminal = pty.fork()
         if self.process == 0:
             try:
+                heed_signals()
                 os.chdir(test.copy)
                 if stdin is not None:
                     os.dup2(os.open(stdin, os.O_RDONLY), 0)

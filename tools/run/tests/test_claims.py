@@ -18,7 +18,7 @@ class Claims(WrapperTest):
     def setUp(self) -> None:
         super().setUp()
         self.copy_with("proved")
-        self.with_coming()
+        self.set_coming()
         for name, text in (("holds", HOLDS), ("fails", FAILS), ("open", OPEN)):
             self.write(f"{name}.conc", text)
 
@@ -86,7 +86,7 @@ class Claims(WrapperTest):
         self.assertEqual(self.call("claims", "behind.conc").err, "behind.conc: no claim\n" + warning)
 
     def test_refused_words_are_told_once(self) -> None:
-        for words in (["--caps", "1", "holds.conc", "fails.conc"], ["--states", "17", "holds.conc"]):
+        for words in (["--caps", "17", "holds.conc", "fails.conc"], ["--states", "17", "holds.conc"]):
             self.assertEqual(self.call("claims", *words).all, ("", "words not understood\n", 2))
         err = self.call("claims", "--states", "17", "holds.conc", "--explain").err.splitlines()
         self.assertEqual(err[0], "words not understood")
@@ -102,15 +102,16 @@ class Claims(WrapperTest):
         self.assertEqual(self.calls(), ["claims --fuel=9"] * 2)
 
     def test_a_program_without_claims(self) -> None:
-        self.copy_with("proved")
-        self.write("tools/run/words.py", self.read("tools/run/words.py").replace("COMING = ()", "COMING = (\"claims\",)"))
-        self.assertNotIn("claims", self.call("--help").out)
+        self.set_coming("claims", "haskell")
+        self.assertNotRegex(self.call("--help").out, "claim|haskell")
+        self.assertEqual(self.call("claims", "holds.conc", more=self.counting).all, ("", "words not understood\n", 2))
+        self.assertEqual(self.calls(), ["claims holds.conc"], "the words are the program's to refuse")
 
 
 class OnTerminal(WrapperTest):
     def test_it_shows_for_how_long_it_searches(self) -> None:
         self.copy_with("proved")
-        self.with_coming()
+        self.set_coming()
         self.write("slow.conc", "-- takes: 1.8\n" + HOLDS)
         answer = call_on_terminal(self, "claims", "slow.conc", "--states", "60")
         self.assertRegex(answer.err, r"conc_run: slow\.conc: searches, up to 60 states, \d+ s")

@@ -25,7 +25,7 @@ class Module(WrapperTest):
     def setUp(self) -> None:
         super().setUp()
         self.copy_with("proved")
-        self.with_coming()
+        self.set_coming()
         self.write("module.conc", "-- prints: main = run script;\n")
 
     def test_a_line_says_what_it_is_of(self) -> None:
@@ -39,8 +39,8 @@ class Module(WrapperTest):
     def test_nothing_is_printed_of_a_refused_script(self) -> None:
         self.assertEqual(self.call("haskell", "wrong.conc").all, ("", "refused: Mismatch at 2:19\n", 3))
         self.assertIn("\n" + " " * 18 + "^\n", self.call("haskell", "wrong.conc", "--explain").err)
-        self.assertEqual(self.call("haskell", "module.conc", "--caps", "1").all, ("", "words not understood\n", 2))
-        self.assertIn("  ./conc_run haskell [FILE]", self.call("haskell", "module.conc", "--caps", "1", "--explain").err)
+        self.assertEqual(self.call("haskell", "module.conc", "--caps", "17").all, ("", "words not understood\n", 2))
+        self.assertIn("  ./conc_run haskell [FILE]", self.call("haskell", "module.conc", "--caps", "17", "--explain").err)
 
     def test_streams(self) -> None:
         with open("/dev/full", "wb") as full:
