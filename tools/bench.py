@@ -1,5 +1,8 @@
 """Shapes of scripts at n, 2n and 4n, what each run takes, and how that grows. No gate calls this: no proof speaks of time."""
 
+from __future__ import annotations
+
+import argparse
 import os
 import re
 import shutil
@@ -8,6 +11,7 @@ import subprocess
 import sys
 import tempfile
 import time
+from collections.abc import Iterator, Sequence
 
 from tools import bitcode
 from tools.rows import is_new, say
@@ -96,21 +100,27 @@ LONG_SEARCHES = {"counts"}
 class Shape:
     """A script by its size, and the words that run it."""
 
-    def __init__(self, name, what, size, script, *words, each=()):
+    def __init__(self, name: str, what: str, size: int, script: str | tuple[str, str, str], *words: str, each: tuple[int, ...] = ()) -> None:
         self.name, self.what, self.size, self.script, self.words, self.each = name, what, size, script, words, each
 
-    def text(self, size):
+    def text(self, size: int) -> str:
+        """The script of this size."""
         if isinstance(self.script, str):
             return self.script.format(n=size)
         first, between, last = self.script
         lines = (between.replace("{i}", str(it)).replace("{p}", str(it - 1)) for it in range(1, size + 1))
         return "\n".join((first, *lines, last.replace("{n}", str(size))))
 
-    def calls(self, size):
-        """The words and the input of each call: one for each number of capabilities, or one."""
+    @property
+    def capabilities(self) -> tuple[int | None, ...]:
+        """On how many each call runs; None where the words say none."""
+        return self.each or (None,)
+
+    def calls(self, size: int) -> Iterator[tuple[str, list[str], bytes]]:
+        """A label, the words and the input of each call: one for each number of capabilities, or one."""
         script = self.text(size).encode()
         words = [word.format(n=size) for word in self.words]
-        for count in self.each or (None,):
+        for count in self.capabilities:
             yield ("" if count is None else f", {count} capabilities"), [*words, *([] if count is None else ["--caps", str(count)])], script
 
 
@@ -131,7 +141,7 @@ SHAPES = [
 class Took:
     """What a call took: its status, what it told, seconds by the clock and of the processors, and megabytes."""
 
-    def __init__(self, program, words, given):
+    def __init__(self, program: str, words: Sequence[str], given: bytes) -> None:
         begun = time.perf_counter()
         with tempfile.TemporaryFile() as source, tempfile.TemporaryFile() as out:
             source.write(given)
@@ -145,7 +155,7 @@ class Took:
         self.memory = used.ru_maxrss / 1024
 
 
-def median(program, words, given, runs):
+def median(program: str, words: Sequence[str], given: bytes, runs: int) -> Took:
     """The median of so many runs, which have to end alike."""
     took = [Took(program, words, given) for _ in range(runs)]
     if len({it.status for it in took}) > 1:
@@ -157,22 +167,24 @@ def median(program, words, given, runs):
     return middle
 
 
-def line(name, took, growth):
+def line(name: str, took: Sequence[Took], growth: Sequence[float]) -> str:
+    """A row of the table: milliseconds of each size, processor time and megabytes of the last, and how the time grows."""
     grown = "".join(f"{it:7.2f}" for it in growth)
     cells = "".join(f"{it.clock * 1000:9.0f}" for it in took) + "".join(f"{it.processor * 1000:9.0f}" for it in took[-1:]) + f"{took[-1].memory:8.0f}"
-    print(f"{name:44}{cells}{grown}", flush=True)
+    return f"{name:44}{cells}{grown}"
 
 
-def head():
+def head() -> None:
     print(f"{'':44}{'n':>9}{'2n':>9}{'4n ms':>9}{'cpu ms':>9}{'MB':>8}{'2n/n':>7}{'4n/2n':>7}")
 
 
-def tell(name, took):
-    line(name, took, [b.clock / a.clock for a, b in zip(took, took[1:])])
+def tell(name: str, took: Sequence[Took]) -> None:
+    print(line(name, took, [b.clock / a.clock for a, b in zip(took, took[1:])]), flush=True)
 
 
-def shape(program, it, runs):
-    for at in range(len(it.each or (None,))):
+def shape(program: str, it: Shape, runs: int) -> None:
+    """A shape at n, 2n and 4n, on each number of capabilities."""
+    for at in range(len(it.capabilities)):
         took = []
         for size in (it.size, 2 * it.size, 4 * it.size):
             label, words, script = list(it.calls(size))[at]
@@ -180,9 +192,10 @@ def shape(program, it, runs):
         tell(f"{it.name}, n = {it.size}{label}", took)
 
 
-def written(program, runs):
+def written(program: str, runs: int) -> None:
     """A history: written, checked and reported, beside the run that it is of."""
-    size, rows = 25_000, {name: [] for name in ("run", "trace", "verify", "report")}
+    size = 25_000
+    rows: dict[str, list[Took]] = {name: [] for name in ("run", "trace", "verify", "report")}
     for times in (1, 2, 4):
         script = EXCHANGES.format(n=times * size).encode()
         document = Took(program, ["trace", "--fuel", str(FUEL)], script).told
@@ -194,16 +207,18 @@ def written(program, runs):
     print(f"the largest document has {len(document)} bytes")
 
 
-def compiled(work, name, text):
+def compiled(work: str, name: str, text: str) -> str:
     """A program that ghc makes of this text."""
     path = os.path.join(work, name)
     with open(f"{path}.hs", "w", encoding="utf-8") as file:
         file.write(HASKELL_HEAD + text)
     ran = subprocess.run(["ghc", "-v0", "-O1", "-threaded", "-rtsopts", f"{path}.hs", "-o", path], stdout=subprocess.PIPE, stderr=subprocess.STDOUT, text=True, check=False)
-    return path if not ran.returncode else sys.exit(f"bench: ghc makes no program of {name}: {ran.stdout[-500:]}")
+    if ran.returncode:
+        sys.exit(f"bench: ghc makes no program of {name}: {ran.stdout[-500:]}")
+    return path
 
 
-def beside_ghc(program, runs):
+def beside_ghc(program: str, runs: int) -> None:
     """The largest size of each shape that has a program in Haskell, beside `ghc -O1 -N1`, one run of each after the other."""
     if not shutil.which("ghc"):
         sys.exit("bench: no command ghc here")
@@ -211,7 +226,8 @@ def beside_ghc(program, runs):
     print(f"{'':44}{'ours ms':>9}{'ghc ms':>9}{'times':>9}")
     with tempfile.TemporaryDirectory() as work:
         for name, text in HASKELL.items():
-            other, took = compiled(work, name, text), ([], [])
+            other = compiled(work, name, text)
+            took: tuple[list[float], list[float]] = ([], [])
             size = 4 * known[name].size if name in known else 0
             words, script = next(known[name].calls(size))[1:] if name in known else (["run"], EMPTY.encode())
             for _ in range(runs):
@@ -221,13 +237,15 @@ def beside_ghc(program, runs):
             print(f"{name + (f', n = {size}' if size else ', which does nothing'):44}{ours:9.1f}{theirs:9.1f}{ours / theirs:9.2f}", flush=True)
 
 
-def states_of(told):
+def states_of(told: bytes) -> int:
     """How many states a list of outcomes tells."""
     found = re.search(rb"^(\d+) states; ", told, re.M)
-    return int(found[1]) if found else sys.exit("bench: this is no list of outcomes")
+    if found is None:
+        sys.exit("bench: this is no list of outcomes")
+    return int(found[1])
 
 
-def search(program, runs):
+def search(program: str, runs: int) -> None:
     """A search of workers that meets its bound on states, by that bound; and those of the examples, which end."""
     print(f"{'':44}{'states':>9}{'ms':>9}{'cpu ms':>9}{'MB':>8}{'us each':>9}")
     for bound in (1_000, 10_000, 100_000, 1_000_000):
@@ -238,14 +256,15 @@ def search(program, runs):
             told_of(f"search of {name}.conc", median(program, ["outcomes"], read(path).encode(), runs))
 
 
-def told_of(name, took):
+def told_of(name: str, took: Took) -> None:
     states = states_of(took.told)
     print(f"{name:44}{states:9}{took.clock * 1000:9.1f}{took.processor * 1000:9.1f}{took.memory:8.0f}{took.clock * 1e6 / states:9.1f}", flush=True)
 
 
-def program_of(words):
-    if words:
-        return words[0]
+def program_of(path: str | None) -> str:
+    """The program of this path, else the proved one, else one without proof."""
+    if path:
+        return path
     proved = os.path.join(TOP, "crates", "conc_run", "out", "conc_run")
     if is_new(proved, "conc_run"):
         say("the proved program")
@@ -254,29 +273,43 @@ def program_of(words):
     return bitcode.plain("conc_run")
 
 
-def main(words):
-    runs, program, names = 5, [], []
-    rest = iter(words)
-    for word in rest:
-        if word == "--runs":
-            runs = int(next(rest, "5"))
-        elif word == "--program":
-            program = [next(rest, "")]
-        else:
-            names.append(word)
-    known = {it.name: it for it in SHAPES}
-    if unknown := [it for it in names if it not in known and it not in OTHERS]:
-        sys.exit(f"bench: no shape {unknown[0]}; there are {' '.join((*known, *OTHERS))}")
-    where = program_of(program)
+def count_of_runs(word: str) -> int:
+    if not word.isdecimal() or int(word) == 0:
+        raise argparse.ArgumentTypeError(f"not a number above 0: {word}")
+    return int(word)
+
+
+def read_words(words: Sequence[str]) -> argparse.Namespace:
+    known = [*(it.name for it in SHAPES), *OTHERS]
+    parser = argparse.ArgumentParser(
+        prog="./bench", allow_abbrev=False,
+        description="What runs take, by shape and size. No gate calls this, since no proof speaks of time; docs/MEASURES.md has the last figures.",
+        epilog="Each shape runs at n, 2n and 4n, and what is told is the median, the processor time and the memory of the largest, and how the "
+               "time grows. `search` is that of `outcomes`: of a script that meets its bound, at 1,000 to 1,000,000 states, and of each example "
+               "but one. `ghc`, which has to be named, runs the same programs by `ghc -O1` beside ours. The program is the proved one where it "
+               "is new, else one without proof and without a sanitizer, which is built.")
+    parser.add_argument("shapes", nargs="*", metavar="SHAPE", help=f"some of {' '.join(known)} (all but ghc)")
+    parser.add_argument("--runs", type=count_of_runs, default=5, metavar="N", help="how often each runs (5)")
+    parser.add_argument("--program", metavar="PATH", help="another program")
+    asked = parser.parse_intermixed_args(words)
+    for it in asked.shapes:
+        if it not in known:
+            parser.error(f"no shape {it}; there are {' '.join(known)}")
+    return asked
+
+
+def main(words: Sequence[str]) -> int:
+    asked = read_words(words)
+    names, runs, program = asked.shapes, asked.runs, program_of(asked.program)
     if not names or set(names) - {"search", "ghc"}:
         head()
     for it in SHAPES:
         if not names or it.name in names:
-            shape(where, it, runs)
+            shape(program, it, runs)
     if not names or "written" in names:
-        written(where, runs)
+        written(program, runs)
     if not names or "search" in names:
-        search(where, runs)
+        search(program, runs)
     if "ghc" in names:
-        beside_ghc(where, runs)
+        beside_ghc(program, runs)
     return 0

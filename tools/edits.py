@@ -1,5 +1,7 @@
 """Must-fail edits: that each can be applied; and `./check --edits`, which tries those that stand outside of the gate."""
 
+from __future__ import annotations
+
 import datetime
 import os
 import re
@@ -7,6 +9,7 @@ import shutil
 import subprocess
 import sys
 import tempfile
+from collections.abc import Iterator, Sequence
 
 from tools.sources import NOT_OURS, TOP, here, lines, read, uses
 
@@ -14,9 +17,12 @@ RECORD = "docs/edits.txt"
 HEAD = "# The edits of crates/NAME/more-edits, which ./check --edits tries: when those of a crate were last all refused.\n# crate, edits, date, kit, commit\n"
 
 
-def problem(path):
+def problem(path: str) -> str | None:
     """Why an edit can't be applied, as `rt must-fail` would find after the proof of its crate, or None."""
-    crate, file, old, texts, changed = path.split("/")[1], None, None, {}, False
+    crate, changed = path.split("/")[1], False
+    file: str | None = None
+    old: str | None = None
+    texts: dict[str, str] = {}
     for line in lines(path):
         if line.startswith("file: "):
             file = f"crates/{crate}/{line[6:].strip()}"
@@ -36,11 +42,12 @@ def problem(path):
     return None if changed else "it changes nothing"
 
 
-def edits_of(crate, folder="must-fail"):
+def edits_of(crate: str, folder: str = "must-fail") -> list[str]:
     return here(f"crates/{crate}/{folder}/*.edit")
 
 
-def can_be_applied():
+def can_be_applied() -> Iterator[str]:
+    """Edits that can't be applied, files that are none, and crates of the record that have no wider ones."""
     for folder in ("must-fail", "more-edits"):
         for path in edits_of("*", folder):
             why = problem(path)
@@ -54,7 +61,7 @@ def can_be_applied():
             yield f"{RECORD}: {name} has no edits in more-edits"
 
 
-def wrong_bodies():
+def wrong_bodies() -> Iterator[str]:
     """Patches of tools/wrong-bodies that can't be applied, or that name a test which isn't there."""
     for path in here("tools/wrong-bodies/*.patch"):
         ran = subprocess.run(["patch", "--dry-run", "-f", "-s", "-p0", "-i", path], cwd=TOP, stdout=subprocess.PIPE, stderr=subprocess.STDOUT,
@@ -69,13 +76,14 @@ def wrong_bodies():
                 yield f"{path}: {crate} has no test {test}"
 
 
-def recorded():
+def recorded() -> list[list[str]]:
+    """The rows of the record."""
     if not os.path.isfile(os.path.join(TOP, RECORD)):
         return []
     return [it.split() for it in lines(RECORD) if it.strip() and not it.startswith("#")]
 
 
-def record(crate, count):
+def record(crate: str, count: int) -> None:
     """Writes down that all wider edits of a crate were refused now."""
     kit = said(["rt", "version"]).split()[0]
     commit = said(["git", "-C", TOP, "rev-parse", "--short", "HEAD"]).strip() or "?"
@@ -88,11 +96,12 @@ def record(crate, count):
         file.write(HEAD + "".join(" ".join(kept[it]) + "\n" for it in uses() if it in kept))
 
 
-def said(command):
+def said(command: Sequence[str]) -> str:
+    """What a command prints."""
     return subprocess.run(command, stdout=subprocess.PIPE, stderr=subprocess.DEVNULL, check=False).stdout.decode()
 
 
-def try_edits(names):
+def try_edits(names: Sequence[str]) -> int:
     """`./check --edits [NAME..]`: tries them on a copy in which they are the must-fail edits, crate by crate."""
     for name in names:
         if name not in uses() or not edits_of(name, "more-edits"):

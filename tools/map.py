@@ -1,8 +1,11 @@
 """The map of the crates: the sections of crates.txt, a line for each crate in ARCHITECTURE.md, and how large the graph may be."""
 
+from __future__ import annotations
+
 import functools
 import os
 import re
+from collections.abc import Iterator
 
 from tools.sources import TOP, lines, read, root_of, uses
 
@@ -16,12 +19,12 @@ MOST_PATHS = 2_000_000
 
 
 @functools.lru_cache(maxsize=None)
-def paths(crate):
+def paths(crate: str) -> int:
     """How many paths go down from a crate, the one that stops there among them."""
     return 1 + sum(paths(it) for it in uses()[crate] if it in uses())
 
 
-def bounds():
+def bounds() -> Iterator[str]:
     """Whether the graph of crates is larger than a first run may wait for."""
     if len(uses()) > MOST_CRATES:
         yield f"crates.txt: {len(uses())} crates, and there are {MOST_CRATES} at most"
@@ -29,9 +32,9 @@ def bounds():
         yield f"crates.txt: {sum(map(paths, uses())):,} paths, and there are {MOST_PATHS:,} at most"
 
 
-def sections():
+def sections() -> list[tuple[str, str, list[str]]]:
     """The sections of crates.txt: the title of each, what its heading says, and its crates."""
-    found = []
+    found: list[tuple[str, str, list[str]]] = []
     for line in lines("crates.txt"):
         heading = re.fullmatch(r"# (\w+): (.*)", line)
         if heading and heading[1] != "NAME":
@@ -43,7 +46,7 @@ def sections():
     return found
 
 
-def headed():
+def headed() -> Iterator[str]:
     """Crates that stand under no heading, and sections that aren't in the order of what they are for."""
     if not sections():
         yield "crates.txt: a crate stands under no heading `# part: what it is`"
@@ -51,21 +54,22 @@ def headed():
         yield "crates.txt: tests stand at its end"
 
 
-def head(crate):
+def head(crate: str) -> list[str]:
     """The first lines of a crate, as paragraphs."""
-    said = []
-    for line in lines(root_of(crate)):
+    said: list[str] = []
+    root = root_of(crate)
+    for line in lines(root) if root else ():
         if not line.startswith("//!"):
             break
         said.append(line[3:].strip())
     return [" ".join(it.split("\n")) for it in "\n".join(said).split("\n\n")]
 
 
-def sentences(text):
+def sentences(text: str) -> list[str]:
     return [it.strip() for it in re.split(r"(?<=\.)\s+(?=[A-Z`])", text) if it.strip()]
 
 
-def line_of(crate):
+def line_of(crate: str) -> str:
     """What the crate is, and its promise, in the words of its first lines."""
     paragraphs = head(crate)
     what = sentences(paragraphs[0])[0] if paragraphs and paragraphs[0] else "?"
@@ -75,21 +79,23 @@ def line_of(crate):
     return f"- `{crate}`: {what}" + (f" {promise[:1].upper()}{promise[1:]}" if promise else "")
 
 
-def drawn():
+def drawn() -> str:
+    """The lines of all crates, with what stands round them on the page."""
     parts = [FIRST]
     for title, what, crates in sections():
         parts += ["", f"### {title}: {what}", "", *(line_of(it) for it in crates if root_of(it))]
     return "\n".join([*parts, "", LAST])
 
 
-def parts():
+def parts() -> tuple[str, str, str] | None:
     """The page before the lines of the crates, these, and the page behind them."""
     text = read(PAGE)
     first, last = text.find(FIRST), text.find(LAST)
     return None if first < 0 or last < first else (text[:first], text[first:last + len(LAST)], text[last + len(LAST):])
 
 
-def stale():
+def stale() -> Iterator[str]:
+    """Whether the page has other lines of the crates than they are."""
     cut = parts()
     if cut is None:
         yield f"{PAGE}: it has no place for the lines of the crates ({FIRST})"
@@ -99,7 +105,8 @@ def stale():
         yield f"{PAGE}: the lines of the crates are stale ({odd[:60]}..): ./check --draw writes them anew"
 
 
-def draw():
+def draw() -> int:
+    """`./check --draw`."""
     cut = parts()
     if cut is None:
         print(f"{PAGE} has no place for the lines of the crates")

@@ -1,5 +1,7 @@
 """Rows: that examples are theirs, that the counts of a run are right; and `./check --rows`, which tries them without proof."""
 
+from __future__ import annotations
+
 import concurrent.futures
 import glob
 import os
@@ -10,6 +12,8 @@ import subprocess
 import sys
 import tempfile
 import time
+from collections.abc import Iterator
+from typing import NamedTuple
 
 from tools.sources import TOP, below, blocks, documents, here, lines, read
 
@@ -22,26 +26,35 @@ WORD = re.compile(r"^# ([a-z0-9-]+): ")
 QUOTE = re.compile(r"-- ([A-Z]+\.md): (.+)")
 
 
-def rows_of(path):
-    """Each row of a file: its name, the number of its first line, and its lines."""
-    found = []
+class Row(NamedTuple):
+    """A row: its name, the number of its first line in the file, and its lines."""
+
+    name: str
+    number: int
+    lines: list[str]
+
+
+def rows_of(path: str) -> list[Row]:
+    """The rows of a file."""
+    found: list[Row] = []
     for number, line in enumerate(lines(path), 1):
         name = WORD.match(line)
         if name:
-            found.append((name[1], number, []))
+            found.append(Row(name[1], number, []))
         if found:
-            found[-1][2].append(line)
+            found[-1].lines.append(line)
     return found
 
 
-def script_of(row):
+def script_of(row: list[str]) -> str:
+    """The script of a row, which stands in its lines."""
     return "\n".join(it[1:].removeprefix(" ") for it in row if it.startswith("|"))
 
 
-def examples():
+def examples() -> Iterator[str]:
     """Each example is the script of its row, and each row of one has its file; the tour has all of them."""
     path, tour = "crates/conc_rows/data/tour.rows", read("docs/TOUR.md")
-    rows = {name.removeprefix("example-"): script_of(row) for name, _, row in rows_of(path) if name.startswith("example-")}
+    rows = {it.name.removeprefix("example-"): script_of(it.lines) for it in rows_of(path) if it.name.startswith("example-")}
     there = {os.path.basename(it).removesuffix(".conc"): it for it in here("examples/*.conc")}
     for name in sorted(set(there) - set(rows)):
         yield f"{there[name]}: {path} has no row example-{name}"
@@ -58,32 +71,34 @@ def examples():
             yield f"docs/TOUR.md: it has no paragraph on {name}.conc"
 
 
-def words_in(script):
+def words_in(script: str) -> str:
+    """A script without comments, in one line."""
     return " ".join(re.sub(r"--.*", "", script).split())
 
 
-def readme():
+def readme() -> Iterator[str]:
     """Each script of README is that of a row, so what README says of it is tried."""
-    scripts = {words_in(script_of(row)) for path in here("crates/conc_rows/data/*.rows") for _, _, row in rows_of(path)}
+    scripts = {words_in(script_of(it.lines)) for path in here("crates/conc_rows/data/*.rows") for it in rows_of(path)}
     for block in blocks("README.md"):
         script = "\n".join(block.lines[1:-1])
         if block.kind == "code" and script.startswith("main ::") and words_in(script) not in scripts:
             yield f"{block.at(0)}: no row of crates/conc_rows/data has this script"
 
 
-def pictures():
+def pictures() -> Iterator[str]:
     """Each picture of the documents is what a row has the program draw."""
-    drawn = {name: [line.removeprefix("out: ") for line in row if line.startswith("out: ")]
-             for path in here("crates/conc_rows/data/*.rows") for name, _, row in rows_of(path)}
+    drawn = {it.name: [line.removeprefix("out: ") for line in it.lines if line.startswith("out: ")]
+             for path in here("crates/conc_rows/data/*.rows") for it in rows_of(path)}
     for path in here("docs/pictures/*.svg"):
         name = f"picture-of-{os.path.basename(path).removesuffix('.svg')}"
         if drawn.get(name) != read(path).removesuffix("\n").split("\n"):
             yield f"{path}: the row {name} of crates/conc_rows/data doesn't have the program draw it"
 
 
-def lists():
+def lists() -> Iterator[str]:
     """Each list of outcomes in the documents is what a row has the program print."""
-    printed = {tuple(re.sub(r"^out: ?", "", it) for it in row if it.startswith("out:")) for path in here("crates/conc_rows/data/*.rows") for _, _, row in rows_of(path)}
+    printed = {tuple(re.sub(r"^out: ?", "", line) for line in it.lines if line.startswith("out:"))
+               for path in here("crates/conc_rows/data/*.rows") for it in rows_of(path)}
     for path in documents():
         for block in blocks(path):
             told = [it for it in block.lines if not it.lstrip().startswith("```")]
@@ -91,7 +106,7 @@ def lists():
                 yield f"{block.at(0)}: no row of crates/conc_rows/data has the program print this list"
 
 
-def comments():
+def comments() -> Iterator[str]:
     """Words of pages that rows show and the page doesn't have; and comments that say more than a title and are no such words."""
     for path in here("crates/*/data/*.rows"):
         head = True
@@ -104,29 +119,29 @@ def comments():
                 yield f"{path}:{number}: a comment behind the head is a title, or words of a page (`-- PAGE.md: WORDS`)"
 
 
-def count_of(crate):
+def count_of(crate: str) -> tuple[int, int]:
     """How many rows a program has, and how many of them can't run yet."""
-    rows = [row for path in here(f"crates/{crate}/data/*.rows") for _, _, row in rows_of(path)]
-    return len(rows), sum("later" in row for row in rows)
+    rows = [it for path in here(f"crates/{crate}/data/*.rows") for it in rows_of(path)]
+    return len(rows), sum("later" in it.lines for it in rows)
 
 
-def last_lines():
+def last_lines() -> Iterator[str]:
     """The counts that the programs of rows are to print."""
     for crate in PROGRAMS:
         rows, later = count_of(crate)
         wanted = f"{rows} rows, 0 failed" + (f", {later} later" if crate == "conc_rows" else "")
         if read(f"crates/{crate}/stdout").strip() != wanted:
             yield f"crates/{crate}/stdout: it has to be `{wanted}`"
-        twice = [name for path in here(f"crates/{crate}/data/*.rows") for name, _, _ in rows_of(path)]
+        twice = [it.name for path in here(f"crates/{crate}/data/*.rows") for it in rows_of(path)]
         for name in sorted({it for it in twice if twice.count(it) > 1}):
             yield f"crates/{crate}/data: two rows are called {name}"
 
 
-def say(text):
+def say(text: str) -> None:
     print(f"check: {text}", file=sys.stderr, flush=True)
 
 
-def is_new(program, crate, may=os.X_OK):
+def is_new(program: str, crate: str, may: int = os.X_OK) -> bool:
     """Whether the program is there and no source of it is newer."""
     if not os.access(program, may):
         return False
@@ -135,7 +150,7 @@ def is_new(program, crate, may=os.X_OK):
     return all(os.path.getmtime(os.path.join(at, it)) <= made for folder in folders for at, _, names in os.walk(os.path.join(TOP, folder)) for it in names)
 
 
-def built(crate):
+def built(crate: str) -> str:
     """The program of the rows, without proof, which is kept in out/. `rt try` keeps none, so it is taken while it runs."""
     program = os.path.join(TOP, "out", crate)
     if is_new(program, crate):
@@ -168,7 +183,7 @@ def built(crate):
     return program
 
 
-def taken(work):
+def taken(work: str) -> str | None:
     """A copy of the program that runs, once it does: its output stands beside it then."""
     for found in glob.glob(f"{work}/**/program", recursive=True):
         if os.path.exists(f"{os.path.dirname(found)}/stdout"):
@@ -181,7 +196,7 @@ def taken(work):
     return None
 
 
-def run_on(program, data, seconds=LONG):
+def run_on(program: str, data: dict[str, str], seconds: int = LONG) -> tuple[int, str]:
     """Runs a program of rows on files with these texts. Files that aren't named are empty."""
     with tempfile.TemporaryDirectory(prefix="row-") as folder:
         for crate in PROGRAMS:
@@ -194,37 +209,43 @@ def run_on(program, data, seconds=LONG):
         return ran.returncode, ran.stdout.decode(errors="replace")
 
 
-def try_row(program, path, row, seconds):
+def try_row(program: str, path: str, row: Row, seconds: int) -> str | None:
     """What the program says of a row, or None where it takes longer. Empty lines before it keep the numbers of its lines."""
-    name, number, text = row
-    status, said = run_on(program, {os.path.basename(path): "\n" * (number - 1) + "\n".join(text) + "\n"}, seconds)
+    status, said = run_on(program, {os.path.basename(path): "\n" * (row.number - 1) + "\n".join(row.lines) + "\n"}, seconds)
     if status < 0:
         return None
     if status == 0 and re.search(r"^1 rows, 0 failed", said, re.M):
         return ""
-    return "\n".join(it for it in said.split("\n") if it and not re.match(r"\d+ rows, ", it)) or f"{name}: status {status}"
+    return "\n".join(it for it in said.split("\n") if it and not re.match(r"\d+ rows, ", it)) or f"{row.name}: status {status}"
 
 
-def try_rows(words):
+def files_of(name: str) -> list[str]:
+    """The files of rows that are meant: those of this name, or where it is empty all that ./check tries."""
+    if not name:
+        return here("crates/conc_rows/data/*.rows")
+    file = os.path.basename(name).removesuffix(".rows") + ".rows"
+    paths = here(f"crates/*/data/{file}")
+    if not paths:
+        sys.exit(f"check: --rows takes one file of crates/*/data, such as tour.rows, and none is called {file}")
+    return paths
+
+
+def try_rows(name: str) -> int:
     """`./check --rows [FILE]`: the rows of a file, or of all files, that end within so much processor time."""
-    paths = here("crates/conc_rows/data/*.rows")
-    if words:
-        name = os.path.basename(words[0]).removesuffix(".rows") + ".rows"
-        paths = here(f"crates/*/data/{name}")
-        if len(words) > 1 or not paths:
-            sys.exit(f"check: --rows takes one file of crates/*/data, such as tour.rows, and none is called {name}")
+    paths, seconds = files_of(name), LONG if name else SHORT
     program = built(paths[0].split("/")[1])
-    rows = [(path, row) for path in paths for row in rows_of(path) if "later" not in row[2]]
-    failed, longer = 0, []
+    rows = [(path, row) for path in paths for row in rows_of(path) if "later" not in row.lines]
+    failed = 0
+    longer: list[str] = []
     with concurrent.futures.ThreadPoolExecutor(os.cpu_count()) as pool:
-        tried = pool.map(lambda it: try_row(program, *it, LONG if words else SHORT), rows)
+        tried = pool.map(lambda it: try_row(program, it[0], it[1], seconds), rows)
         for (path, row), said in zip(rows, tried):
             if said is None:
-                longer.append(row[0])
+                longer.append(row.name)
             elif said:
                 failed += 1
-                print(f"{path}:{row[1]}: {said}", flush=True)
+                print(f"{path}:{row.number}: {said}", flush=True)
     if longer:
-        print(f"not tried, since they take over {LONG if words else SHORT} s: {' '.join(longer)}")
+        print(f"not tried, since they take over {seconds} s: {' '.join(longer)}")
     print(f"{len(rows) - len(longer)} rows were tried by a build without proof, {failed} failed")
     return 1 if failed else 0

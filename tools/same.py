@@ -1,6 +1,9 @@
 """What is said in two places: the language's page, the sources, and the script around the program."""
 
+from __future__ import annotations
+
 import re
+from collections.abc import Iterator
 
 from tools.run import refusals
 from tools.run.words import STATUSES
@@ -8,7 +11,8 @@ from tools.sources import SPAN, code, here, read
 
 PAGE = "docs/LANGUAGE.md"
 
-def same_as_code():
+
+def same_as_code() -> Iterator[str]:
     """The words and symbols of LANGUAGE.md are those of the lexer, and it has each text that the program prints."""
     language = read(PAGE)
     for title, source in (("Reserved words", "word"), ("Symbols", "symbol")):
@@ -28,7 +32,7 @@ def same_as_code():
                 yield f"{PAGE}: it doesn't have the text `{text.strip()}`, which {path} has the program print"
 
 
-def wrapper_texts():
+def wrapper_texts() -> Iterator[str]:
     """The statuses that ./conc_run --help lists stand on the language's page, and each refusal has its sentences."""
     language = read(PAGE)
     for status in STATUSES:

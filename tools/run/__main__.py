@@ -4,13 +4,17 @@ import os
 import resource
 import sys
 
+TYPE_CHECKING = False
+if TYPE_CHECKING:
+    from typing import Optional
+
 NEEDED = (3, 9)
 # More than there are by now.
 NEWEST = 30
 
 
 def find_newer():
-    # type: () -> str | None
+    # type: () -> Optional[str]
     """A Python that is new enough and has its version in its name, or None."""
     for minor in range(NEWEST, NEEDED[1] - 1, -1):
         for folder in os.environ.get("PATH", os.defpath).split(os.pathsep):

@@ -46,7 +46,7 @@ def _c_library() -> str:
 def check_system() -> None:
     """Where this is a release, it says which of the things that it needs is missing, before the system does in its own words."""
     told = page()
-    needs = next((it.removeprefix("needs: ").split(", ") for it in (told or "").split("\n") if it.startswith("needs: ")), [])
+    needs: list[str] = next((it.removeprefix("needs: ").split(", ") for it in (told or "").split("\n") if it.startswith("needs: ")), [])
     machine = os.uname().machine
     if needs and needs[0] != machine:
         raise Refused(CANNOT_BUILD, f"this release is for {needs[0]}, and this machine is {machine}; docs/play.html does the same in a browser")

@@ -64,7 +64,7 @@ LITMUS_OPTIONS = _by_name(
     Option("--runs", "N", "the most runs of a script by GHC (20000)", 1),
     Option("--seconds", "S", "the most seconds that a script is run for (20)"),
     Option("--seed", "N", "where the rows of random numbers begin (1)"),
-    Option("--forks", "F", "reported, or plain as GHC forks: of what hits a thread before its first step no line is told (reported)", choices=("reported", "plain")),
+    Option("--forks", "F", "reported, or plain as GHC forks: what hits a thread before its first step is told by no line (reported)", choices=("reported", "plain")),
     Option("--where", "", "prints the folder of the support module, which each Haskell module imports"),
 )
 # Those of the script around it.

@@ -34,10 +34,10 @@ class Signals(WrapperTest):
 
 
 class Sent(Signals):
-    def check(self, number: int, status: int, words: list[str], **streams: object) -> None:
+    def check(self, number: int, status: int, words: list[str], **streams: int) -> None:
         """That a signal to the wrapper alone ends this call with the status."""
         with self.subTest(words=words, number=number):
-            with self.start(*words, **streams) as wrapper:
+            with self.start(*words, more=None, **streams) as wrapper:
                 self.assertTrue(wait_until(self.is_asleep))
                 wrapper.send_signal(number)
                 told = wrapper.communicate()

@@ -54,7 +54,8 @@ class Called(WrapperTest):
     def test_from_another_folder(self) -> None:
         self.copy_with("proved")
         name, file = f"{os.path.basename(self.copy)}/conc_run", self.path("hello.conc")
-        for more in ({}, {"CDPATH": f"{self.room}:/"}):
+        environments: list[dict[str, str]] = [{}, {"CDPATH": f"{self.room}:/"}]
+        for more in environments:
             with self.subTest(more):
                 self.assertEqual(self.call("run", file, command=[name], cwd=self.room, more=more).all, ("hello\n", "", 0))
         for shell in ("sh", "bash"):
