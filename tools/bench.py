@@ -233,7 +233,7 @@ def beside_ghc(program: str, runs: int) -> None:
             for _ in range(runs):
                 took[0].append(Took(program, words, script).clock * 1000)
                 took[1].append(Took(other, [str(size), "+RTS", "-N1"], b"").clock * 1000)
-            ours, theirs = map(statistics.median, took)
+            ours, theirs = statistics.median(took[0]), statistics.median(took[1])
             print(f"{name + (f', n = {size}' if size else ', which does nothing'):44}{ours:9.1f}{theirs:9.1f}{ours / theirs:9.2f}", flush=True)
 
 
