@@ -11,6 +11,7 @@ import shutil
 import subprocess
 import sys
 import tempfile
+import textwrap
 import time
 from collections.abc import Iterator
 from typing import NamedTuple
@@ -101,8 +102,8 @@ def lists() -> Iterator[str]:
                for path in here("crates/conc_rows/data/*.rows") for it in rows_of(path)}
     for path in documents():
         for block in blocks(path):
-            told = [it for it in block.lines if not it.lstrip().startswith("```")]
-            if block.kind == "code" and told and re.match(r"\d+ outcomes?, and there ", told[0]) and tuple(told) not in printed:
+            told = textwrap.dedent("\n".join(it for it in block.lines if not it.lstrip().startswith("```"))).split("\n")
+            if block.kind == "code" and re.match(r"\d+ outcomes?, and there ", told[0]) and tuple(told) not in printed:
                 yield f"{block.at(0)}: no row of crates/conc_rows/data has the program print this list"
 
 
