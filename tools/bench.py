@@ -147,7 +147,8 @@ class Took:
             source.write(given)
             source.seek(0)
             ran = subprocess.Popen([program, *words], stdin=source, stdout=out, stderr=subprocess.DEVNULL, env={**os.environ, "MALLOC_ARENA_MAX": "1"})
-            _, self.status, used = os.wait4(ran.pid, 0)
+            _, ended, used = os.wait4(ran.pid, 0)
+            self.status = ran.returncode = os.waitstatus_to_exitcode(ended)
             self.clock = time.perf_counter() - begun
             out.seek(0)
             self.told = out.read()

@@ -1,12 +1,9 @@
 """What documents say of the repository: paths, names, counts, crates, what is trusted; and what none may say."""
 
-from __future__ import annotations
-
 import os
 import re
-from collections.abc import Iterator, Mapping
 
-from tools.sources import TOP, SPAN, Block, all_words, blocks, code, documents, files, here, kit_crates, lines, read, root_of, uses, words_of
+from tools.sources import TOP, SPAN, all_words, blocks, code, documents, files, here, kit_crates, lines, read, root_of, uses, words_of
 
 LONGEST = 350
 # A folder that a clone need not have: what is made, and edits that stand outside of the gate.
@@ -16,7 +13,7 @@ ENDINGS = ("", ".rt", ".antt", ".edit", ".md", ".rows")
 PATH = re.compile(r"(\./)?[\w*.-]+(/[\w*.-]+)*/?")
 
 
-def is_there(path: str) -> bool:
+def is_there(path):
     """Whether the repository has this path, in which NAME and its like stand for any name."""
     path = re.sub(r"(?<![A-Za-z])(NAME|PATH|X)(?![a-z])", "*", path.rstrip("/"))
     if MAY_BE_ABSENT & set(path.split("/")):
@@ -27,11 +24,10 @@ def is_there(path: str) -> bool:
 class Reader:
     """Goes along the names between backquotes of a block, and remembers which crate and folder were named last."""
 
-    def __init__(self, heading: str | None) -> None:
-        self.crate = heading
-        self.folder: str | None = None
+    def __init__(self, heading):
+        self.crate, self.folder, self.near = heading, None, False
 
-    def path(self, span: str) -> str | None:
+    def path(self, span):
         """What is wrong with a path, or None."""
         parts = span.removeprefix("./").rstrip("/").split("/")
         if parts[0] in OF_A_CRATE and len(parts) > 1 or parts[0] in OF_A_CRATE and span.endswith("/"):
@@ -46,9 +42,8 @@ class Reader:
         self.folder = os.path.dirname(whole)
         return None if is_there(whole) else f"there is no {span}"
 
-    def file(self, span: str) -> str | None:
+    def file(self, span):
         """What is wrong with a file's name, or None. It stands in the folder that was named last, or has a place of its own."""
-        known: object
         if span.endswith(".md"):
             known = here(span) + here(f"docs/{span}")
         elif span.endswith(".conc"):
@@ -61,12 +56,11 @@ class Reader:
             known = [it for it in files() if os.path.basename(it) == span]
         return None if known else f"there is no {span}"
 
-    def module(self, span: str) -> str | None:
-        """What is wrong with a module that is named beside another, or None."""
+    def module(self, span):
         return None if is_there(f"{self.folder}/{span}") else f"there is no {self.folder}/{span}"
 
 
-def law(span: str) -> str | None:
+def law(span):
     """What is wrong with a name such as crate::module::function or Type::method, or None."""
     parts = re.sub(r"\(.*\)$", "", span).split("::")
     first = parts[0]
@@ -82,12 +76,12 @@ def law(span: str) -> str | None:
     return None
 
 
-def is_public(crate: str, name: str) -> bool:
+def is_public(crate, name):
     say = re.compile(rf"\b(pub (const )?fn|pub mod|fn) {name}\b")
     return any(say.search(code(it)) for it in files() if it.startswith(f"crates/{crate}/src/"))
 
 
-def names() -> Iterator[str]:
+def names():
     """Paths, crates, laws and other names between backquotes that the repository doesn't have."""
     # (a change log speaks of the names of its time, and a page on Haskell of Haskell's)
     for path in (it for it in documents() if it not in ("CHANGELOG.md", "docs/HASKELL.md")):
@@ -103,18 +97,17 @@ def names() -> Iterator[str]:
             yield from names_of(block, heading)
 
 
-def names_of(block: Block, heading: str | None) -> Iterator[str]:
-    reader, end, beside = Reader(heading), 0, False
+def names_of(block, heading):
+    reader, end, beside, listed = Reader(heading), 0, False, False
     for it in SPAN.finditer(block.text):
         span = " ".join(it[1].split())
         between = block.text[end:it.start()].replace("\n", " ")
         follows = beside and between.strip() in (",", "and", "")
-        end, beside = it.end(), False
-        wrong: str | None = None
+        end, wrong, beside = it.end(), None, False
         if span in uses():
             reader.crate = span
             if re.match(r":\s", block.text[end:end + 2]):
-                reader.folder, beside = f"crates/{span}/specs", True
+                reader.folder, listed, beside = f"crates/{span}/specs", True, True
         elif re.fullmatch(r"[\w:]+::\w+(\(.*\))?", span):
             wrong = law(span)
             reader.crate = span.split("::")[0] if span.split("::")[0] in uses() else reader.crate
@@ -131,17 +124,16 @@ def names_of(block: Block, heading: str | None) -> Iterator[str]:
             yield f"{block.at(it.start())}: {wrong}"
 
 
-def clauses() -> Iterator[str]:
+def clauses():
     """Names of calls and clauses on the page of promises that no crate has which is named beside them, or in the heading."""
-    path = "docs/PROMISES.md"
-    headed: set[str] = set()
+    path, headed = "docs/PROMISES.md", set()
     for block in blocks(path):
         spans = [" ".join(it.split()) for it in SPAN.findall(block.text)]
         near = {part for it in spans for part in re.split(r"::|/|\(", it) if part in uses()}
         if block.kind == "heading":
             headed = near
         elif block.kind != "code":
-            known: set[str] = set().union(*(words_of(it) for it in near | headed)) if near | headed else all_words()
+            known = set().union(*(words_of(it) for it in near | headed)) if near | headed else all_words()
             for it in SPAN.finditer(block.text):
                 word = " ".join(it[1].split())
                 if re.fullmatch(r"[a-z][a-z_]*", word) and word not in known and word not in {*uses(), *kit_crates()} | words_of("conc_task"):
@@ -154,8 +146,7 @@ NUMBER = rf"(?:\d[\d,]*|(?:{'|'.join(UNITS)}|(?:{'|'.join(TENS)})(?:-\w+)?))"
 COUNTED = re.compile(rf"\b({NUMBER}) (?:of them )?(?:(?:reserved|must-fail|public|test|proved|small|wrong) )?(rows|crates|examples|edits|tests|scripts|laws|files|texts|symbols|expressions|are tried|later)\b", re.I)
 
 
-def value(number: str) -> int:
-    """What a number says, in digits or in words."""
+def value(number):
     number = number.lower().replace(",", "")
     if number.isdigit():
         return int(number)
@@ -165,7 +156,7 @@ def value(number: str) -> int:
     return 20 + 10 * TENS.index(tens) + ("one two three four five six seven eight nine".split().index(ones) + 1 if ones else 0)
 
 
-def counts(known: Mapping[str, set[int]]) -> Iterator[str]:
+def counts(known):
     """Counts of what the repository has that are not its own, or that nothing here can count. Small ones pass."""
     for path in documents():
         if os.path.basename(path) in ("MEASURES.md", "CHANGELOG.md", "LITMUS.md"):
@@ -180,7 +171,7 @@ def counts(known: Mapping[str, set[int]]) -> Iterator[str]:
 MEASURED = re.compile(r"\b(?:measured|ratios?|times as (?:long|much|fast))\b")
 
 
-def measured() -> Iterator[str]:
+def measured():
     """Paragraphs that speak of what was measured and don't say that MEASURES.md has it: no other page has figures."""
     for path in documents():
         if os.path.basename(path) in ("MEASURES.md", "CHANGELOG.md", "LITMUS.md"):
@@ -191,29 +182,28 @@ def measured() -> Iterator[str]:
                 yield f"{block.at(it.start())}: `{it[0]}`: what was measured stands in MEASURES.md: name that page here, or leave it out"
 
 
-def decisions() -> Iterator[str]:
+def decisions():
     """Each decision has its date and a title."""
     for block in blocks("docs/DECISIONS.md"):
         if block.text.startswith("- ") and not re.match(r"- \d{4}-\d\d-\d\d · \*\*[^*]+\*\*", block.text):
             yield f"{block.at(0)}: a decision begins with `DATE · **Title**`"
 
 
-def lengths() -> Iterator[str]:
-    """Documents that are too long."""
+def lengths():
     for path in documents():
         count = len(lines(path)) - 1
         if count > LONGEST:
             yield f"{path}: {count} lines, and a document has {LONGEST} at most"
 
 
-def index() -> Iterator[str]:
+def index():
     """Documents that the README doesn't lead to."""
     for path in documents():
         if path != "README.md" and f"`{path}`" not in read("README.md"):
             yield f"README.md: it doesn't lead to {path}"
 
 
-def places() -> Iterator[str]:
+def places():
     """Crates that the map or the page of promises leaves out, and folders that crates.txt leaves out."""
     for path in ("docs/ARCHITECTURE.md", "docs/PROMISES.md"):
         named = set(re.findall(r"\w+", read(path)))
@@ -228,7 +218,7 @@ def places() -> Iterator[str]:
             yield f"crates.txt: it has no line for {folder}"
 
 
-def trusted() -> Iterator[str]:
+def trusted():
     """Where a document lists the crates of the kit that are used, `std` first, these are those of crates.txt."""
     lists = 0
     for path in documents():
@@ -253,8 +243,7 @@ HINTS = ("ocument 0", "aper 0", "shared/", "/wor" + "k/", "issue ", "row ", "-sc
 NUMBERED = re.compile(r"[TDRW][0-9]")
 
 
-def citations() -> Iterator[str]:
-    """What looks like a citation of what the repository doesn't have."""
+def citations():
     for path in files():
         if path.endswith((".rt", ".antt", ".md", ".edit", ".conc", ".rows", ".txt", ".py")) or "." not in os.path.basename(path):
             if not NUMBERED.search(read(path)) and not any(it in read(path) for it in HINTS):
@@ -264,7 +253,7 @@ def citations() -> Iterator[str]:
                 yield f"{path}:{line}: `{it[0]}` looks like a citation of what stands outside of the repository"
 
 
-def named_pages() -> Iterator[str]:
+def named_pages():
     """Documents that comments of the sources name."""
     for path in files():
         if path.endswith((".rt", ".antt", ".rows", ".conc")) or path in ("conc_run", ".ci/run"):

@@ -135,7 +135,8 @@ def run_several(run: Run, call: Call, explains: bool) -> int:
         try:
             statuses.append(answers.of(name))
         except Refused as it:
-            say(it.sentence)
+            if it.sentence:
+                say(it.sentence)
             statuses.append(it.status)
         if statuses[-1] in FOR_ALL:
             break
