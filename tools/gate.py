@@ -10,8 +10,9 @@ import sys
 import time
 from collections.abc import Collection, Iterable, Iterator, Mapping, Sequence
 
+from tools.crates import below
 from tools.edits import edits_of
-from tools.sources import TOP, below, lines, uses
+from tools.sources import TOP, lines, uses
 
 TABLE = "docs/minutes.txt"
 KINDS = ("proof", "edits", "tests")

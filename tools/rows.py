@@ -16,7 +16,8 @@ import time
 from collections.abc import Iterator
 from typing import NamedTuple
 
-from tools.sources import TOP, below, blocks, documents, here, lines, read
+from tools.crates import below
+from tools.sources import TOP, blocks, documents, here, lines, read
 
 # The most processor seconds of a row, among all and in one file.
 SHORT, LONG = 1, 20

@@ -7,9 +7,7 @@ import glob
 import os
 import re
 
-from tools.crates import TOP as TOP
-from tools.crates import below as below
-from tools.crates import uses as uses
+from tools.crates import TOP as TOP, below as below, uses as uses
 
 NOT_OURS = {".git", "out", "__pycache__"}
 # What stands between backquotes.

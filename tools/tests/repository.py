@@ -11,7 +11,7 @@ import tempfile
 import unittest
 from contextlib import redirect_stderr, redirect_stdout
 from types import ModuleType
-from typing import Callable
+from typing import Any, Callable
 from unittest import mock
 
 from tools import bench, bitcode, crates, documents, edits, gate, rows, same, sources, syntax
@@ -19,7 +19,7 @@ from tools import map as crates_map
 
 TOP = os.path.dirname(os.path.dirname(os.path.dirname(os.path.abspath(__file__))))
 MODULES = (bench, bitcode, crates, documents, edits, gate, rows, same, sources, syntax, crates_map)
-CACHES = (sources.read, sources.files, sources.blocks, sources.words_of, sources.all_words, crates_map.paths)
+CACHES: tuple[Any, ...] = (sources.read, sources.files, sources.blocks, sources.words_of, sources.all_words, crates_map.paths)
 
 
 def forget() -> None:

@@ -2,7 +2,7 @@
 
 from __future__ import annotations
 
-from tools import documents, sources
+from tools import crates, documents, sources
 from tools.tests.repository import RepositoryTest
 
 
@@ -90,7 +90,7 @@ class Sources(RepositoryTest):
     def test_crates_of_the_kit(self) -> None:
         self.write("crates.txt", "# a comment\nlow: itoa\nhigh: low slab # another\n")
         self.assertEqual(sources.kit_crates(), {"itoa", "slab", "std"})
-        self.assertEqual(sources.below("high"), {"low"})
+        self.assertEqual(crates.below("high"), {"low"})
 
     def test_code_has_no_comments(self) -> None:
         self.write("crates/low/src/lib.rt", "//! head\nfn a() {} // kept\n  // b\n")
