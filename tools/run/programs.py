@@ -14,8 +14,8 @@ PROVED = os.path.join(TOP, "crates", PROGRAM, "out", PROGRAM)
 KEPT = os.path.join(TOP, "out")
 CHECKED = os.path.join(KEPT, PROGRAM)
 
-# Of a crate, where the sources of a program stand. Documents, examples, rows, edits and test crates are none of its.
-SOURCE_FOLDERS = ("src", "specs", "proofs")
+# Of a crate, where what a program is made of stands, and what is proved of it. Proofs are none of that, as documents, rows and edits.
+SOURCE_FOLDERS = ("src", "specs")
 SOURCE_ENDINGS = (".rt", ".antt")
 
 

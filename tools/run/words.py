@@ -64,7 +64,7 @@ LITMUS_OPTIONS = _by_name(
     Option("--runs", "N", "the most runs of a script by GHC (20000)", 1),
     Option("--seconds", "S", "the most seconds that a script is run for (20)"),
     Option("--seed", "N", "where the rows of random numbers begin (1)"),
-    Option("--forks", "F", "reported, or plain as GHC forks: what hits a thread before its first step is told by no line (reported)", choices=("reported", "plain")),
+    Option("--forks", "F", "reported, or plain: as GHC forks, where no line tells what hits a thread before its first step (reported)", choices=("reported", "plain")),
     Option("--where", "", "prints the folder of the support module, which each Haskell module imports"),
 )
 # Those of the script around it.
@@ -97,7 +97,7 @@ COMMANDS = {it.name: it for it in (
     Command("picture", "[FILE]", RUN_OPTIONS, "draws such a history as SVG, or that of a script that it runs first", DOCUMENT_BYTES,
             options_usage="[options of trace]"),
     Command("haskell", "[FILE]", (), "prints it as a Haskell module", SCRIPT_BYTES),
-    Command("litmus", "FILE..", tuple(LITMUS_OPTIONS), "runs it many times by GHC, and holds that beside its list of outcomes",
+    Command("litmus", "FILE..", tuple(LITMUS_OPTIONS), "runs it many times by GHC, and shows that beside its outcomes",
             options_usage="[--runs N] [--seconds S] [--seed N] [--forks F]"),
     Command("test", "", ("--quick",), "proves and tries everything; --quick: the rows alone"),
 ) if it.name not in COMING}

@@ -30,12 +30,14 @@ class Checked(WrapperTest):
         answer = self.call("run", "hello.conc", **as_other())
         self.assertEqual((answer.out, answer.status), ("hello\n", 0))
 
-    def test_a_newer_source_is_built_and_an_edit_is_no_source(self) -> None:
+    def test_a_newer_source_is_built_and_neither_edit_nor_proof_is_one(self) -> None:
         self.copy_with("none")
         self.call("run", "hello.conc")
         self.touch("crates/low/src/lib.rt")
         self.assertIn("building without proof", self.call("run", "hello.conc").err)
         self.touch("crates/low/must-fail/one.edit")
+        os.makedirs(self.path("crates/low/proofs"))
+        self.write("crates/low/proofs/One.antt", "")
         self.assertNotIn("building", self.call("run", "hello.conc").err)
 
     def test_a_build_that_fails_says_why(self) -> None:
