@@ -19,9 +19,17 @@ def find_newer():
     for minor in range(NEWEST, NEEDED[1] - 1, -1):
         for folder in os.environ.get("PATH", os.defpath).split(os.pathsep):
             path = os.path.join(folder, "python3.%d" % minor)
-            if os.access(path, os.X_OK):
+            if os.access(path, os.X_OK) and works(path):
                 return path
     return None
+
+
+def works(path):
+    # type: (str) -> bool
+    """Whether a Python runs. What chooses among several may stand under the name of one that isn't chosen."""
+    import subprocess
+    with open(os.devnull, "r+") as nothing:
+        return subprocess.call([path, "-I", "-S", "-c", ""], stdin=nothing, stdout=nothing, stderr=nothing) == 0
 
 
 def begin():

@@ -112,11 +112,18 @@ class OldPython(unittest.TestCase):
         self.assertEqual(ended.exception.code, 70)
         self.assertRegex(told.getvalue(), r"^conc_run: it needs Python 3\.9 or newer, and \S+ is 3\.8; install a newer one, .*\n$")
 
-    def test_the_newest_is_found(self) -> None:
-        with mock.patch.dict(os.environ, {"PATH": "/a:/b"}), mock.patch("os.access", lambda path, _: path in ("/a/python3.9", "/b/python3.11", "/a/python3.8")):
-            self.assertEqual(beginning.find_newer(), "/b/python3.11")
-        with mock.patch.dict(os.environ, {"PATH": "/a:/b"}), mock.patch("os.access", lambda path, _: path == "/a/python3.8"):
-            self.assertIsNone(beginning.find_newer())
+    def found_among(self, *there: str, broken: str = "") -> str | None:
+        """The newer one that is found where these are there, of which one doesn't work."""
+        with mock.patch.dict(os.environ, {"PATH": "/a:/b"}), mock.patch("os.access", lambda path, _: path in there), \
+                mock.patch.object(beginning, "works", lambda path: path != broken):
+            return beginning.find_newer()
+
+    def test_the_newest_that_works_is_found(self) -> None:
+        self.assertEqual(self.found_among("/a/python3.9", "/b/python3.11", "/a/python3.8"), "/b/python3.11")
+        self.assertEqual(self.found_among("/a/python3.9", "/b/python3.11", broken="/b/python3.11"), "/a/python3.9")
+        self.assertIsNone(self.found_among("/a/python3.8"))
+        self.assertTrue(beginning.works(sys.executable))
+        self.assertFalse(beginning.works("/bin/false"))
 
 
 class Loaded(WrapperTest):
