@@ -8,6 +8,7 @@ import subprocess
 import tempfile
 
 from tools.run.tests.standins import WrapperTest, as_other, wait_until
+from tools.run.tests.terminals import Terminal
 
 WITHOUT_KIT = {"PATH": "/usr/bin:/bin"}
 
@@ -134,10 +135,29 @@ class Stopped(WrapperTest):
         answer = self.call("run", "hello.conc")
         self.assertEqual((answer.out, answer.status), ("hello\n", 0), "and the next run builds")
 
+    @property
+    def slow(self) -> dict[str, str]:
+        """What has a build take long."""
+        return {"STAND_IN_SECONDS": "120", "STAND_IN_RT": os.path.join(self.room, "built")}
+
+    def is_building(self) -> bool:
+        return bool(glob.glob(self.path("out/try.*/log"))) and os.path.exists(os.path.join(self.room, "built"))
+
+    def test_a_key_on_the_terminal(self) -> None:
+        for key, status in ((b"\x03", 130), (b"\x1c", 131)):
+            self.copy_with("none")
+            terminal = Terminal(self, ["run", "hello.conc"], more=self.slow)
+            self.assertTrue(terminal.until(self.is_building), terminal.said)
+            terminal.type(key)
+            self.assertEqual(terminal.end().status, status)
+            self.assertEqual(self.kits(), [], "nothing is left running")
+            self.assert_unbuilt()
+            os.remove(os.path.join(self.room, "built"))
+
     def test_a_build_that_is_stopped(self) -> None:
         self.copy_with("none")
-        with self.start("run", "hello.conc", more={"STAND_IN_SECONDS": "20", "STAND_IN_RT": os.path.join(self.room, "built")}) as wrapper:
-            self.assertTrue(wait_until(lambda: glob.glob(self.path("out/try.*/log")) and os.path.exists(os.path.join(self.room, "built"))))
+        with self.start("run", "hello.conc", more=self.slow) as wrapper:
+            self.assertTrue(wait_until(self.is_building))
             wrapper.terminate()
             wrapper.communicate()
         self.assertEqual(wrapper.returncode, 143)
