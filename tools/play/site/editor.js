@@ -40,6 +40,11 @@ function paintLine(line, n) {
     div.append(className ? make('span', { className, ...(code ? { 'data-code': code } : {}) }, code && TURNS.test(part) ? '\u200b' : part) : part);
   }
   if (isWrong && wrong.range?.[0] >= line.length) div.append(make('span', { className: 'mark' }, '\u00a0'));
+  const claim = claimAt.get(n + 1);
+  if (claim) {
+    div.classList.add('claim');
+    Object.assign(div.dataset, { verdict: claim.head, kind: claim.kind });
+  }
   return div;
 }
 
@@ -64,6 +69,7 @@ function paintVisible() {
   paper.style.counterReset = `row ${first}`;
   paper.style.transform = `translate(${-text.scrollLeft}px, ${first * ROW - text.scrollTop}px)`;
   paper.style.setProperty('--across', `${text.scrollLeft}px`);
+  paper.style.setProperty('--wide', `${text.clientWidth}px`);
   paper.replaceChildren(...lines.slice(first, behind).map((line, i) => paintLine(line, first + i)));
 }
 

@@ -95,6 +95,7 @@ function showOutcomes(result, input, isWanted) {
   }
   $('shown').append(cards, more, make('p', {}, saving('Save the list', result.out, 'text/plain', 'outcomes.txt')));
   next();
-  claimsBeside(list, result);
-  if (result.milliseconds > MEANWHILE.least) witnesses.makeMeanwhile(list.items, isWanted);
+  claimsBeside(result, input, isWanted, number => witnesses.of(number)).then(() => {
+    if (isWanted() && result.milliseconds > MEANWHILE.least) witnesses.makeMeanwhile(list.items, isWanted);
+  });
 }
