@@ -93,7 +93,7 @@ def commands() -> list[str]:
 def about(script: str) -> str:
     """The first sentence of the comment at a script's head."""
     head = re.match(r"(?:--.*\n)*", script)
-    comment = " ".join(it[2:].strip() for it in (head[0] if head else "").split("\n") if it and not it.startswith("--!"))
+    comment = " ".join(it[2:].strip() for it in (head[0] if head else "").split("\n") if it and not re.match(r"--\s*!", it))
     first = re.match(r".*?[.?](?= |$)", comment)
     return first[0] if first else comment
 

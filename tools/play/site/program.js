@@ -66,5 +66,5 @@ function cannotRun(problem) {
   const said = String(problem?.message ?? problem), refused = /Content Security Policy|unsafe-eval|disallowed/i.test(said);
   return refused || typeof WebAssembly === 'undefined'
     ? 'WebAssembly is not allowed here, so nothing can be checked or run. Allow it for this page, or take another browser, or the program itself.'
-    : `It needs Chrome or Edge 97, Firefox 113, Safari 16.4 or newer, with scripts and WebAssembly allowed. It says: ${said}`;
+    : `It needs Chrome or Edge 103, Firefox 113, Safari 16.4 or newer, with scripts and WebAssembly allowed. It says: ${said}`;
 }
