@@ -12,6 +12,8 @@ const FAILURES = {
     cure: 'Nest less, take another browser (Chrome has a larger stack), or the program itself.' },
   memory: { head: 'The browser gives no memory', kind: 'stuck', rest: 'nothing was checked or run',
     cure: 'Close other pages, take a smaller **Memory**, under Options, or the program itself.' },
+  worker: { head: 'The browser starts no worker', kind: 'stuck', rest: 'so nothing was checked or run',
+    cure: 'Allow them for this page, which a policy or an add-on may forbid, or take another browser, or the program itself.' },
 };
 
 // How a call ended: a head, its kind, the rest of the sentence, and what to do.
