@@ -7,7 +7,7 @@ const TYPES = new Set('Int Bool Text ThreadId SomeException Maybe Either MVar IO
 const KEYS = new Set('if then else case of let in'.split(' '));
 const FORMS = new Set(data.words);
 const TOKEN = /(--.*)|("(?:\\.|[^"\\])*"?)|([\p{L}_][\p{L}\p{N}_']*)|(\d+)/gu;
-let lines = [], wrong = null, here = -1, isLong = false;
+let lines = [], wrong = null, here = -1, isLong = false, isPrinting = false;
 
 // The coloured stretches of a line: [from, to, class].
 function coloursOf(line) {
@@ -70,7 +70,7 @@ function paintWhole(next, all) {
 
 // Of a long script the lines that can be seen.
 function paintVisible() {
-  if (!isLong) return;
+  if (!isLong || isPrinting) return;
   const first = Math.max(0, Math.floor(text.scrollTop / ROW) - 4), behind = first + Math.ceil(text.clientHeight / ROW) + 8;
   paper.style.counterReset = `row ${first}`;
   paper.style.transform = `translate(${-text.scrollLeft}px, ${first * ROW - text.scrollTop}px)`;
@@ -121,8 +121,16 @@ function goTo(place) {
 
 // All of a long script is printed.
 function listenToPrinter() {
-  addEventListener('beforeprint', () => { if (isLong) paper.replaceChildren(...lines.map((line, n) => paintLine(line, n, true))); });
-  addEventListener('afterprint', paintVisible);
+  addEventListener('beforeprint', () => {
+    if (!isLong) return;
+    isPrinting = true;
+    paper.style.counterReset = 'row 0';
+    paper.replaceChildren(...lines.map((line, n) => paintLine(line, n, true)));
+  });
+  addEventListener('afterprint', () => {
+    isPrinting = false;
+    paintVisible();
+  });
 }
 
 function listenToEditor() {
@@ -142,4 +150,5 @@ function listenToEditor() {
     }
     if (event.key !== 'Shift') leaving = event.key === 'Escape';
   });
+  for (const it of ['blur', 'pointerdown', 'input']) text.addEventListener(it, () => { leaving = false; });
 }

@@ -2,6 +2,7 @@
 
 from __future__ import annotations
 
+import base64
 import re
 import unittest
 from typing import Any
@@ -83,7 +84,7 @@ class Keyboard(PageTest):
 
     def test_tab_indents(self) -> None:
         self.page.load("")
-        self.page.run("document.getElementById('text').focus()")
+        self.page.run("document.getElementById('text').blur(); document.getElementById('text').focus()")
         self.page.press(Keys.TAB, "x")
         self.assertEqual("  x", self.page.run(TEXT))
         self.page.press(Keys.ESCAPE)
@@ -96,7 +97,6 @@ class Keyboard(PageTest):
         self.page.press(Keys.CONTROL, Keys.ENTER)
         self.page.until("return !document.getElementById('stop').disabled")
         self.page.press(Keys.ESCAPE)
-        self.page.walk_to("stop")
         self.page.until("return document.getElementById('said').innerText.startsWith('Stopped')")
 
 
@@ -232,3 +232,5 @@ class Looks(PageTest):
         self.assertGreater(lines[1], lines[0])
         self.page.run("dispatchEvent(new Event('afterprint'))")
         self.assertLess(self.page.run("return document.querySelectorAll('#paper div').length"), 200)
+        printed = base64.b64decode(self.page.driver.execute_cdp_cmd("Page.printToPDF", {})["data"])
+        self.assertGreater(len(re.findall(rb"/Type\s*/Page\b", printed)), 40)
