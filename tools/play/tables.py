@@ -7,6 +7,7 @@ import re
 import sys
 from typing import Iterator
 
+from tools.run.words import COMMANDS
 from tools.sources import TOP, here, read
 
 # What no row of the documents' tables has, since these faults are explained in paragraphs.
@@ -92,7 +93,7 @@ def commands() -> list[str]:
 def about(script: str) -> str:
     """The first sentence of the comment at a script's head."""
     head = re.match(r"(?:--.*\n)*", script)
-    comment = " ".join(it[2:].strip() for it in (head[0] if head else "").split("\n") if it and not it.startswith("--!"))
+    comment = " ".join(it[2:].strip() for it in (head[0] if head else "").split("\n") if it and not re.match(r"--\s*!", it))
     first = re.match(r".*?[.?](?= |$)", comment)
     return first[0] if first else comment
 
@@ -123,9 +124,18 @@ def tour(known: dict[str, dict[str, str]]) -> list[dict[str, object]]:
     return groups + ([{"title": "More", "names": rest}] if rest else [])
 
 
+def translating() -> str:
+    """How a module of Haskell becomes a script, by what the repository has."""
+    if "script" in COMMANDS:
+        return "The program itself takes a module as it is, `conc_run outcomes Main.hs`, and `conc_run script Main.hs` prints the script for this page."
+    if os.path.isdir(os.path.join(TOP, "from-haskell")):
+        return "A translator stands beside the sources of the program, for GHC 9.0.2: `$(from-haskell/build) Main.hs` prints the script for this page."
+    return ""
+
+
 def data() -> dict[str, object]:
     """All that the page's script takes from the repository. The gallery of mistakes stands behind the tour, where there is one."""
     examples, mistakes = scripts("examples/*.conc"), scripts("examples/mistakes/*.conc")
     groups = tour(examples) + ([{"title": "Mistakes and their cures", "names": list(mistakes)}] if mistakes else [])
     return {"examples": {**examples, **mistakes}, "groups": groups, "faults": faults(), "causes": causes(), "words": reserved_words(),
-            "commands": commands(), "translates": os.path.isdir(os.path.join(TOP, "from-haskell"))}
+            "commands": commands(), "translating": translating()}

@@ -1,8 +1,5 @@
 // ---- what further commands of the program will say: one place for each ----
 
-// `claims`: each claim of the script beside its line, `results` below the list of outcomes. Today no command decides claims.
-function claimsBeside() {}
-
 // `explain`: the wanted and the found type in the advice at the mark. Today the sentence of the documents stands there.
 function explainAtMark() {}
 

@@ -8,7 +8,7 @@ function listExamples() {
         $('choose').close();
         loadFresh(script, name);
         text.focus({ preventScroll: true });
-      } }, make('b', {}, name), make('span', {}, ...sentence(about)));
+      } }, make('b', {}, name.split('/').at(-1)), make('span', {}, ...sentence(about)));
     })));
   }
 }

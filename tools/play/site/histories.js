@@ -9,7 +9,7 @@ function pictureOf(picture, title, bar) {
     document.querySelector('#large .scroll').replaceChildren(make('iframe', { src, title: alt, sandbox: '', width, height }));
     $('large').showModal();
   }, 'small'), saving('Save the picture', picture.out, 'image/svg+xml', 'history.svg'));
-  return make('div', { className: 'scroll', tabIndex: 0, role: 'region', ariaLabel: 'Picture' }, make('img', { src, alt, width, height }));
+  return make('div', { className: 'scroll', tabIndex: 0, role: 'region', 'aria-label': 'Picture' }, make('img', { src, alt, width, height }));
 }
 
 const TOLD = 500;
@@ -37,7 +37,7 @@ async function showHistory(place, title, history) {
   }
   bar.append(saving('Save the history', history.out, 'text/plain', 'history.txt'));
   const told = report.status === 0 ? decoded(report.out) : `${endingOf(report).head}: ${endingOf(report).rest}`;
-  place.append(make('pre', { className: 'text', ariaLabel: 'Report', role: 'region', tabIndex: 0 }, ...visible(told)), bar);
+  place.append(make('pre', { className: 'text', 'aria-label': 'Report', role: 'region', tabIndex: 0 }, ...visible(told)), bar);
 }
 
 async function openHistory(title, making, opener) {

@@ -31,13 +31,12 @@ const HOW_TO_WRITE = [
   'an argument that is a call needs parentheses, and `$` is none of the operators: `putStrLn (show 3)`',
   'a block in place of a function that is given: `forkIO { .. }`, `catch { .. } e { .. }`, `modifyMVar_ m x { return (x + 1) }`',
 ];
-const TRANSLATED = 'The program itself takes a module as it is, `conc_run outcomes Main.hs`, and `conc_run script Main.hs` prints the script for this page.';
 function haskellCard() {
   return make('article', { className: 'card stuck haskell' }, make('h3', {}, 'This looks like Haskell, and this page takes scripts'),
     make('p', {}, 'A script is written as Concurrent Haskell without layout, modules and functions as values. To get one, keep the few lines ' +
       'that the question is about, and write them so:'),
     make('ul', {}, ...HOW_TO_WRITE.map(it => make('li', {}, ...sentence(it)))),
-    make('p', {}, 'Examples has scripts to begin with. ', ...(data.translates ? sentence(TRANSLATED) : [])));
+    make('p', {}, 'Examples has scripts to begin with. ', ...sentence(data.translating)));
 }
 
 let asked = 0, timer = 0, foreign = false;
@@ -79,10 +78,10 @@ function askSoon(milliseconds) {
 }
 
 function changed({ loaded = false } = {}) {
-  const before = wrong?.line;
+  const before = wrong?.line, hadClaims = unmarkClaims();
   wrong = null;
   text.removeAttribute('aria-invalid');
-  paint(Boolean(before));
+  paint(Boolean(before) || hadClaims);
   showCaret();
   tellUnseen(lines);
   if (loaded && foreign) {

@@ -16,6 +16,7 @@ const wordsOf = {
   check: () => ['check'],
   run: () => ['run', ...ofRun()],
   outcomes: () => ['outcomes', ...ofRun(), '--states', String(option('states'))],
+  claims: () => ['claims', ...ofRun(), '--states', String(option('states'))],
 };
 
 function takeOptions(given) {

@@ -42,8 +42,8 @@ function outcomeCard(item, witnesses) {
     make('div', { className: 'bar' }, open));
 }
 
-// The histories behind a list. Where the search took long they are made meanwhile, one after the other, so that one opens at once.
-const MEANWHILE = { least: 150, most: 20, bytes: 32 << 20, milliseconds: 600000 };
+// The histories behind a list. Where the search took long they are made meanwhile, a few at a time, so that one opens at once.
+const MEANWHILE = { least: 150, most: 20, bytes: 32 << 20, milliseconds: 600000, workers: 3, memory: 512 << 20 };
 class Witnesses {
   constructor(words, input) { Object.assign(this, { words, input, made: new Map() }); }
 
@@ -57,17 +57,21 @@ class Witnesses {
   // The one that is made meanwhile is waited for, and another has a call of its own.
   of(number) { return this.made.get(number) ?? this.make(number, false); }
 
-  async makeMeanwhile(items, isWanted) {
-    const begun = performance.now();
+  // A search that took much memory has no other beside it.
+  async makeMeanwhile(items, memory, isWanted) {
+    const begun = performance.now(), left = items.slice(0, MEANWHILE.most);
+    const workers = memory > MEANWHILE.memory ? 1 : Math.max(1, Math.min(MEANWHILE.workers, (navigator.hardwareConcurrency ?? 2) - 1));
     let bytes = 0;
-    for (const item of items.slice(0, MEANWHILE.most)) {
-      while (document.hidden && isWanted()) await new Promise(done => { setTimeout(done, 1000); });
-      if (!isWanted() || bytes > MEANWHILE.bytes || performance.now() - begun > MEANWHILE.milliseconds) return;
-      if (this.made.has(item.number)) continue;
-      const made = await this.make(item.number, true).catch(() => null);
-      if (!made) return;
-      bytes += made.out.length;
-    }
+    const one = async () => {
+      while (left.length) {
+        while (document.hidden && isWanted()) await new Promise(done => { setTimeout(done, 1000); });
+        if (!isWanted() || bytes > MEANWHILE.bytes || performance.now() - begun > MEANWHILE.milliseconds) return;
+        const { number } = left.shift(), made = this.made.has(number) ? { out: [] } : await this.make(number, true).catch(() => null);
+        if (!made) return;
+        bytes += made.out.length;
+      }
+    };
+    await Promise.all(Array.from({ length: workers }, one));
   }
 }
 
@@ -95,6 +99,7 @@ function showOutcomes(result, input, isWanted) {
   }
   $('shown').append(cards, more, make('p', {}, saving('Save the list', result.out, 'text/plain', 'outcomes.txt')));
   next();
-  claimsBeside(list, result);
-  if (result.milliseconds > MEANWHILE.least) witnesses.makeMeanwhile(list.items, isWanted);
+  claimsBeside(result, input, isWanted, number => witnesses.of(number)).then(() => {
+    if (isWanted() && result.milliseconds > MEANWHILE.least) witnesses.makeMeanwhile(list.items, result.memory, isWanted);
+  });
 }

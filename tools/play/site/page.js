@@ -29,6 +29,7 @@ function showResult(kind, result, words, input, isWanted) {
     $('shown').append(...refusal(result));
   } else if (kind === 'check' && result.status === 0) say({ head: 'Accepted', kind: 'good' }, took);
   else if (kind === 'outcomes') showOutcomes(result, input, isWanted);
+  else if (kind === 'claims') showClaims(result, input);
   else say(ending, took);
   const ran = kind === 'run' && ![2, 3].includes(result.status) && (result.status !== null || result.out.length || result.err.length);
   if (!ran) return;
@@ -42,6 +43,7 @@ function clear() {
   $('shown').replaceChildren();
   $('histories').replaceChildren();
   $('stale').hidden = true;
+  if (unmarkClaims()) paint(true);
 }
 
 async function act(kind) {
@@ -54,7 +56,7 @@ async function act(kind) {
     showVerdict('', '');
   }
   clear();
-  say({ head: { check: 'checking', run: 'running', outcomes: 'searching' }[kind] + '\u2026' });
+  say({ head: { check: 'checking', run: 'running', outcomes: 'searching', claims: 'judging' }[kind] + '\u2026' });
   try {
     const result = await busy(() => call(words, input, { onPiece: liveOutput(() => isWanted() && kind === 'run') }));
     if (!isWanted()) return;
@@ -133,6 +135,7 @@ async function begin() {
     await compiled();
     spare ??= newWorker();
     $('ready').textContent = `Ready ${duration(performance.now())} after opening.`;
+    judgesClaims().then(judges => { $('claims').hidden = !judges; });
   } catch (problem) {
     say({ head: 'This browser cannot run it', kind: 'bad', rest: cannotRun(problem) });
   }

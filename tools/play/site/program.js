@@ -3,7 +3,15 @@
 // So Stop ends it at any moment, and its memory is given back.
 const policy = globalThis.trustedTypes?.createPolicy('conc-run', { createScriptURL: address => address });
 const workerAddress = URL.createObjectURL(new Blob([$('worker').textContent], { type: 'text/javascript' }));
-const newWorker = () => new Worker(policy ? policy.createScriptURL(workerAddress) : workerAddress);
+function newWorker() {
+  const worker = new Worker(policy ? policy.createScriptURL(workerAddress) : workerAddress);
+  // One that isn't allowed says so soon, maybe before it is called.
+  worker.onerror = problem => {
+    problem.preventDefault();
+    worker.isBroken = true;
+  };
+  return worker;
+}
 let compiling = null, spare = null;
 const running = new Set();
 
@@ -29,7 +37,7 @@ function answerOf(worker, words, onPiece, end) {
   };
   worker.onerror = problem => {
     problem.preventDefault();
-    const failure = /memory/i.test(problem.message ?? '') ? 'memory' : problem.message || 'the browser ended the worker';
+    const failure = /memory/i.test(problem.message ?? '') ? 'memory' : problem.message || 'worker';
     end({ words, status: null, failure, milliseconds: 0, memory: 0, out: new Uint8Array(), err: new Uint8Array() });
   };
 }
@@ -50,7 +58,7 @@ function call(words, input, { onPiece = () => {}, quiet = false } = {}) {
     running.add(handle);
     compiled().then(module => {
       if (isOver) return;
-      worker = spare ?? newWorker();
+      worker = spare && !spare.isBroken ? spare : newWorker();
       spare = null;
       answerOf(worker, words, onPiece, answer => end(() => resolve(answer)));
       worker.postMessage({ module, words, input, limit: option('memory') * 1048576 });
@@ -66,5 +74,5 @@ function cannotRun(problem) {
   const said = String(problem?.message ?? problem), refused = /Content Security Policy|unsafe-eval|disallowed/i.test(said);
   return refused || typeof WebAssembly === 'undefined'
     ? 'WebAssembly is not allowed here, so nothing can be checked or run. Allow it for this page, or take another browser, or the program itself.'
-    : `It needs Chrome or Edge 97, Firefox 113, Safari 16.4 or newer, with scripts and WebAssembly allowed. It says: ${said}`;
+    : `It needs Chrome or Edge 103, Firefox 113, Safari 16.4 or newer, with scripts and WebAssembly allowed. It says: ${said}`;
 }

@@ -12,6 +12,8 @@ const FAILURES = {
     cure: 'Nest less, take another browser (Chrome has a larger stack), or the program itself.' },
   memory: { head: 'The browser gives no memory', kind: 'stuck', rest: 'nothing was checked or run',
     cure: 'Close other pages, take a smaller **Memory**, under Options, or the program itself.' },
+  worker: { head: 'The browser starts no worker', kind: 'stuck', rest: 'so nothing was checked or run',
+    cure: 'Allow them for this page, which a policy or an add-on may forbid, or take another browser, or the program itself.' },
 };
 
 // How a call ended: a head, its kind, the rest of the sentence, and what to do.
@@ -53,7 +55,7 @@ function stream(label, bytes, className = '') {
   const notes = [bytes.length > SHOWN ? `and ${number(bytes.length - SHOWN)} bytes more` : '', changes ? "what can't be seen stands as its code" : '']
     .filter(Boolean).join('; ');
   return make('div', {}, make('p', { className: 'label' }, label + (part.endsWith('\n') ? '' : ' (without a line feed at its end)')),
-    make('pre', { className: `text ${className}`, tabIndex: 0, ariaLabel: label, role: 'region', translate: false }, ...nodes),
+    make('pre', { className: `text ${className}`, tabIndex: 0, 'aria-label': label, role: 'region', translate: false }, ...nodes),
     notes ? make('p', { className: 'label' }, `${notes}. `, saving('Save it as it is', bytes, 'text/plain', file)) : null);
 }
 
@@ -61,8 +63,8 @@ function refusal(result) {
   const line = lastLine(result.err), place = placeOf(line), told = data.faults[place?.fault], near = [];
   if (place?.line) {
     const from = Math.max(0, place.range[0] - 60), before = visible(place.row.slice(from, place.range[0])).map(it => it.textContent ?? it).join('');
-    near.push(make('pre', { className: 'text', ariaLabel: `Line ${place.line}`, role: 'region', tabIndex: 0 },
-      ...visible(place.row.slice(from, place.range[0] + 60)), '\n', make('span', { ariaHidden: 'true' }, before.replace(/[^\t]/g, ' ') + '^')));
+    near.push(make('pre', { className: 'text', 'aria-label': `Line ${place.line}`, role: 'region', tabIndex: 0 },
+      ...visible(place.row.slice(from, place.range[0] + 60)), '\n', make('span', { 'aria-hidden': 'true' }, before.replace(/[^\t]/g, ' ') + '^')));
   }
   const card = make('article', { className: 'card bad' }, make('h3', {}, line), ...near, told ? make('p', {}, ...sentence(told.where)) : null,
     told?.cure ? make('p', {}, make('b', {}, 'What to do: '), ...sentence(told.cure)) : null,

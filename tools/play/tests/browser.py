@@ -12,6 +12,7 @@ from typing import Any, Sequence
 
 from selenium import webdriver
 from selenium.webdriver.common.by import By
+from selenium.webdriver.common.keys import Keys
 
 from tools.play.tests import marionette, native, settings
 
@@ -29,19 +30,21 @@ class Result:
         self.failure, self.milliseconds, self.memory, self.words = packed[3:7]
 
 
-def chromium() -> Any:
+def chromium(*words: str, **settings_of_user: Any) -> Any:
+    """Chromium with further words of its command line and settings of its user."""
     options = webdriver.ChromeOptions()
     options.binary_location = shutil.which("chromium")
-    for word in ("--headless=new", "--no-sandbox", "--disable-gpu", "--window-size=1280,900"):
+    for word in ("--headless=new", "--no-sandbox", "--disable-gpu", "--window-size=1280,900", *words):
         options.add_argument(word)
+    options.add_experimental_option("prefs", settings_of_user)
     options.set_capability("goog:loggingPrefs", {"browser": "ALL"})
     service = webdriver.chrome.service.Service(shutil.which("chromedriver"))
     return webdriver.Chrome(service=service, options=options)
 
 
 class Page:
-    def __init__(self) -> None:
-        self.driver = {"chromium": chromium, "firefox": marionette.Firefox}[settings.browser]()
+    def __init__(self, driver: Any = None) -> None:
+        self.driver = driver or {"chromium": chromium, "firefox": marionette.Firefox}[settings.browser]()
         self.driver.set_script_timeout(600)
         self.address = "file://" + os.path.abspath(settings.page)
 
@@ -98,6 +101,25 @@ class Page:
 
     def all(self, selector: str) -> list[Any]:
         return self.driver.find_elements(By.CSS_SELECTOR, selector)
+
+    def press(self, *keys: str) -> None:
+        """Presses keys where the page's caret or focus is; of the first ones each is held that only changes others."""
+        if settings.browser == "chromium":
+            self.driver.switch_to.active_element.send_keys(*keys)
+        else:
+            self.driver.press(*keys)
+
+    def focused(self) -> str:
+        """What has the focus, by its name, or its words."""
+        return str(self.run("const it = document.activeElement; return it.id || it.getAttribute('aria-label') || it.textContent.trim() || it.tagName"))
+
+    def walk_to(self, name: str, most: int = 60) -> None:
+        """Goes on by the key Tab until this has the focus."""
+        for _ in range(most):
+            if self.focused() == name:
+                return
+            self.press(Keys.TAB)
+        raise AssertionError(f"no key Tab leads to {name}")
 
     def log(self) -> list[str]:
         return [it["message"] for it in self.driver.get_log("browser")] if settings.browser == "chromium" else []

@@ -15,6 +15,8 @@ from typing import Any
 PREFERENCES = {"marionette.port": 0, "app.update.enabled": False, "browser.shell.checkDefaultBrowser": False, "datareporting.policy.dataSubmissionEnabled": False,
                "browser.startup.homepage": "about:blank", "toolkit.startup.max_resumed_crashes": -1, "dom.disable_beforeunload": True}
 SECONDS = 60
+# The keys Shift, Control, Alt and Meta, as the protocol spells them.
+MODIFIERS = "\ue008\ue009\ue00a\ue03d"
 
 
 def free_port() -> int:
@@ -97,6 +99,14 @@ class Firefox:
     def find_elements(self, _: str, selector: str) -> list[Element]:
         count = self.execute_script("return document.querySelectorAll(arguments[0]).length", selector)
         return [Element(self, selector, it) for it in range(count)]
+
+    def press(self, *keys: str) -> None:
+        """Presses keys one after the other; those that change others are held to the end."""
+        held = [it for it in keys if it in MODIFIERS]
+        moves = [("keyDown", it) for it in held]
+        moves += [(kind, letter) for it in keys if it not in MODIFIERS for letter in it for kind in ("keyDown", "keyUp")]
+        moves += [("keyUp", it) for it in held]
+        self.send("WebDriver:PerformActions", {"actions": [{"type": "key", "id": "keys", "actions": [{"type": kind, "value": it} for kind, it in moves]}]})
 
     def quit(self) -> None:
         self.process.terminate()

@@ -22,17 +22,17 @@ def examples() -> dict[str, str]:
     return found
 
 
-def quoted(text: str, number: int) -> bytes | None:
-    """The bytes of a text in quotes of a row. Bytes of a case (`\\?`) aren't known here."""
+def quoted(text: str, number: int, case: bytes = b"") -> bytes | None:
+    """The bytes of a text in quotes of a row; `\\?` is the byte of a case."""
     inside = re.fullmatch(r'"(.*)"', text.strip())
-    if not inside or r"\?" in inside[1]:
+    if not inside or r"\?" in inside[1] and not case:
         return None
     found = b""
     for it in re.finditer(r"\\x([0-9a-fA-F]{2})|\\(.)|([^\\]+)", inside[1]):
         if it[1]:
             found += bytes([int(it[1], 16)])
         elif it[2]:
-            found += {"i": str(number).encode(), "p": str(number - 1).encode()}.get(it[2]) or ESCAPES[it[2]]
+            found += {"i": str(number).encode(), "p": str(number - 1).encode(), "?": case}.get(it[2]) or ESCAPES[it[2]]
         else:
             found += it[3].encode()
     return found
@@ -49,8 +49,8 @@ def repeated(line: str) -> bytes | None:
     return b"".join(quoted(text, it) or b"" for it in range(1, int(times) + 1))
 
 
-def input_of(row: list[str]) -> bytes | None:
-    """What a row gives to the program, or None where its cases have several inputs."""
+def input_of(row: list[str], case: bytes = b"") -> bytes | None:
+    """What a row gives to the program in a case, or None where that is longer than any script."""
     found, is_line = b"", False
     for line in row:
         if line.startswith("|"):
@@ -61,7 +61,7 @@ def input_of(row: list[str]) -> bytes | None:
         if line.startswith("+"):
             piece = line[1:].removeprefix(" ").encode()
         elif line.startswith('bytes "'):
-            piece = quoted(line.removeprefix("bytes "), 0)
+            piece = quoted(line.removeprefix("bytes "), 0, case)
         elif re.match(r'repeat \d+ "', line):
             piece = repeated(line)
         if piece is None:
@@ -75,15 +75,46 @@ def words_of(row: list[str]) -> list[str]:
     return shlex.split(words)
 
 
+def bytes_of(line: str) -> list[int]:
+    """The bytes that a line `each byte: 00-09 0B` names."""
+    ends = [it.split("-") for it in line.removeprefix("each byte:").split()]
+    return [it for one in ends for it in range(int(one[0], 16), int(one[-1], 16) + 1)]
+
+
+def inputs_of(row: list[str]) -> list[bytes]:
+    """What a row gives to the program, in each of its cases."""
+    each = next((it for it in row if it.startswith("each ")), "")
+    whole = input_of(row)
+    if each.startswith("each byte:"):
+        return [made for it in bytes_of(each) if (made := input_of(row, bytes([it]))) is not None]
+    if whole is None:
+        return []
+    return [whole[:size] for size in range(1, len(whole))] if each == "each part" else [whole]
+
+
 def of_rows() -> Iterator[tuple[str, list[str], bytes]]:
-    """Each row with one input: its name, its words and what it gives to the program. Rows of cases and of bad sources are left out."""
+    """Each row in each of its cases: its name, its words and what it gives to the program. What isn't a script, as a clock or a source that
+    fails, is left out, and so are the two documents that are longer than any script."""
     for path in here("crates/conc_rows/data/*.rows"):
         for name, _, row in rows.rows_of(path):
-            if any(it.startswith(("each ", "source:", "clock:", "later")) for it in row):
-                continue
-            script = input_of(row)
-            if script is not None:
+            for script in inputs_of(row):
                 yield name, words_of(row), script
+
+
+def outcomes_of(told: bytes) -> list[tuple[int, bytes, bytes]]:
+    """The outcomes of a list: the status, the output and the errors of each."""
+    statuses, found, stream = {b"done": 0, b"uncaught": 1, b"deadlock": 4}, [], 0
+    for line in told.split(b"\n"):
+        head = re.match(rb"\d+\. (done|uncaught|deadlock), after", line)
+        if head:
+            found.append([statuses[head[1]], b"", b""])
+        elif line in (b"   output:", b"   errors:"):
+            stream = 1 if line == b"   output:" else 2
+        elif line.startswith((b"     | ", b"     : ")):
+            found[-1][stream] += line[7:] + (b"\n" if line[5:6] == b"|" else b"")
+        elif line == b"     |":
+            found[-1][stream] += b"\n"
+    return [(it[0], it[1], it[2]) for it in found]
 
 
 NASTY = '<img src=x onerror=alert(1)><script>alert(2)</script></pre></textarea>&amp;\'"'.replace('"', '\\"')

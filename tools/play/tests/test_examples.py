@@ -6,7 +6,7 @@ import time
 
 from tools.play.tests import native
 from tools.play.tests.browser import PageTest, Result
-from tools.play.tests.scripts import examples
+from tools.play.tests.scripts import examples, outcomes_of
 
 # A list of so long a search is asked for its histories once only.
 SLOW = {"counts"}
@@ -35,14 +35,30 @@ class Examples(PageTest):
         print(f"outcomes of all examples: page {times['page']:.1f} s, program {times['program']:.1f} s, {times['page'] / times['program']:.2f} times")
 
     def test_real_clock(self) -> None:
-        """A script with one outcome in every timing prints the same by the real clock, here and there."""
-        tried = 0
+        """What a run by the real clock comes to stands in the program's list; of a script with one outcome it is what the program prints."""
+        alone = 0
         for name, script in examples().items():
-            if name not in SLOW and native.call(["outcomes"], script.encode()).out.startswith(b"1 outcome, and there are no others"):
-                with self.subTest(name):
-                    self.same(self.page.act("run", script, clock="real"), script)
-                    tried += 1
-        self.assertGreater(tried, 8)
+            with self.subTest(name):
+                told = native.call(["outcomes"], script.encode())
+                self.assertEqual(0, told.status)
+                result = self.page.act("run", script, clock="real")
+                status, out, err = result.answer
+                self.assertIn((status, out, err.removesuffix(b"deadlock\n") if status == 4 else err), outcomes_of(told.out))
+                if told.out.startswith(b"1 outcome, and there are no others"):
+                    self.same(result, script)
+                    alone += 1
+        self.assertGreater(alone, 8)
+
+    def test_real_clock_by_its_history(self) -> None:
+        """A history that the page writes by the real clock is, for the program, a run of the script; and its report and picture are the same."""
+        for name, script in examples().items():
+            with self.subTest(name):
+                traced = self.page.calls([(["trace", "--clock", "real"], script.encode())])[0]
+                self.assertIsNone(traced.failure)
+                verdict = native.call(["verify"], traced.answer.out)
+                self.assertEqual((0, b""), (verdict.status, verdict.err))
+                for result in self.page.calls([([it], traced.answer.out) for it in ("verify", "report", "picture")]):
+                    self.same(result, traced.answer.out)
 
     def test_histories(self) -> None:
         seen = 0

@@ -81,6 +81,25 @@ class Hostile(PageTest):
     def test_one_long_line(self) -> None:
         self.page.load("-- " + "x" * 1000000 + "\nmain :: IO () = { return () };")
         self.page.until("return document.getElementById('verdict').textContent === 'accepted'")
+        self.assertTrue(self.page.run("return document.querySelector('#paper .comment').textContent.length"))
+
+    def test_a_mark_far_to_the_right(self) -> None:
+        """Colours and the mark stand where the text has what they are of, also at column 960,019 of a line."""
+        part = 'putStr "x"; '
+        script = "main :: IO () = { " + part * 80000 + "putStr 3; " + part * 5000 + "return () };"
+        begun = time.time()
+        self.page.load(script)
+        self.page.until("return document.getElementById('verdict').textContent === 'refused: Mismatch at 1:960019'")
+        print(f"a line of {len(script)} characters is loaded and checked in {time.time() - begun:.1f} s")
+        self.page.run("document.getElementById('verdict').click()")
+        self.assertEqual("putStr", self.page.until("return [...document.querySelectorAll('#paper .mark')].map(it => it.textContent).join('')"))
+        self.assertGreater(self.page.run("return document.querySelectorAll('#paper .string').length"), 5)
+        far = self.page.run("""const text = document.getElementById('text'), mark = document.querySelector('#paper .mark').getBoundingClientRect(), style = getComputedStyle(text);
+          const pen = document.createElement('canvas').getContext('2d'); pen.font = style.fontSize + ' ' + style.fontFamily;
+          const cell = pen.measureText('x'.repeat(1000)).width / 1000, wanted = text.getBoundingClientRect().left + parseFloat(style.paddingLeft) + 960018 * cell - text.scrollLeft;
+          return [Math.abs(mark.left - wanted), mark.left - text.getBoundingClientRect().left, text.clientWidth];""")
+        self.assertLess(far[0], 3)
+        self.assertTrue(0 < far[1] < far[2], far)
 
     def test_much_output(self) -> None:
         lines = ('f (n :: Int) :: IO () = { if n == 0 then { return () } else { putStrLn "0123456789"; f (n - 1) } };\nmain :: IO () = { f 90000 };')

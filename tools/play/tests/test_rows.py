@@ -1,4 +1,4 @@
-"""The scripts of the rows, by their own words and by check, run and outcomes."""
+"""The scripts of the rows, in each of their cases, by their own words and by check, run and outcomes."""
 
 from __future__ import annotations
 
@@ -10,23 +10,36 @@ from tools.play.tests.scripts import of_rows
 
 BUNCH = 25
 SHORT = 60000
+# A part of a script is asked by fewer commands.
+PART = "part-of-"
+OF_SCRIPTS = ("run", "check", "trace", "outcomes")
+
+
+def without_threads(words: list[str]) -> list[str]:
+    """The words without a number of capabilities, which the page has one of."""
+    if "--caps" not in words:
+        return [it for it in words if not it.startswith("--caps=")]
+    at = words.index("--caps")
+    return words[:at] + words[at + 2:]
+
+
+def own_words(words: list[str]) -> list[str]:
+    """The row's own words, by a clock for which each run is like every other."""
+    own = without_threads(words)
+    return [*own, "--clock", "virtual"] if own[:1] in (["run"], ["trace"]) and not any("--clock" in it for it in own) else own
 
 
 def calls() -> Iterator[tuple[str, list[str], bytes]]:
     for number, (name, words, script) in enumerate(of_rows()):
         if number % settings.every:
             continue
-        # Several capabilities are the program's alone, and in real timing no run is like another.
-        own = [it for it in words if it != "--caps"] if "--caps" in words else words
-        if own[:1] not in (["run"], ["trace"], ["bench"]) and own == words:
-            yield name, words, script
-        if own[:1] in (["run"], ["trace"]) or not own:
-            if len(script) < SHORT:
-                yield name, ["check"], script
-                yield name, ["run", "--clock", "virtual", "--fuel", "100000"], script
-                yield name, ["outcomes", "--states", "2000"], script
-            else:
-                yield name, ["check"], script
+        if not name.startswith(PART):
+            yield name, own_words(words), script
+        if words[:1] and words[0] in OF_SCRIPTS:
+            yield name, ["check"], script
+            yield name, ["run", "--clock", "virtual", "--fuel", "100000"], script
+            if len(script) < SHORT and not name.startswith(PART):
+                yield name, ["outcomes", "--states", "2000", "--fuel", "20000"], script
 
 
 class Rows(PageTest):

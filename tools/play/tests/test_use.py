@@ -1,30 +1,22 @@
-"""How the page is used: while one writes, by links, by the keyboard alone, in the dark, at 400 pixels, printed, and in a browser that is too old."""
+"""How the page is used: while one writes, by links, and by files."""
 
 from __future__ import annotations
 
-import functools
-import http.server
+import base64
 import os
-import threading
+import tempfile
 import time
-import unittest
 from typing import Any
 
-from selenium.webdriver.common.keys import Keys
-
 from tools.play.tests import settings
-from tools.play.tests.browser import Page, PageTest
+from tools.play.tests.browser import PageTest
 from tools.play.tests.scripts import examples
+from tools.play.tests.serving import Server
 
 VERDICT = "return document.getElementById('verdict').textContent"
 TEXT = "return document.getElementById('text').value"
 HASKELL = ["import Control.Concurrent\nmain = do\n  m <- newEmptyMVar\n  putMVar m 1\n", "main :: IO ()\nmain = do { putStrLn \"x\" }\n",
            "module Main where\n\nmain = putStrLn \"x\"\n", "{-# LANGUAGE LambdaCase #-}\nf x = x\n"]
-
-
-class Quiet(http.server.SimpleHTTPRequestHandler):
-    def log_message(self, *_: Any) -> None:
-        pass
 
 
 class Writing(PageTest):
@@ -97,15 +89,12 @@ class Links(PageTest):
 
     @classmethod
     def setUpClass(cls) -> None:
-        folder, name = os.path.split(os.path.abspath(settings.page))
-        cls.server = http.server.ThreadingHTTPServer(("127.0.0.1", 0), functools.partial(Quiet, directory=folder))
-        threading.Thread(target=cls.server.serve_forever, daemon=True).start()
-        cls.address = f"http://127.0.0.1:{cls.server.server_address[1]}/{name}"
+        cls.server = Server()
+        cls.address = cls.server.address
 
     @classmethod
     def tearDownClass(cls) -> None:
-        cls.server.shutdown()
-        cls.server.server_close()
+        cls.server.close()
 
     def linked(self, script: str, **options: Any) -> str:
         self.page.open(address=self.address)
@@ -157,125 +146,77 @@ class Links(PageTest):
         self.page.until("return /No link, but a file/.test(document.getElementById('said').innerText)")
 
 
-class Keyboard(PageTest):
-    def setUp(self) -> None:
-        super().setUp()
-        if settings.browser != "chromium":
-            self.skipTest("keys are pressed in Chromium")
+# Gives a file to the page, by the button or by a drop.
+GIVEN = """const [way, name, code] = arguments, given = new DataTransfer(), bytes = Uint8Array.from(atob(code), it => it.charCodeAt(0));
+  given.items.add(new File([bytes], name));
+  const field = document.getElementById('file');
+  if (way === 'button') { field.files = given.files; field.dispatchEvent(new Event('change')); }
+  else document.getElementById('editor').dispatchEvent(new DragEvent('drop', {dataTransfer: given, bubbles: true, cancelable: true}));"""
 
-    def key(self, *keys: str) -> None:
-        self.page.driver.switch_to.active_element.send_keys(*keys)
 
-    def test_alone(self) -> None:
-        """From the script to an outcome's history and back, without a pointer."""
+class Files(PageTest):
+    def give(self, name: str, content: bytes, way: str = "button") -> None:
+        self.page.run(GIVEN, way, name, base64.b64encode(content).decode())
+
+    def test_opened(self) -> None:
+        for way in ("button", "drop"):
+            script = f'main :: IO () = {{ putStrLn "{way} \U0001F600" }};\n'
+            self.page.open()
+            self.give("mine.conc", script.encode(), way)
+            self.page.until("return document.getElementById('name').textContent === 'mine.conc'")
+            self.assertEqual(script, self.page.run(TEXT))
+            self.assertIsNone(self.page.run("return playground.last.result ?? null"))
+            self.same(self.page.act("run", clock="virtual"), script)
+
+    def test_not_opened(self) -> None:
         self.page.open()
-        self.page.run("document.querySelector('.skip').focus()")
-        self.key(Keys.ENTER)
-        self.assertEqual("text", self.page.driver.switch_to.active_element.get_attribute("id"))
-        self.key(Keys.CONTROL, Keys.SHIFT, Keys.ENTER)
-        self.page.until("return document.querySelectorAll('.cards .card').length === 3")
-        self.key(Keys.ESCAPE)
-        for _ in range(40):
-            self.key(Keys.TAB)
-            if self.page.driver.switch_to.active_element.text == "Show its history":
+        before = self.page.run(TEXT)
+        for content, said in ((b"\xff\xfe", "not UTF-8"), (b"-" * (5 << 20), "at most 1,048,576 bytes")):
+            self.give("bad.conc", content)
+            self.page.until("return document.getElementById('said').innerText.includes(arguments[0])", 60, said)
+            self.assertEqual(before, self.page.run(TEXT))
+
+    def test_opened_and_too_long(self) -> None:
+        """A file that is read and longer than a script may be is refused by the program."""
+        content = b"-" * 1048577
+        self.give("long.conc", content)
+        self.page.until(f"{VERDICT} === 'refused: TooLong'")
+
+    def test_saved(self) -> None:
+        if settings.browser != "chromium":
+            self.skipTest("the folder of what is saved is set by Chromium's own protocol")
+        script = 'main :: IO () = { putStrLn "\U0001F600 <b> \u202e" };\n'
+        with tempfile.TemporaryDirectory() as folder:
+            self.page.driver.execute_cdp_cmd("Browser.setDownloadBehavior", {"behavior": "allow", "downloadPath": folder})
+            self.page.open()
+            self.page.run("playground.load(arguments[0], 'a/b <c>')", script)
+            self.page.run("document.getElementById('save').click()")
+            result = self.page.act("outcomes", examples()["update"])
+            self.page.run("document.querySelectorAll('.cards .card .bar button')[1].click()")
+            self.page.until("return document.querySelectorAll('.history a').length === 2")
+            self.page.run("for (const it of document.querySelectorAll('#shown a, .history a')) it.click()")
+            saved = self.waited(folder, 4)
+        self.assertEqual(script.encode(), saved["b.conc"])
+        self.assertEqual(result.answer.out, saved["outcomes.txt"])
+        self.assertTrue(saved["history.svg"].startswith(b"<svg "))
+        self.assertIn(b"script", saved["history.txt"])
+
+    def waited(self, folder: str, count: int) -> dict[str, bytes]:
+        for _ in range(200):
+            names = [it for it in os.listdir(folder) if not it.endswith(".crdownload")]
+            if len(names) == count:
                 break
-        self.key(Keys.ENTER)
-        self.page.until("return document.querySelector('.history .story li')")
-        self.assertEqual("SECTION", self.page.driver.switch_to.active_element.tag_name.upper())
-        self.key(Keys.TAB)
-        self.assertEqual("Close", self.page.driver.switch_to.active_element.text)
-        self.key(Keys.ENTER)
-        self.assertEqual("Show its history", self.page.driver.switch_to.active_element.text)
+            time.sleep(0.1)
+        found = {}
+        for name in os.listdir(folder):
+            with open(os.path.join(folder, name), "rb") as file:
+                found[name] = file.read()
+        return found
 
-    def test_tab_indents(self) -> None:
-        self.page.load("")
-        self.page.run("document.getElementById('text').focus()")
-        self.key(Keys.TAB, "x")
-        self.assertEqual("  x", self.page.run(TEXT))
-
-    def test_names_for_a_reader(self) -> None:
-        """All that can be pressed or filled has a name, each image a text, and pieces of news stand where a reader is told of them."""
-        self.page.act("outcomes", examples()["update"], clock="real")
-        self.page.run("document.querySelectorAll('.cards .card .bar button')[0].click()")
-        self.page.until("return document.querySelector('.history .story li')")
-        nameless = self.page.run("""return [...document.querySelectorAll('button, input, select, textarea, a, img, iframe, [role=region], section')].filter(it =>
-          !it.hidden && !it.closest('[hidden]') && it.id !== 'verdict' && !(it.textContent.trim() || it.getAttribute('aria-label') || it.labels?.length || it.alt || it.title))
-          .map(it => it.outerHTML.slice(0, 80))""")
-        self.assertEqual([], nameless)
-        self.assertEqual(["said", "told"], self.page.run("return ['said', 'told'].filter(it => document.getElementById(it).getAttribute('role') === 'status')"))
-        self.assertEqual("en", self.page.run("return document.documentElement.lang"))
-
-
-class Looks(PageTest):
-    def media(self, **features: str) -> None:
-        if settings.browser != "chromium":
-            self.skipTest("colours are set by Chromium's own protocol")
-        self.page.driver.execute_cdp_cmd("Emulation.setEmulatedMedia", {"features": [{"name": f"prefers-{name.replace('_', '-')}", "value": value} for name, value in features.items()]})
-
-    def tearDown(self) -> None:
-        if settings.browser == "chromium":
-            self.page.driver.execute_cdp_cmd("Emulation.setEmulatedMedia", {"features": []})
-            self.page.driver.execute_cdp_cmd("Emulation.clearDeviceMetricsOverride", {})
-        super().tearDown()
-
-    def test_contrast(self) -> None:
-        """Each text has at least the contrast 4.5 with what is behind it, in light and dark."""
-        self.page.act("outcomes", examples()["update"], clock="real")
-        for scheme in ("light", "dark"):
-            self.media(color_scheme=scheme)
-            low = self.page.run("""const part = v => { v /= 255; return v <= .03928 ? v / 12.92 : ((v + .055) / 1.055) ** 2.4; };
-              const light = ([r, g, b]) => .2126 * part(r) + .7152 * part(g) + .0722 * part(b), colour = s => s.match(/[\\d.]+/g).map(Number);
-              const behind = it => { for (; it; it = it.parentElement) { const c = colour(getComputedStyle(it).backgroundColor); if (c.length < 4 || c[3]) return c; } return [255, 255, 255]; };
-              return [...document.querySelectorAll('body *')].filter(it => it.id !== 'text' && it.checkVisibility() && [...it.childNodes].some(n => n.nodeType === 3 && n.data.trim()))
-                .filter(it => !it.disabled).map(it => { const a = light(colour(getComputedStyle(it).color)), b = light(behind(it));
-                return [(Math.max(a, b) + .05) / (Math.min(a, b) + .05), it.tagName + '.' + it.className + ' ' + it.textContent.slice(0, 20)]; }).filter(it => it[0] < 4.5)""")
-            self.assertEqual([], low, scheme)
-
-    def test_four_hundred_pixels(self) -> None:
-        self.media()
-        self.page.driver.execute_cdp_cmd("Emulation.setDeviceMetricsOverride", {"width": 400, "height": 800, "deviceScaleFactor": 1, "mobile": False})
-        self.page.act("outcomes", examples()["timeouts"], clock="real")
-        self.page.run("document.querySelectorAll('.cards .card .bar button')[0].click()")
-        self.page.until("return document.querySelector('.history .story li')")
-        self.page.act("check", HASKELL[0])
-        self.assertEqual(0, self.page.run("return document.documentElement.scrollWidth - document.documentElement.clientWidth"))
-
-
-class Old(unittest.TestCase):
-    """A browser that lacks something says so, each time in a window of its own."""
-
-    def opened(self, lacks: str) -> Page:
-        if settings.browser != "chromium":
-            self.skipTest("what a browser lacks is set by Chromium's own protocol")
-        page = Page()
-        self.addCleanup(page.quit)
-        page.driver.execute_cdp_cmd("Page.addScriptToEvaluateOnNewDocument", {"source": lacks})
-        page.driver.get(page.address)
-        return page
-
-    def test_no_webassembly(self) -> None:
-        page = self.opened("delete globalThis.WebAssembly")
-        page.until("return /cannot run it/.test(document.getElementById('said').innerText)")
-        self.assertIn("WebAssembly is not allowed", page.said())
-
-    def test_no_streams(self) -> None:
-        page = self.opened("delete globalThis.DecompressionStream")
-        page.until("return /cannot run it/.test(document.getElementById('said').innerText)")
-        self.assertIn("Chrome or Edge 97", page.said())
-
-    def test_script_does_not_begin(self) -> None:
-        page = self.opened("delete globalThis.ResizeObserver")
-        page.until("const it = document.getElementById('unstarted'); return it && getComputedStyle(it).visibility === 'visible'", 30)
-
-    def test_a_mistake_of_the_page(self) -> None:
-        page = self.opened("Object.defineProperty(Array.prototype, 'entries', {get() { throw new Error('old'); }})")
-        page.until("return /cannot run it/.test(document.getElementById('said').innerText)")
-        page.run("setTimeout(() => { throw new Error('one'); })")
-        page.until("return /made a mistake/.test(document.getElementById('said').innerText)")
-
-    def test_no_memory(self) -> None:
-        page = self.opened("""const real = WebAssembly.compile, Plain = Worker; globalThis.Worker = class { constructor() { this.terminate = () => {}; }
-          postMessage() { setTimeout(() => this.onmessage({data: {status: null, failure: 'memory', milliseconds: 1, memory: 0, pieces: []}}), 1); } };""")
-        page.until("return document.documentElement.dataset.ready")
-        page.run("playground.act('run')")
-        page.until("return /gives no memory/.test(document.getElementById('said').innerText)")
+    def test_saved_and_opened(self) -> None:
+        """An example is saved by its name."""
+        self.page.run("playground.load('main', 'mistakes/two-locks, changed')")
+        name = self.page.wait_for("""const done = arguments[0], real = HTMLAnchorElement.prototype.click;
+          HTMLAnchorElement.prototype.click = function () { HTMLAnchorElement.prototype.click = real; done(this.download); };
+          document.getElementById('save').click();""")
+        self.assertEqual("two-locks.conc", name)
