@@ -58,7 +58,7 @@ def _open(name: str, call: Call) -> int:
         input.tell_waiting(call)
         return 0
     input.check_file(name)
-    return input.opened(name)
+    return input.opened(name, call.module_words)
 
 
 def _answer(run: Run, call: Call, name: str, streams: Streams, explains: bool) -> int:
@@ -85,6 +85,7 @@ def run_several(run: Run, call: Call, explains: bool) -> int:
         try:
             statuses.append(_answer(run, call, name, streams, explains))
         except Refused as it:
-            say(it.sentence)
+            if it.sentence:
+                say(it.sentence)
             statuses.append(it.status)
     return worst(statuses, COMMANDS[call.command].status_order)

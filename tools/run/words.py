@@ -63,12 +63,19 @@ OWN_OPTIONS = _by_name(
     Option("--prove", "", "proves and builds the program first; until then the checked build without proof runs"),
     Option("--version", "", "the version, the kit, and which build there is"),
 )
+# Those for the translator of Haskell modules.
+MODULE_OPTIONS = _by_name(
+    Option("--main", "NAME", "of a Haskell module the action that is asked, of type IO () (main)"),
+    Option("-iDIR", "", "looks for modules that it imports in this folder too"),
+    Option("--strict", "", "takes what is evaluated here and Haskell may leave out, with a note"),
+    Option("--trust", "", "loads modules without a look at what they make GHC run"),
+)
 # Those that the page has no line for.
 OTHER_OPTIONS = _by_name(
     Option("--help", "", "the page of commands and options"),
     Option("--quick", "", "the rows alone"),
 )
-OPTIONS = {**PROGRAM_OPTIONS, **OWN_OPTIONS, **OTHER_OPTIONS}
+OPTIONS = {**PROGRAM_OPTIONS, **OWN_OPTIONS, **MODULE_OPTIONS, **OTHER_OPTIONS}
 
 RUN_OPTIONS = ("--caps", "--fuel", "--clock")
 COMMANDS = {it.name: it for it in (
@@ -81,6 +88,7 @@ COMMANDS = {it.name: it for it in (
     Command("report", "[FILE]", (), "says what each thread and each cell of such a history did", DOCUMENT_BYTES),
     Command("picture", "[FILE]", RUN_OPTIONS, "draws such a history as SVG, or that of a script that it runs first", DOCUMENT_BYTES,
             options_usage="[options of trace]"),
+    Command("script", "FILE.hs", (), "prints the script that a Haskell module becomes", SCRIPT_BYTES),
     Command("test", "", ("--quick",), "proves and tries everything; --quick: the rows alone"),
 )}
 # These read a history with its script in one document.
