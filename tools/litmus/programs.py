@@ -5,6 +5,7 @@ from __future__ import annotations
 import hashlib
 import os
 import re
+import resource
 import shutil
 import subprocess
 import tempfile
@@ -12,7 +13,8 @@ from collections.abc import Sequence
 from dataclasses import dataclass
 from pathlib import Path
 
-from tools.litmus.haskell import SUPPORT, TOP, Broken, Compiler, Missing
+from tools.litmus.haskell import PATIENCE, RUNTIME, SUPPORT, TOP, Broken, Compiler, Missing, RunOptions
+from tools.litmus.outcomes import Shown, read_counts
 
 FRONT = TOP / "from-haskell" / "front"
 # Modules that stand in front of those of base and async.
@@ -112,3 +114,29 @@ def compile_programs(compiler: Compiler, questions: Sequence[Question], folders:
     words += [f"-i{':'.join(paths)}", "-main-is", DRIVER, "-outputdir", str(room / "objects"), "-o", str(room / "program")]
     call([*words, room / f"{DRIVER}.hs", *(it.path for it in questions)])
     return room / "program"
+
+
+# What a program may take: seconds of a processor, bytes of a file, and the megabytes of its heap.
+MOST_SECONDS, MOST_BYTES, HEAP = 3600, 1 << 26, "1g"
+
+
+def hold() -> None:
+    """Holds this process to what a program may take."""
+    resource.setrlimit(resource.RLIMIT_CPU, (MOST_SECONDS, MOST_SECONDS))
+    resource.setrlimit(resource.RLIMIT_FSIZE, (MOST_BYTES, MOST_BYTES))
+    resource.setrlimit(resource.RLIMIT_CORE, (0, 0))
+
+
+def run_question(program: Path, number: int, options: RunOptions) -> Shown:
+    """Runs a question of the program many times, on 1, 2 and 4 capabilities, in an empty folder and within limits."""
+    words = [str(program), *RUNTIME[:-1], f"-M{HEAP}", RUNTIME[-1], f"--script={number}", f"--runs={options.runs}"]
+    words += [f"--seconds={options.seconds}", f"--seed={options.seed}", f"--forks={options.forks}"]
+    with tempfile.TemporaryDirectory(prefix="litmus-") as folder:
+        try:
+            done = subprocess.run(words, capture_output=True, stdin=subprocess.DEVNULL, cwd=folder, preexec_fn=hold, check=False,
+                                  timeout=options.seconds + PATIENCE)
+        except subprocess.TimeoutExpired as fault:
+            raise Broken(f"its program goes on {PATIENCE} seconds behind its time") from fault
+    if done.returncode != 0:
+        raise Broken(f"its program ended with status {done.returncode}: {done.stderr.decode(errors='replace').strip()}")
+    return read_counts(done.stdout)
