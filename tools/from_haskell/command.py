@@ -5,7 +5,7 @@ from __future__ import annotations
 import argparse
 from collections.abc import Callable, Sequence
 
-from tools.from_haskell import edges, programs
+from tools.from_haskell import edges, generated, libraries, programs, sources
 from tools.from_haskell.rows import TOP
 from tools.from_haskell.translator import Translator, built
 
@@ -25,6 +25,24 @@ def try_edges(words: argparse.Namespace, translator: Translator) -> list[str]:
     return edges.try_edges(translator.program)
 
 
+def try_calls(words: argparse.Namespace, translator: Translator) -> list[str]:
+    try:
+        return libraries.try_calls(translator, words.ghc, words.write)
+    except sources.Missing as fault:
+        raise Skipped(str(fault)) from None
+
+
+def try_libraries(words: argparse.Namespace, translator: Translator) -> list[str]:
+    try:
+        return libraries.try_libraries(translator, words.names, words.ghc, words.write)
+    except sources.Missing as fault:
+        raise Skipped(str(fault)) from None
+
+
+def try_generated(words: argparse.Namespace, translator: Translator) -> list[str]:
+    return generated.try_generated(translator, words.number, words.seed, words.ghc, words.keep)
+
+
 def read_words(words: Sequence[str]) -> argparse.Namespace:
     parser = argparse.ArgumentParser(prog="tools/test-from-haskell", description="Tries the translator of Haskell modules. It stands outside of the gate.")
     parser.add_argument("--translator", help="the program that translates; else from-haskell/build makes it")
@@ -36,12 +54,23 @@ def read_words(words: Sequence[str]) -> argparse.Namespace:
         found.set_defaults(act=act)
         return found
 
-    found = part("programs", try_programs, "from-haskell/test/programs, each against its row, and against runs by GHC")
-    found.add_argument("--ghc", type=int, default=0, metavar="N", help="runs each program N times by GHC")
+    def compared(found: argparse.ArgumentParser) -> argparse.ArgumentParser:
+        found.add_argument("--ghc", type=int, default=0, metavar="N", help="runs each program N times by GHC")
+        found.add_argument("--write", action="store_true", help="writes the rows as they came")
+        return found
+
+    found = compared(part("programs", try_programs, "from-haskell/test/programs, each against its row, and against runs by GHC"))
     found.add_argument("--jobs", type=int, default=2, metavar="N", help="so many programs at once")
-    found.add_argument("--write", action="store_true", help="writes the rows as they came")
     found.add_argument("names", nargs="*", help="programs; all, where none is named")
     part("edges", try_edges, "calls on files of their own")
+    found = compared(part("libraries", try_libraries, "programs over libraries of Debian, in their unchanged source"))
+    found.add_argument("names", nargs="*", help="programs; all, where none is named")
+    compared(part("calls", try_calls, "single calls of the functions that libraries of Debian export"))
+    found = part("generated", try_generated, "programs that are drawn at random")
+    found.add_argument("--number", type=int, default=200, metavar="N", help="so many programs (else 200)")
+    found.add_argument("--seed", type=int, default=1, metavar="N", help="the seed of the first one (else 1)")
+    found.add_argument("--ghc", type=int, default=0, metavar="N", help="runs each program N times by GHC")
+    found.add_argument("--keep", default="", metavar="FOLDER", help="keeps the programs in this folder")
     return parser.parse_args(words)
 
 
