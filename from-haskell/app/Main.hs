@@ -46,12 +46,21 @@ run options = do
         , requestPrelude = prelude
         }
       `Exception.catch` failed (optionFile options)
+  maybe (return ()) (tellFiles answer) (optionFiles options)
   tell (optionMain options) answer
+
+-- | Writes the names of the files that a script was made of.
+tellFiles :: Answer -> FilePath -> IO ()
+tellFiles answer target = case answer of
+  Translated _ files _ -> withFile target WriteMode $ \handle -> do
+    mkTextEncoding "UTF-8//ROUNDTRIP" >>= hSetEncoding handle
+    mapM_ (\file -> hPutStr handle (file ++ "\0")) files
+  _ -> return ()
 
 -- | Writes what came of it, and ends with its status.
 tell :: String -> Answer -> IO ()
 tell name answer = case answer of
-  Translated notes script -> do
+  Translated notes _ script -> do
     mapM_ (hPutStr stderr . renderNote) notes
     (putStr script >> hFlush stdout) `Exception.catch` unwritten
   Refused notes refusal -> do

@@ -19,13 +19,14 @@ import qualified Data.Map.Strict as Map
 import qualified Data.Set as Set
 import System.FilePath ((</>))
 
+import FromHaskell.Claims
 import FromHaskell.Encode (ioResult)
 import FromHaskell.Finish (finish)
 import FromHaskell.Ghc
 import FromHaskell.Integers (integerNames)
 import FromHaskell.Monad
 import FromHaskell.Report
-import FromHaskell.Safety (checkModules)
+import FromHaskell.Safety (checkModules, inspectFile, readSource)
 import FromHaskell.Specialise (isPreludeFile, specialise)
 import FromHaskell.Value
 
@@ -42,7 +43,8 @@ data Request = Request
 
 -- | What came of it, with the notes that were made.
 data Answer
-  = Translated [Note] String
+  = Translated [Note] [FilePath] String
+    -- ^ the script, and the files that decide what the modules are, where they were looked at
   | Refused [Note] Refusal
   | NotCompiled                    -- ^ GHC has told why
   | NoSuchMain String              -- ^ the module exports no such action of the type IO ()
@@ -56,7 +58,7 @@ translate request = do
   return $ case result of
     Left refusal -> Refused notes refusal
     Right answer -> case answer of
-      Translated _ script -> Translated notes script
+      Translated _ files script -> Translated notes files script
       _ -> answer
 
 translateIn :: World -> Request -> Ghc Answer
@@ -64,21 +66,30 @@ translateIn world request = do
   prepare target
   checked <-
     if requestTrust request
-      then liftIO (Just <$> runTranslate world trusted)
+      then liftIO (Just Set.empty <$ runTranslate world trusted)
       else guarded (checkModules (requestFile request) (requestFolders request))
   case checked of
     Nothing -> return NotCompiled
-    Just () -> do
+    Just files -> do
       compiled <- guarded (compile target)
       case compiled of
-        Just (Just modules) -> liftIO (runTranslate world (translateModules request modules))
+        Just (Just modules) -> do
+          claims <- claimsIn modules
+          liftIO (runTranslate world (translateModules request (Set.toList files) claims modules))
         _ -> return NotCompiled
  where
   target = Target [requestFile request, requestPrelude request </> "FromHaskellPrelude.hs"] (requestFolders request) (requestPrelude request)
   trusted = noteAt (Place (requestFile request) 1 1) NoteTrust "What the modules make GHC run isn't looked at."
+  claimsIn modules = do
+    source <- liftIO (readSource (requestFile request))
+    inspection <- quietly (inspectFile (requestFile request) source)
+    return $ case inspection of
+      Just i -> claimsAbout (requestMain request) (actionsOf modules) (inspectedComments i) (inspectedExtents i) source
+      Nothing -> []
+  actionsOf modules = Set.fromList (concat [map (occurrence . fst) (filter (isAction . fst) (concatMap pairsOf (compiledBindings m))) | m <- modules, compiledFile m == requestFile request])
 
-translateModules :: Request -> [Compiled] -> Translate Answer
-translateModules request modules = do
+translateModules :: Request -> [FilePath] -> [Claim] -> [Compiled] -> Translate Answer
+translateModules request files claims modules = do
   forM_ modules readModule
   prelude <- get worldPrelude
   forM_ (words "constructorTrue constructorFalse constructorUnit constructorNothing constructorJust") $ \name ->
@@ -93,14 +104,17 @@ translateModules request modules = do
         Just f -> do
           mapM_ (put worldEntry) (definedAt v)
           (name, _, _) <- specialise f [] (idType v) True
-          Translated [] <$> finish name
+          Translated [] files <$> finish name claims
  where
   entryOf m
     | requestMain request `elem` compiledExports m || isMain m = find isEntry (concatMap (map fst . pairsOf) (compiledBindings m))
     | otherwise = Nothing
   isMain m = compiledModule m == "Main" && requestMain request == "main"
-  isEntry v = occurrence v == requestMain request && maybe False isUnit (ioResult (idType v))
-  isUnit t = showType t == "()"
+  isEntry v = occurrence v == requestMain request && isAction v
+
+-- | Whether the name has the type IO ().
+isAction :: Id -> Bool
+isAction v = maybe False ((== "()") . showType) (ioResult (idType v))
 
 pairsOf :: CoreBind -> [(Id, CoreExpr)]
 pairsOf b = flattenBinds [b]

@@ -43,9 +43,21 @@ def check_files(call: Call) -> None:
         raise bad_input(f"one script at a time, and these are {len(call.files)}: {' '.join(quoted(it) for it in call.files)}")
     if len(call.files) == 1 and call.files[0] != "-":
         check_file(call.files[0])
+    if call.module_words or call.command == "script" or any(map(is_module, call.files)):
+        from tools.run import haskell
+        haskell.check_words(call)
 
 
-def opened(name: str) -> int:
+def is_module(name: str) -> bool:
+    """Whether the file is a Haskell module."""
+    return name.endswith((".hs", ".lhs"))
+
+
+def opened(name: str, module_words: list[str]) -> int:
+    """The file, or of a Haskell module the script that it becomes."""
+    if is_module(name):
+        from tools.run import haskell
+        return haskell.opened(name, module_words)
     try:
         return os.open(name, os.O_RDONLY)
     except OSError as fault:
@@ -57,7 +69,7 @@ def opened(name: str) -> int:
 def open_file(call: Call) -> None:
     """Makes the file standard input."""
     if len(call.files) == 1 and call.files[0] != "-":
-        file = opened(call.files[0])
+        file = opened(call.files[0], call.module_words)
         os.dup2(file, 0)
         os.close(file)
         opens(0)

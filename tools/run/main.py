@@ -53,6 +53,9 @@ def run(words: list[str]) -> int:
     reading.check_order(call)
     input.check_files(call)
     input.open_file(call)
+    if call.command == "script":
+        from tools.run import haskell
+        return haskell.put_script()
     if call.wants_proof:
         release.refuse("--prove")
         from tools.run import building
@@ -81,7 +84,8 @@ def main(words: list[str]) -> NoReturn:
         hold_closed()
         status = run(words)
     except Refused as it:
-        say(it.sentence)
+        if it.sentence:
+            say(it.sentence)
         status = it.status
     except signals.Stopped as it:
         running.stop_all(it.number)

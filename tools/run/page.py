@@ -7,7 +7,7 @@ import os
 from tools.crates import TOP
 from tools.run import programs, release
 from tools.run.saying import CALL
-from tools.run.words import COMMAND_OPTIONS, COMMANDS, OWN_OPTIONS, STATUSES
+from tools.run.words import COMMAND_OPTIONS, COMMANDS, MODULE_OPTIONS, OWN_OPTIONS, STATUSES
 
 HELP_COLUMN = 60
 
@@ -18,9 +18,11 @@ PAGE = """conc_run: what interrupted and masked Concurrent Haskell code may real
 {options}
 
 Options stand before or behind the file. With no FILE, or with -, the script is read from standard input. A file whose name
-begins with - is given behind --, or as ./-NAME.
+begins with - is given behind --, or as ./-NAME. A FILE.hs is a Haskell module, of which a script is made first.
 
 {own_options}
+
+{module_options}
 
 What the script prints goes to standard output, and the line of its ending to standard error. The status says how it ended:
 
@@ -60,6 +62,7 @@ def help_page() -> str:
         commands="\n".join(usage_of(it) for it in COMMANDS),
         options="\n".join(f"  {it.usage:11}  {it.help}" for it in COMMAND_OPTIONS.values()),
         own_options="\n".join(f"  {it.usage:11}  {it.help}" for it in OWN_OPTIONS.values()),
+        module_options="\n".join(f"  {it.usage:11}  {it.help}" for it in MODULE_OPTIONS.values()),
         statuses=_statuses(),
         documents=INSTALLED_DOCUMENTS if release.IS_INSTALLED else DOCUMENTS,
     )

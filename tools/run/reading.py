@@ -26,6 +26,8 @@ class Call:
         self.action = "program"
         self.words: list[str] = []
         self.files: list[str] = []
+        # These are for the translator of Haskell modules.
+        self.module_words: list[str] = []
         self.command = ""
         self.memory = memory
         self.explains = False
@@ -65,6 +67,16 @@ class Call:
         if self.document and word not in OPTIONS and os.path.lexists(word) and os.path.exists(word):
             self.like_option = word
 
+    def read_of_module(self, word: str, rest: list[str]) -> bool:
+        """Reads a word for the translator of Haskell modules, and says whether it is one."""
+        if word == "--main":
+            self.module_words += ["--main", rest.pop(0) if rest else ""]
+        elif word in ("--strict", "--trust") or word.startswith("--main=") or word.startswith("-i") and len(word) > 2:
+            self.module_words.append(word)
+        else:
+            return False
+        return True
+
     def read_behind_dashes(self, words: list[str]) -> None:
         if self.document and words:
             self.files += words
@@ -96,7 +108,7 @@ def read(words: list[str]) -> Call:
     rest = list(words)
     while rest:
         word = rest.pop(0)
-        if _read_own(call, word, rest):
+        if _read_own(call, word, rest) or call.read_of_module(word, rest):
             continue
         if word == "--":
             call.read_behind_dashes(rest)

@@ -67,7 +67,7 @@ class Answers:
     def _open(self, name: str) -> int:
         if name != "-":
             input.check_file(name)
-            return input.opened(name)
+            return input.opened(name, self.call.module_words)
         if not input.is_file(0) and not _takes_words(self.run):
             # Nothing is read where the words are refused.
             return os.open(os.devnull, os.O_RDONLY)

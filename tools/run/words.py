@@ -74,12 +74,19 @@ OWN_OPTIONS = _by_name(
     Option("--prove", "", "proves and builds the program first; until then the checked build without proof runs"),
     Option("--version", "", "the version, the kit, and which build there is"),
 )
+# Those for the translator of Haskell modules.
+MODULE_OPTIONS = _by_name(
+    Option("--main", "NAME", "of a Haskell module the action that is asked, of type IO () (main)"),
+    Option("-iDIR", "", "looks for modules that it imports in this folder too"),
+    Option("--strict", "", "takes what is evaluated here and Haskell may leave out, with a note"),
+    Option("--trust", "", "loads modules without a look at what they make GHC run"),
+)
 # Those that the page has no line for.
 OTHER_OPTIONS = _by_name(
     Option("--help", "", "the page of commands and options"),
     Option("--quick", "", "the rows alone"),
 )
-OPTIONS = {**PROGRAM_OPTIONS, **LITMUS_OPTIONS, **OWN_OPTIONS, **OTHER_OPTIONS}
+OPTIONS = {**PROGRAM_OPTIONS, **LITMUS_OPTIONS, **OWN_OPTIONS, **MODULE_OPTIONS, **OTHER_OPTIONS}
 # What stands behind a command.
 COMMAND_OPTIONS = {**PROGRAM_OPTIONS, **LITMUS_OPTIONS}
 
@@ -99,6 +106,7 @@ COMMANDS = {it.name: it for it in (
     Command("haskell", "[FILE]", (), "prints it as a Haskell module", SCRIPT_BYTES),
     Command("litmus", "FILE..", tuple(LITMUS_OPTIONS), "runs it many times by GHC, and shows that beside its outcomes",
             options_usage="[--runs N] [--seconds S] [--seed N] [--forks F]"),
+    Command("script", "FILE.hs", (), "prints the script that a Haskell module becomes", SCRIPT_BYTES),
     Command("test", "", ("--quick",), "proves and tries everything; --quick: the rows alone"),
 ) if it.name not in COMING}
 # These read a history with its script in one document.

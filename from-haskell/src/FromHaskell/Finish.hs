@@ -11,7 +11,9 @@ module FromHaskell.Finish
 import Control.Monad (forM_, unless, when)
 import qualified Data.Map.Strict as Map
 import qualified Data.Set as Set
+import System.FilePath (takeFileName)
 
+import FromHaskell.Claims
 import FromHaskell.Exceptions (settleHandlers)
 import FromHaskell.Integers
 import FromHaskell.Language (reservedWords)
@@ -25,9 +27,9 @@ import FromHaskell.Share (share)
 import FromHaskell.Specialise (settlePending)
 import FromHaskell.Tidy
 
--- | The text of the script whose main function is the definition of this name.
-finish :: Name -> Translate String
-finish entry = do
+-- | The text of the script whose main function is the definition of this name, with these claims.
+finish :: Name -> [Claim] -> Translate String
+finish entry claims = do
   settlePending
   settleHandlers
   settleCallStacks
@@ -38,12 +40,17 @@ finish entry = do
       (others, mains) = (filter ((/= entry) . definitionName) needed, filter ((== entry) . definitionName) needed)
       ordered = reverse others ++ map asMain mains
       (helpers, plain) = integers ordered
+      text d = concat [concatMap printClaim claims | definitionName d == "main"] ++ printDefinition d
       taken = Set.unions [Set.insert "main" functions, Set.fromList integerNames, reservedWords]
   forM_ plain $ \d -> mapM_ (refuseAt (definitionPlace d) CauseLimit) (beyondLimits d)
   unless (null helpers) settleIntegers
-  return (helpers ++ concatMap (printDefinition . tidy taken . share) plain)
+  return (helpers ++ concatMap (text . tidy taken . share) plain)
  where
   asMain d = d {definitionName = "main"}
+
+-- | A claim as it is written, below the line that says where.
+printClaim :: Claim -> String
+printClaim (Claim (Place file line _) written) = "-- " ++ takeFileName file ++ ":" ++ show line ++ "\n" ++ filter (/= '\r') written ++ "\n"
 
 -- | Where Integers are checked, a handler of all exceptions takes the mark too.
 settleIntegers :: Translate ()

@@ -100,8 +100,10 @@ module FromHaskell.Ghc
   , Target (..)
   , prepare
   , guarded
+  , quietly
   , compile
   , Inspection (..)
+  , Extent (..)
   , inspect
   , headerOptions
   , withGhc
@@ -162,7 +164,7 @@ import GHC.Core.TyCo.Rep (scaledThing)
 import GHC.Core.TyCon (isAlgTyCon, isTupleTyCon, newTyConRhs, tyConClass_maybe)
 import GHC.Core.Type hiding (typeKind)
 import qualified GHC.Core.Type as Core
-import GHC.Data.FastString (unpackFS)
+import GHC.Data.FastString (mkFastString, unpackFS)
 import GHC.Data.StringBuffer (stringToStringBuffer)
 import GHC.Driver.Pipeline (doCpp)
 import GHC.Driver.Session (GeneralFlag (..), gopt_unset, parseDynamicFilePragma, xopt)
@@ -170,9 +172,11 @@ import GHC.Driver.Types (handleSourceError, mg_binds, throwErrors)
 import GHC.Hs
 import GHC.LanguageExtensions (Extension (Cpp))
 import GHC.Parser.Header (getOptions)
+import GHC.Parser.Lexer (ParseResult (..), Token (..), lexTokenStream)
 import GHC.Types.Id (idType, isClassOpId_maybe, isDFunId, isDataConId_maybe, isLocalId, realIdUnfolding)
 import GHC.Types.Literal (Literal (..))
 import GHC.Types.Name (nameModule_maybe, nameOccName, nameSrcSpan, occNameString)
+import GHC.Types.Name.Reader (rdrNameOcc)
 import GHC.Types.SrcLoc
 import GHC.Types.Unique (Unique, getKey, getUnique)
 import GHC.Types.Unique.Set (nonDetEltsUniqSet)
@@ -305,6 +309,10 @@ prepare target = do
 guarded :: Ghc a -> Ghc (Maybe a)
 guarded act = handleSourceError (\e -> printException e >> return Nothing) (Just <$> act)
 
+-- | The answer, or nothing where GHC finds a fault, of which nothing is told.
+quietly :: Ghc a -> Ghc (Maybe a)
+quietly act = handleSourceError (const (return Nothing)) (Just <$> act)
+
 -- | Parses, checks and desugars the target's modules, without optimisation. Nothing where GHC refuses one: it has told why.
 compile :: Target -> Ghc (Maybe [Compiled])
 compile target = do
@@ -352,7 +360,12 @@ data Inspection = Inspection
   { inspectedOptions :: [(Place, String)]      -- ^ the options of its header, also those that the preprocessor makes
   , inspectedDeclarations :: [(Place, String)] -- ^ declarations that make GHC run or link something
   , inspectedImports :: [String]
+  , inspectedComments :: [Place]               -- ^ where a comment up to the end of a line begins
+  , inspectedExtents :: [Extent]
   }
+
+-- | The names that a declaration of a module is about, its first line and its last.
+data Extent = Extent [String] Int Int
 
 -- | The options that the header of this text sets, each with its place.
 headerOptions :: FilePath -> String -> Ghc [(Place, String)]
@@ -390,7 +403,24 @@ inspect file source throughFile = do
           { inspectedOptions = map located options
           , inspectedDeclarations = mapMaybe declaration (hsmodDecls m)
           , inspectedImports = map (moduleNameString . unLoc . ideclName . unLoc) (hsmodImports m)
+          , inspectedComments = lineComments flags file textOf
+          , inspectedExtents = mapMaybe extentOf (hsmodDecls m)
           }
+
+-- | Where the line comments of a text begin.
+lineComments :: DynFlags -> FilePath -> String -> [Place]
+lineComments flags file textOf = case lexTokenStream (stringToStringBuffer textOf) (mkRealSrcLoc (mkFastString file) 1 1) flags of
+  POk _ tokens -> [placeOf there | L there (ITlineComment _) <- tokens]
+  PFailed _ -> []
+
+-- | What a declaration of a value, or of its type, is about.
+extentOf :: LHsDecl GhcPs -> Maybe Extent
+extentOf (L there d) = case (there, d) of
+  (RealSrcSpan s _, ValD _ b) -> Just (over s (collectHsBindBinders b))
+  (RealSrcSpan s _, SigD _ (TypeSig _ names _)) -> Just (over s (map unLoc names))
+  _ -> Nothing
+ where
+  over s names = Extent (map (occNameString . rdrNameOcc) names) (srcSpanStartLine s) (srcSpanEndLine s)
 
 declaration :: LHsDecl GhcPs -> Maybe (Place, String)
 declaration (L place d) = case d of

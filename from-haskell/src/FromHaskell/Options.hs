@@ -17,12 +17,13 @@ data Options = Options
   , optionStrict :: Bool
   , optionTrust :: Bool
   , optionPrelude :: Maybe FilePath
+  , optionFiles :: Maybe FilePath   -- ^ where the files are told that decide what the modules are
   }
   deriving (Eq, Show)
 
 -- | The options, or what is wrong with the words. Options stand before or behind the file, and @--@ ends them.
 readOptions :: [String] -> Either String Options
-readOptions = go (Options "" "main" [] False False Nothing)
+readOptions = go (Options "" "main" [] False False Nothing Nothing)
  where
   go options arguments = case arguments of
     [] | null (optionFile options) -> Left "no file"
@@ -32,6 +33,7 @@ readOptions = go (Options "" "main" [] False False Nothing)
     "--trust" : rest -> go options {optionTrust = True} rest
     "--main" : name : rest -> go options {optionMain = name} rest
     "--prelude" : folder : rest -> go options {optionPrelude = Just folder} rest
+    "--files" : file : rest -> go options {optionFiles = Just file} rest
     word : rest
       | "--main=" `isPrefixOf` word -> go options {optionMain = drop 7 word} rest
       | "-i" `isPrefixOf` word, length word > 2 -> go options {optionFolders = optionFolders options ++ folders (drop 2 word)} rest
@@ -57,6 +59,7 @@ usage =
     , "  -iDIR         looks for modules in DIR too"
     , "  --strict      takes evaluations that Haskell may leave out, with a note"
     , "  --trust       loads the modules without a look at what they make GHC run"
+    , "  --files FILE  writes to FILE the names of all files that decide what the modules are, each before a NUL"
     , ""
     , "Status: 0 the script is written; 2 the words, or no such action; 3 refused; 8 it can't be written; 66 the file can't be read; 70 no GHC 9.0.2."
     ]

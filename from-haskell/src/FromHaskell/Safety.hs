@@ -7,13 +7,15 @@
 -- than a list of harmless things.
 module FromHaskell.Safety
   ( checkModules
+  , inspectFile
+  , readSource
   , refusedOption
   , includesOf
   , unlit
   ) where
 
 import qualified Control.Exception as Exception
-import Control.Monad (filterM, foldM, forM_, unless, void)
+import Control.Monad (filterM, foldM, forM_)
 import Control.Monad.IO.Class (liftIO)
 import Data.Char (isSpace)
 import Data.List (isInfixOf, isPrefixOf, isSuffixOf, tails)
@@ -25,32 +27,46 @@ import System.IO
 import FromHaskell.Ghc
 import FromHaskell.Report
 
--- | Looks at the module of this file and at all that it imports from these folders.
-checkModules :: FilePath -> [FilePath] -> Ghc ()
-checkModules file folders = void (checkFrom (search : takeDirectory file : folders) Set.empty file)
- where
-  search = "."
+-- | Looks at the module of this file and at all that it imports from these folders. Answers the files that decide what the
+-- modules are: those that were read, and those that would be read if they were there.
+checkModules :: FilePath -> [FilePath] -> Ghc (Set.Set FilePath)
+checkModules file folders = seenFiles <$> checkFrom (searched file folders) (Seen Set.empty Set.empty) file
 
-checkFrom :: [FilePath] -> Set.Set FilePath -> FilePath -> Ghc (Set.Set FilePath)
+-- | The folders in which a file is looked for.
+searched :: FilePath -> [FilePath] -> [FilePath]
+searched file folders = "." : takeDirectory file : folders
+
+-- | The modules that were looked at, and all files that decide what they are.
+data Seen = Seen
+  { seenModules :: Set.Set FilePath
+  , seenFiles :: Set.Set FilePath
+  }
+
+checkFrom :: [FilePath] -> Seen -> FilePath -> Ghc Seen
 checkFrom folders seen file
-  | file `Set.member` seen = return seen
+  | file `Set.member` seenModules seen = return seen
   | otherwise = do
       source <- liftIO (readSource file)
       options <- headerOptions file source
       liftIO (checkOptions options)
-      liftIO (checkIncludes file folders source)
-      inspection <- inspect file source (throughFile file)
+      included <- liftIO (checkIncludes file folders source)
+      inspection <- inspectFile file source
       liftIO (checkOptions (inspectedOptions inspection))
       forM_ (inspectedDeclarations inspection) $ \(place, what) -> liftIO (refuseUnsafe place ("There is " ++ what ++ "."))
-      imported <- liftIO (concat <$> mapM (candidates folders) (inspectedImports inspection))
-      foldM (checkFrom folders) (Set.insert file seen) imported
+      let possible = concatMap (candidates folders) (inspectedImports inspection)
+      imported <- liftIO (filterM doesFileExist possible)
+      foldM (checkFrom folders) (Seen (Set.insert file (seenModules seen)) (Set.unions [Set.fromList (file : possible), included, seenFiles seen])) imported
+
+-- | What a module says before it is loaded.
+inspectFile :: FilePath -> String -> Ghc Inspection
+inspectFile file source = inspect file source throughFile
 
 refuseUnsafe :: Place -> String -> IO a
 refuseUnsafe place detail = Exception.throwIO (Refusal place CauseUnsafe detail)
 
 -- | The files that may be the module of this name.
-candidates :: [FilePath] -> String -> IO [FilePath]
-candidates folders name = filterM doesFileExist [normal (folder </> path <.> extension) | folder <- folders, extension <- ["hs", "lhs", "hs-boot", "lhs-boot"]]
+candidates :: [FilePath] -> String -> [FilePath]
+candidates folders name = [normal (folder </> path <.> extension) | folder <- folders, extension <- ["hs", "lhs", "hs-boot", "lhs-boot"]]
  where
   path = map (\c -> if c == '.' then '/' else c) name
   normal p = if "./" `isPrefixOf` p then drop 2 p else p
@@ -79,8 +95,8 @@ unlit = unlines . go False . lines
     | otherwise = "" : go False rest
 
 -- | What the preprocessor leaves of a file. It goes through a file of its own, which is removed.
-throughFile :: FilePath -> (FilePath -> IO ()) -> IO String
-throughFile _ make = do
+throughFile :: (FilePath -> IO ()) -> IO String
+throughFile make = do
   folder <- getTemporaryDirectory
   Exception.bracket (openTempFile folder "from-haskell.hs") (removeFile . fst) $ \(path, handle) -> do
     hClose handle
@@ -108,16 +124,18 @@ refusedOption option
   harmless = words "-w -O -O0 -O1 -O2 -cpp -haddock -threaded -rtsopts -funbox-strict-fields -fno-cse -fno-full-laziness -fno-omit-yields -fno-strictness -fexpose-all-unfoldings -fno-ignore-asserts -fno-state-hack"
   harmlessBeginnings = ["-W", "-fwarn-", "-fno-warn-", "-fspec-constr", "-fno-spec-constr"]
 
--- | Files that a module includes must lie in its own folders, and are looked at as it is.
-checkIncludes :: FilePath -> [FilePath] -> String -> IO ()
+-- | Files that a module includes must lie in its own folders, and are looked at as it is. Answers all that may be meant.
+checkIncludes :: FilePath -> [FilePath] -> String -> IO (Set.Set FilePath)
 checkIncludes file folders = go Set.empty file
  where
-  go seen path textOf = forM_ (includesOf textOf) $ \(line, included) -> case included of
-    Just name | name `elem` ofGhc -> return ()
+  go seen path textOf = foldM (include path) seen (includesOf textOf)
+  include path seen (line, included) = case included of
+    Just name | name `elem` ofGhc -> return seen
     Just name | isInside name -> do
-      found <- filterM doesFileExist [folder </> name | folder <- takeDirectory path : folders]
-      forM_ (take 1 found) $ \inner ->
-        unless (inner `Set.member` seen) $ readSource inner >>= go (Set.insert inner seen) inner
+      let possible = [folder </> name | folder <- takeDirectory path : folders]
+      found <- filterM doesFileExist possible
+      let now = Set.union (Set.fromList possible) seen
+      foldM (\s inner -> if inner `Set.member` seen then return s else readSource inner >>= go s inner) now (take 1 found)
     _ -> refuseUnsafe (Place path line 1) "A file is included that isn't named as one below the folders of the modules."
   isInside name = not (isAbsolute name) && ".." `notElem` splitDirectories name
   ofGhc = ["MachDeps.h", "ghcversion.h", "HsBaseConfig.h"]
