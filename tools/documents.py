@@ -3,6 +3,7 @@
 import os
 import re
 
+from tools import rows
 from tools.sources import TOP, SPAN, all_words, blocks, code, documents, files, here, kit_crates, lines, read, root_of, uses, words_of
 
 LONGEST = 350
@@ -47,7 +48,7 @@ class Reader:
         if span.endswith(".md"):
             known = here(span) + here(f"docs/{span}")
         elif span.endswith(".conc"):
-            known = here(f"examples/{span}") or here(f"litmus/{span}") or span == "mine.conc"
+            known = here(f"examples/{span}") or here(f"examples/mistakes/{span.replace('NAME', '*')}") or here(f"litmus/{span}") or span == "mine.conc"
         elif span.endswith(".rows"):
             known = here(f"crates/*/data/{span}")
         elif span.endswith((".rt", ".antt")):
@@ -197,10 +198,35 @@ def lengths():
 
 
 def index():
-    """Documents that the README doesn't lead to."""
+    """Documents that the README doesn't lead to; and mistakes that their page doesn't have."""
     for path in documents():
         if path != "README.md" and f"`{path}`" not in read("README.md"):
             yield f"README.md: it doesn't lead to {path}"
+    yield from mistakes()
+
+
+CLAIM = re.compile(r"[ \t\r]*--[ \t]*!")
+
+
+def mistakes():
+    """Each mistake has a wrong script and a right one with the same claims, a section with its picture, and a row of each script."""
+    folder, page, data = "examples/mistakes", "docs/MISTAKES.md", "crates/conc_rows/data/tour.rows"
+    names = {re.sub(r"-(wrong|right)\.conc$", "", os.path.basename(it)) for it in here(f"{folder}/*")}
+    sections = {it[1]: it[0] for it in re.finditer(r"^### ([a-z-]+): (?:(?!^##).*\n)*", read(page), re.M)}
+    tried = {name: rows.script_of(row).strip("\n") for name, _, row in rows.rows_of(data)}
+    for name in sorted(names ^ set(sections)):
+        yield f"{page}: " + (f"it has no section of {name}" if name in names else f"{folder} has no {name}")
+    for name in sorted(names & set(sections)):
+        if f"(pictures/{name}.svg)" not in sections[name] or not here(f"docs/pictures/{name}.svg"):
+            yield f"{page}: the section of {name} doesn't have its picture"
+        said = []
+        for path in (f"{folder}/{name}-wrong.conc", f"{folder}/{name}-right.conc"):
+            script = read(path).strip("\n") if here(path) else None
+            said.append([it for it in (script or "").split("\n") if CLAIM.match(it)])
+            if script is None or script != tried.get(f"mistake-{os.path.basename(path).removesuffix('.conc')}"):
+                yield f"{path}: it isn't the script of its row in {data}"
+        if said[0] != said[1] or not said[0]:
+            yield f"{folder}/{name}-*.conc: the two don't have the same claims"
 
 
 def places():
