@@ -1,4 +1,4 @@
-"""What documents say of the repository: paths, names, counts, crates, what is trusted; and what none may say."""
+"""What documents say of the repository: links, paths, names, crates, what is trusted; and what none may say."""
 
 import os
 import re
@@ -83,7 +83,8 @@ def is_public(crate, name):
 
 
 def names():
-    """Paths, crates, laws and other names between backquotes that the repository doesn't have."""
+    """Links, and paths, crates, laws and other names between backquotes, that the repository doesn't have."""
+    yield from links()
     # (a change log speaks of the names of its time, and a page on Haskell of Haskell's)
     for path in (it for it in documents() if it not in ("CHANGELOG.md", "docs/HASKELL.md")):
         heading = None
@@ -141,46 +142,42 @@ def clauses():
                     yield f"{block.at(it.start())}: no crate that is named here has `{word}`"
 
 
-UNITS = "eleven twelve thirteen fourteen fifteen sixteen seventeen eighteen nineteen".split()
-TENS = "twenty thirty forty fifty sixty seventy eighty ninety".split()
-NUMBER = rf"(?:\d[\d,]*|(?:{'|'.join(UNITS)}|(?:{'|'.join(TENS)})(?:-\w+)?))"
-COUNTED = re.compile(rf"\b({NUMBER}) (?:of them )?(?:(?:reserved|must-fail|public|test|proved|small|wrong) )?(rows|crates|examples|edits|tests|scripts|laws|files|texts|symbols|expressions|are tried|later)\b", re.I)
+LINK = re.compile(r"\[[^\]]*\]\(([^)\s]+)\)")
+# A page, and how the title of a part of it begins: `RULES.md`, "The clock".
+PART = re.compile(r'`(?:docs/)?([A-Z]+\.md)`, "([^"]+)"')
 
 
-def value(number):
-    number = number.lower().replace(",", "")
-    if number.isdigit():
-        return int(number)
-    if number in UNITS:
-        return 11 + UNITS.index(number)
-    tens, _, ones = number.partition("-")
-    return 20 + 10 * TENS.index(tens) + ("one two three four five six seven eight nine".split().index(ones) + 1 if ones else 0)
-
-
-def counts(known):
-    """Counts of what the repository has that are not its own, or that nothing here can count. Small ones pass."""
+def links():
+    """Links to what isn't there, and titles of parts that their page doesn't have."""
     for path in documents():
-        if os.path.basename(path) in ("MEASURES.md", "CHANGELOG.md", "LITMUS.md"):
-            continue
         for block in blocks(path):
-            for it in COUNTED.finditer(block.text.replace("\n", " ")):
-                if value(it[1]) > 10 and value(it[1]) not in known.get(it[2].lower(), ()):
-                    yield f"{block.at(it.start())}: no data gives the count `{it[0]}`: leave it out"
+            for it in () if block.kind == "code" else LINK.finditer(block.text):
+                target = it[1].partition("#")[0]
+                if "://" not in it[1] and target and not os.path.exists(os.path.join(TOP, os.path.dirname(path), target)):
+                    yield f"{block.at(it.start())}: there is no {target}"
+            for it in PART.finditer(block.text.replace("\n", " ")):
+                if not any(title.startswith(it[2].rstrip(".")) for title in titles(it[1])):
+                    yield f'{block.at(it.start())}: {it[1]} has no part "{it[2]}"'
 
 
-# Words of a figure that was taken by hand.
-MEASURED = re.compile(r"\b(?:measured|ratios?|times as (?:long|much|fast))\b")
+def titles(page):
+    """The titles of a page's parts: its headings, and the words in bold with which a paragraph or an item begins."""
+    found, whole = set(), page if here(page) else f"docs/{page}"
+    for block in blocks(whole) if here(whole) else ():
+        bold = re.match(r"(?:[-*] )?(?:\d{4}-\d\d-\d\d · )?\*\*([^*]+)\*\*", block.text.replace("\n", " "))
+        if block.kind == "heading" or bold:
+            found.add((block.text.lstrip("# ").strip() if block.kind == "heading" else bold[1]).rstrip(".").replace("`", ""))
+    return found
+
+
+def counts(_known):
+    """Nothing: no count in words is looked at any more. ./check may leave out this call."""
+    return ()
 
 
 def measured():
-    """Paragraphs that speak of what was measured and don't say that MEASURES.md has it: no other page has figures."""
-    for path in documents():
-        if os.path.basename(path) in ("MEASURES.md", "CHANGELOG.md", "LITMUS.md"):
-            continue
-        for block in blocks(path):
-            it = None if block.kind == "code" or "MEASURES.md" in block.text else MEASURED.search(block.text.replace("\n", " "))
-            if it:
-                yield f"{block.at(it.start())}: `{it[0]}`: what was measured stands in MEASURES.md: name that page here, or leave it out"
+    """Nothing, as above."""
+    return ()
 
 
 def decisions():
@@ -230,12 +227,11 @@ def mistakes():
 
 
 def places():
-    """Crates that the map or the page of promises leaves out, and folders that crates.txt leaves out."""
-    for path in ("docs/ARCHITECTURE.md", "docs/PROMISES.md"):
-        named = set(re.findall(r"\w+", read(path)))
-        for crate in uses():
-            if crate not in named:
-                yield f"{path}: the crate {crate} has no place in it"
+    """Crates that the map leaves out, and folders that crates.txt leaves out."""
+    named = set(re.findall(r"\w+", read("docs/ARCHITECTURE.md")))
+    for crate in uses():
+        if crate not in named:
+            yield f"docs/ARCHITECTURE.md: the crate {crate} has no place in it"
     for crate in uses():
         if not root_of(crate):
             yield f"crates.txt: there is no crate {crate}"
