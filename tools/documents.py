@@ -1,8 +1,9 @@
-"""What documents say of the repository: paths, names, counts, crates, what is trusted; and what none may say."""
+"""What documents say of the repository: links, paths, names, crates, what is trusted; and what none may say."""
 
 import os
 import re
 
+from tools import rows
 from tools.sources import TOP, SPAN, all_words, blocks, code, documents, files, here, kit_crates, lines, read, root_of, uses, words_of
 
 LONGEST = 350
@@ -47,7 +48,7 @@ class Reader:
         if span.endswith(".md"):
             known = here(span) + here(f"docs/{span}")
         elif span.endswith(".conc"):
-            known = here(f"examples/{span}") or here(f"litmus/{span}") or span == "mine.conc"
+            known = here(f"examples/{span}") or here(f"examples/mistakes/{span.replace('NAME', '*')}") or here(f"litmus/{span}") or span == "mine.conc"
         elif span.endswith(".rows"):
             known = here(f"crates/*/data/{span}")
         elif span.endswith((".rt", ".antt")):
@@ -82,7 +83,8 @@ def is_public(crate, name):
 
 
 def names():
-    """Paths, crates, laws and other names between backquotes that the repository doesn't have."""
+    """Links, and paths, crates, laws and other names between backquotes, that the repository doesn't have."""
+    yield from links()
     # (a change log speaks of the names of its time, and a page on Haskell of Haskell's)
     for path in (it for it in documents() if it not in ("CHANGELOG.md", "docs/HASKELL.md")):
         heading = None
@@ -140,46 +142,42 @@ def clauses():
                     yield f"{block.at(it.start())}: no crate that is named here has `{word}`"
 
 
-UNITS = "eleven twelve thirteen fourteen fifteen sixteen seventeen eighteen nineteen".split()
-TENS = "twenty thirty forty fifty sixty seventy eighty ninety".split()
-NUMBER = rf"(?:\d[\d,]*|(?:{'|'.join(UNITS)}|(?:{'|'.join(TENS)})(?:-\w+)?))"
-COUNTED = re.compile(rf"\b({NUMBER}) (?:of them )?(?:(?:reserved|must-fail|public|test|proved|small|wrong) )?(rows|crates|examples|edits|tests|scripts|laws|files|texts|symbols|expressions|are tried|later)\b", re.I)
+LINK = re.compile(r"\[[^\]]*\]\(([^)\s]+)\)")
+# A page, and how the title of a part of it begins: `RULES.md`, "The clock".
+PART = re.compile(r'`(?:docs/)?([A-Z]+\.md)`, "([^"]+)"')
 
 
-def value(number):
-    number = number.lower().replace(",", "")
-    if number.isdigit():
-        return int(number)
-    if number in UNITS:
-        return 11 + UNITS.index(number)
-    tens, _, ones = number.partition("-")
-    return 20 + 10 * TENS.index(tens) + ("one two three four five six seven eight nine".split().index(ones) + 1 if ones else 0)
-
-
-def counts(known):
-    """Counts of what the repository has that are not its own, or that nothing here can count. Small ones pass."""
+def links():
+    """Links to what isn't there, and titles of parts that their page doesn't have."""
     for path in documents():
-        if os.path.basename(path) in ("MEASURES.md", "CHANGELOG.md", "LITMUS.md"):
-            continue
         for block in blocks(path):
-            for it in COUNTED.finditer(block.text.replace("\n", " ")):
-                if value(it[1]) > 10 and value(it[1]) not in known.get(it[2].lower(), ()):
-                    yield f"{block.at(it.start())}: no data gives the count `{it[0]}`: leave it out"
+            for it in () if block.kind == "code" else LINK.finditer(block.text):
+                target = it[1].partition("#")[0]
+                if "://" not in it[1] and target and not os.path.exists(os.path.join(TOP, os.path.dirname(path), target)):
+                    yield f"{block.at(it.start())}: there is no {target}"
+            for it in PART.finditer(block.text.replace("\n", " ")):
+                if not any(title.startswith(it[2].rstrip(".")) for title in titles(it[1])):
+                    yield f'{block.at(it.start())}: {it[1]} has no part "{it[2]}"'
 
 
-# Words of a figure that was taken by hand.
-MEASURED = re.compile(r"\b(?:measured|ratios?|times as (?:long|much|fast))\b")
+def titles(page):
+    """The titles of a page's parts: its headings, and the words in bold with which a paragraph or an item begins."""
+    found, whole = set(), page if here(page) else f"docs/{page}"
+    for block in blocks(whole) if here(whole) else ():
+        bold = re.match(r"(?:[-*] )?(?:\d{4}-\d\d-\d\d · )?\*\*([^*]+)\*\*", block.text.replace("\n", " "))
+        if block.kind == "heading" or bold:
+            found.add((block.text.lstrip("# ").strip() if block.kind == "heading" else bold[1]).rstrip(".").replace("`", ""))
+    return found
+
+
+def counts(_known):
+    """Nothing: no count in words is looked at any more. ./check may leave out this call."""
+    return ()
 
 
 def measured():
-    """Paragraphs that speak of what was measured and don't say that MEASURES.md has it: no other page has figures."""
-    for path in documents():
-        if os.path.basename(path) in ("MEASURES.md", "CHANGELOG.md", "LITMUS.md"):
-            continue
-        for block in blocks(path):
-            it = None if block.kind == "code" or "MEASURES.md" in block.text else MEASURED.search(block.text.replace("\n", " "))
-            if it:
-                yield f"{block.at(it.start())}: `{it[0]}`: what was measured stands in MEASURES.md: name that page here, or leave it out"
+    """Nothing, as above."""
+    return ()
 
 
 def decisions():
@@ -197,19 +195,43 @@ def lengths():
 
 
 def index():
-    """Documents that the README doesn't lead to."""
+    """Documents that the README doesn't lead to; and mistakes that their page doesn't have."""
     for path in documents():
         if path != "README.md" and f"`{path}`" not in read("README.md"):
             yield f"README.md: it doesn't lead to {path}"
+    yield from mistakes()
+
+
+CLAIM = re.compile(r"[ \t\r]*--[ \t]*!")
+
+
+def mistakes():
+    """Each mistake has a wrong script and a right one with the same claims, a section with its picture, and a row of each script."""
+    folder, page, data = "examples/mistakes", "docs/MISTAKES.md", "crates/conc_rows/data/tour.rows"
+    names = {re.sub(r"-(wrong|right)\.conc$", "", os.path.basename(it)) for it in here(f"{folder}/*")}
+    sections = {it[1]: it[0] for it in re.finditer(r"^### ([a-z-]+): (?:(?!^##).*\n)*", read(page), re.M)}
+    tried = {name: rows.script_of(row).strip("\n") for name, _, row in rows.rows_of(data)}
+    for name in sorted(names ^ set(sections)):
+        yield f"{page}: " + (f"it has no section of {name}" if name in names else f"{folder} has no {name}")
+    for name in sorted(names & set(sections)):
+        if f"(pictures/{name}.svg)" not in sections[name] or not here(f"docs/pictures/{name}.svg"):
+            yield f"{page}: the section of {name} doesn't have its picture"
+        said = []
+        for path in (f"{folder}/{name}-wrong.conc", f"{folder}/{name}-right.conc"):
+            script = read(path).strip("\n") if here(path) else None
+            said.append([it for it in (script or "").split("\n") if CLAIM.match(it)])
+            if script is None or script != tried.get(f"mistake-{os.path.basename(path).removesuffix('.conc')}"):
+                yield f"{path}: it isn't the script of its row in {data}"
+        if said[0] != said[1] or not said[0]:
+            yield f"{folder}/{name}-*.conc: the two don't have the same claims"
 
 
 def places():
-    """Crates that the map or the page of promises leaves out, and folders that crates.txt leaves out."""
-    for path in ("docs/ARCHITECTURE.md", "docs/PROMISES.md"):
-        named = set(re.findall(r"\w+", read(path)))
-        for crate in uses():
-            if crate not in named:
-                yield f"{path}: the crate {crate} has no place in it"
+    """Crates that the map leaves out, and folders that crates.txt leaves out."""
+    named = set(re.findall(r"\w+", read("docs/ARCHITECTURE.md")))
+    for crate in uses():
+        if crate not in named:
+            yield f"docs/ARCHITECTURE.md: the crate {crate} has no place in it"
     for crate in uses():
         if not root_of(crate):
             yield f"crates.txt: there is no crate {crate}"
