@@ -17,11 +17,11 @@ use Rattle.hs_compile.specs.declared.refusal.Refusal.TheVariants.{TooLong}
 use Rattle.hs_compile.specs.Verdicts.{IsAccepted, IsRefused}
 use Rattle.conc_task.specs.declared.stop.Stop.{Stop}
 use Rattle.conc_task.specs.declared.stop.Stop.TheVariants.{Words, Refused, Read, NoScript, Memory}
-use Rattle.conc_task.specs.declared.task.Claim.{Claim}
+use Rattle.conc_task.specs.declared.task.Replay.{Replay}
 use Rattle.conc_task.specs.Documents.{document_limit, HasNoScript, IsFirstScriptLine, IsParted, IsScriptOf}
 use Rattle.conc_task.specs.Inputs.{IsWhole}
-use Rattle.conc_task.specs.Stops.{HasNone, IsDenied, IsUnclaimed, IsUnread}
-use Rattle.conc_task.specs.Tasks.{HasClaim, IsClaimed}
+use Rattle.conc_task.specs.Stops.{HasNone, IsDenied, IsNoReplay, IsUnread}
+use Rattle.conc_task.specs.Tasks.{HasReplay, IsReplay}
 use Rattle.conc_task.proofs.Reading.{any_left, cut_through, end_through, few_of, known_left, long_left}
 
 -- ---- the line `script`
@@ -114,15 +114,15 @@ module _ (question : Question) (fault : Type 0) (before now : Option (List ℕ))
   document_unread Words why = absurd why
   document_unread NoScript why = absurd why
 
-  pub document_had : (taken : List ℕ) (claim : Claim) → Consumes before now taken → IsWhole document_limit taken now → IsClaimed taken claim → HasClaim (Some (Ask question)) before now question claim
-  document_had taken claim consumed (inl all) is = record {
+  pub document_had : (taken : List ℕ) (replay : Replay) → Consumes before now taken → IsWhole document_limit taken now → IsReplay taken replay → HasReplay (Some (Ask question)) before now question replay
+  document_had taken replay consumed (inl all) is = record {
     asks = refl;
     bytes = is.bytes;
     document = record { document = taken; left = known_left before now taken consumed all.1; short = is.short; parted = is.parted };
     accepted = is.accepted;
     through = end_through document_limit before now taken all.0 consumed all.1;
   }
-  document_had taken claim consumed (inr long) is = absurd (omega (arith, is.short, long))
+  document_had taken replay consumed (inr long) is = absurd (omega (arith, is.short, long))
 
   script_refused : (taken : List ℕ) (r : Refusal) (trace bytes : List ℕ) → Consumes before now taken → IsWhole document_limit taken now → length taken ≤ document_limit → IsParted taken trace bytes → IsRefused r bytes
       → HasNone (Some (Ask question)) fault before now (Refused r)
@@ -159,7 +159,7 @@ module _ (question : Question) (fault : Type 0) (before now : Option (List ℕ))
       }
   document_bare taken consumed (inr long) short none = absurd (omega (arith, short, long))
 
-  pub document_none : (taken : List ℕ) (e : Stop) → Consumes before now taken → IsWhole document_limit taken now → IsUnclaimed taken e → HasNone (Some (Ask question)) fault before now e
+  pub document_none : (taken : List ℕ) (e : Stop) → Consumes before now taken → IsWhole document_limit taken now → IsNoReplay taken e → HasNone (Some (Ask question)) fault before now e
   document_none taken (Refused r) consumed read (inl why) = script_refused taken r why.1 why.2 consumed read why.0 why.3 why.4
   document_none taken (Refused r) consumed read (inr why) = document_long taken r consumed read why.0 why.1
   document_none taken NoScript consumed read why = document_bare taken consumed read why.0 why.1
@@ -168,18 +168,18 @@ module _ (question : Question) (fault : Type 0) (before now : Option (List ℕ))
   document_none taken Read consumed read why = absurd why
 
   -- what is made of the document that was read
-  pub claim_had : (answer : Result Claim Stop) (taken : List ℕ) → Consumes before now taken → IsWhole document_limit taken now → MatchResult answer (IsClaimed taken) (IsUnclaimed taken)
-      → MatchResult answer (HasClaim (Some (Ask question)) before now question) (HasNone (Some (Ask question)) fault before now)
-  claim_had (Ok claim) taken consumed read is = document_had taken claim consumed read is
-  claim_had (Err e) taken consumed read why = document_none taken e consumed read why
+  pub replay_had : (answer : Result Replay Stop) (taken : List ℕ) → Consumes before now taken → IsWhole document_limit taken now → MatchResult answer (IsReplay taken) (IsNoReplay taken)
+      → MatchResult answer (HasReplay (Some (Ask question)) before now question) (HasNone (Some (Ask question)) fault before now)
+  replay_had (Ok replay) taken consumed read is = document_had taken replay consumed read is
+  replay_had (Err e) taken consumed read why = document_none taken e consumed read why
 
 -- its script is refused, or there was no memory to see
-claim_denied : (document trace bytes : List ℕ) (e : Stop) → length document ≤ document_limit → IsParted document trace bytes → IsDenied bytes e → IsUnclaimed document e
-claim_denied document trace bytes (Refused r) short parted why = inl (short, trace, bytes, parted, why)
-claim_denied document trace bytes Memory short parted why = tt
-claim_denied document trace bytes Words short parted why = absurd why
-claim_denied document trace bytes Read short parted why = absurd why
-claim_denied document trace bytes NoScript short parted why = absurd why
+replay_denied : (document trace bytes : List ℕ) (e : Stop) → length document ≤ document_limit → IsParted document trace bytes → IsDenied bytes e → IsNoReplay document e
+replay_denied document trace bytes (Refused r) short parted why = inl (short, trace, bytes, parted, why)
+replay_denied document trace bytes Memory short parted why = tt
+replay_denied document trace bytes Words short parted why = absurd why
+replay_denied document trace bytes Read short parted why = absurd why
+replay_denied document trace bytes NoScript short parted why = absurd why
 
 parted_at : (document : List ℕ) (at : ℕ) → IsScriptLine document at → ((other : ℕ) → IsScriptLine document other → at ≤ other) → IsParted document (take at document) (drop (at + 7) document)
 parted_at document at line first = record { at = at; line = record { line = line; first = first }; before = refl; behind = refl }
@@ -194,13 +194,13 @@ module _ (document searched_in lent : List ℕ) (at script : ℕ) (searched_same
   parted : IsParted document (take at document) (drop (at + 7) document)
   parted = subst (λ d. IsParted d (take at d) (drop (at + 7) d)) searched_same (parted_at searched_in at line first)
 
-  pub cut_denied : (e : Stop) → IsDenied (take (length lent - script) (drop script lent)) e → IsUnclaimed document e
-  cut_denied e why = claim_denied document (take at document) (drop (at + 7) document) e short parted (subst (λ b. IsDenied b e) (cut_behind document lent at script same is) why)
+  pub cut_denied : (e : Stop) → IsDenied (take (length lent - script) (drop script lent)) e → IsNoReplay document e
+  cut_denied e why = replay_denied document (take at document) (drop (at + 7) document) e short parted (subst (λ b. IsDenied b e) (cut_behind document lent at script same is) why)
 
-  pub cut_claimed : (claim : Claim) → claim.trace.items ≡ take at document → IsAccepted (take (length lent - script) (drop script lent)) (body_of claim.code).of.value → IsClaimed document claim
-  cut_claimed claim cut accepted = record {
+  pub cut_replay : (replay : Replay) → replay.trace.items ≡ take at document → IsAccepted (take (length lent - script) (drop script lent)) (body_of replay.code).of.value → IsReplay document replay
+  cut_replay replay cut accepted = record {
     short = short;
     bytes = drop (at + 7) document;
     parted = subst (λ t. IsParted document t (drop (at + 7) document)) (sym cut) parted;
-    accepted = subst (λ b. IsAccepted b (body_of claim.code).of.value) (cut_behind document lent at script same is) accepted;
+    accepted = subst (λ b. IsAccepted b (body_of replay.code).of.value) (cut_behind document lent at script same is) accepted;
   }

@@ -149,7 +149,7 @@ had_bytes before now taken s consumed (inr long) accepted = absurd (not_short ta
 pub traced_had : (before now : Option (List ℕ)) (taken lent : List ℕ) (s : Script) → Consumes before now taken → IsWhole script_limit taken now → lent ≡ taken → IsAccepted lent s → HadBytes before now s taken
 traced_had before now taken lent s consumed read same accepted = had_bytes before now taken s consumed read (subst (λ b. IsAccepted b s) same accepted)
 
-pub check_had : (A : Type 0) (answer : Result A Stop) (fault : Type 0) (before now : Option (List ℕ)) (taken lent : List ℕ) → Consumes before now taken → IsWhole script_limit taken now → lent ≡ taken
-    → MatchResult answer (λ done. IsScript lent) (IsDenied lent) → MatchResult answer (λ done. HadSome before now) (HadNone fault before now)
-check_had A (Ok done) fault before now taken lent consumed read same accepted = (accepted.0, had_script before now taken lent accepted.0 consumed read same accepted.1)
-check_had A (Err e) fault before now taken lent consumed read same why = had_none fault before now taken lent e consumed read same why
+pub check_had : (answer : Result Script Stop) (fault : Type 0) (before now : Option (List ℕ)) (taken lent : List ℕ) → Consumes before now taken → IsWhole script_limit taken now → lent ≡ taken
+    → MatchResult answer (IsAccepted lent) (IsDenied lent) → MatchResult answer (HadScript before now) (HadNone fault before now)
+check_had (Ok script) fault before now taken lent consumed read same accepted = had_script before now taken lent script consumed read same accepted
+check_had (Err e) fault before now taken lent consumed read same why = had_none fault before now taken lent e consumed read same why

@@ -1,5 +1,5 @@
 -- What the words and the input come to, command by command.
-use Rattle.std.proofs.Common.{◌≡◌, ℕ, List, [], refl, sym, subst, arith}
+use Rattle.std.proofs.Common.{◌≡◌, ◌∙◌, ℕ, List, [], refl, sym, subst, arith}
 use Rattle.std.specs.Prelude.{Option, Some, None}
 use Rattle.hs_base.specs.declared.clock_choice.ClockChoice.{ClockChoice}
 use Rattle.hs_base.specs.declared.clock_choice.ClockChoice.TheVariants.{Virtual}
@@ -7,19 +7,19 @@ use Rattle.rules_code.specs.declared.code.Code.{Code}
 use Rattle.rules_code.specs.Codes.{body_of}
 use Rattle.conc_task.specs.ring.Ring.{ring_text}
 use Rattle.conc_task.specs.declared.words.command.Command.{Command}
-use Rattle.conc_task.specs.declared.words.command.Command.TheVariants.{Run, Check, Bench, Trace, Outcomes, Ask}
+use Rattle.conc_task.specs.declared.words.command.Command.TheVariants.{Run, Check, Bench, Trace, Outcomes, Claims, Haskell, Ask}
 use Rattle.conc_task.specs.declared.words.command.Question.{Question}
 use Rattle.hs_compile.specs.declared.refusal.Refusal.{Refusal}
 use Rattle.hs_compile.specs.Verdicts.{IsAccepted, IsRefused, script_limit}
 use Rattle.conc_task.specs.declared.stop.Stop.{Stop}
 use Rattle.conc_task.specs.declared.stop.Stop.TheVariants.{Words, Refused, Read, NoScript, Memory}
-use Rattle.conc_task.specs.declared.task.Claim.{Claim}
+use Rattle.conc_task.specs.declared.task.Replay.{Replay}
 use Rattle.conc_task.specs.declared.task.Search.{Search}
 use Rattle.conc_task.specs.Documents.{IsLeft}
 use Rattle.conc_task.specs.Commands.{IsInput, ReadsSource, source_limit, Traces}
 use Rattle.conc_task.specs.Inputs.{HadBytes, HadScript, HadSome, TookFew}
 use Rattle.conc_task.specs.Stops.{HadNone, HasNone, IsDenied, IsUnclear, RefusesInput, WasRead}
-use Rattle.conc_task.specs.Tasks.{HasChecked, HasClaim, HasProgram, HasSearch, HasTraced}
+use Rattle.conc_task.specs.Tasks.{HadSearch, HadSought, HasChecked, HasClaims, HasProgram, HasReplay, HasSearch, HasTraced}
 use Rattle.conc_task.proofs.Reading.{any_left}
 use Rattle.conc_task.proofs.Documents.{script_of}
 
@@ -67,22 +67,30 @@ traced_program command capabilities fuel clock before now code read is (had, sam
       read = same;
     }
 
-pub searched : (command : Option Command) (before now : Option (List ℕ)) (sought : Search) → command ≡ Some (Outcomes sought.clock sought.states sought.fuel sought.witness)
-    → HadBytes before now (body_of sought.code).of.value sought.script.items → HasSearch command before now sought
-searched command before now sought is (had, same) = record {
-  lists = is;
-  input = subst (λ c. IsInput c before sought.script.items) (sym is) (subst (IsLeft before) same had.left);
+pub sought_of : (before now : Option (List ℕ)) (sought : Search) → HadBytes before now (body_of sought.code).of.value sought.script.items → HadSought before now sought
+sought_of before now sought (had, same) = record {
+  input = subst (IsLeft before) same had.left;
   accepted = subst (λ bytes. IsAccepted bytes (body_of sought.code).of.value) same had.accepted;
   through = had.through;
 }
 
-pub claimed : (command : Option Command) (before now : Option (List ℕ)) (question : Question) (claim : Claim) → command ≡ Some (Ask question) → HasClaim (Some (Ask question)) before now question claim
-    → HasClaim command before now question claim
-claimed command before now question claim is has = subst (λ c. HasClaim c before now question claim) (sym is) has
+pub searched : (command : Option Command) (clock : ClockChoice) (states fuel : ℕ) (witness : Option ℕ) (before now : Option (List ℕ)) (sought : Search)
+    → command ≡ Some (Outcomes clock states fuel witness) → HadSearch clock states fuel before now sought → HasSearch command before now sought witness
+searched command clock states fuel witness before now sought is (same_clock, same_states, same_fuel, had) =
+    (is ∙ (λ i. Some (Outcomes (sym same_clock i) (sym same_states i) (sym same_fuel i) witness)), had)
 
-pub claim_none : (command : Option Command) (question : Question) (fault : Type 0) (before now : Option (List ℕ)) (e : Stop) → command ≡ Some (Ask question) → HasNone (Some (Ask question)) fault before now e
+pub claims_sought : (command : Option Command) (clock : ClockChoice) (states fuel : ℕ) (before now : Option (List ℕ)) (sought : Search)
+    → command ≡ Some (Claims clock states fuel) → HadSearch clock states fuel before now sought → HasClaims command before now sought
+claims_sought command clock states fuel before now sought is (same_clock, same_states, same_fuel, had) =
+    (is ∙ (λ i. Some (Claims (sym same_clock i) (sym same_states i) (sym same_fuel i))), had)
+
+pub replayed : (command : Option Command) (before now : Option (List ℕ)) (question : Question) (replay : Replay) → command ≡ Some (Ask question) → HasReplay (Some (Ask question)) before now question replay
+    → HasReplay command before now question replay
+replayed command before now question replay is has = subst (λ c. HasReplay c before now question replay) (sym is) has
+
+pub replay_none : (command : Option Command) (question : Question) (fault : Type 0) (before now : Option (List ℕ)) (e : Stop) → command ≡ Some (Ask question) → HasNone (Some (Ask question)) fault before now e
     → HasNone command fault before now e
-claim_none command question fault before now e is has = subst (λ c. HasNone c fault before now e) (sym is) has
+replay_none command question fault before now e is has = subst (λ c. HasNone c fault before now e) (sym is) has
 
 -- ---- no script
 
@@ -93,6 +101,8 @@ ReadsScript Check = Unit {0}
 ReadsScript (Bench threads capabilities fuel) = ⊥
 ReadsScript (Trace capabilities fuel clock) = Unit {0}
 ReadsScript (Outcomes clock states fuel witness) = Unit {0}
+ReadsScript (Claims clock states fuel) = Unit {0}
+ReadsScript Haskell = Unit {0}
 ReadsScript (Ask question) = ⊥
 
 reads_source : (c : Command) → ReadsScript c → ReadsSource (Some c)
@@ -100,6 +110,8 @@ reads_source (Run capabilities fuel clock) reads = tt
 reads_source Check reads = tt
 reads_source (Trace capabilities fuel clock) reads = tt
 reads_source (Outcomes clock states fuel witness) reads = tt
+reads_source (Claims clock states fuel) reads = tt
+reads_source Haskell reads = tt
 reads_source (Bench threads capabilities fuel) reads = absurd reads
 reads_source (Ask question) reads = absurd reads
 
@@ -108,6 +120,8 @@ limit_is (Run capabilities fuel clock) reads = refl
 limit_is Check reads = refl
 limit_is (Trace capabilities fuel clock) reads = refl
 limit_is (Outcomes clock states fuel witness) reads = refl
+limit_is (Claims clock states fuel) reads = refl
+limit_is Haskell reads = refl
 limit_is (Bench threads capabilities fuel) reads = refl
 limit_is (Ask question) reads = absurd reads
 
@@ -116,6 +130,8 @@ refused_input (Run capabilities fuel clock) before bytes r reads why = why
 refused_input Check before bytes r reads why = why
 refused_input (Trace capabilities fuel clock) before bytes r reads why = why
 refused_input (Outcomes clock states fuel witness) before bytes r reads why = why
+refused_input (Claims clock states fuel) before bytes r reads why = why
+refused_input Haskell before bytes r reads why = why
 refused_input (Bench threads capabilities fuel) before bytes r reads why = why
 refused_input (Ask question) before bytes r reads why = absurd reads
 
@@ -127,6 +143,8 @@ left_input (Run capabilities fuel clock) before bytes reads left = left
 left_input Check before bytes reads left = left
 left_input (Trace capabilities fuel clock) before bytes reads left = left
 left_input (Outcomes clock states fuel witness) before bytes reads left = left
+left_input (Claims clock states fuel) before bytes reads left = left
+left_input Haskell before bytes reads left = left
 left_input (Bench threads capabilities fuel) before bytes reads left = absurd reads
 left_input (Ask question) before bytes reads left = absurd reads
 
@@ -180,6 +198,8 @@ any_input (Some Check) before = any_left before
 any_input (Some (Bench threads capabilities fuel)) before = (ring_text threads, refl)
 any_input (Some (Trace capabilities fuel clock)) before = any_left before
 any_input (Some (Outcomes clock states fuel witness)) before = any_left before
+any_input (Some (Claims clock states fuel)) before = any_left before
+any_input (Some Haskell) before = any_left before
 any_input (Some (Ask question)) before =
     let (document, left) = any_left before in
     let (bytes, is) = script_of document in

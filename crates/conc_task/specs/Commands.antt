@@ -4,7 +4,7 @@ use Rattle.hs_base.specs.declared.clock_choice.ClockChoice.{ClockChoice}
 use Rattle.hs_base.specs.declared.clock_choice.ClockChoice.TheVariants.{Virtual}
 use Rattle.conc_task.specs.ring.Ring.{ring_text}
 use Rattle.conc_task.specs.declared.words.command.Command.{Command}
-use Rattle.conc_task.specs.declared.words.command.Command.TheVariants.{Run, Check, Bench, Trace, Outcomes, Ask}
+use Rattle.conc_task.specs.declared.words.command.Command.TheVariants.{Run, Check, Bench, Trace, Outcomes, Claims, Haskell, Ask}
 use Rattle.conc_task.specs.declared.words.command.Question.{Question}
 use Rattle.hs_compile.specs.Verdicts.{script_limit}
 use Rattle.conc_task.specs.Documents.{document_limit, IsLeft, IsScriptOf}
@@ -17,6 +17,8 @@ ReadsSource (Some Check) = ⊤
 ReadsSource (Some (Bench threads capabilities fuel)) = ⊥
 ReadsSource (Some (Trace capabilities fuel clock)) = ⊤
 ReadsSource (Some (Outcomes clock states fuel witness)) = ⊤
+ReadsSource (Some (Claims clock states fuel)) = ⊤
+ReadsSource (Some Haskell) = ⊤
 ReadsSource (Some (Ask question)) = ⊤
 
 -- The most bytes of what the command reads from the source: a script, or a document where something is asked of one.
@@ -27,6 +29,8 @@ source_limit (Some Check) = script_limit
 source_limit (Some (Bench threads capabilities fuel)) = script_limit
 source_limit (Some (Trace capabilities fuel clock)) = script_limit
 source_limit (Some (Outcomes clock states fuel witness)) = script_limit
+source_limit (Some (Claims clock states fuel)) = script_limit
+source_limit (Some Haskell) = script_limit
 source_limit (Some (Ask question)) = document_limit
 
 -- These bytes are the input of the command: what the source had left, for `bench N` the text of the ring, and where
@@ -38,6 +42,8 @@ IsInput (Some Check) left bytes = IsLeft left bytes
 IsInput (Some (Bench threads capabilities fuel)) left bytes = bytes ≡ ring_text threads
 IsInput (Some (Trace capabilities fuel clock)) left bytes = IsLeft left bytes
 IsInput (Some (Outcomes clock states fuel witness)) left bytes = IsLeft left bytes
+IsInput (Some (Claims clock states fuel)) left bytes = IsLeft left bytes
+IsInput (Some Haskell) left bytes = IsLeft left bytes
 IsInput (Some (Ask question)) left bytes = (document : List ℕ) × IsLeft left document × IsScriptOf document bytes
 
 -- The command runs its input with this fuel, by this clock.
@@ -48,6 +54,8 @@ RunsWith (Some Check) most choice = ⊥
 RunsWith (Some (Bench threads capabilities fuel)) most choice = (most ≡ fuel) × (choice ≡ Virtual)
 RunsWith (Some (Trace capabilities fuel clock)) most choice = (most ≡ fuel) × (choice ≡ clock)
 RunsWith (Some (Outcomes clock states fuel witness)) most choice = ⊥
+RunsWith (Some (Claims clock states fuel)) most choice = ⊥
+RunsWith (Some Haskell) most choice = ⊥
 RunsWith (Some (Ask question)) most choice = ⊥
 
 -- The command runs its input on so many capabilities.
@@ -58,6 +66,8 @@ RunsOn (Some Check) count = ⊥
 RunsOn (Some (Bench threads capabilities fuel)) count = count ≡ capabilities
 RunsOn (Some (Trace capabilities fuel clock)) count = count ≡ capabilities
 RunsOn (Some (Outcomes clock states fuel witness)) count = ⊥
+RunsOn (Some (Claims clock states fuel)) count = ⊥
+RunsOn (Some Haskell) count = ⊥
 RunsOn (Some (Ask question)) count = ⊥
 
 -- The command writes the history of what it runs, in place of what that prints.
@@ -68,6 +78,8 @@ Traces (Some Check) = ⊥
 Traces (Some (Bench threads capabilities fuel)) = ⊥
 Traces (Some (Trace capabilities fuel clock)) = ⊤
 Traces (Some (Outcomes clock states fuel witness)) = ⊥
+Traces (Some (Claims clock states fuel)) = ⊥
+Traces (Some Haskell) = ⊥
 Traces (Some (Ask question)) = ⊥
 
 -- The command lists the outcomes of its input, or writes down a run that comes to one. It runs nothing.
@@ -78,6 +90,8 @@ Lists (Some Check) = ⊥
 Lists (Some (Bench threads capabilities fuel)) = ⊥
 Lists (Some (Trace capabilities fuel clock)) = ⊥
 Lists (Some (Outcomes clock states fuel witness)) = ⊤
+Lists (Some (Claims clock states fuel)) = ⊥
+Lists (Some Haskell) = ⊥
 Lists (Some (Ask question)) = ⊥
 
 -- the command asks this of a document

@@ -1,7 +1,7 @@
 -- Why there is nothing to run, and nothing is accepted (own).
 use Rattle.std.specs.Prelude.{◌≡◌, ◌≤◌, ◌<◌, ◌⊎◌, ℕ, List, Option, Some, None, IsSome, length, ⊤}
 use Rattle.conc_task.specs.declared.words.command.Command.{Command}
-use Rattle.conc_task.specs.declared.words.command.Command.TheVariants.{Run, Check, Bench, Trace, Outcomes, Ask}
+use Rattle.conc_task.specs.declared.words.command.Command.TheVariants.{Run, Check, Bench, Trace, Outcomes, Claims, Haskell, Ask}
 use Rattle.hs_compile.specs.declared.refusal.Refusal.{Refusal}
 use Rattle.hs_compile.specs.declared.refusal.Refusal.TheVariants as refusal
 use Rattle.hs_compile.specs.declared.refusal.CompileFault.{CompileFault}
@@ -25,6 +25,8 @@ RefusesInput (Some Check) before bytes r = IsRefused r bytes
 RefusesInput (Some (Bench threads capabilities fuel)) before bytes r = IsRefused r bytes
 RefusesInput (Some (Trace capabilities fuel clock)) before bytes r = IsRefused r bytes
 RefusesInput (Some (Outcomes clock states fuel witness)) before bytes r = IsRefused r bytes
+RefusesInput (Some (Claims clock states fuel)) before bytes r = IsRefused r bytes
+RefusesInput (Some Haskell) before bytes r = IsRefused r bytes
 RefusesInput (Some (Ask question)) before bytes r = RefusesDocument before bytes r
 
 -- The cause of each, by the command that the words are, if they are one, what the source had left, and the bytes of the input.
@@ -95,14 +97,14 @@ IsDenied bytes NoScript = ⊥
 IsDenied bytes Memory = ⊤
 
 -- a document has no accepted script, it is too long, no line of it is `script`, or there was no memory
-abbrev pub IsUnclaimed : (document : List ℕ) → Stop → Type 0
-IsUnclaimed document Words = ⊥
-IsUnclaimed document (Refused r) =
+abbrev pub IsNoReplay : (document : List ℕ) → Stop → Type 0
+IsNoReplay document Words = ⊥
+IsNoReplay document (Refused r) =
     ((length document ≤ document_limit) × (trace : List ℕ) × (bytes : List ℕ) × IsParted document trace bytes × IsRefused r bytes)
     ⊎ ((r ≡ refusal.TooLong) × (document_limit < length document))
-IsUnclaimed document Read = ⊥
-IsUnclaimed document NoScript = (length document ≤ document_limit) × HasNoScript document
-IsUnclaimed document Memory = ⊤
+IsNoReplay document Read = ⊥
+IsNoReplay document NoScript = (length document ≤ document_limit) × HasNoScript document
+IsNoReplay document Memory = ⊤
 
 -- why there is no script, where the front has none
 abbrev pub stop_of : CompileFault → Stop

@@ -1,5 +1,5 @@
-//! What the words and the input come to: a script to run or to search, word that one is accepted, a question about a
-//! document, or why there is none.
+//! What the words and the input come to: a script to run, to search or to print, word that one is accepted, a question about
+//! a document, or why there is none.
 //!
 //! To a contract a task is the capabilities, the fuel, the clock and the script that it runs, or the script that it searches and how
 //! far (`specs/Tasks`). The one promise is that of `task_of`: its answer is what the command that the words are asks for, of the bytes
@@ -18,4 +18,4 @@ mod task;
 pub mod words;
 
 pub use stop::Stop;
-pub use task::{Claim, Program, Search, Task, task_of};
+pub use task::{Asked, Program, Replay, Search, Task, task_of};

@@ -7,15 +7,16 @@ ghost use Rattle.conc_task.specs.declared.words.command.Command.TheVariants.{Ask
 ghost use Rattle.conc_task.specs.declared.words.command.Question.{Question as AQuestion};
 ghost use Rattle.conc_task.specs.words.Commands.{command_by, IsWithin};
 ghost use Rattle.conc_task.specs.Commands.{ReadsSource};
-ghost use Rattle.conc_task.specs.Inputs.{HadBytes, HadScript, HadSome, IsScript, TakesWhole};
-ghost use Rattle.conc_task.specs.Stops.{Counted, HadNone, HasNone, IsDenied, IsUnclaimed, IsUnclear, IsUnread, stop_of};
-ghost use Rattle.conc_task.specs.Tasks.{HasCapabilities, HasClaim, HasFuel, HasNumber, HasStates, HasTask, IsClaimed};
+ghost use Rattle.conc_task.specs.Inputs.{HadBytes, HadScript, TakesWhole};
+ghost use Rattle.conc_task.specs.Stops.{Counted, HadNone, HasNone, IsDenied, IsNoReplay, IsUnclear, IsUnread, stop_of};
+ghost use Rattle.conc_task.specs.Tasks.{HadSearch, HasCapabilities, HasFuel, HasNumber, HasReplay, HasStates, HasTask, IsReplay};
 
 use crate::input::{Input, read_input};
 use crate::ring::ring;
 use crate::stop::Stop;
 use crate::words::{Command, Question, WordsFault, read_words};
 use hs_base::ClockChoice;
+use hs_base::tree::Script;
 use hs_compile::{CompileFault, Refusal, accept, compile};
 use hs_io::Source;
 use rules_code::Code;
@@ -41,13 +42,13 @@ pub struct Program {
 
 /// A document that may be a run: its trace, and the code of its script.
 #[derive(Drop)]
-pub struct Claim {
+pub struct Replay {
     pub code: Code,
     /// The bytes before the line `script`.
     pub trace: Vec<u8>,
 }
 
-/// A script whose outcomes are to be listed, and how far.
+/// A script whose outcomes are to be searched, and how far.
 #[derive(Drop)]
 pub struct Search {
     pub code: Code,
@@ -58,8 +59,19 @@ pub struct Search {
     pub states: u32,
     /// The most steps of a run, 1 to 4,000,000.
     pub fuel: u32,
-    /// The number of the outcome whose run is written, from 1.
-    pub witness: Option<u32>,
+}
+
+/// What is to be shown without a run.
+#[derive(Drop)]
+pub enum Asked {
+    /// The outcomes of a script, or a run that comes to the one of this number, from 1.
+    Outcomes(Search, Option<u32>),
+    /// Which of its claims hold.
+    Claims(Search),
+    /// A script, as a Haskell module.
+    Module(Script),
+    /// The answer to a question about a trace and the script beside it.
+    Document(Question, Replay),
 }
 
 /// What is left to do once the words and the input are read.
@@ -71,16 +83,14 @@ pub enum Task {
     Accept,
     /// To run a script and to write its history, and then the script, as it was read.
     Trace(Program, Vec<u8>),
-    /// To list the outcomes of a script, or to write down a run that comes to one.
-    Explore(Search),
-    /// To answer a question about a trace and the script beside it.
-    Ask(Question, Claim),
+    /// To show something, without a run.
+    Show(Asked),
 }
 
 /// What the words after the program's name ask for.
 ///
-/// `run`, `check`, `trace` and `outcomes` read the source to its end, or to the first byte that no script has, what asks
-/// something of a document to the first that no document has; no other words read it. Want of memory is free.
+/// `run`, `check`, `trace`, `outcomes`, `claims` and `haskell` read the source to its end, or to the first byte that no script has,
+/// what asks something of a document to the first that no document has; no other words read it. Want of memory is free.
 pub fn task_of<S: Source>(alloc: Global, words: &[String], source: &mut S) -> Result<Task, Stop>
     ensures comes { MatchResult result
         (HasTask (command_by words.now) (S.left source.old) (S.left source.new))
@@ -148,19 +158,24 @@ pub fn task_of<S: Source>(alloc: Global, words: &[String], source: &mut S) -> Re
             fuel,
             witness,
         } => {
-            let (code, script) = read_traced(alloc, source)?;
-            Ok(Task::Explore(Search {
-                code,
-                script,
-                clock,
-                states,
-                fuel,
-                witness,
-            }))
+            let sought = read_search(alloc, source, clock, states, fuel)?;
+            Ok(Task::Show(Asked::Outcomes(sought, witness)))
+        }
+        Command::Claims {
+            clock,
+            states,
+            fuel,
+        } => {
+            let sought = read_search(alloc, source, clock, states, fuel)?;
+            Ok(Task::Show(Asked::Claims(sought)))
+        }
+        Command::Haskell => {
+            let script = read_checked(alloc, source)?;
+            Ok(Task::Show(Asked::Module(script)))
         }
         Command::Ask(question) => {
-            let claim = read_claim(alloc, source)?;
-            Ok(Task::Ask(question, claim))
+            let replay = read_replay(alloc, source)?;
+            Ok(Task::Show(Asked::Document(question, replay)))
         }
     }
 }
@@ -200,21 +215,43 @@ fn read_traced<S: Source>(alloc: Global, source: &mut S) -> Result<(Code, Vec<u8
     Ok((code, bytes))
 }
 
-// The claim of the document that the source has, whatever is asked of it.
-fn read_claim<S: Source>(alloc: Global, source: &mut S) -> Result<Claim, Stop>
-    ensures comes { (q : AQuestion) → MatchResult result (HasClaim (Some (Ask q)) (S.left source.old) (S.left source.new) q)
-        (HasNone (Some (Ask q)) (Rose (S.faults source.old) (S.faults source.new)) (S.left source.old) (S.left source.new)) }
-    ensures counts { MatchResult result (λ claim. S.faults source.new ≡ S.faults source.old) (λ stop. Counted stop (S.faults source.old) (S.faults source.new)) }
+// The search of the script that the source has, so far and in this timing.
+fn read_search<S: Source>(
+    alloc: Global,
+    source: &mut S,
+    clock: ClockChoice,
+    states: u32,
+    fuel: u32,
+) -> Result<Search, Stop>
+    ensures comes { MatchResult result (HadSearch clock states fuel (S.left source.old) (S.left source.new))
+        (HadNone (Rose (S.faults source.old) (S.faults source.new)) (S.left source.old) (S.left source.new)) }
+    ensures counts { MatchResult result (λ sought. S.faults source.new ≡ S.faults source.old) (λ stop. Counted stop (S.faults source.old) (S.faults source.new)) }
 {
-    let document = read_bytes(alloc, source, DOCUMENT_LIMIT)?;
-    claim_of(alloc, document)
+    let (code, script) = read_traced(alloc, source)?;
+    Ok(Search {
+        code,
+        script,
+        clock,
+        states,
+        fuel,
+    })
 }
 
-// Whether the source has an accepted script.
-fn read_checked<S: Source>(alloc: Global, source: &mut S) -> Result<(), Stop>
-    ensures comes { MatchResult result (λ done. HadSome (S.left source.old) (S.left source.new))
+// The trace and the code of the document that the source has, whatever is asked of it.
+fn read_replay<S: Source>(alloc: Global, source: &mut S) -> Result<Replay, Stop>
+    ensures comes { (q : AQuestion) → MatchResult result (HasReplay (Some (Ask q)) (S.left source.old) (S.left source.new) q)
+        (HasNone (Some (Ask q)) (Rose (S.faults source.old) (S.faults source.new)) (S.left source.old) (S.left source.new)) }
+    ensures counts { MatchResult result (λ replay. S.faults source.new ≡ S.faults source.old) (λ stop. Counted stop (S.faults source.old) (S.faults source.new)) }
+{
+    let document = read_bytes(alloc, source, DOCUMENT_LIMIT)?;
+    replay_of(alloc, document)
+}
+
+// The script that the source has.
+fn read_checked<S: Source>(alloc: Global, source: &mut S) -> Result<Script, Stop>
+    ensures comes { MatchResult result (HadScript (S.left source.old) (S.left source.new))
         (HadNone (Rose (S.faults source.old) (S.faults source.new)) (S.left source.old) (S.left source.new)) }
-    ensures counts { MatchResult result (λ done. S.faults source.new ≡ S.faults source.old) (λ stop. Counted stop (S.faults source.old) (S.faults source.new)) }
+    ensures counts { MatchResult result (λ script. S.faults source.new ≡ S.faults source.old) (λ stop. Counted stop (S.faults source.old) (S.faults source.new)) }
 {
     let bytes = read_bytes(alloc, source, SCRIPT_LIMIT)?;
     check_of(alloc, &bytes)
@@ -233,9 +270,9 @@ fn read_bytes<S: Source>(alloc: Global, source: &mut S, limit: u32) -> Result<Ve
     }
 }
 
-// The claim of a document.
-fn claim_of(alloc: Global, document: Vec<u8>) -> Result<Claim, Stop>
-    ensures { MatchResult result (IsClaimed document.items) (IsUnclaimed document.items) }
+// The trace and the code of a document.
+fn replay_of(alloc: Global, document: Vec<u8>) -> Result<Replay, Stop>
+    ensures { MatchResult result (IsReplay document.items) (IsNoReplay document.items) }
 {
     if document.len() > DOCUMENT_LIMIT as usize {
         return Err(Stop::Refused(Refusal::TooLong));
@@ -246,7 +283,7 @@ fn claim_of(alloc: Global, document: Vec<u8>) -> Result<Claim, Stop>
     let code = code_of(alloc, &document[script..])?;
     let mut trace = document;
     trace.truncate(at);
-    Ok(Claim { code, trace })
+    Ok(Replay { code, trace })
 }
 
 // The code of the ring of so many threads.
@@ -271,12 +308,12 @@ fn code_of(alloc: Global, bytes: &[u8]) -> Result<Code, Stop>
     }
 }
 
-// Whether these bytes are an accepted script.
-fn check_of(alloc: Global, bytes: &[u8]) -> Result<(), Stop>
-    ensures { MatchResult result (λ done. IsScript bytes.now) (IsDenied bytes.now) }
+// The accepted script that these bytes are.
+fn check_of(alloc: Global, bytes: &[u8]) -> Result<Script, Stop>
+    ensures { MatchResult result (IsAccepted bytes.now) (IsDenied bytes.now) }
 {
     match accept(alloc, bytes) {
-        Ok(_) => Ok(()),
+        Ok(checked) => Ok(checked.script),
         Err(fault) => Err(stop_of(fault)),
     }
 }

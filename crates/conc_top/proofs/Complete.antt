@@ -6,7 +6,7 @@ use Rattle.std.proofs.Props.{props}
 use Rattle.conc_caps.specs.RunEnd.{RunEnd}
 use Rattle.conc_caps.specs.RunEnd.TheVariants as end
 use Rattle.conc_task.specs.declared.words.command.Command.{Command}
-use Rattle.conc_task.specs.declared.words.command.Command.TheVariants.{Run, Check, Bench, Trace, Ask}
+use Rattle.conc_task.specs.declared.words.command.Command.TheVariants.{Run, Check, Bench, Trace, Haskell, Ask}
 use Rattle.conc_task.specs.declared.words.command.Command.TheVariants as commands
 use Rattle.conc_task.specs.declared.words.command.Question.{Question}
 use Rattle.conc_task.specs.declared.words.command.Question.TheVariants.{Verify, Report, Picture}
@@ -25,8 +25,8 @@ use Rattle.conc_task.specs.Stops.{RefusesDocument, RefusesInput}
 use Rattle.conc_top.specs.declared.ending.NotRun.{NotRun as NoRun}
 use Rattle.conc_top.specs.declared.ending.NotRun.TheVariants as norun
 use Rattle.conc_top.specs.declared.ending.Ending.{Ending}
-use Rattle.conc_top.specs.declared.ending.Ending.TheVariants.{Ran, Accepted, Words, Refused, Read, Memory, Write, Verified, Reported, Pictured, NotRun, NotDrawn, Outcomes, NoOutcome}
-use Rattle.conc_top.specs.Searches.{Searches}
+use Rattle.conc_top.specs.declared.ending.Ending.TheVariants.{Ran, Accepted, Words, Refused, Read, Memory, Write, Verified, Reported, Pictured, NotRun, NotDrawn, Outcomes, NoOutcome, Claims, ClaimRefused, NoClaim, Printed}
+use Rattle.conc_top.specs.Searches.{JudgesClaims, Searches}
 use Rattle.conc_top.specs.Causes.{HasFault, HasIn, HasPicture, HasRunIn, HasTooMany, HasVerdict, IsDue, IsExpected, IsIn, IsJudged, IsNotRun, IsRefusal, IsRunIn, IsVerdict}
 
 -- a source that tells its bytes had one list of them
@@ -53,6 +53,8 @@ one_input (Some Check) left x y good some h k = one_left left x y (some tt) h k
 one_input (Some (Bench threads capabilities fuel)) left x y good some h k = h ∙ sym k
 one_input (Some (Trace capabilities fuel clock)) left x y good some h k = one_left left x y (some tt) h k
 one_input (Some (commands.Outcomes clock states fuel witness)) left x y good some h k = one_left left x y (some tt) h k
+one_input (Some (commands.Claims clock states fuel)) left x y good some h k = one_left left x y (some tt) h k
+one_input (Some Haskell) left x y good some h k = one_left left x y (some tt) h k
 one_input (Some (Ask question)) left x y good some h k =
     one_script k.0 x y (subst (λ d. IsScriptOf d x) (one_left left h.0 k.0 (some tt) h.1 k.1) h.2) k.2
 
@@ -68,6 +70,8 @@ long_alone (Some Check) left bytes r script refused = absurd (not_both bytes scr
 long_alone (Some (Bench threads capabilities fuel)) left bytes r script refused = absurd (not_both bytes script.0 r script.1 refused)
 long_alone (Some (Trace capabilities fuel clock)) left bytes r script refused = absurd (not_both bytes script.0 r script.1 refused)
 long_alone (Some (commands.Outcomes clock states fuel witness)) left bytes r script refused = absurd (not_both bytes script.0 r script.1 refused)
+long_alone (Some (commands.Claims clock states fuel)) left bytes r script refused = absurd (not_both bytes script.0 r script.1 refused)
+long_alone (Some Haskell) left bytes r script refused = absurd (not_both bytes script.0 r script.1 refused)
 long_alone (Some (Ask question)) left bytes r script (inl refused) = absurd (not_both bytes script.0 r script.1 refused.2)
 long_alone (Some (Ask question)) left bytes r script (inr long) = ((question, refl), long.0, long.1)
 
@@ -86,6 +90,10 @@ expected command left bytes read_fault write_fault Pictured good script read wri
 expected command left bytes read_fault write_fault (NotDrawn n) good script read write due = due
 expected command left bytes read_fault write_fault (Outcomes extent) good script read write due = due
 expected command left bytes read_fault write_fault (NoOutcome k) good script read write due = due
+expected command left bytes read_fault write_fault (Claims j) good script read write due = due
+expected command left bytes read_fault write_fault (ClaimRefused at) good script read write due = due
+expected command left bytes read_fault write_fault NoClaim good script read write due = due
+expected command left bytes read_fault write_fault Printed good script read write due = due.0
 expected command left bytes read_fault write_fault (NotRun why) good script read write due = due
 
 pub is_expected : (command : Option Command) (left : Option (List ℕ)) (read_fault out_fault err_fault : Type 0) (e : Ending)
@@ -122,6 +130,10 @@ module _ (left : Option (List ℕ)) (bytes : List ℕ) (r : Refusal) (refused : 
   is_refused command read_fault write_fault (NotDrawn n) good read write due = not_both bytes due.1.2 r due.1.3 refused
   is_refused command read_fault write_fault (Outcomes extent) good read write due = ∥∥₁_elim due.1.3 (hlevel props) (λ found. not_both bytes found.explored.script r found.explored.accepted refused)
   is_refused command read_fault write_fault (NoOutcome k) good read write due = ∥∥₁_elim due.2 (hlevel props) (λ found. not_both bytes found.1.script r found.1.accepted refused)
+  is_refused command read_fault write_fault (Claims j) good read write due = ∥∥₁_elim due.1.2 (hlevel props) (λ found. not_both bytes found.explored.script r found.explored.accepted refused)
+  is_refused command read_fault write_fault (ClaimRefused at) good read write due = not_both bytes due.1.0 r due.1.1 refused
+  is_refused command read_fault write_fault NoClaim good read write due = not_both bytes due.1.0 r due.1.1 refused
+  is_refused command read_fault write_fault Printed good read write due = not_both bytes due.1.0 r due.1.1 refused
   is_refused command read_fault write_fault (NotRun why) good read write due = let (same, bare) = bare_alone why due.1 in (due.0, same, bare)
 
 pub is_refusal : (command : Option Command) (left : Option (List ℕ)) (read_fault out_fault err_fault : Type 0) (e : Ending)
@@ -142,11 +154,17 @@ question_in (Some Check) = Verify
 question_in (Some (Bench threads capabilities fuel)) = Verify
 question_in (Some (Trace capabilities fuel clock)) = Verify
 question_in (Some (commands.Outcomes clock states fuel witness)) = Verify
+question_in (Some (commands.Claims clock states fuel)) = Verify
+question_in (Some Haskell) = Verify
 question_in None = Verify
 
 module _ (question : Question) (document bytes : List ℕ) where
   asks_this : (other : Question) → Asks (Some (Ask question)) other → question ≡ other
   asks_this other same = ap question_in same
+
+  -- it is not `claims`
+  no_claims : JudgesClaims (Some (Ask question)) → ⊥
+  no_claims judges = let same : Some (Ask question) ≡ Some (commands.Claims judges.0.clock judges.0.states judges.0.fuel) = judges.1.0 in cc
 
   -- it is not `outcomes`
   other_command : (bounds : Bounds) (witness : Option ℕ) → Searches (Some (Ask question)) bounds witness → ⊥
@@ -190,6 +208,10 @@ module _ (question : Question) (document bytes : List ℕ) where
   verdict read_fault write_fault Pictured read write due = let found = picture_in due.1 in (asks_this Picture due.0, found.0, found.1, found.2)
   verdict read_fault write_fault (Outcomes extent) read write due = other_command due.1.0 due.1.1 due.1.2
   verdict read_fault write_fault (NoOutcome k) read write due = other_command due.0 (Some k) due.1
+  verdict read_fault write_fault (Claims j) read write due = no_claims (due.1.0, due.1.1)
+  verdict read_fault write_fault (ClaimRefused at) read write due = no_claims due.0
+  verdict read_fault write_fault NoClaim read write due = no_claims due.0
+  verdict read_fault write_fault Printed read write due = let same : Some (Ask question) ≡ Some Haskell = due.0 in cc
   verdict read_fault write_fault (NotDrawn n) read write due = let found = large_in n due.1 in (asks_this Picture due.0, found.0, found.1, found.2)
   verdict read_fault write_fault (NotRun why) read write due = no_run why due.1
 

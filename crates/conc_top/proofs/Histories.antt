@@ -237,6 +237,8 @@ tells_as (Some command.Check) bytes r given es lent now ds traces told = absurd 
 tells_as (Some (command.Bench threads capabilities fuel)) bytes r given es lent now ds traces told = absurd traces
 tells_as (Some (command.Trace capabilities fuel clock)) bytes r given es lent now ds traces told = told
 tells_as (Some (command.Outcomes clock states fuel witness)) bytes r given es lent now ds traces told = absurd traces
+tells_as (Some (command.Claims clock states fuel)) bytes r given es lent now ds traces told = absurd traces
+tells_as (Some command.Haskell) bytes r given es lent now ds traces told = absurd traces
 tells_as (Some (command.Ask question)) bytes r given es lent now ds traces told = absurd traces
 
 module _ (command : Option Command) (fault : Type 0) (a b : ℕ) (before left_now : Option (List ℕ)) (choice : Option ClockChoice) (program : Program) (read : List ℕ) (has : HasTraced command before left_now program read) where
@@ -281,6 +283,8 @@ left_of (Some command.Check) left bytes traces input = absurd traces
 left_of (Some (command.Bench threads capabilities fuel)) left bytes traces input = absurd traces
 left_of (Some (command.Trace capabilities fuel clock)) left bytes traces input = input
 left_of (Some (command.Outcomes clock states fuel witness)) left bytes traces input = absurd traces
+left_of (Some (command.Claims clock states fuel)) left bytes traces input = absurd traces
+left_of (Some command.Haskell) left bytes traces input = absurd traces
 left_of (Some (command.Ask question)) left bytes traces input = absurd traces
 
 pub trace_written : (command : Option Command) (before left_now : Option (List ℕ)) (program : Program) (read lent_bytes : List ℕ) (given : Ending) (es : List Entry) (told told_now : Option (List ℕ))

@@ -1,6 +1,12 @@
 mod Answering
 mod Playing
 mod Histories
-mod Claims
+mod Shown
+mod Searching
+mod Told
 mod Listings
+mod Decisions
+mod Printing
+mod Questions
+mod Asked
 mod Complete

@@ -36,7 +36,7 @@ use Rattle.conc_task.specs.Commands.{IsInput, ReadsSource, Runs, RunsWith, sourc
 use Rattle.conc_task.specs.Inputs.{IsScript, ReadThrough}
 use Rattle.conc_task.specs.Tasks.{HasProgram, HasTask}
 use Rattle.conc_top.specs.declared.ending.Ending.{Ending}
-use Rattle.conc_top.specs.declared.ending.Ending.TheVariants.{Ran, Accepted, Words, Refused, Read, Memory, Write, Verified, Reported, Pictured, NotRun, NotDrawn, Outcomes, NoOutcome}
+use Rattle.conc_top.specs.declared.ending.Ending.TheVariants.{Ran, Accepted, Words, Refused, Read, Memory, Write, Verified, Reported, Pictured, NotRun, NotDrawn, Outcomes, NoOutcome, Claims, ClaimRefused, NoClaim, Printed}
 use Rattle.conc_top.specs.Lines.{line_of, run_line, run_status, status_of}
 use Rattle.conc_top.specs.Causes.{HasFault, IsDue, IsUnrun}
 use Rattle.conc_top.specs.Searches.{limits}
@@ -361,6 +361,8 @@ tells_as (Some Check) fuel clock bytes r given es lent now ds runs prints told =
 tells_as (Some (Bench threads capabilities most)) fuel clock bytes r given es lent now ds runs prints told = told
 tells_as (Some (Trace capabilities most choice)) fuel clock bytes r given es lent now ds runs prints told = absurd (prints tt)
 tells_as (Some (commands.Outcomes choice states most witness)) fuel clock bytes r given es lent now ds runs prints told = told
+tells_as (Some (commands.Claims choice states most)) fuel clock bytes r given es lent now ds runs prints told = told
+tells_as (Some commands.Haskell) fuel clock bytes r given es lent now ds runs prints told = told
 tells_as (Some (Ask question)) fuel clock bytes r given es lent now ds runs prints told = told
 
 -- a command that runs its input reads a script
@@ -371,6 +373,8 @@ limit_is (Some Check) fuel clock runs = refl
 limit_is (Some (Bench threads capabilities most)) fuel clock runs = refl
 limit_is (Some (Trace capabilities most choice)) fuel clock runs = refl
 limit_is (Some (commands.Outcomes choice states most witness)) fuel clock runs = refl
+limit_is (Some (commands.Claims choice states most)) fuel clock runs = refl
+limit_is (Some commands.Haskell) fuel clock runs = refl
 limit_is (Some (Ask question)) fuel clock runs = absurd runs
 
 pub program_through : (command : Option Command) (before now : Option (List ℕ)) (program : Program) → HasProgram command before now program → ReadsSource command → ReadThrough (source_limit command) before now
@@ -431,6 +435,10 @@ played_ran write_fault (NotDrawn n) played unrun = played
 played_ran write_fault (NotRun why) played unrun = played
 played_ran write_fault (Outcomes extent) played unrun = played
 played_ran write_fault (NoOutcome k) played unrun = played
+played_ran write_fault (Claims j) played unrun = played
+played_ran write_fault (ClaimRefused at) played unrun = played
+played_ran write_fault NoClaim played unrun = played
+played_ran write_fault Printed played unrun = played
 
 -- the cause of the answer
 played_due : (command : Option Command) (before : Option (List ℕ)) (bytes : List ℕ) (read_fault write_fault : Type 0) (given : Ending) → Runs command → IsScript bytes → IsPlayed write_fault given
@@ -449,6 +457,10 @@ played_due command before bytes read_fault write_fault (NotDrawn n) asked found 
 played_due command before bytes read_fault write_fault (NotRun why) asked found played = absurd played
 played_due command before bytes read_fault write_fault (Outcomes extent) asked found played = absurd played
 played_due command before bytes read_fault write_fault (NoOutcome k) asked found played = absurd played
+played_due command before bytes read_fault write_fault (Claims j) asked found played = absurd played
+played_due command before bytes read_fault write_fault (ClaimRefused at) asked found played = absurd played
+played_due command before bytes read_fault write_fault NoClaim asked found played = absurd played
+played_due command before bytes read_fault write_fault Printed asked found played = absurd played
 
 pub program_due : (command : Option Command) (read_fault write_fault : Type 0) (before left_now : Option (List ℕ)) (program : Program) (given : Ending) → HasProgram command before left_now program
     → IsPlayed write_fault given → (bytes : List ℕ) × IsInput command before bytes × IsDue command before bytes read_fault write_fault given

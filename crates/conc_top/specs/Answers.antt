@@ -1,5 +1,5 @@
 -- What a call of the top call keeps and tells (own).
-use Rattle.std.specs.Prelude.{◌≡◌, ◌≢◌, ◌⊎◌, ◌<◌, ◌≤◌, ◌++◌, ℕ, Bool, true, false, List, [], take, Option, Some, None, IfSome, IsSome, Ok, Err, ⊤}
+use Rattle.std.specs.Prelude.{◌≡◌, ◌≢◌, ◌⊎◌, ◌<◌, ◌≤◌, ◌++◌, ℕ, Bool, true, false, List, [], length, take, Option, Some, None, IfSome, IsSome, Ok, Err, ⊤}
 use Rattle.std.specs.Io.KnownBytes.{Appends}
 use Rattle.hs_base.specs.declared.clock_choice.ClockChoice.{ClockChoice}
 use Rattle.hs_base.specs.declared.tree.script.Script.{Script}
@@ -28,21 +28,24 @@ use Rattle.conc_task.specs.declared.words.command.Command.TheVariants as command
 use Rattle.conc_task.specs.declared.words.command.Question.{Question}
 use Rattle.conc_task.specs.declared.words.command.Question.TheVariants.{Verify, Report, Picture}
 use Rattle.hs_compile.specs.declared.refusal.Refusal.{Refusal}
-use Rattle.hs_compile.specs.Verdicts.{IsAccepted, IsRefused}
+use Rattle.hs_compile.specs.Verdicts.{IsAccepted, IsRefused, script_limit}
 use Rattle.rules_code.specs.Codes.{body_of}
-use Rattle.conc_task.specs.declared.task.Claim.{Claim}
-use Rattle.conc_task.specs.declared.task.Search.{Search}
+use Rattle.conc_task.specs.declared.task.Asked.{Asked}
+use Rattle.conc_task.specs.declared.task.Asked.TheVariants as asked
+use Rattle.conc_task.specs.declared.task.Replay.{Replay}
 use Rattle.conc_task.specs.Commands.{Asks, IsInput, ReadsSource, RunsWith, source_limit, Traces}
 use Rattle.conc_task.specs.Inputs.{IsScript}
 use Rattle.outcome_listing.specs.declared.explored.Extent.{Extent}
+use Rattle.claim_lines.specs.declared.verdict.Judged.{Judged}
+use Rattle.haskell_module.specs.Modules.{module_text}
 use Rattle.trace_report.specs.Verified.{Verified as VerifiedRun}
 use Rattle.trace_picture.specs.declared.fault.PictureFault.{PictureFault}
 use Rattle.trace_picture.specs.declared.fault.PictureFault.TheVariants as picture
 use Rattle.trace_report.specs.Checking.{Judges, TellsOfRun}
 use Rattle.trace_report.specs.tally.Reporting.{report_of}
 use Rattle.conc_top.specs.declared.ending.Ending.{Ending}
-use Rattle.conc_top.specs.declared.ending.Ending.TheVariants.{Ran, Accepted, Words, Refused, Read, Memory, Write, Verified, Reported, Pictured, NotRun, NotDrawn, Outcomes, NoOutcome}
-use Rattle.conc_top.specs.Searches.{HasListing, IsListingOf, IsUnlisted, limits}
+use Rattle.conc_top.specs.declared.ending.Ending.TheVariants.{Ran, Accepted, Words, Refused, Read, Memory, Write, Verified, Reported, Pictured, NotRun, NotDrawn, Outcomes, NoOutcome, Claims, ClaimRefused, NoClaim, Printed}
+use Rattle.conc_top.specs.Searches.{HasDecision, HasListing, IsDecisionOf, IsListingOf, IsModule, IsUndecided, IsUnlisted, limits}
 use Rattle.conc_top.specs.Causes.{HasFault, HasIn, HasTelling, HasTooMany, IsDue, IsExpected, IsPictureOf, IsReadThrough, IsRefusal, IsVerdict, unfound}
 use Rattle.conc_top.specs.Lines.{accepted_line, HasPlace, line_of, run_line, verified_line}
 
@@ -85,6 +88,8 @@ Tells (Some Check) bytes r given es lent now ds = TellsBy (is_write (Some r)) r 
 Tells (Some (Bench threads capabilities fuel)) bytes r given es lent now ds = TellsBy (is_write (Some r)) r given ds es lent now
 Tells (Some (Trace capabilities fuel clock)) bytes r given es lent now ds = TellsTrace bytes r given es lent now
 Tells (Some (commands.Outcomes clock states fuel witness)) bytes r given es lent now ds = TellsBy (is_write (Some r)) r given ds es lent now
+Tells (Some (commands.Claims clock states fuel)) bytes r given es lent now ds = TellsBy (is_write (Some r)) r given ds es lent now
+Tells (Some commands.Haskell) bytes r given es lent now ds = TellsBy (is_write (Some r)) r given ds es lent now
 Tells (Some (Ask question)) bytes r given es lent now ds = TellsBy (is_write (Some r)) r given ds es lent now
 
 -- This history is a run of the script that these bytes are, from its first state to its ending, which came for its cause. Its
@@ -166,6 +171,10 @@ Keeps command before bytes choice (NotRun why) given es lent now = IsIdle (NotRu
 Keeps command before bytes choice (NotDrawn n) given es lent now = IsIdle (NotDrawn n) given es lent now
 Keeps command before bytes choice (Outcomes extent) given es lent now = IsShown (HasListing command bytes extent) (Outcomes extent) given es lent now
 Keeps command before bytes choice (NoOutcome k) given es lent now = IsIdle (NoOutcome k) given es lent now
+Keeps command before bytes choice (Claims j) given es lent now = IsShown (HasDecision command bytes j) (Claims j) given es lent now
+Keeps command before bytes choice (ClaimRefused at) given es lent now = IsIdle (ClaimRefused at) given es lent now
+Keeps command before bytes choice NoClaim given es lent now = IsIdle NoClaim given es lent now
+Keeps command before bytes choice Printed given es lent now = IsShown (IsModule bytes) Printed given es lent now
 
 -- some put failed
 abbrev pub WriteFault : (lent now : Shown) → Type 0
@@ -198,12 +207,36 @@ IsWritten document (NotDrawn n) told told_now = told_now ≡ told
 IsWritten document (NotRun why) told told_now = told_now ≡ told
 IsWritten document (Outcomes extent) told told_now = told_now ≡ told
 IsWritten document (NoOutcome k) told told_now = told_now ≡ told
+IsWritten document (Claims j) told told_now = told_now ≡ told
+IsWritten document (ClaimRefused at) told told_now = told_now ≡ told
+IsWritten document NoClaim told told_now = told_now ≡ told
+IsWritten document Printed told told_now = told_now ≡ told
 
--- Where `outcomes` has an answer the output sink was told exactly the list of the outcomes, or the document that is asked for, and
--- the error sink nothing.
-abbrev pub TellsListing : Option Command → (bytes : List ℕ) → Extent → (told told_now errors errors_now : Option (List ℕ)) → Type 0
-TellsListing command bytes extent told told_now errors errors_now =
-    (text : List ℕ) × HasListing command bytes extent text × Appends told told_now text × (errors_now ≡ errors)
+-- A text of which this holds was put on the output sink, and nothing on the error sink.
+abbrev pub TellsText : (Shows : List ℕ → Type 0) → (told told_now errors errors_now : Option (List ℕ)) → Type 0
+TellsText Shows told told_now errors errors_now = (text : List ℕ) × Shows text × Appends told told_now text × (errors_now ≡ errors)
+
+-- Where `outcomes` has an answer it is exactly the list of the outcomes, or the document that is asked for; where `claims` has one, a
+-- line for each claim; where `haskell` has one, the module of the script. Nothing is said of the other answers.
+abbrev pub TellsShown : Option Command → (bytes : List ℕ) → (given : Ending) → (told told_now errors errors_now : Option (List ℕ)) → Type 0
+TellsShown command bytes (Outcomes extent) told told_now errors errors_now = TellsText (HasListing command bytes extent) told told_now errors errors_now
+TellsShown command bytes (Claims j) told told_now errors errors_now = TellsText (HasDecision command bytes j) told told_now errors errors_now
+TellsShown command bytes Printed told told_now errors errors_now = TellsText (IsModule bytes) told told_now errors errors_now
+TellsShown command bytes (Ran r) told told_now errors errors_now = ⊤
+TellsShown command bytes Accepted told told_now errors errors_now = ⊤
+TellsShown command bytes Words told told_now errors errors_now = ⊤
+TellsShown command bytes (Refused r) told told_now errors errors_now = ⊤
+TellsShown command bytes Read told told_now errors errors_now = ⊤
+TellsShown command bytes Memory told told_now errors errors_now = ⊤
+TellsShown command bytes Write told told_now errors errors_now = ⊤
+TellsShown command bytes (Verified v) told told_now errors errors_now = ⊤
+TellsShown command bytes Reported told told_now errors errors_now = ⊤
+TellsShown command bytes Pictured told told_now errors errors_now = ⊤
+TellsShown command bytes (NotRun why) told told_now errors errors_now = ⊤
+TellsShown command bytes (NotDrawn n) told told_now errors errors_now = ⊤
+TellsShown command bytes (NoOutcome k) told told_now errors errors_now = ⊤
+TellsShown command bytes (ClaimRefused at) told told_now errors errors_now = ⊤
+TellsShown command bytes NoClaim told told_now errors errors_now = ⊤
 
 -- What a desk leaves that was run to its ending: this script ran with so much fuel and within the limits, since the sinks and the
 -- clock showed the first until they showed the second.
@@ -234,6 +267,10 @@ IsPlayed write_fault (NotDrawn n) = ⊥
 IsPlayed write_fault (NotRun why) = ⊥
 IsPlayed write_fault (Outcomes extent) = ⊥
 IsPlayed write_fault (NoOutcome k) = ⊥
+IsPlayed write_fault (Claims j) = ⊥
+IsPlayed write_fault (ClaimRefused at) = ⊥
+IsPlayed write_fault NoClaim = ⊥
+IsPlayed write_fault Printed = ⊥
 
 -- What a call came to, one answer that is due, and what it kept and told; where the put of its line failed, Write stands in the
 -- answer's place.
@@ -279,24 +316,47 @@ abbrev pub IsUnfound : Question → List Fn → (trace : List ℕ) → PictureFa
 IsUnfound question ds trace (picture.Run f) = Judges ds trace (Err f)
 IsUnfound question ds trace (picture.Large n) = (question ≡ Picture) × HasTooMany n ds trace
 
--- the script that a claim says was run
-abbrev pub claimed_script : Claim → List Fn
-claimed_script claim = script_of (body_of claim.code).of.value
+-- no text is told, for this cause
+abbrev pub LacksFor : Question → List Fn → (trace : List ℕ) → (came : Ending) → Type 0
+LacksFor question ds trace came = (f : PictureFault) × (came ≡ unfound f) × IsUnfound question ds trace f
 
--- What is told where something is asked of a trace: the text of the answer on the output sink, or the line of why it has none on
--- the error sink.
-abbrev pub TellsAsked : Question → List Fn → (trace : List ℕ) → (given : Ending) → (told told_now : Option (List ℕ)) → (faults faults_now : ℕ)
-    → (errors errors_now : Option (List ℕ)) → (err_faults err_faults_now : ℕ) → Type 0
-TellsAsked question ds trace given told told_now faults faults_now errors errors_now err_faults err_faults_now =
-    ((came : Ending) × (text : List ℕ) × IsFound question ds trace came text × TellsLine text came given told told_now faults faults_now × (errors_now ≡ errors) × (err_faults_now ≡ err_faults))
-    ⊎ ((f : PictureFault) × IsUnfound question ds trace f × (told_now ≡ told) × (faults_now ≡ faults) × TellsAnswer (unfound f) given errors errors_now err_faults err_faults_now)
+-- the bytes that claims are read of are not more than a script has
+abbrev pub IsShortIn : Asked → Type 0
+IsShortIn (asked.Outcomes sought witness) = ⊤
+IsShortIn (asked.Claims sought) = length sought.script.items ≤ script_limit
+IsShortIn (asked.Module script) = ⊤
+IsShortIn (asked.Document question replay) = ⊤
 
--- What is told of a search: its text on the output sink, or the line of why it has none on the error sink.
-abbrev pub TellsSearch : Search → (given : Ending) → (told told_now : Option (List ℕ)) → (faults faults_now : ℕ)
+-- the script that a document says was run
+abbrev pub replayed_script : Replay → List Fn
+replayed_script replay = script_of (body_of replay.code).of.value
+
+-- What is asked has this answer, with this text.
+abbrev pub IsShownOf : Asked → (came : Ending) → (text : List ℕ) → Type 0
+IsShownOf (asked.Outcomes sought witness) came text = (extent : Extent) × (came ≡ Outcomes extent) × IsListingOf sought witness extent text
+IsShownOf (asked.Claims sought) came text = (j : Judged) × (came ≡ Claims j) × IsDecisionOf sought j text
+IsShownOf (asked.Module script) came text = (came ≡ Printed) × (text ≡ module_text (script_of script))
+IsShownOf (asked.Document question replay) came text = IsFound question (replayed_script replay) replay.trace.items came text
+
+-- It has none, for this cause.
+abbrev pub IsUnshown : Asked → (came : Ending) → Type 0
+IsUnshown (asked.Outcomes sought witness) came = IsUnlisted sought witness came
+IsUnshown (asked.Claims sought) came = IsUndecided sought came
+IsUnshown (asked.Module script) came = came ≡ Memory
+IsUnshown (asked.Document question replay) came = LacksFor question (replayed_script replay) replay.trace.items came
+
+-- An answer has a text, which is put on the output sink, or none, and its line is put on the error sink.
+abbrev pub TellsEither : (Shows : Ending → List ℕ → Type 0) → (Lacks : Ending → Type 0) → (given : Ending) → (told told_now : Option (List ℕ)) → (faults faults_now : ℕ)
     → (errors errors_now : Option (List ℕ)) → (err_faults err_faults_now : ℕ) → Type 0
-TellsSearch sought given told told_now faults faults_now errors errors_now err_faults err_faults_now =
-    ((extent : Extent) × (text : List ℕ) × IsListingOf sought extent text × TellsLine text (Outcomes extent) given told told_now faults faults_now × (errors_now ≡ errors) × (err_faults_now ≡ err_faults))
-    ⊎ ((came : Ending) × IsUnlisted sought came × (told_now ≡ told) × (faults_now ≡ faults) × TellsAnswer came given errors errors_now err_faults err_faults_now)
+TellsEither Shows Lacks given told told_now faults faults_now errors errors_now err_faults err_faults_now =
+    ((came : Ending) × (text : List ℕ) × Shows came text × TellsLine text came given told told_now faults faults_now × (errors_now ≡ errors) × (err_faults_now ≡ err_faults))
+    ⊎ ((came : Ending) × Lacks came × (told_now ≡ told) × (faults_now ≡ faults) × TellsAnswer came given errors errors_now err_faults err_faults_now)
+
+-- What is told where something is to be shown without a run.
+abbrev pub TellsAsked : Asked → (given : Ending) → (told told_now : Option (List ℕ)) → (faults faults_now : ℕ)
+    → (errors errors_now : Option (List ℕ)) → (err_faults err_faults_now : ℕ) → Type 0
+TellsAsked it given told told_now faults faults_now errors errors_now err_faults err_faults_now =
+    TellsEither (IsShownOf it) (IsUnshown it) given told told_now faults faults_now errors errors_now err_faults err_faults_now
 
 -- ---- the clauses of the call
 

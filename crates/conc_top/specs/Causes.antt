@@ -7,7 +7,7 @@ use Rattle.rules_expansion.specs.trees.Programs.{Fn, script_of}
 use Rattle.conc_caps.specs.RunEnd.{RunEnd}
 use Rattle.conc_caps.specs.RunEnd.TheVariants as end
 use Rattle.conc_task.specs.declared.words.command.Command.{Command}
-use Rattle.conc_task.specs.declared.words.command.Command.TheVariants.{Check}
+use Rattle.conc_task.specs.declared.words.command.Command.TheVariants.{Check, Haskell}
 use Rattle.conc_task.specs.declared.words.command.Question.{Question}
 use Rattle.conc_task.specs.declared.words.command.Question.TheVariants.{Verify, Report, Picture}
 use Rattle.hs_compile.specs.Verdicts as verdict
@@ -28,8 +28,8 @@ use Rattle.conc_task.specs.Stops.{RefusesInput}
 use Rattle.conc_top.specs.declared.ending.NotRun.{NotRun as NoRun}
 use Rattle.conc_top.specs.declared.ending.NotRun.TheVariants as norun
 use Rattle.conc_top.specs.declared.ending.Ending.{Ending}
-use Rattle.conc_top.specs.declared.ending.Ending.TheVariants.{Ran, Accepted, Words, Refused, Read, Memory, Write, Verified, Reported, Pictured, NotRun, NotDrawn, Outcomes, NoOutcome}
-use Rattle.conc_top.specs.Searches.{IsListed, LacksOutcome}
+use Rattle.conc_top.specs.declared.ending.Ending.TheVariants.{Ran, Accepted, Words, Refused, Read, Memory, Write, Verified, Reported, Pictured, NotRun, NotDrawn, Outcomes, NoOutcome, Claims, ClaimRefused, NoClaim, Printed}
+use Rattle.conc_top.specs.Searches.{IsDecided, IsListed, LacksClaims, LacksOutcome, RefusesClaim}
 
 -- How much of the source was taken: all of it where a script was refused, accepted or run, or a document looked at, and never
 -- more than one byte past the limit.
@@ -48,6 +48,10 @@ IsReadThrough limit (NotRun why) before now = ReadThrough limit before now
 IsReadThrough limit (NotDrawn n) before now = ReadThrough limit before now
 IsReadThrough limit (Outcomes extent) before now = ReadThrough limit before now
 IsReadThrough limit (NoOutcome k) before now = ReadThrough limit before now
+IsReadThrough limit (Claims j) before now = ReadThrough limit before now
+IsReadThrough limit (ClaimRefused at) before now = ReadThrough limit before now
+IsReadThrough limit NoClaim before now = ReadThrough limit before now
+IsReadThrough limit Printed before now = ReadThrough limit before now
 
 -- a run ends by a failed put only where one failed
 abbrev pub HasFault : RunEnd → (write_fault : Type 0) → Type 0
@@ -121,10 +125,14 @@ IsDue command before bytes read_fault write_fault (NotRun why) = AsksSomething c
 IsDue command before bytes read_fault write_fault (NotDrawn n) = Asks command Picture × HasIn (HasTooMany n) before bytes
 IsDue command before bytes read_fault write_fault (Outcomes extent) = IsListed command bytes extent
 IsDue command before bytes read_fault write_fault (NoOutcome k) = LacksOutcome command bytes k
+IsDue command before bytes read_fault write_fault (Claims j) = IsDecided command bytes j
+IsDue command before bytes read_fault write_fault (ClaimRefused at) = RefusesClaim command bytes at
+IsDue command before bytes read_fault write_fault NoClaim = LacksClaims command bytes
+IsDue command before bytes read_fault write_fault Printed = (command ≡ Some Haskell) × IsScript bytes
 
 -- Where the words are a command, nothing fails and the input is an accepted script, only these answers come: a run's ending but
--- for that of a failed put, the word of `check`, what a document comes to of which something is asked, what a search comes to, and want
--- of memory, which is free.
+-- for that of a failed put, the word of `check`, what a document comes to of which something is asked, what a search or its claims come
+-- to, the module of `haskell`, and want of memory, which is free.
 abbrev pub IsExpected : Option Command → (before : Option (List ℕ)) → (bytes : List ℕ) → Ending → Type 0
 IsExpected command before bytes (Ran r) = Runs command × (r ≡ end.Write → ⊥)
 IsExpected command before bytes Accepted = command ≡ Some Check
@@ -139,6 +147,10 @@ IsExpected command before bytes Pictured = Asks command Picture × HasIn HasPict
 IsExpected command before bytes (NotDrawn n) = Asks command Picture × HasIn (HasTooMany n) before bytes
 IsExpected command before bytes (Outcomes extent) = IsListed command bytes extent
 IsExpected command before bytes (NoOutcome k) = LacksOutcome command bytes k
+IsExpected command before bytes (Claims j) = IsDecided command bytes j
+IsExpected command before bytes (ClaimRefused at) = RefusesClaim command bytes at
+IsExpected command before bytes NoClaim = LacksClaims command bytes
+IsExpected command before bytes Printed = command ≡ Some Haskell
 IsExpected command before bytes (NotRun why) = AsksSomething command × IsNotRun before bytes why
 
 -- Where the words are a command, nothing fails and the input is refused, only a refusal of it comes, or want of memory; where
@@ -157,6 +169,10 @@ IsRefusal command before bytes Pictured = ⊥
 IsRefusal command before bytes (NotDrawn n) = ⊥
 IsRefusal command before bytes (Outcomes extent) = ⊥
 IsRefusal command before bytes (NoOutcome k) = ⊥
+IsRefusal command before bytes (Claims j) = ⊥
+IsRefusal command before bytes (ClaimRefused at) = ⊥
+IsRefusal command before bytes NoClaim = ⊥
+IsRefusal command before bytes Printed = ⊥
 IsRefusal command before bytes (NotRun why) = AsksSomething command × (why ≡ norun.NoScript) × HasBareDocument before
 
 -- A document of which this is asked comes to this: it is too long; or no line of it is `script`; or its script is refused; or else what the check of its
@@ -182,6 +198,10 @@ IsVerdict question document Read = ⊥
 IsVerdict question document Write = ⊥
 IsVerdict question document (Outcomes extent) = ⊥
 IsVerdict question document (NoOutcome k) = ⊥
+IsVerdict question document (Claims j) = ⊥
+IsVerdict question document (ClaimRefused at) = ⊥
+IsVerdict question document NoClaim = ⊥
+IsVerdict question document Printed = ⊥
 
 -- a fault of the source or of a sink is told
 abbrev pub IsFault : Ending → Type 0
@@ -198,6 +218,10 @@ IsFault Pictured = ⊥
 IsFault (NotDrawn n) = ⊥
 IsFault (Outcomes extent) = ⊥
 IsFault (NoOutcome k) = ⊥
+IsFault (Claims j) = ⊥
+IsFault (ClaimRefused at) = ⊥
+IsFault NoClaim = ⊥
+IsFault Printed = ⊥
 IsFault (NotRun why) = ⊥
 
 -- these answers come without a run
@@ -215,6 +239,10 @@ IsUnrun Pictured = ⊤
 IsUnrun (NotDrawn n) = ⊤
 IsUnrun (Outcomes extent) = ⊤
 IsUnrun (NoOutcome k) = ⊤
+IsUnrun (Claims j) = ⊤
+IsUnrun (ClaimRefused at) = ⊤
+IsUnrun NoClaim = ⊤
+IsUnrun Printed = ⊤
 IsUnrun (NotRun why) = ⊤
 
 -- the answer where there is nothing to run and nothing is accepted

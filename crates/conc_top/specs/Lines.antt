@@ -19,12 +19,14 @@ use Rattle.outcome_listing.specs.declared.explored.Extent.{Extent}
 use Rattle.outcome_listing.specs.declared.explored.Extent.TheVariants.{All, NotAll}
 use Rattle.trace_report.specs.Reached.{Reached}
 use Rattle.trace_report.specs.Reached.TheVariants as reached
+use Rattle.claim_lines.specs.declared.verdict.Judged.{Judged}
+use Rattle.claim_lines.specs.declared.verdict.Judged.TheVariants as judged
 use Rattle.conc_top.specs.declared.ending.NotRun.{NotRun as NoRun}
 use Rattle.conc_top.specs.declared.ending.NotRun.TheVariants as norun
 use Rattle.conc_top.specs.declared.ending.Line.{Line}
 use Rattle.conc_top.specs.declared.ending.Line.TheVariants.{Fixed, Made}
 use Rattle.conc_top.specs.declared.ending.Ending.{Ending}
-use Rattle.conc_top.specs.declared.ending.Ending.TheVariants.{Ran, Accepted, Words, Refused, Read, Memory, Write, Verified, Reported, Pictured, NotRun, NotDrawn, Outcomes, NoOutcome}
+use Rattle.conc_top.specs.declared.ending.Ending.TheVariants.{Ran, Accepted, Words, Refused, Read, Memory, Write, Verified, Reported, Pictured, NotRun, NotDrawn, Outcomes, NoOutcome, Claims, ClaimRefused, NoClaim, Printed}
 
 abbrev pub run_status : RunEnd → ℕ
 run_status end.Done = 0
@@ -38,6 +40,11 @@ run_status (end.Limit kind entry) = 9
 abbrev pub extent_status : Extent → ℕ
 extent_status All = 0
 extent_status (NotAll why run) = 11
+
+abbrev pub judged_status : Judged → ℕ
+judged_status judged.Hold = 0
+judged_status judged.Fail = 14
+judged_status judged.Open = 11
 
 -- the status with which the program ends
 abbrev pub status_of : Ending → ℕ
@@ -55,6 +62,10 @@ status_of (NotRun why) = 10
 status_of (NotDrawn n) = 13
 status_of (Outcomes extent) = extent_status extent
 status_of (NoOutcome k) = 12
+status_of (Claims j) = judged_status j
+status_of (ClaimRefused at) = 3
+status_of NoClaim = 12
+status_of Printed = 0
 
 abbrev pub run_line : RunEnd → List ℕ
 run_line end.Done = []
@@ -153,6 +164,10 @@ line_of (NotRun why) = norun_line why
 line_of (NotDrawn n) = undrawn_line n
 line_of (Outcomes extent) = []
 line_of (NoOutcome k) = absent_line k
+line_of (Claims j) = []
+line_of (ClaimRefused at) = placed_line (codes "Claim") at
+line_of NoClaim = codes "no claim" ++ line_feed
+line_of Printed = []
 
 -- the line has a place in it; that of a missing `main` is the same text each time
 abbrev pub PlacesLexFault : LexFault → Type 0
@@ -207,6 +222,10 @@ HasPlace (NotRun why) = NumbersALine why
 HasPlace (NotDrawn n) = ⊤
 HasPlace (Outcomes extent) = ⊥
 HasPlace (NoOutcome k) = ⊤
+HasPlace (Claims j) = ⊥
+HasPlace (ClaimRefused at) = ⊤
+HasPlace NoClaim = ⊥
+HasPlace Printed = ⊥
 
 -- the bytes of a line as it is told
 abbrev pub text_of : Line → List ℕ

@@ -1,7 +1,10 @@
--- What a search of a script answers, and what is told of it (own).
-use Rattle.std.specs.Prelude.{◌≡◌, ◌<◌, ◌+◌, ◌⊎◌, ℕ, List, length, slice_get, Option, Some, None}
+-- What a search of a script answers, what is told of it and of its claims, and the module that a script is printed as (own).
+use Rattle.std.specs.Prelude.{◌≡◌, ◌≢◌, ◌<◌, ◌+◌, ◌⊎◌, ℕ, List, [], length, slice_get, Option, Some, None}
+use Rattle.std.specs.Str.{chars}
 use Rattle.hs_base.specs.declared.limits.Limits.{Limits}
+use Rattle.hs_base.specs.declared.pos.Pos.{Pos}
 use Rattle.hs_base.specs.declared.tree.script.Script.{Script}
+use Rattle.rules_expansion.specs.trees.Programs.{script_of}
 use Rattle.rules_code.specs.declared.code.CodeBody.{CodeBody}
 use Rattle.rules_code.specs.Codes.{body_of}
 use Rattle.trace_text.specs.spelling.Traces.{document_of}
@@ -13,11 +16,18 @@ use Rattle.outcome_listing.specs.declared.explored.Outcome.{Outcome}
 use Rattle.outcome_listing.specs.Listing.{listing_of}
 use Rattle.conc_outcomes.specs.Searching.{IsCodeOf}
 use Rattle.conc_outcomes.specs.Exploring.{Explores}
+use Rattle.claim_lines.specs.declared.claim.Claim.{Claim}
+use Rattle.claim_lines.specs.declared.verdict.Judged.{Judged}
+use Rattle.claim_lines.specs.declared.verdict.Verdict.{Verdict}
+use Rattle.claim_lines.specs.Reading.{HasClaims, IsRefusedAt}
+use Rattle.claim_lines.specs.Telling.{AllTell}
+use Rattle.claim_lines.specs.Verdicts.{JudgeAll, judged_of, verdict_lines}
+use Rattle.haskell_module.specs.Modules.{module_text}
 use Rattle.conc_task.specs.declared.words.command.Command.{Command}
 use Rattle.conc_task.specs.declared.words.command.Command.TheVariants as commands
 use Rattle.conc_task.specs.declared.task.Search.{Search}
 use Rattle.conc_top.specs.declared.ending.Ending.{Ending}
-use Rattle.conc_top.specs.declared.ending.Ending.TheVariants.{Memory, NoOutcome}
+use Rattle.conc_top.specs.declared.ending.Ending.TheVariants.{ClaimRefused, Memory, NoClaim, NoOutcome}
 
 -- the limits of a run: threads and cells ever made, frames over all unfinished threads, bytes of output and error output
 abbrev pub limits : Limits
@@ -66,6 +76,52 @@ HasFewer bounds bytes number = (x : Explored) × IsExplored bounds bytes x × (l
 abbrev pub LacksOutcome : Option Command → (bytes : List ℕ) → ℕ → Type 0
 LacksOutcome words bytes number = (bounds : Bounds) × Searches words bounds (Some number) × ∥ HasFewer bounds bytes number ∥₁
 
+-- ---- claims
+
+-- the command judges the claims of its input within these bounds, of which the limits are those of a run
+abbrev pub JudgesWithin : Option Command → Bounds → Type 0
+JudgesWithin words bounds = (words ≡ Some (commands.Claims bounds.clock bounds.states bounds.fuel)) × (bounds.limits ≡ limits)
+
+-- the command judges claims
+abbrev pub JudgesClaims : Option Command → Type 0
+JudgesClaims words = (bounds : Bounds) × JudgesWithin words bounds
+
+-- These are the claims of the bytes, some, and what the search decides of them comes to this, with this text. Each verdict tells of
+-- all runs of the script.
+pub record IsDecision (bounds : Bounds) (bytes : List ℕ) (j : Judged) (text : List ℕ) : Type 0 where
+  pub found : Explored
+  pub explored : IsExplored bounds bytes found
+  pub claims : List Claim
+  pub read : HasClaims (chars bytes) claims
+  pub some : claims ≢ []
+  pub verdicts : List Verdict
+  pub judges : JudgeAll found claims verdicts
+  pub tell : AllTell bounds.clock (script_of explored.script) found claims verdicts
+  pub whole : j ≡ judged_of verdicts
+  pub told : text ≡ verdict_lines claims verdicts
+
+-- that of the command is so
+abbrev pub HasDecision : Option Command → (bytes : List ℕ) → Judged → (text : List ℕ) → Type 0
+HasDecision words bytes j text = (bounds : Bounds) × JudgesWithin words bounds × ∥ IsDecision bounds bytes j text ∥₁
+
+-- it has some text
+abbrev pub IsDecided : Option Command → (bytes : List ℕ) → Judged → Type 0
+IsDecided words bytes j = (text : List ℕ) × HasDecision words bytes j text
+
+-- the command judges claims, the bytes are an accepted script, and a claim of it isn't written so, first at this place
+abbrev pub RefusesClaim : Option Command → (bytes : List ℕ) → Pos → Type 0
+RefusesClaim words bytes at = JudgesClaims words × ((s : Script) × IsAccepted bytes s) × IsRefusedAt (chars bytes) at
+
+-- the command judges claims, and the accepted script has none
+abbrev pub LacksClaims : Option Command → (bytes : List ℕ) → Type 0
+LacksClaims words bytes = JudgesClaims words × ((s : Script) × IsAccepted bytes s) × HasClaims (chars bytes) []
+
+-- ---- a script as Haskell
+
+-- the text is the module of the script that these bytes are
+abbrev pub IsModule : (bytes text : List ℕ) → Type 0
+IsModule bytes text = (s : Script) × IsAccepted bytes s × (text ≡ module_text (script_of s))
+
 -- ---- the steps of it
 
 -- the bounds of a search
@@ -81,9 +137,23 @@ abbrev pub IsUntold : (witness : Option ℕ) → Explored → Ending → Type 0
 IsUntold witness x came = (came ≡ Memory) ⊎ ((number : ℕ) × (came ≡ NoOutcome number) × (witness ≡ Some number) × (length x.outcomes < number))
 
 -- the search has this extent, and this text is told of it
-abbrev pub IsListingOf : Search → Extent → (text : List ℕ) → Type 0
-IsListingOf sought extent text = (x : Explored) × IsSearched sought x × (x.extent ≡ extent) × IsToldOf sought.witness sought.script.items x text
+abbrev pub IsListingOf : Search → (witness : Option ℕ) → Extent → (text : List ℕ) → Type 0
+IsListingOf sought witness extent text = (x : Explored) × IsSearched sought x × (x.extent ≡ extent) × IsToldOf witness sought.script.items x text
 
 -- no text is told of it, for this cause
-abbrev pub IsUnlisted : Search → Ending → Type 0
-IsUnlisted sought came = (came ≡ Memory) ⊎ ((x : Explored) × IsSearched sought x × IsUntold sought.witness x came)
+abbrev pub IsUnlisted : Search → (witness : Option ℕ) → Ending → Type 0
+IsUnlisted sought witness came = (came ≡ Memory) ⊎ ((x : Explored) × IsSearched sought x × IsUntold witness x came)
+
+-- the bytes have claims, some, and what the search decides of them comes to this, with this text
+abbrev pub IsDecisionOf : Search → Judged → (text : List ℕ) → Type 0
+IsDecisionOf sought j text =
+    (x : Explored) × IsSearched sought x × (claims : List Claim) × HasClaims (chars sought.script.items) claims × (claims ≢ [])
+    × (verdicts : List Verdict) × JudgeAll x claims verdicts × (j ≡ judged_of verdicts) × (text ≡ verdict_lines claims verdicts)
+
+-- no claims are read, for want of memory or since one isn't written so
+abbrev pub IsUnread : (bytes : List ℕ) → Ending → Type 0
+IsUnread bytes came = (came ≡ Memory) ⊎ ((at : Pos) × (came ≡ ClaimRefused at) × IsRefusedAt (chars bytes) at)
+
+-- nothing is decided, for this cause
+abbrev pub IsUndecided : Search → Ending → Type 0
+IsUndecided sought came = IsUnread sought.script.items came ⊎ ((came ≡ NoClaim) × HasClaims (chars sought.script.items) [])

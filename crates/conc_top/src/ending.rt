@@ -1,6 +1,7 @@
 ghost use Rattle.std.specs.Prelude.{◌≡◌, IfOk, OnErr, string_bytes};
-ghost use Rattle.conc_top.specs.Lines.{absent_line, extent_status, HasPlace, line_of, norun_line, numbered_line, NumbersALine, placed_line, PlacesTypeFault, reached_word, refusal_line, RefusesAPlace, run_line, run_status, status_of, text_of, types_line, undrawn_line, verified_line};
+ghost use Rattle.conc_top.specs.Lines.{absent_line, extent_status, HasPlace, judged_status, line_of, norun_line, numbered_line, NumbersALine, placed_line, PlacesTypeFault, reached_word, refusal_line, RefusesAPlace, run_line, run_status, status_of, text_of, types_line, undrawn_line, verified_line};
 
+use claim_lines::Judged;
 use conc_caps::{Parts, RunEnd, Shows};
 use hs_base::{NoMemory, Pos};
 use hs_compile::Refusal;
@@ -50,6 +51,14 @@ pub enum Ending {
     Outcomes(Extent),
     /// There is no outcome of this number.
     NoOutcome(u32),
+    /// The claims of a script were judged.
+    Claims(Judged),
+    /// A line of a script begins as a claim and is none, first at this place.
+    ClaimRefused(Pos),
+    /// A script has no claim.
+    NoClaim,
+    /// A script was printed as a Haskell module.
+    Printed,
 }
 
 impl From<NoMemory> for Ending {
@@ -98,16 +107,21 @@ impl Ending {
     {
         match self {
             Ending::Ran(end) => run_status(end),
-            Ending::Accepted | Ending::Verified(_) | Ending::Reported | Ending::Pictured => 0,
+            Ending::Accepted
+            | Ending::Verified(_)
+            | Ending::Reported
+            | Ending::Pictured
+            | Ending::Printed => 0,
             Ending::Words => 2,
-            Ending::Refused(_) => 3,
+            Ending::Refused(_) | Ending::ClaimRefused(_) => 3,
             Ending::Memory => 6,
             Ending::Read => 7,
             Ending::Write => 8,
             Ending::NotRun(_) => 10,
             Ending::NotDrawn(_) => 13,
             Ending::Outcomes(extent) => extent_status(extent),
-            Ending::NoOutcome(_) => 12,
+            Ending::NoOutcome(_) | Ending::NoClaim => 12,
+            Ending::Claims(judged) => judged_status(*judged),
         }
     }
 
@@ -124,6 +138,8 @@ impl Ending {
             | Ending::Reported
             | Ending::Pictured
             | Ending::Outcomes(_)
+            | Ending::Claims(_)
+            | Ending::Printed
             | Ending::Write => Ok(Line::Fixed("")),
             Ending::Words => Ok(Line::Fixed("words not understood\n")),
             Ending::Refused(refusal) => refusal_line(alloc, refusal),
@@ -132,6 +148,8 @@ impl Ending {
             Ending::NotRun(why) => norun_line(alloc, why),
             Ending::NotDrawn(entries) => undrawn_line(alloc, *entries),
             Ending::NoOutcome(number) => absent_line(alloc, *number),
+            Ending::ClaimRefused(at) => line_at(alloc, "Claim", *at),
+            Ending::NoClaim => Ok(Line::Fixed("no claim\n")),
         }
     }
 }
@@ -174,6 +192,16 @@ fn extent_status(extent: &Extent) -> u8
     match extent {
         Extent::All => 0,
         Extent::NotAll(..) => 11,
+    }
+}
+
+fn judged_status(judged: Judged) -> u8
+    ensures { result ≡ judged_status judged }
+{
+    match judged {
+        Judged::Hold => 0,
+        Judged::Fail => 14,
+        Judged::Open => 11,
     }
 }
 

@@ -5,16 +5,14 @@ ghost use Rattle.hs_compile.specs.Verdicts.{IsAccepted};
 ghost use Rattle.conc_task.specs.words.Commands.{command_by};
 ghost use Rattle.conc_task.specs.Commands.{IsChosen, ReadsSource, Runs, Traces};
 ghost use Rattle.trace_text.specs.spelling.Traces.{document_of};
-ghost use Rattle.outcome_listing.specs.declared.explored.Extent.{Extent};
-ghost use Rattle.conc_top.specs.declared.ending.Ending.TheVariants.{Outcomes, Ran};
-ghost use Rattle.conc_top.specs.Answers.{AnswersQuestions, AnswersRefused, AnswersScripts, HasCause, IsCall, IsPlayed, IsWritten, Plays, TellsLine, TellsListing, Unfailing, WasToldNothing};
+ghost use Rattle.conc_top.specs.declared.ending.Ending.TheVariants.{Ran};
+ghost use Rattle.conc_top.specs.Answers.{AnswersQuestions, AnswersRefused, AnswersScripts, HasCause, IsCall, IsPlayed, IsWritten, Plays, TellsLine, TellsShown, Unfailing, WasToldNothing};
 ghost use Rattle.conc_top.specs.Causes.{ending_of, IsFault, IsUnrun};
 ghost use Rattle.conc_top.specs.Lines.{line_of, status_of};
 
-use crate::asking::answer;
 use crate::ending::{Done, Ending, NotRun, run_line};
-use crate::listing::list;
 use crate::running::run_program;
+use crate::showing::show;
 use crate::telling::{put_line, tell, tell_accepted};
 use crate::tracing::trace;
 use conc_caps::{Closed, Parts, Shows};
@@ -31,8 +29,8 @@ use std::thread::Threads;
 /// each entry's as one piece, and then the line of the ending to `err` as one piece; `check` puts `accepted` on `out`. `trace` prints
 /// nothing of that: once the run is over it puts its document on `out` as one piece. `verify` puts what it found on `out`,
 /// and `report` its lines and `picture` its document as one piece, where the document is a run. `outcomes` runs nothing: it puts
-/// the list of all outcomes, or the document of a run that comes to one of them, on `out` as one piece. An empty piece is not put,
-/// and nothing is put after a failed put. The clock is told its choice before a run begins. Want of memory is
+/// the list of all outcomes, or the document of a run that comes to one of them, on `out` as one piece; `claims` so a line for each
+/// claim, and `haskell` a module. An empty piece is not put, and nothing is put after a failed put. The clock is told its choice before a run begins. Want of memory is
 /// free.
 ///
 /// A run on one capability needs no other thread and calls no gate. One on more starts threads by `rt`, waits for all of them
@@ -63,8 +61,8 @@ pub fn run<
         (Rose (S.faults source.old) (S.faults source.new))
         (Rose (O.faults out) (O.faults result.out) ⊎ Rose (E.faults err) (E.faults result.err)) result.ending }
 
-    // Where nothing fails and the input is an accepted script, the answer is the run's ending, or `accepted`, or what the document
-    // comes to, or want of memory.
+    // Where nothing fails and the input is an accepted script, the answer is the run's ending, or `accepted`, or what is asked for
+    // without a run comes to, or want of memory.
     ensures complete { AnswersScripts (command_by words.now) (S.left source.old)
         (Unfailing (S.faults source.old) (S.faults source.new) (O.faults out) (O.faults result.out) (E.faults err) (E.faults result.err)) result.ending }
 
@@ -80,10 +78,10 @@ pub fn run<
     ensures written { (bytes : List ℕ) → Traces (command_by words.now) → S.left source.old ≡ Some bytes
         → IsWritten (document_of result.history.list bytes) result.ending (O.told out) (O.told result.out) }
 
-    // What `outcomes` tells where it has an answer: exactly the list of the outcomes of the bytes that the source had, or the document
-    // of a run that comes to the one that is asked for.
-    ensures listed { (bytes : List ℕ) (extent : Extent) → S.left source.old ≡ Some bytes → result.ending ≡ Outcomes extent
-        → TellsListing (command_by words.now) bytes extent (O.told out) (O.told result.out) (E.told err) (E.told result.err) }
+    // What `outcomes`, `claims` and `haskell` tell where they have an answer: exactly the list of the outcomes of the bytes that the
+    // source had, or the document of a run that comes to the one that is asked for; exactly a line for each claim; exactly the module.
+    ensures shown { (bytes : List ℕ) → S.left source.old ≡ Some bytes
+        → TellsShown (command_by words.now) bytes result.ending (O.told out) (O.told result.out) (E.told err) (E.told result.err) }
 
     // The answer that the call came to, the run that it kept, and what it told.
     ensures call { IsCall (command_by words.now) (S.faults source.old) (S.faults source.new)
@@ -114,8 +112,7 @@ pub fn run<
             let parts = Parts { out, err, clock };
             trace(alloc, rt, program, &bytes, gate, parts)
         }
-        Ok(Task::Explore(sought)) => list(alloc, &sought, out, err, clock),
-        Ok(Task::Ask(question, claim)) => answer(alloc, question, &claim, out, err, clock),
+        Ok(Task::Show(asked)) => show(alloc, &asked, out, err, clock),
         Err(stop) => tell(alloc, ending_of(stop), out, err, clock),
     }
 }

@@ -16,4 +16,4 @@ mod writing;
 pub use bounds::Bounds;
 pub use explored::{Cause, Endless, Explored, Extent, Final, Outcome};
 pub use laws::{lines_say_their_text, listings_say_their_outcomes};
-pub use writing::listing;
+pub use writing::{listing, write_cause};

@@ -30,7 +30,8 @@ fn limit_text(kind: LimitKind) -> &'static str
     }
 }
 
-fn write_cause(text: &mut String, cause: Cause) -> Result<(), AllocError>
+/// Adds the words of a cause. The only error is want of memory.
+pub fn write_cause(text: &mut String, cause: Cause) -> Result<(), AllocError>
     ensures { OnOk result (string_bytes text.new ≡ string_bytes text.old ++ cause_words cause) }
 {
     match cause {

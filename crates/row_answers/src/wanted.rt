@@ -37,7 +37,7 @@ impl Case<'_> {
 }
 
 /// The words that are not understood, a refused script, a read fault, a refused document, a search and what it lacks: nothing ran.
-const IDLE: [u8; 7] = [2, 3, 7, 10, 11, 12, 13];
+const IDLE: [u8; 8] = [2, 3, 7, 10, 11, 12, 13, 14];
 
 impl Wanted {
     /// Whether the history has to be empty where a call has this status.

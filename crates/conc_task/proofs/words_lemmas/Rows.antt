@@ -2,7 +2,7 @@
 use Rattle.std.proofs.Common.{◌≡◌, [], ◌∷◌, Some, None, codes, refl}
 use Rattle.clap.proofs.OnLiterals.{clap_on_literals}
 use Rattle.hs_base.specs.declared.clock_choice.ClockChoice.TheVariants.{Real, Virtual}
-use Rattle.conc_task.specs.declared.words.command.Command.TheVariants.{Run, Check, Bench, Trace, Outcomes, Ask}
+use Rattle.conc_task.specs.declared.words.command.Command.TheVariants.{Run, Check, Bench, Trace, Outcomes, Claims, Haskell, Ask}
 use Rattle.conc_task.specs.declared.words.command.Question.TheVariants.{Verify, Report, Picture}
 use Rattle.conc_task.specs.words.Commands.{command_of}
 
@@ -65,6 +65,18 @@ verify_alone = refl
 pub report_alone : command_of (codes "report" ∷ []) ≡ Some (Ask Report)
 unfolding clap_on_literals
 report_alone = refl
+
+pub claims_alone : command_of (codes "claims" ∷ []) ≡ Some (Claims Real 1000000 1000000)
+unfolding clap_on_literals
+claims_alone = refl
+
+pub claims_witness : command_of (codes "claims" ∷ codes "--witness" ∷ codes "1" ∷ []) ≡ None
+unfolding clap_on_literals
+claims_witness = refl
+
+pub haskell_alone : command_of (codes "haskell" ∷ []) ≡ Some Haskell
+unfolding clap_on_literals
+haskell_alone = refl
 
 pub picture_alone : command_of (codes "picture" ∷ []) ≡ Some (Ask Picture)
 unfolding clap_on_literals

@@ -13,9 +13,9 @@ use Rattle.clap.specs.Simple.{App, Shape, argument_words, built, built_leaf, ent
 use Rattle.clap.specs.Takes.{default_passes, entered_passes, is_given, level_passes, settle_passes, takes, walk_passes}
 use Rattle.hs_base.specs.declared.clock_choice.ClockChoice.{ClockChoice}
 use Rattle.conc_task.specs.declared.words.command.Command.{Command}
-use Rattle.conc_task.specs.declared.words.command.Command.TheVariants.{Run, Check, Bench, Trace, Outcomes, Ask}
+use Rattle.conc_task.specs.declared.words.command.Command.TheVariants.{Run, Check, Bench, Trace, Outcomes, Claims, Haskell, Ask}
 use Rattle.conc_task.specs.declared.words.command.Question.TheVariants.{Verify, Report, Picture}
-use Rattle.conc_task.specs.words.Program.{bench, capabilities_option, check, clock_option, from_to, fuel_option, outcomes, picture, program, report, run, runner, states_option, threads_place, trace, verify, witness_option}
+use Rattle.conc_task.specs.words.Program.{bench, capabilities_option, check, claims, clock_option, from_to, fuel_option, haskell, outcomes, picture, program, report, run, runner, states_option, threads_place, trace, verify, witness_option}
 use Rattle.conc_task.specs.words.Commands.{ChoosesClock, IsNumbered, IsRefused, IsWithin, clock_of, command_in, command_of, number_of, runner_of, written}
 use Rattle.conc_task.proofs.words_lemmas.Numbers.{range_is}
 use Rattle.conc_task.proofs.words_lemmas.Entries.{IsGood, TakesOne, default_stays, default_there, entry_passes, level_keeps, no_entry}
@@ -110,6 +110,9 @@ bench_ones = ((refl, omega arith, refl, refl), ((refl, omega arith, refl, refl),
 
 outcomes_ones : AllByRecursion (TakesOne (leaf outcomes).rules) (leaf outcomes).rules
 outcomes_ones = ((refl, omega arith, refl, refl), ((refl, omega arith, refl, refl), ((refl, omega arith, refl, refl), ((refl, omega arith, refl, refl), tt))))
+
+claims_ones : AllByRecursion (TakesOne (leaf claims).rules) (leaf claims).rules
+claims_ones = ((refl, omega arith, refl, refl), ((refl, omega arith, refl, refl), ((refl, omega arith, refl, refl), tt)))
 
 -- a command that runs a script: its name chooses a clock, and its numbers have the ranges of all of them
 module _ (name : Text) (make : ℕ → ℕ → ClockChoice → Command) (chooses : ChoosesClock name)
@@ -215,40 +218,75 @@ outcomes_reads words e =
     go rows states fuel witness None found = inr (
       codes "outcomes",
       rows,
-      inr (inr refl),
+      inr (inr (inl refl)),
       refl,
       found,
       (λ i. option_and_then (λ k. option_and_then (λ n. option_map (λ m. Outcomes k n m (number_of 32 (codes "witness") rows)) (fuel.1 i)) (states.1 i)) (found i)),
     )
 
+claims_reads : (words : List Text) → level_passes (leaf claims) [] nothing_held words false ≡ true → Reads (Some (codes "claims", rows_after (leaf claims).rules [] words))
+claims_reads words e =
+    let rows = rows_after (leaf claims).rules [] words in
+    let start = (settled (leaf claims).rules (walk (leaf claims).rules [] nothing_held words).held).rows in
+    let good = level_keeps (leaf claims) claims_ones [] words false e in
+    let first = with_default start clock_rule in
+    let second = with_default first states_rule in
+    let states_there : has_row (codes "states") rows ≡ true =
+    default_stays (codes "states") second fuel_rule (default_there first states_rule (codes "1000000") [] refl) in
+    let fuel_there : has_row (codes "fuel") rows ≡ true = default_there second fuel_rule (codes "1000000") [] refl in
+    go rows
+    (number_is (leaf claims).rules (codes "states") states_rule 32 1 4000000 refl rows good states_there (omega arith) refl)
+    (number_is (leaf claims).rules (codes "fuel") fuel_rule 32 1 4000000 refl rows good fuel_there (omega arith) refl)
+    (clock_of rows) refl
+  where
+    go : (rows : List Row) → (n : ℕ) × (number_of 32 (codes "states") rows ≡ Some n) × (1 ≤ n) × (n ≤ 4000000)
+        → (n : ℕ) × (number_of 32 (codes "fuel") rows ≡ Some n) × (1 ≤ n) × (n ≤ 4000000)
+        → (o : Option ClockChoice) → clock_of rows ≡ o → Reads (Some (codes "claims", rows))
+    go rows states fuel (Some clock) found = inl (
+      Claims clock states.0 fuel.0,
+      (λ i. option_and_then (λ k. option_and_then (λ n. option_map (λ m. Claims k n m) (fuel.1 i)) (states.1 i)) (found i)),
+      (states.2, states.3, fuel.2, fuel.3),
+    )
+    go rows states fuel None found = inr (
+      codes "claims",
+      rows,
+      inr (inr (inr refl)),
+      refl,
+      found,
+      (λ i. option_and_then (λ k. option_and_then (λ n. option_map (λ m. Claims k n m) (fuel.1 i)) (states.1 i)) (found i)),
+    )
+
 -- ---- the words
 
 -- the subcommand that a name is
-abbrev chosen : (is_run is_check is_bench is_trace is_outcomes is_verify is_report is_picture : Bool) → Option Shape
-chosen is_run is_check is_bench is_trace is_outcomes is_verify is_report is_picture =
+abbrev chosen : (is_run is_check is_bench is_trace is_outcomes is_claims is_haskell is_verify is_report is_picture : Bool) → Option Shape
+chosen is_run is_check is_bench is_trace is_outcomes is_claims is_haskell is_verify is_report is_picture =
     cond is_run (Some (leaf run)) (cond is_check (Some (leaf check)) (cond is_bench (Some (leaf bench)) (cond is_trace (Some (leaf trace)) (cond is_outcomes (Some (leaf outcomes))
-    (cond is_verify (Some (leaf verify)) (cond is_report (Some (leaf report)) (cond is_picture (Some (leaf picture)) None)))))))
+    (cond is_claims (Some (leaf claims)) (cond is_haskell (Some (leaf haskell)) (cond is_verify (Some (leaf verify)) (cond is_report (Some (leaf report)) (cond is_picture (Some (leaf picture)) None)))))))))
 
 -- whichever subcommand a name is
-named_reads : (is_run is_check is_bench is_trace is_outcomes is_verify is_report is_picture : Bool) (words : List Text)
-    → option_map_or (λ s. level_passes s [] nothing_held words false) (chosen is_run is_check is_bench is_trace is_outcomes is_verify is_report is_picture) true ≡ true
-    → is_some (option_map (λ s. rows_at s words) (chosen is_run is_check is_bench is_trace is_outcomes is_verify is_report is_picture)) ≡ true
-    → Reads (option_map (λ s. rows_at s words) (chosen is_run is_check is_bench is_trace is_outcomes is_verify is_report is_picture))
-named_reads true is_check is_bench is_trace is_outcomes is_verify is_report is_picture words e there = run_reads words e
-named_reads false true is_bench is_trace is_outcomes is_verify is_report is_picture words e there = inl (Check, refl, tt)
-named_reads false false true is_trace is_outcomes is_verify is_report is_picture words e there = bench_reads words e
-named_reads false false false true is_outcomes is_verify is_report is_picture words e there = trace_reads words e
-named_reads false false false false true is_verify is_report is_picture words e there = outcomes_reads words e
-named_reads false false false false false true is_report is_picture words e there = inl (Ask Verify, refl, tt)
-named_reads false false false false false false true is_picture words e there = inl (Ask Report, refl, tt)
-named_reads false false false false false false false true words e there = inl (Ask Picture, refl, tt)
-named_reads false false false false false false false false words e there = absurd (true≢false (sym there))
+named_reads : (is_run is_check is_bench is_trace is_outcomes is_claims is_haskell is_verify is_report is_picture : Bool) (words : List Text)
+    → option_map_or (λ s. level_passes s [] nothing_held words false) (chosen is_run is_check is_bench is_trace is_outcomes is_claims is_haskell is_verify is_report is_picture) true ≡ true
+    → is_some (option_map (λ s. rows_at s words) (chosen is_run is_check is_bench is_trace is_outcomes is_claims is_haskell is_verify is_report is_picture)) ≡ true
+    → Reads (option_map (λ s. rows_at s words) (chosen is_run is_check is_bench is_trace is_outcomes is_claims is_haskell is_verify is_report is_picture))
+named_reads true is_check is_bench is_trace is_outcomes is_claims is_haskell is_verify is_report is_picture words e there = run_reads words e
+named_reads false true is_bench is_trace is_outcomes is_claims is_haskell is_verify is_report is_picture words e there = inl (Check, refl, tt)
+named_reads false false true is_trace is_outcomes is_claims is_haskell is_verify is_report is_picture words e there = bench_reads words e
+named_reads false false false true is_outcomes is_claims is_haskell is_verify is_report is_picture words e there = trace_reads words e
+named_reads false false false false true is_claims is_haskell is_verify is_report is_picture words e there = outcomes_reads words e
+named_reads false false false false false true is_haskell is_verify is_report is_picture words e there = claims_reads words e
+named_reads false false false false false false true is_verify is_report is_picture words e there = inl (Haskell, refl, tt)
+named_reads false false false false false false false true is_report is_picture words e there = inl (Ask Verify, refl, tt)
+named_reads false false false false false false false false true is_picture words e there = inl (Ask Report, refl, tt)
+named_reads false false false false false false false false false true words e there = inl (Ask Picture, refl, tt)
+named_reads false false false false false false false false false false words e there = absurd (true≢false (sym there))
 
 stop_reads : (stop : Option (Text × List Text)) → entered_passes (built program) stop ≡ true → is_some (entered (built program) stop) ≡ true → Reads (entered (built program) stop)
 stop_reads None e there = absurd (true≢false (sym there))
 stop_reads (Some p) e there =
     named_reads (answers_to p.0 (label_of run.top)) (answers_to p.0 (label_of check.top)) (answers_to p.0 (label_of bench.top)) (answers_to p.0 (label_of trace.top))
-    (answers_to p.0 (label_of outcomes.top)) (answers_to p.0 (label_of verify.top)) (answers_to p.0 (label_of report.top)) (answers_to p.0 (label_of picture.top)) p.1 e there
+    (answers_to p.0 (label_of outcomes.top)) (answers_to p.0 (label_of claims.top)) (answers_to p.0 (label_of haskell.top))
+    (answers_to p.0 (label_of verify.top)) (answers_to p.0 (label_of report.top)) (answers_to p.0 (label_of picture.top)) p.1 e there
 
 taken_reads : (words : List Text) → takes program words ≡ true → Reads (subcommand_of program words)
 taken_reads words e =

@@ -9,7 +9,7 @@ use Rattle.clap.specs.Takes.{takes}
 use Rattle.hs_base.specs.declared.clock_choice.ClockChoice.{ClockChoice}
 use Rattle.hs_base.specs.declared.clock_choice.ClockChoice.TheVariants.{Real, Virtual}
 use Rattle.conc_task.specs.declared.words.command.Command.{Command}
-use Rattle.conc_task.specs.declared.words.command.Command.TheVariants.{Run, Check, Bench, Trace, Outcomes, Ask}
+use Rattle.conc_task.specs.declared.words.command.Command.TheVariants.{Run, Check, Bench, Trace, Outcomes, Claims, Haskell, Ask}
 use Rattle.conc_task.specs.declared.words.command.Question.TheVariants.{Verify, Report, Picture}
 use Rattle.conc_task.specs.declared.words.command.WordsFault.{WordsFault}
 use Rattle.conc_task.specs.declared.words.command.WordsFault.TheVariants.{NotUnderstood, NoMemory}
@@ -62,6 +62,12 @@ outcomes_of rows =
     option_and_then (λ clock. option_and_then (λ states. option_map (λ fuel. Outcomes clock states fuel (number_of 32 (codes "witness") rows))
     (number_of 32 (codes "fuel") rows)) (number_of 32 (codes "states") rows)) (clock_of rows)
 
+-- `claims`, by its entries
+abbrev pub claims_of : List Row → Option Command
+claims_of rows =
+    option_and_then (λ clock. option_and_then (λ states. option_map (λ fuel. Claims clock states fuel)
+    (number_of 32 (codes "fuel") rows)) (number_of 32 (codes "states") rows)) (clock_of rows)
+
 -- the command of a subcommand, by its name and its entries
 abbrev pub named : Text × List Row → Option Command
 named sub =
@@ -70,6 +76,8 @@ named sub =
     else if bytes_eq sub.0 (codes "bench") then bench_of sub.1
     else if bytes_eq sub.0 (codes "trace") then trace_of sub.1
     else if bytes_eq sub.0 (codes "outcomes") then outcomes_of sub.1
+    else if bytes_eq sub.0 (codes "claims") then claims_of sub.1
+    else if bytes_eq sub.0 (codes "haskell") then Some Haskell
     else if bytes_eq sub.0 (codes "verify") then Some (Ask Verify)
     else if bytes_eq sub.0 (codes "report") then Some (Ask Report)
     else if bytes_eq sub.0 (codes "picture") then Some (Ask Picture)
@@ -108,13 +116,15 @@ IsWithin (Bench threads capabilities fuel) =
     (1 ≤ threads) × (threads ≤ 4000) × (1 ≤ capabilities) × (capabilities ≤ 16) × (1 ≤ fuel) × (fuel ≤ 4000000)
 IsWithin (Trace capabilities fuel clock) = (1 ≤ capabilities) × (capabilities ≤ 16) × (1 ≤ fuel) × (fuel ≤ 4000000)
 IsWithin (Outcomes clock states fuel witness) = (1 ≤ states) × (states ≤ 4000000) × (1 ≤ fuel) × (fuel ≤ 4000000) × IsNumbered witness
+IsWithin (Claims clock states fuel) = (1 ≤ states) × (states ≤ 4000000) × (1 ≤ fuel) × (fuel ≤ 4000000)
+IsWithin Haskell = Unit {0}
 IsWithin (Ask question) = Unit {0}
 
 -- a command of this name goes by a clock that its words choose
 abbrev pub ChoosesClock : Text → Type 0
-ChoosesClock name = (name ≡ codes "run") ⊎ (name ≡ codes "trace") ⊎ (name ≡ codes "outcomes")
+ChoosesClock name = (name ≡ codes "run") ⊎ (name ≡ codes "trace") ⊎ (name ≡ codes "outcomes") ⊎ (name ≡ codes "claims")
 
--- the words give `run`, `trace` or `outcomes` a clock of another name
+-- the words give `run`, `trace`, `outcomes` or `claims` a clock of another name
 abbrev pub NamesOtherClock : List Text → Type 0
 NamesOtherClock words =
     (name : Text) × (rows : List Row) × ChoosesClock name × (subcommand_of program words ≡ Some (name, rows)) × (clock_of rows ≡ None)

@@ -4,10 +4,12 @@
 --     bench N  --caps N --fuel N
 --     trace    --caps N --fuel N --clock C
 --     outcomes --clock C --states N --fuel N --witness K
+--     claims   --clock C --states N --fuel N
+--     haskell
 --     verify
 --     report
 --     picture
--- One of the eight has to stand. An option that is left out has its default; `--witness` has none.
+-- One of the ten has to stand. An option that is left out has its default; `--witness` has none.
 use Rattle.std.specs.Prelude.{ℕ, List, [], ◌∷◌, Some, codes, pos, true}
 use Rattle.clap.specs.Simple.{App, new_app, new_rule, on_top, with_rule, with_subcommand}
 use Rattle.clap.specs.Walk.{Rule}
@@ -79,8 +81,18 @@ bench = with_rule (with_rule (with_rule (new_app (codes "bench")) threads_place)
 abbrev pub trace : App
 trace = runner (codes "trace")
 
+-- a command that searches the outcomes of a script, by its name
+abbrev pub searcher : List ℕ → App
+searcher name = with_rule (with_rule (with_rule (new_app name) clock_option) states_option) fuel_option
+
 abbrev pub outcomes : App
-outcomes = with_rule (with_rule (with_rule (with_rule (new_app (codes "outcomes")) clock_option) states_option) fuel_option) witness_option
+outcomes = with_rule (searcher (codes "outcomes")) witness_option
+
+abbrev pub claims : App
+claims = searcher (codes "claims")
+
+abbrev pub haskell : App
+haskell = new_app (codes "haskell")
 
 abbrev pub verify : App
 verify = new_app (codes "verify")
@@ -103,5 +115,5 @@ alone = on_top (λ s. record s {
 -- the program with its subcommands
 abbrev pub program : App
 program =
-    with_subcommand (with_subcommand (with_subcommand (with_subcommand (with_subcommand (with_subcommand (with_subcommand (with_subcommand alone run.top) check.top) bench.top) trace.top)
-    outcomes.top) verify.top) report.top) picture.top
+    with_subcommand (with_subcommand (with_subcommand (with_subcommand (with_subcommand (with_subcommand (with_subcommand (with_subcommand (with_subcommand (with_subcommand alone run.top) check.top) bench.top) trace.top)
+    outcomes.top) claims.top) haskell.top) verify.top) report.top) picture.top

@@ -47,6 +47,16 @@ pub enum Command {
         /// The number of the outcome whose run is written, from 1.
         witness: Option<u32>,
     },
+    /// `claims`: says which claims of the script on the source hold.
+    Claims {
+        clock: ClockChoice,
+        /// The most states that are kept, 1 to 4,000,000.
+        states: u32,
+        /// The most steps of a run, 1 to 4,000,000.
+        fuel: u32,
+    },
+    /// `haskell`: prints the script on the source as a Haskell module.
+    Haskell,
     /// `verify`, `report` and `picture`: answers a question about the document on the source.
     Ask(Question),
 }

@@ -3,7 +3,7 @@ ghost use Rattle.std.specs.Prelude.{◌≡◌, IfOk, false};
 ghost use Rattle.clap.specs.Simple.{new_app};
 ghost use Rattle.clap.specs.Words.{app_of, rule_of};
 ghost use Rattle.clap.specs.declared.builder.command.Command.TheViews.{out-Command as fields_of};
-ghost use Rattle.conc_task.specs.words.Program.{bench, capabilities_option, clock_option, count_option, outcomes, program, runner, threads_place, witness_option};
+ghost use Rattle.conc_task.specs.words.Program.{bench, capabilities_option, clock_option, count_option, outcomes, program, runner, searcher, threads_place, witness_option};
 
 use clap::{Arg, Command, value_parser};
 use std::alloc::{AllocError, Global};
@@ -96,15 +96,22 @@ fn bench<'a>(alloc: Global) -> Result<Command<'a>, AllocError>
         .arg(count_option(alloc, FUEL))
 }
 
+/// A command that searches the outcomes of a script, by its name.
+fn searcher<'a>(alloc: Global, name: &'a str) -> Result<Command<'a>, AllocError>
+    ensures shape { IfOk result (λ c. app_of c ≡ searcher name.entry.now) }
+    ensures local { IfOk result (λ c. (fields_of c).has_globals ≡ false) }
+{
+    Command::new(alloc, name)
+        .arg(clock_option(alloc))?
+        .arg(count_option(alloc, STATES))?
+        .arg(count_option(alloc, FUEL))
+}
+
 fn outcomes<'a>(alloc: Global) -> Result<Command<'a>, AllocError>
     ensures shape { IfOk result (λ c. app_of c ≡ outcomes) }
     ensures local { IfOk result (λ c. (fields_of c).has_globals ≡ false) }
 {
-    Command::new(alloc, "outcomes")
-        .arg(clock_option(alloc))?
-        .arg(count_option(alloc, STATES))?
-        .arg(count_option(alloc, FUEL))?
-        .arg(witness_option(alloc))
+    searcher(alloc, "outcomes")?.arg(witness_option(alloc))
 }
 
 /// The program, which takes the words after its name and one of its subcommands among them.
@@ -121,6 +128,8 @@ pub(crate) fn program<'a>(alloc: Global) -> Result<Command<'a>, AllocError>
         .subcommand(bench(alloc)?)?
         .subcommand(runner(alloc, "trace")?)?
         .subcommand(outcomes(alloc)?)?
+        .subcommand(searcher(alloc, "claims")?)?
+        .subcommand(plain(alloc, "haskell"))?
         .subcommand(plain(alloc, "verify"))?
         .subcommand(plain(alloc, "report"))?
         .subcommand(plain(alloc, "picture"))

@@ -1,7 +1,7 @@
 ghost use Rattle.std.specs.Prelude.{◌≡◌, IfErr, IfOk, MatchResult, None, Some, codes, false, true};
 ghost use Rattle.clap.specs.Words.{found_of, rows_of, subcommand_of, subcommand_rows_of, takes};
 ghost use Rattle.conc_task.specs.words.Program.{program};
-ghost use Rattle.conc_task.specs.words.Commands.{IsRefused, IsWithin, bench_of, command_by, command_in, number_of, outcomes_of, run_of, texts_of, trace_of, WhenNotUnderstood, clock_of};
+ghost use Rattle.conc_task.specs.words.Commands.{IsRefused, IsWithin, bench_of, claims_of, command_by, command_in, number_of, outcomes_of, run_of, texts_of, trace_of, WhenNotUnderstood, clock_of};
 
 use crate::words::program::{CAPABILITIES, CLOCK, FUEL, STATES, THREADS, WITNESS, program};
 use crate::words::{Command, Question, WordsFault};
@@ -46,6 +46,8 @@ fn command_in(matches: &ArgMatches<'_>) -> Option<Command>
         "bench" => bench_in(entries),
         "trace" => trace_in(entries),
         "outcomes" => outcomes_in(entries),
+        "claims" => claims_in(entries),
+        "haskell" => Some(Command::Haskell),
         "verify" => Some(Command::Ask(Question::Verify)),
         "report" => Some(Command::Ask(Question::Report)),
         "picture" => Some(Command::Ask(Question::Picture)),
@@ -91,6 +93,16 @@ fn outcomes_in(entries: &ArgMatches<'_>) -> Option<Command>
         states: states_in(entries)?,
         fuel: fuel_in(entries)?,
         witness: witness_in(entries),
+    })
+}
+
+fn claims_in(entries: &ArgMatches<'_>) -> Option<Command>
+    ensures { result ≡ claims_of (rows_of (found_of entries.now)) }
+{
+    Some(Command::Claims {
+        clock: clock_in(entries)?,
+        states: states_in(entries)?,
+        fuel: fuel_in(entries)?,
     })
 }
 

@@ -3,5 +3,5 @@ use Rattle.conc_task.specs.Stops.{IsDenied}
 use Rattle.conc_task.proofs.Reading.{denied}
 use Rattle.conc_task.proofs.task.check_of.Goals as goal
 
-pub returns : goal.returns
-returns c = subst (IsDenied c.args.bytes.now) (sym c.stop_of.ensures) (denied c.args.bytes.now c.in-Err.fault c.in-Err.ensures)
+pub returns-in-Err : goal.returns-in-Err
+returns-in-Err c = subst (IsDenied c.args.bytes.now) (sym c.stop_of.ensures) (denied c.args.bytes.now c.in-Err.fault c.in-Err.ensures)

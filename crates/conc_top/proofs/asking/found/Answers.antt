@@ -11,14 +11,14 @@ use Rattle.conc_top.proofs.asking.found.Goals as goal
 
 pub returns-in_ok-text-in-Report : goal.returns-in_ok-text-in-Report
 returns-in_ok-text-in-Report c =
-    let ds = script_of (body_of c.args.claim.now.code).of.value in
+    let ds = script_of (body_of c.args.replay.now.code).of.value in
     let text = c.in_ok-text-in-Report.text in
     let tells = subst (λ (t : List ℕ). TellsOfRun report_of ds t text) c.deref-in-Report.ensures.value c.in_ok-text-in-Report.ensures.ok in
-    subst (λ (q : Question). IsFound q ds c.args.claim.now.trace.items Reported text) (sym c.in-Report.is) (refl, tells)
+    subst (λ (q : Question). IsFound q ds c.args.replay.now.trace.items Reported text) (sym c.in-Report.is) (refl, tells)
 
 pub returns-in_ok-text-in-Picture : goal.returns-in_ok-text-in-Picture
 returns-in_ok-text-in-Picture c =
-    let ds = script_of (body_of c.args.claim.now.code).of.value in
+    let ds = script_of (body_of c.args.replay.now.code).of.value in
     let text = c.in_ok-text-in-Picture.text in
     let drawn = subst (λ (t : List ℕ). IsPictureOf text ds t) c.deref-in-Picture.ensures.value c.in_ok-text-in-Picture.ensures.ok in
-    subst (λ (q : Question). IsFound q ds c.args.claim.now.trace.items Pictured text) (sym c.in-Picture.is) (refl, drawn)
+    subst (λ (q : Question). IsFound q ds c.args.replay.now.trace.items Pictured text) (sym c.in-Picture.is) (refl, drawn)

@@ -1,4 +1,4 @@
-use Rattle.conc_top.proofs.Listings.{within_limits}
+use Rattle.conc_top.proofs.Searching.{within_limits}
 use Rattle.conc_top.proofs.Playing.{shipped}
 use Rattle.conc_top.proofs.listing.explored.Goals as goal
 

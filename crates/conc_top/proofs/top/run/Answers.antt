@@ -4,8 +4,8 @@ use Rattle.conc_top.proofs.Complete.{is_expected, is_refusal, is_verdict}
 use Rattle.conc_top.proofs.Playing.{has_program, played_ran, program_call, program_due}
 use Rattle.conc_top.proofs.Answering.{answer_call, answer_due, answer_fault, answer_steady, answer_written, checked_call, checked_due, has_checked, never_rose}
 use Rattle.conc_top.proofs.Histories.{has_traced, trace_call, trace_written}
-use Rattle.conc_top.proofs.Claims.{claim_call, claim_due, claim_traces, has_claim}
-use Rattle.conc_top.proofs.Listings.{accepted_lists, answer_lists, asked_lists, has_search, played_lists, search_call, search_due, search_listed, search_traces}
+use Rattle.conc_top.proofs.Shown.{accepted_none, played_none, show_call, show_due, show_told, shows_none, stopped_none}
+use Rattle.conc_top.proofs.Asked.{asked_answers, asked_traces, has_asked, has_number, is_short}
 use Rattle.conc_top.proofs.top.run.Goals as goal
 
 -- ---- a script runs
@@ -37,8 +37,8 @@ returns-in-Ok-Run-clause-call g c =
 pub returns-in-Ok-Run-clause-written : goal.returns-in-Ok-Run-clause-written
 returns-in-Ok-Run-clause-written g c = λ bytes traces left. absurd ((has_program _ _ _ _ _ c.in-Ok-Run.field-0-is c.in-Ok-Run.ensures.comes).1 traces)
 
-pub returns-in-Ok-Run-clause-listed : goal.returns-in-Ok-Run-clause-listed
-returns-in-Ok-Run-clause-listed g c = λ bytes extent left is. absurd (played_lists extent _ c.play.result.ending c.play.ensures.cause is)
+pub returns-in-Ok-Run-clause-shown : goal.returns-in-Ok-Run-clause-shown
+returns-in-Ok-Run-clause-shown g c = λ bytes left. shows_none _ bytes _ _ _ _ c.play.result.ending (played_none _ c.play.result.ending c.play.ensures.cause)
 
 pub returns-in-Ok-Run-clause-rose : goal.returns-in-Ok-Run-clause-rose
 returns-in-Ok-Run-clause-rose g c = λ rose. absurd (never_rose _ _ c.in-Ok-Run.ensures.counts rose)
@@ -88,8 +88,8 @@ pub returns-in-Ok-Accept-clause-written : goal.returns-in-Ok-Accept-clause-writt
 returns-in-Ok-Accept-clause-written g c = λ bytes traces left.
     absurd (subst Traces (has_checked _ _ _ _ c.in-Ok-Accept.field-0-is c.in-Ok-Accept.ensures.comes).checks traces)
 
-pub returns-in-Ok-Accept-clause-listed : goal.returns-in-Ok-Accept-clause-listed
-returns-in-Ok-Accept-clause-listed g c = λ bytes extent left is. absurd (accepted_lists extent c.tell_accepted.result.ending _ _ _ _ c.tell_accepted.ensures.tells is)
+pub returns-in-Ok-Accept-clause-shown : goal.returns-in-Ok-Accept-clause-shown
+returns-in-Ok-Accept-clause-shown g c = λ bytes left. shows_none _ bytes _ _ _ _ c.tell_accepted.result.ending (accepted_none c.tell_accepted.result.ending _ _ _ _ c.tell_accepted.ensures.tells)
 
 pub returns-in-Ok-Accept-clause-rose : goal.returns-in-Ok-Accept-clause-rose
 returns-in-Ok-Accept-clause-rose g c = λ rose. absurd (never_rose _ _ c.in-Ok-Accept.ensures.counts rose)
@@ -134,8 +134,8 @@ returns-in-Ok-Trace-clause-written g c =
     trace_written _ _ _ c.in-Ok-Trace.program c.in-Ok-Trace.bytes.items c.deref.result.now c.trace.result.ending c.trace.result.history.list _ _
     (has_traced _ _ _ _ _ _ c.in-Ok-Trace.field-0-is c.in-Ok-Trace.ensures.comes) c.deref.ensures.value c.trace.ensures.written
 
-pub returns-in-Ok-Trace-clause-listed : goal.returns-in-Ok-Trace-clause-listed
-returns-in-Ok-Trace-clause-listed g c = λ bytes extent left is. absurd (played_lists extent _ c.trace.result.ending c.trace.ensures.cause is)
+pub returns-in-Ok-Trace-clause-shown : goal.returns-in-Ok-Trace-clause-shown
+returns-in-Ok-Trace-clause-shown g c = λ bytes left. shows_none _ bytes _ _ _ _ c.trace.result.ending (played_none _ c.trace.result.ending c.trace.ensures.cause)
 
 pub returns-in-Ok-Trace-clause-rose : goal.returns-in-Ok-Trace-clause-rose
 returns-in-Ok-Trace-clause-rose g c = λ rose. absurd (never_rose _ _ c.in-Ok-Trace.ensures.counts rose)
@@ -154,98 +154,57 @@ pub returns-in-Ok-Trace-clause-choice : goal.returns-in-Ok-Trace-clause-choice
 returns-in-Ok-Trace-clause-choice g c =
     inr (c.in-Ok-Trace.program.fuel, c.in-Ok-Trace.program.clock, (has_traced _ _ _ _ _ _ c.in-Ok-Trace.field-0-is c.in-Ok-Trace.ensures.comes).made.runs, c.trace.ensures.choice)
 
--- ---- outcomes are listed
+-- ---- something is shown without a run
 
-pub returns-in-Ok-Explore-clause-cause : goal.returns-in-Ok-Explore-clause-cause
-returns-in-Ok-Explore-clause-cause g c =
-    search_due _ _ _ c.in-Ok-Explore.sought (has_search _ _ _ _ _ c.in-Ok-Explore.field-0-is c.in-Ok-Explore.ensures.comes) _ c.list.result.ending _ _ _ _ _ _ _ _ c.list.ensures.tells
+pub show-requires-clause-number : goal.show-requires-clause-number
+show-requires-clause-number g c = has_number _ c.in-Ok-Show.asked c.in-Ok-Show.field-0-is c.in-Ok-Show.ensures.number
 
-pub returns-in-Ok-Explore-clause-complete : goal.returns-in-Ok-Explore-clause-complete
-returns-in-Ok-Explore-clause-complete g c =
-    is_expected _ _ _ _ _ c.list.result.ending
-    (search_due _ _ _ c.in-Ok-Explore.sought (has_search _ _ _ _ _ c.in-Ok-Explore.field-0-is c.in-Ok-Explore.ensures.comes) _ c.list.result.ending _ _ _ _ _ _ _ _ c.list.ensures.tells)
+pub show-requires-clause-short : goal.show-requires-clause-short
+show-requires-clause-short g c = is_short _ _ _ c.in-Ok-Show.asked (has_asked _ _ _ _ c.in-Ok-Show.asked c.in-Ok-Show.field-0-is c.in-Ok-Show.ensures.comes)
 
-pub returns-in-Ok-Explore-clause-refusal : goal.returns-in-Ok-Explore-clause-refusal
-returns-in-Ok-Explore-clause-refusal g c =
-    is_refusal _ _ _ _ _ c.list.result.ending
-    (search_due _ _ _ c.in-Ok-Explore.sought (has_search _ _ _ _ _ c.in-Ok-Explore.field-0-is c.in-Ok-Explore.ensures.comes) _ c.list.result.ending _ _ _ _ _ _ _ _ c.list.ensures.tells)
+pub returns-in-Ok-Show-clause-cause : goal.returns-in-Ok-Show-clause-cause
+returns-in-Ok-Show-clause-cause g c =
+    show_due _ c.show.result.ending _ _ _ _ _ _ _ _ (asked_answers _ _ _ c.in-Ok-Show.asked (has_asked _ _ _ _ c.in-Ok-Show.asked c.in-Ok-Show.field-0-is c.in-Ok-Show.ensures.comes) _ _) c.show.ensures.tells
 
-pub returns-in-Ok-Explore-clause-verdict : goal.returns-in-Ok-Explore-clause-verdict
-returns-in-Ok-Explore-clause-verdict g c =
-    is_verdict _ _ _ _ _ c.list.result.ending
-    (search_due _ _ _ c.in-Ok-Explore.sought (has_search _ _ _ _ _ c.in-Ok-Explore.field-0-is c.in-Ok-Explore.ensures.comes) _ c.list.result.ending _ _ _ _ _ _ _ _ c.list.ensures.tells)
+pub returns-in-Ok-Show-clause-complete : goal.returns-in-Ok-Show-clause-complete
+returns-in-Ok-Show-clause-complete g c =
+    is_expected _ _ _ _ _ c.show.result.ending
+    (show_due _ c.show.result.ending _ _ _ _ _ _ _ _ (asked_answers _ _ _ c.in-Ok-Show.asked (has_asked _ _ _ _ c.in-Ok-Show.asked c.in-Ok-Show.field-0-is c.in-Ok-Show.ensures.comes) _ _) c.show.ensures.tells)
 
-pub returns-in-Ok-Explore-clause-call : goal.returns-in-Ok-Explore-clause-call
-returns-in-Ok-Explore-clause-call g c =
-    ∣ search_call _ _ _ c.in-Ok-Explore.sought (has_search _ _ _ _ _ c.in-Ok-Explore.field-0-is c.in-Ok-Explore.ensures.comes) _ _ _ _ c.list.result.ending c.list.result.history.list _ _
-    c.in-Ok-Explore.ensures.counts c.list.ensures.history (ap g.K.Clock.early_waits c.list.ensures.clock) c.list.ensures.tells ∣₁
+pub returns-in-Ok-Show-clause-refusal : goal.returns-in-Ok-Show-clause-refusal
+returns-in-Ok-Show-clause-refusal g c =
+    is_refusal _ _ _ _ _ c.show.result.ending
+    (show_due _ c.show.result.ending _ _ _ _ _ _ _ _ (asked_answers _ _ _ c.in-Ok-Show.asked (has_asked _ _ _ _ c.in-Ok-Show.asked c.in-Ok-Show.field-0-is c.in-Ok-Show.ensures.comes) _ _) c.show.ensures.tells)
 
-pub returns-in-Ok-Explore-clause-written : goal.returns-in-Ok-Explore-clause-written
-returns-in-Ok-Explore-clause-written g c = λ bytes traces left.
-    absurd (search_traces _ _ _ c.in-Ok-Explore.sought (has_search _ _ _ _ _ c.in-Ok-Explore.field-0-is c.in-Ok-Explore.ensures.comes) traces)
+pub returns-in-Ok-Show-clause-verdict : goal.returns-in-Ok-Show-clause-verdict
+returns-in-Ok-Show-clause-verdict g c =
+    is_verdict _ _ _ _ _ c.show.result.ending
+    (show_due _ c.show.result.ending _ _ _ _ _ _ _ _ (asked_answers _ _ _ c.in-Ok-Show.asked (has_asked _ _ _ _ c.in-Ok-Show.asked c.in-Ok-Show.field-0-is c.in-Ok-Show.ensures.comes) _ _) c.show.ensures.tells)
 
-pub returns-in-Ok-Explore-clause-listed : goal.returns-in-Ok-Explore-clause-listed
-returns-in-Ok-Explore-clause-listed g c =
-    search_listed _ _ _ c.in-Ok-Explore.sought (has_search _ _ _ _ _ c.in-Ok-Explore.field-0-is c.in-Ok-Explore.ensures.comes) (Unit {0}) c.list.result.ending _ _ _ _ _ _ _ _ c.list.ensures.tells
+pub returns-in-Ok-Show-clause-call : goal.returns-in-Ok-Show-clause-call
+returns-in-Ok-Show-clause-call g c =
+    ∣ show_call _ _ _ _ c.show.result.ending c.show.result.history.list _ _
+    c.in-Ok-Show.ensures.counts c.show.ensures.history (ap g.K.Clock.early_waits c.show.ensures.clock) (asked_answers _ _ _ c.in-Ok-Show.asked (has_asked _ _ _ _ c.in-Ok-Show.asked c.in-Ok-Show.field-0-is c.in-Ok-Show.ensures.comes) _ _) c.show.ensures.tells ∣₁
 
-pub returns-in-Ok-Explore-clause-rose : goal.returns-in-Ok-Explore-clause-rose
-returns-in-Ok-Explore-clause-rose g c = λ rose. absurd (never_rose _ _ c.in-Ok-Explore.ensures.counts rose)
+pub returns-in-Ok-Show-clause-written : goal.returns-in-Ok-Show-clause-written
+returns-in-Ok-Show-clause-written g c = λ bytes traces left.
+    absurd (asked_traces _ _ _ c.in-Ok-Show.asked (has_asked _ _ _ _ c.in-Ok-Show.asked c.in-Ok-Show.field-0-is c.in-Ok-Show.ensures.comes) traces)
 
-pub returns-in-Ok-Explore-clause-steady : goal.returns-in-Ok-Explore-clause-steady
-returns-in-Ok-Explore-clause-steady g c = λ none. c.in-Ok-Explore.ensures.counts
+pub returns-in-Ok-Show-clause-shown : goal.returns-in-Ok-Show-clause-shown
+returns-in-Ok-Show-clause-shown g c =
+    show_told (Unit {0}) c.show.result.ending _ _ _ _ _ _ _ _ (asked_answers _ _ _ c.in-Ok-Show.asked (has_asked _ _ _ _ c.in-Ok-Show.asked c.in-Ok-Show.field-0-is c.in-Ok-Show.ensures.comes) _ _) c.show.ensures.tells
 
-pub returns-in-Ok-Explore-clause-unclocked : goal.returns-in-Ok-Explore-clause-unclocked
-returns-in-Ok-Explore-clause-unclocked g c = λ none. c.list.ensures.clock
+pub returns-in-Ok-Show-clause-rose : goal.returns-in-Ok-Show-clause-rose
+returns-in-Ok-Show-clause-rose g c = λ rose. absurd (never_rose _ _ c.in-Ok-Show.ensures.counts rose)
 
-pub returns-in-Ok-Explore-clause-unrun : goal.returns-in-Ok-Explore-clause-unrun
-returns-in-Ok-Explore-clause-unrun g c = λ unrun. c.list.ensures.clock
+pub returns-in-Ok-Show-clause-steady : goal.returns-in-Ok-Show-clause-steady
+returns-in-Ok-Show-clause-steady g c = λ none. c.in-Ok-Show.ensures.counts
 
--- ---- something is asked of a document
+pub returns-in-Ok-Show-clause-unclocked : goal.returns-in-Ok-Show-clause-unclocked
+returns-in-Ok-Show-clause-unclocked g c = λ none. c.show.ensures.clock
 
-pub returns-in-Ok-Ask-clause-cause : goal.returns-in-Ok-Ask-clause-cause
-returns-in-Ok-Ask-clause-cause g c =
-    claim_due _ _ _ c.in-Ok-Ask.question c.in-Ok-Ask.claim (has_claim _ _ _ _ _ _ c.in-Ok-Ask.field-0-is c.in-Ok-Ask.ensures.comes) _ c.answer.result.ending _ _ _ _ _ _ _ _ c.answer.ensures.tells
-
-pub returns-in-Ok-Ask-clause-complete : goal.returns-in-Ok-Ask-clause-complete
-returns-in-Ok-Ask-clause-complete g c =
-    is_expected _ _ _ _ _ c.answer.result.ending
-    (claim_due _ _ _ c.in-Ok-Ask.question c.in-Ok-Ask.claim (has_claim _ _ _ _ _ _ c.in-Ok-Ask.field-0-is c.in-Ok-Ask.ensures.comes) _ c.answer.result.ending _ _ _ _ _ _ _ _ c.answer.ensures.tells)
-
-pub returns-in-Ok-Ask-clause-refusal : goal.returns-in-Ok-Ask-clause-refusal
-returns-in-Ok-Ask-clause-refusal g c =
-    is_refusal _ _ _ _ _ c.answer.result.ending
-    (claim_due _ _ _ c.in-Ok-Ask.question c.in-Ok-Ask.claim (has_claim _ _ _ _ _ _ c.in-Ok-Ask.field-0-is c.in-Ok-Ask.ensures.comes) _ c.answer.result.ending _ _ _ _ _ _ _ _ c.answer.ensures.tells)
-
-pub returns-in-Ok-Ask-clause-verdict : goal.returns-in-Ok-Ask-clause-verdict
-returns-in-Ok-Ask-clause-verdict g c =
-    is_verdict _ _ _ _ _ c.answer.result.ending
-    (claim_due _ _ _ c.in-Ok-Ask.question c.in-Ok-Ask.claim (has_claim _ _ _ _ _ _ c.in-Ok-Ask.field-0-is c.in-Ok-Ask.ensures.comes) _ c.answer.result.ending _ _ _ _ _ _ _ _ c.answer.ensures.tells)
-
-pub returns-in-Ok-Ask-clause-call : goal.returns-in-Ok-Ask-clause-call
-returns-in-Ok-Ask-clause-call g c =
-    ∣ claim_call _ _ _ c.in-Ok-Ask.question c.in-Ok-Ask.claim (has_claim _ _ _ _ _ _ c.in-Ok-Ask.field-0-is c.in-Ok-Ask.ensures.comes) _ _ _ _ c.answer.result.ending c.answer.result.history.list _ _
-    c.in-Ok-Ask.ensures.counts c.answer.ensures.history (ap g.K.Clock.early_waits c.answer.ensures.clock) c.answer.ensures.tells ∣₁
-
-pub returns-in-Ok-Ask-clause-written : goal.returns-in-Ok-Ask-clause-written
-returns-in-Ok-Ask-clause-written g c = λ bytes traces left.
-    absurd (claim_traces _ _ _ c.in-Ok-Ask.question c.in-Ok-Ask.claim (has_claim _ _ _ _ _ _ c.in-Ok-Ask.field-0-is c.in-Ok-Ask.ensures.comes) traces)
-
-pub returns-in-Ok-Ask-clause-listed : goal.returns-in-Ok-Ask-clause-listed
-returns-in-Ok-Ask-clause-listed g c = λ bytes extent left is.
-    absurd (asked_lists extent _ c.in-Ok-Ask.question _ (Unit {0}) _ c.answer.result.ending (has_claim _ _ _ _ _ _ c.in-Ok-Ask.field-0-is c.in-Ok-Ask.ensures.comes).asks
-    (claim_due _ _ _ c.in-Ok-Ask.question c.in-Ok-Ask.claim (has_claim _ _ _ _ _ _ c.in-Ok-Ask.field-0-is c.in-Ok-Ask.ensures.comes) (Unit {0}) c.answer.result.ending _ _ _ _ _ _ _ _ c.answer.ensures.tells) is)
-
-pub returns-in-Ok-Ask-clause-rose : goal.returns-in-Ok-Ask-clause-rose
-returns-in-Ok-Ask-clause-rose g c = λ rose. absurd (never_rose _ _ c.in-Ok-Ask.ensures.counts rose)
-
-pub returns-in-Ok-Ask-clause-steady : goal.returns-in-Ok-Ask-clause-steady
-returns-in-Ok-Ask-clause-steady g c = λ none. c.in-Ok-Ask.ensures.counts
-
-pub returns-in-Ok-Ask-clause-unclocked : goal.returns-in-Ok-Ask-clause-unclocked
-returns-in-Ok-Ask-clause-unclocked g c = λ none. c.answer.ensures.clock
-
-pub returns-in-Ok-Ask-clause-unrun : goal.returns-in-Ok-Ask-clause-unrun
-returns-in-Ok-Ask-clause-unrun g c = λ unrun. c.answer.ensures.clock
+pub returns-in-Ok-Show-clause-unrun : goal.returns-in-Ok-Show-clause-unrun
+returns-in-Ok-Show-clause-unrun g c = λ unrun. c.show.ensures.clock
 
 -- ---- nothing runs, and nothing is accepted
 
@@ -277,9 +236,9 @@ pub returns-in-Err-clause-written : goal.returns-in-Err-clause-written
 returns-in-Err-clause-written g c = λ bytes traces left.
     answer_written _ c.in-Err.stop c.ending_of.result c.tell.result.ending _ _ _ _ _ _ c.ending_of.ensures (ap g.O.Sink.told c.tell.ensures.kept.0) c.tell.ensures.tells
 
-pub returns-in-Err-clause-listed : goal.returns-in-Err-clause-listed
-returns-in-Err-clause-listed g c = λ bytes extent left is.
-    absurd (answer_lists extent c.in-Err.stop c.ending_of.result c.tell.result.ending _ _ _ _ c.ending_of.ensures c.tell.ensures.tells is)
+pub returns-in-Err-clause-shown : goal.returns-in-Err-clause-shown
+returns-in-Err-clause-shown g c = λ bytes left.
+    shows_none _ bytes _ _ _ _ c.tell.result.ending (stopped_none c.in-Err.stop c.ending_of.result c.tell.result.ending _ _ _ _ c.ending_of.ensures c.tell.ensures.tells)
 
 pub returns-in-Err-clause-rose : goal.returns-in-Err-clause-rose
 returns-in-Err-clause-rose g c =

@@ -35,6 +35,8 @@ returns c =
     let with_bench = c.in_ok-subcommand-3.ensures.shape c.in_ok-bench.ensures.local ∙ ap₂ with_subcommand with_check (ap top_of c.in_ok-bench.ensures.shape) in
     let with_trace = c.in_ok-subcommand-4.ensures.shape c.in_ok-runner-2.ensures.local ∙ ap₂ with_subcommand with_bench (ap top_of c.in_ok-runner-2.ensures.shape) in
     let with_outcomes = c.in_ok-subcommand-5.ensures.shape c.in_ok-outcomes.ensures.local ∙ ap₂ with_subcommand with_trace (ap top_of c.in_ok-outcomes.ensures.shape) in
-    let with_verify = c.in_ok-subcommand-6.ensures.shape c.plain-2.ensures.local ∙ ap₂ with_subcommand with_outcomes (ap top_of c.plain-2.ensures.shape) in
-    let with_report = c.in_ok-subcommand-7.ensures.shape c.plain-3.ensures.local ∙ ap₂ with_subcommand with_verify (ap top_of c.plain-3.ensures.shape) in
-    IfOk-weaker c.subcommand-8.result _ _ (λ r h. h.shape c.plain-4.ensures.local ∙ ap₂ with_subcommand with_report (ap top_of c.plain-4.ensures.shape)) c.subcommand-8.ensures
+    let with_claims = c.in_ok-subcommand-6.ensures.shape c.in_ok-searcher.ensures.local ∙ ap₂ with_subcommand with_outcomes (ap top_of c.in_ok-searcher.ensures.shape) in
+    let with_haskell = c.in_ok-subcommand-7.ensures.shape c.plain-2.ensures.local ∙ ap₂ with_subcommand with_claims (ap top_of c.plain-2.ensures.shape) in
+    let with_verify = c.in_ok-subcommand-8.ensures.shape c.plain-3.ensures.local ∙ ap₂ with_subcommand with_haskell (ap top_of c.plain-3.ensures.shape) in
+    let with_report = c.in_ok-subcommand-9.ensures.shape c.plain-4.ensures.local ∙ ap₂ with_subcommand with_verify (ap top_of c.plain-4.ensures.shape) in
+    IfOk-weaker c.subcommand-10.result _ _ (λ r h. h.shape c.plain-5.ensures.local ∙ ap₂ with_subcommand with_report (ap top_of c.plain-5.ensures.shape)) c.subcommand-10.ensures

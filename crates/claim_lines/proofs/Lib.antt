@@ -1,0 +1,12 @@
+pub mod Cuts
+pub mod Closings
+pub mod Accepting
+pub mod Drafting
+pub mod Pieces
+pub mod Heads
+pub mod Numbered
+pub mod Spelled
+pub mod Told
+pub mod Parts
+pub mod Firsts
+pub mod Judgement

@@ -1,0 +1,9 @@
+pub mod Lines
+pub mod Words
+pub mod Grammar
+pub mod Drafts
+pub mod Fronts
+pub mod Reading
+pub mod Meaning
+pub mod Verdicts
+pub mod Telling
