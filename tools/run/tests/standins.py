@@ -241,7 +241,7 @@ class WrapperTest(unittest.TestCase):
     def set_coming(self, *names: str) -> None:
         """In the copy these are the commands that the program is still to get."""
         with open(self.path("tools/run/words.py"), encoding="utf-8") as file:
-            text, count = re.subn(r"^COMING = .*$", f"COMING = {names}", file.read(), flags=re.M)
+            text, count = re.subn(r"^(COMING\b.*) = .*$", rf"\1 = {names}", file.read(), flags=re.M)
         self.assertEqual(count, 1)
         self.write("tools/run/words.py", text)
 
