@@ -102,6 +102,16 @@ class Modules(ModuleTest):
         with open("/dev/full", "wb") as full:
             self.assertEqual(self.call("script", "Main.hs", stdout=full).status, 8)
 
+    def test_claims_have_the_lines_of_the_module(self) -> None:
+        self.set_coming()
+        os.makedirs(self.path("more"))
+        claims = ["-- Main.hs:12", "-- ! never stuck", "-- Main.hs:3", "-- ! always done", "-- Other.hs:4", "-- ! terminates"]
+        says = [f"-- prints: line {number}: holds" for number in (6, 8, 10)]
+        self.write("more/Main.hs", "\n".join([*says, "--", *claims]) + "\n")
+        self.assertEqual(self.call("claims", "more/Main.hs").out.splitlines()[:3], ["more/Main.hs:12: holds", "more/Main.hs:3: holds", "more/Main.hs:10: holds"])
+        self.write("Main.hs", "-- refused: Claim at 3:5\n-- Main.hs:7\n-- ! sometime\n")
+        self.assertEqual(self.call("claims", "Main.hs").all, ("", "Main.hs:7:5: refused: Claim at 3:5\n", 3))
+
     def test_a_picture_of_a_module(self) -> None:
         self.call("picture", "Main.hs", more=self.counting)
         self.assertEqual(self.calls()[0], "trace")
