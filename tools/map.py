@@ -70,13 +70,10 @@ def sentences(text: str) -> list[str]:
 
 
 def line_of(crate: str) -> str:
-    """What the crate is, and its promise, in the words of its first lines."""
+    """What the crate is, in the words of its first sentence."""
     paragraphs = head(crate)
     what = sentences(paragraphs[0])[0] if paragraphs and paragraphs[0] else "?"
-    said = [it for paragraph in paragraphs for it in sentences(paragraph)]
-    promise = next((it for it in said if re.search(r"\bpromises?\b(?! nothing)", it) and it != what), "")
-    promise = re.sub(r"^(The|Its)( one)? promises?: ", "", promise)
-    return f"- `{crate}`: {what}" + (f" {promise[:1].upper()}{promise[1:]}" if promise else "")
+    return f"- `{crate}`: {what}"
 
 
 def drawn() -> str:
