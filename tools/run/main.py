@@ -28,7 +28,7 @@ def _other_action(call: Call) -> int:
 
 def _run_program(call: Call, memory: int) -> int:
     """Runs the program: in place of the wrapper, unless something is to be done behind it."""
-    run = Run(programs.pick(), call.words, memory)
+    run = Run(programs.pick(), call.program_words, memory)
     running.take_stack()
     if memory or running.is_held():
         from tools.run import memory as limits

@@ -103,6 +103,8 @@ COMMANDS = {it.name: it for it in (
     Command("report", "[FILE]", (), "says what each thread and each cell of such a history did", DOCUMENT_BYTES),
     Command("picture", "[FILE]", RUN_OPTIONS, "draws such a history as SVG, or that of a script that it runs first", DOCUMENT_BYTES,
             options_usage="[options of trace]"),
+    Command("story", "[FILE]", RUN_OPTIONS, "tells such a history, or that of a script, in a line for each entry", DOCUMENT_BYTES,
+            options_usage="[options of trace]"),
     Command("haskell", "[FILE]", (), "prints it as a Haskell module", SCRIPT_BYTES),
     Command("litmus", "FILE..", tuple(LITMUS_OPTIONS), "runs it many times by GHC, and shows that beside its outcomes",
             options_usage="[--runs N] [--seconds S] [--seed N] [--forks F]"),
@@ -110,7 +112,7 @@ COMMANDS = {it.name: it for it in (
     Command("test", "", ("--quick",), "proves and tries everything; --quick: the rows alone"),
 ) if it.name not in COMING}
 # These read a history with its script in one document.
-HISTORY_COMMANDS = ("verify", "report", "picture")
+HISTORY_COMMANDS = ("verify", "report", "picture", "story")
 
 # How a call ended.
 STATUSES = {
