@@ -14,7 +14,7 @@ DOCUMENT_BYTES = 100_663_296 + 1
 STATUS_ORDER = (66, 70, 71, 2, 3, 6, 7, 8, 9, 14, 15, 11, 12, 0)
 
 # Commands of this table that the program is still to get: nobody is told of them. The name of one that it has is taken away here.
-COMING: tuple[str, ...] = ("claims", "haskell")
+COMING: tuple[str, ...] = ()
 
 
 class Option:
