@@ -173,8 +173,9 @@ def titles(page: str) -> set[str]:
     whole = page if here(page) else f"docs/{page}"
     for block in blocks(whole) if here(whole) else ():
         bold = re.match(r"(?:[-*] )?(?:\d{4}-\d\d-\d\d · )?\*\*([^*]+)\*\*", block.text.replace("\n", " "))
-        if block.kind == "heading" or bold:
-            found.add((block.text.lstrip("# ").strip() if block.kind == "heading" else bold[1]).rstrip(".").replace("`", ""))
+        title = block.text.lstrip("# ").strip() if block.kind == "heading" else bold[1] if bold else None
+        if title is not None:
+            found.add(title.rstrip(".").replace("`", ""))
     return found
 
 
