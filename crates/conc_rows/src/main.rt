@@ -17,7 +17,7 @@ use std::thread::Threads;
 use std::{fmt, fs};
 
 /// The files of rows, by topic.
-const FILES: [&str; 11] = [
+const FILES: [&str; 13] = [
     "tokens.rows",
     "grammar.rows",
     "typing.rows",
@@ -29,6 +29,8 @@ const FILES: [&str; 11] = [
     "tour.rows",
     "capabilities.rows",
     "outcomes.rows",
+    "claims.rows",
+    "examples.rows",
 ];
 
 const FAILED: u8 = 1;
