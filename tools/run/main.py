@@ -22,6 +22,9 @@ def _other_action(call: Call) -> int:
         release.refuse("test")
         from tools.run import gate
         return gate.run_tests(call.words)
+    if call.action == "clean":
+        from tools.run import cache
+        return cache.clean()
     from tools.run import page
     return put(page.help_page() if call.action == "help" else page.version_page())
 
@@ -47,7 +50,7 @@ def _run_program(call: Call, memory: int) -> int:
 
 def run(words: list[str]) -> int:
     call = reading.read(words)
-    if call.action in ("help", "version", "test"):
+    if call.action in ("help", "version", "clean", "test"):
         return _other_action(call)
     memory = call.megabytes()
     reading.check_order(call)

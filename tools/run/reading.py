@@ -90,6 +90,8 @@ def _read_own(call: Call, word: str, rest: list[str]) -> bool:
         call.action = "help"
     elif word == "--version":
         call.action = "version"
+    elif word == "--clean":
+        call.action = "clean"
     elif word == "--prove":
         call.wants_proof = True
     elif word == "--explain":

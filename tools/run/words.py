@@ -73,6 +73,7 @@ OWN_OPTIONS = _by_name(
     Option("--explain", "", "shows the line of a refusal and what to do, as on a terminal"),
     Option("--prove", "", "proves and builds the program first; until then the checked build without proof runs"),
     Option("--version", "", "the version, the kit, and which build there is"),
+    Option("--clean", "", "removes what is kept in $XDG_CACHE_HOME/conc-run (~/.cache/conc-run): translators, and scripts of modules"),
 )
 # Those for the translator of Haskell modules.
 MODULE_OPTIONS = _by_name(

@@ -229,6 +229,23 @@ class Kept(ModuleTest):
         self.assertNotIn("0", self.kept)
         self.assert_made(0)
 
+    def test_cleaned(self) -> None:
+        folder = os.path.join(self.room, "cache", "conc-run")
+        self.assert_made(1)
+        self.assertEqual(self.call("--clean").all, (f"removed {folder}\n", "", 0))
+        self.assertEqual(os.listdir(os.path.dirname(folder)), [])
+        self.assertEqual(self.call("--clean").all, (f"nothing is kept in {folder}\n", "", 0))
+        self.assert_made(1)
+
+    def test_a_link_is_removed_and_not_what_it_leads_to(self) -> None:
+        folder, other = os.path.join(self.room, "cache", "conc-run"), os.path.join(self.room, "other")
+        os.makedirs(os.path.dirname(folder))
+        os.mkdir(other)
+        os.symlink(other, folder)
+        self.assertEqual(self.call("--clean").status, 0)
+        self.assertFalse(os.path.lexists(folder))
+        self.assertTrue(os.path.isdir(other))
+
 
 if __name__ == "__main__":
     unittest.main()
