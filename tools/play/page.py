@@ -16,7 +16,7 @@ from tools.sources import TOP
 
 SITE = os.path.join(os.path.dirname(os.path.abspath(__file__)), "site")
 # The parts of the page's script, in this order.
-SCRIPTS = ["basis", "unseen", "program", "options", "lines", "editor", "marks", "results", "outcomes", "histories", "claims", "coming", "examples", "links", "page"]
+SCRIPTS = ["basis", "unseen", "program", "options", "lines", "editor", "marks", "results", "outcomes", "histories", "claims", "coming", "examples", "writing", "links", "page"]
 MOST = 900 * 1024
 HEAD = re.compile(r'<meta name="conc-run" content="version ([^ ]+) sources ([0-9a-f]{64})">')
 MODULE = re.compile(r'<script type="text/plain" id="program">([A-Za-z0-9+/=]*)</script>')

@@ -133,9 +133,22 @@ def translating() -> str:
     return ""
 
 
+def forms() -> list[dict[str, object]]:
+    """All that an action and an expression may be, with what each needs."""
+    page = "docs/LANGUAGE.md"
+    heads = (("action", "needs", "result"), ("expression", "needs, from the left to the right", "type"))
+    return [{"head": list(head), "rows": list(table(page, *head))} for head in heads]
+
+
+def first_script() -> str:
+    """The script that the page explains."""
+    with open(os.path.join(TOP, "tools", "play", "site", "writing.conc"), encoding="utf-8", newline="") as file:
+        return file.read()
+
+
 def data() -> dict[str, object]:
     """All that the page's script takes from the repository. The gallery of mistakes stands behind the tour, where there is one."""
     examples, mistakes = scripts("examples/*.conc"), scripts("examples/mistakes/*.conc")
     groups = tour(examples) + ([{"title": "Mistakes and their cures", "names": list(mistakes)}] if mistakes else [])
     return {"examples": {**examples, **mistakes}, "groups": groups, "faults": faults(), "causes": causes(), "words": reserved_words(),
-            "commands": commands(), "translating": translating()}
+            "commands": commands(), "translating": translating(), "forms": forms(), "writing": first_script()}

@@ -79,6 +79,7 @@ function listenToButtons() {
   $('link').onclick = () => makeLink().catch(problem => say({ head: 'No link', kind: 'bad', rest: String(problem) }));
   $('back').onclick = takeBack;
   $('examples').onclick = () => $('choose').showModal();
+  $('write').onclick = showWriting;
   document.querySelector('.skip').onclick = event => { event.preventDefault(); text.focus(); };
   for (const dialog of document.querySelectorAll('dialog')) {
     dialog.querySelector('.close').onclick = () => dialog.close();
@@ -145,6 +146,7 @@ async function begin() {
 // For the tests.
 globalThis.playground = { last, load, act, stop, call, compiled, running };
 listExamples();
+explainWriting();
 listenToEditor();
 listenToPrinter();
 listenToFiles();

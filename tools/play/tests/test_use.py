@@ -84,6 +84,46 @@ class Writing(PageTest):
         self.page.open()
 
 
+class Explained(PageTest):
+    """How a script is written, for whoever begins or pastes a module."""
+
+    def test_all_that_stands_there_is_accepted(self) -> None:
+        self.page.open()
+        pairs = self.page.run("return [...document.querySelectorAll('#how table')][0].querySelectorAll('tbody tr td:last-child').length")
+        self.assertGreater(pairs, 10)
+        for number in range(pairs):
+            code = str(self.page.run("return document.querySelector('#how table').querySelectorAll('tbody tr td:last-child')[arguments[0]].textContent", number))
+            script = code if code.endswith(";") else f"f (m :: MVar Int) (n :: Int) (r :: Maybe Int) :: IO () = {{ {code}; return () }};"
+            with self.subTest(code):
+                result = self.page.calls([(["check"], (script if script.startswith("main") else f"{script}\nmain :: IO () = {{ return () }};").encode())])[0]
+                self.assertEqual((0, b""), (result.answer.status, result.answer.err))
+
+    def test_its_script_is_taken(self) -> None:
+        self.page.open()
+        self.page.run("document.getElementById('write').click()")
+        self.assertTrue(self.page.run("return document.getElementById('writing').open"))
+        self.page.run("document.querySelector('#how button').click()")
+        self.page.until(f"{VERDICT} === 'accepted'")
+        result = self.page.act("outcomes")
+        self.same(result, self.page.run(TEXT))
+        self.assertTrue(result.answer.out.startswith(b"3 outcomes, and there are no others"))
+
+    def test_ways_to_it(self) -> None:
+        """From a pasted module, and from a refusal of the grammar."""
+        self.page.open()
+        for script in (HASKELL[0], "main :: IO () = { };"):
+            with self.subTest(script):
+                self.page.act("check", script)
+                self.page.run("[...document.querySelectorAll('#shown button')].find(it => /How a script/.test(it.textContent)).click()")
+                self.assertTrue(self.page.run("return document.getElementById('writing').open"))
+                self.page.run("document.querySelector('#writing .close').click()")
+
+    def test_all_forms_stand_there(self) -> None:
+        told = self.page.run("return document.getElementById('how').textContent")
+        words = self.page.run("return JSON.parse(document.getElementById('data').textContent).words")
+        self.assertEqual([], [it for it in words if it not in told])
+
+
 class Links(PageTest):
     """Links are tried where the page has an address: on a server of this test."""
 
