@@ -62,7 +62,7 @@ async function act(kind) {
     if (!isWanted()) return;
     keepLast({ result });
     if (decoded(input) !== text.value) changed({ loaded: true });
-    else if (result.status !== 2 && !result.failure) judged(result);
+    else if ((result.status !== 2 && !result.failure) || !$('verdict').textContent) judged(result);
     showResult(kind, result, words, input, isWanted);
     if ($('results').getBoundingClientRect().top > innerHeight * 0.6) $('results').scrollIntoView({ behavior: moves() });
   } catch (problem) {
