@@ -99,6 +99,7 @@ function load(script, name, { fromLink = false } = {}) {
   text.setSelectionRange(0, 0);
   editor.scrollTop = text.scrollTop = 0;
   $('name').textContent = name + (script.includes('\r') ? ' (its carriage returns became line feeds)' : '');
+  $('cure').hidden = !Object.hasOwn(data.cures, name);
   here = -1;
   lines = [];
   paper.replaceChildren();

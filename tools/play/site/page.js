@@ -78,6 +78,11 @@ function listenToButtons() {
   $('verdict').onclick = () => wrong?.line && goTo(wrong);
   $('link').onclick = () => makeLink().catch(problem => say({ head: 'No link', kind: 'bad', rest: String(problem) }));
   $('back').onclick = takeBack;
+  $('cure').onclick = () => {
+    const name = data.cures[$('name').textContent.replace(', changed', '')];
+    loadFresh(data.examples[name].script, name);
+    text.focus({ preventScroll: true });
+  };
   $('examples').onclick = () => $('choose').showModal();
   $('write').onclick = showWriting;
   document.querySelector('.skip').onclick = event => { event.preventDefault(); text.focus(); };

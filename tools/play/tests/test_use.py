@@ -84,6 +84,24 @@ class Writing(PageTest):
         self.page.open()
 
 
+class Mistakes(PageTest):
+    def test_each_has_its_cure(self) -> None:
+        """Of a script with a mistake the right one is one key away, and what was written meanwhile comes back."""
+        self.page.open()
+        self.assertFalse(self.page.run("return document.getElementById('cure').hidden"))
+        self.page.run("const it = document.getElementById('text'); it.focus(); document.execCommand('insertText', false, '-- mine\\n')")
+        own = self.page.run(TEXT)
+        self.page.run("document.getElementById('cure').click()")
+        self.assertEqual(examples()["modify"], self.page.run(TEXT))
+        self.assertTrue(self.page.run("return document.getElementById('cure').hidden"))
+        self.page.run("document.getElementById('back').click()")
+        self.assertEqual(own, self.page.run(TEXT))
+        wrong = [it for it in examples() if it.endswith("-wrong")]
+        cures = self.page.run("return JSON.parse(document.getElementById('data').textContent).cures")
+        self.assertEqual([], [it for it in wrong if cures.get(it) not in examples()])
+        self.page.open()
+
+
 class Explained(PageTest):
     """How a script is written, for whoever begins or pastes a module."""
 
@@ -171,7 +189,7 @@ class Links(PageTest):
             with self.subTest(behind[:20]):
                 self.page.open(behind, address=self.address)
                 self.assertIn("The link is broken", self.page.said())
-                self.assertTrue(self.page.run(TEXT).endswith("putStrLn (show x) };\n"))
+                self.assertEqual(examples()["update"], self.page.run(TEXT))
 
     def test_a_long_script_has_no_link(self) -> None:
         self.page.open(address=self.address)
