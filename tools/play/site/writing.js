@@ -38,7 +38,8 @@ function explainWriting() {
     loadFresh(data.writing, 'first');
     text.focus({ preventScroll: true });
   });
-  $('how').append(...HOW_TO_WRITE.map(it => make('p', {}, ...sentence(it))), make('pre', { className: 'text', tabIndex: 0, role: 'region', 'aria-label': 'A script' }, data.writing),
+  const claims = data.commands.includes('claims') ? [`A line that begins with \`--!\` is a claim, and Outcomes says whether it holds: ${FORMS_OF_CLAIMS}.`] : [];
+  $('how').append(...HOW_TO_WRITE.concat(claims).map(it => make('p', {}, ...sentence(it))), make('pre', { className: 'text', tabIndex: 0, role: 'region', 'aria-label': 'A script' }, data.writing),
     make('div', { className: 'bar' }, take), make('h3', {}, 'Where you know Haskell'),
     table(['Haskell', 'script'], IN_HASKELL.map(pair => pair.map(it => make('pre', {}, it)))),
     make('h3', {}, 'All forms'), make('p', {}, ...sentence('`a` and `b` are arguments, `A`, `B` and `C` blocks, `m` a cell, `t` a type, `x` and `e` names for the block behind them, `r` a name for `restore`.')),
