@@ -13,7 +13,7 @@ module FromHaskell
 import qualified Control.Exception as Exception
 import Control.Monad (forM_, when)
 import Control.Monad.IO.Class (liftIO)
-import Data.IORef (readIORef)
+import Data.IORef (IORef, newIORef, readIORef)
 import Data.List (find)
 import qualified Data.Map.Strict as Map
 import qualified Data.Set as Set
@@ -24,6 +24,7 @@ import FromHaskell.Encode (ioResult)
 import FromHaskell.Finish (finish)
 import FromHaskell.Ghc
 import FromHaskell.Integers (integerNames)
+import FromHaskell.Keep (inRounds)
 import FromHaskell.Monad
 import FromHaskell.Report
 import FromHaskell.Safety (checkModules, inspectFile, readSource)
@@ -52,21 +53,21 @@ data Answer
 -- | Translates a module.
 translate :: Request -> IO Answer
 translate request = do
-  world <- newWorld (Settings (requestStrict request))
-  result <- Exception.try (withGhc (requestLibrary request) (translateIn world request))
-  notes <- reverse <$> readIORef (worldNotes world)
+  current <- newWorld (Settings (requestStrict request)) >>= newIORef
+  result <- Exception.try (withGhc (requestLibrary request) (translateIn current request))
+  notes <- reverse <$> (readIORef current >>= readIORef . worldNotes)
   return $ case result of
     Left refusal -> Refused notes refusal
     Right answer -> case answer of
       Translated _ files script -> Translated notes files script
       _ -> answer
 
-translateIn :: World -> Request -> Ghc Answer
-translateIn world request = do
+translateIn :: IORef World -> Request -> Ghc Answer
+translateIn current request = do
   prepare target
   checked <-
     if requestTrust request
-      then liftIO (Just Set.empty <$ runTranslate world trusted)
+      then liftIO (Just Set.empty <$ (readIORef current >>= (`runTranslate` trusted)))
       else guarded (checkModules (requestFile request) (requestFolders request))
   case checked of
     Nothing -> return NotCompiled
@@ -75,7 +76,7 @@ translateIn world request = do
       case compiled of
         Just (Just modules) -> do
           claims <- claimsIn modules
-          liftIO (runTranslate world (translateModules request (Set.toList files) claims modules))
+          liftIO (inRounds current (translateModules request (Set.toList files) claims modules))
         _ -> return NotCompiled
  where
   target = Target [requestFile request, requestPrelude request </> "FromHaskellPrelude.hs"] (requestFolders request) (requestPrelude request)

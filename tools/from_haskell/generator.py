@@ -274,7 +274,7 @@ class Program:
         if kind == "IO ()":
             return self.pick_lines((f"join (takeMVar {cell})", f"putMVar {cell} (putStr {self.letter()})", f"tryPutMVar {cell} (putStr {self.letter()}) >>= \\ok -> unless ok (putStr \"full\")"), indent)
         if kind == "Int -> Int":
-            return self.pick_lines((f"readMVar {cell} >>= \\f -> putStr (show (f {self.atom(self.value('Int', scope, 1))}))", f"modifyMVar_ {cell} (return . (. (+ {self.random.randrange(3)})))"), indent)
+            return self.pick_lines((f"readMVar {cell} >>= \\f -> putStr (show (f {self.atom(self.value('Int', scope, 1))}))", f"modifyMVar_ {cell} (\\_ -> return (* {self.random.randrange(2, 5)}))"), indent)
         if kind == "Job":
             return self.pick_lines((f"takeMVar {cell} >>= work", f"putMVar {cell} (Job {self.letter()} (putStr {self.letter()}))"), indent)
         if kind.startswith("ref "):

@@ -56,6 +56,8 @@ module FromHaskell.Ghc
   , splitForAllTys
   , splitFunction
   , isTyVarTy
+  , isClosed
+  , expandTypeSynonyms
   , mkTyVarTy
   , mkTyConTy
   , eqType
@@ -243,6 +245,10 @@ splitFunction :: Type -> Maybe (Type, Type)
 splitFunction t = case splitFunTy_maybe t of
   Just (_, a, r) -> Just (a, r)
   Nothing -> Nothing
+
+-- | Whether no variable is free in the type.
+isClosed :: Type -> Bool
+isClosed = noFreeVarsOfType
 
 -- | The type that a newtype stands for at these arguments, and nothing where it has too few.
 unwrapNewtypeOnce :: TyCon -> [Type] -> Maybe Type
