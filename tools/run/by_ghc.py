@@ -33,7 +33,7 @@ def run_litmus(call: Call, memory: int) -> int:
     program = [os.path.join(TOP, "conc_run"), "--memory", str(memory)]
     try:
         # What builds the program says so, which the calls for lists don't.
-        status = command.main(call.words[1:], program, programs.pick)
+        status = command.main(call.words[1:], program, programs.pick, call.module_words)
     except SystemExit as ended:
         status = ended.code if isinstance(ended.code, int) else 0
     return WRITE_FAILED if is_closed(1) else status
