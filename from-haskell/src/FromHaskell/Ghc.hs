@@ -117,6 +117,7 @@ module FromHaskell.Ghc
 
 import qualified Control.Exception as Exception
 import Control.Monad.IO.Class (liftIO)
+import Data.Graph (flattenSCC)
 import Data.List (sortOn)
 import Data.Maybe (mapMaybe)
 import System.FilePath (takeDirectory)
@@ -135,7 +136,9 @@ import GHC
   , NamedThing (..)
   , SuccessFlag (..)
   , TyCon
+  , TypecheckedModule
   , coreModule
+  , depanal
   , desugarModule
   , getModuleGraph
   , getSessionDynFlags
@@ -143,6 +146,7 @@ import GHC
   , isClassTyCon
   , isNewTyCon
   , load
+  , loadModule
   , mgModSummaries
   , modInfoExports
   , moduleInfo
@@ -154,6 +158,7 @@ import GHC
   , runGhc
   , setSessionDynFlags
   , setTargets
+  , topSortModuleGraph
   , tyConDataCons
   , typecheckModule
   )
@@ -170,7 +175,7 @@ import GHC.Data.FastString (mkFastString, unpackFS)
 import GHC.Data.StringBuffer (stringToStringBuffer)
 import GHC.Driver.Pipeline (doCpp)
 import GHC.Driver.Session (GeneralFlag (..), gopt_unset, parseDynamicFilePragma, xopt)
-import GHC.Driver.Types (handleSourceError, mg_binds, throwErrors)
+import GHC.Driver.Types (HscSource (..), handleSourceError, mg_binds, throwErrors)
 import GHC.Hs
 import GHC.LanguageExtensions (Extension (Cpp))
 import GHC.Parser.Header (getOptions)
@@ -324,12 +329,22 @@ compile :: Target -> Ghc (Maybe [Compiled])
 compile target = do
   targets <- mapM (`guessTarget` Nothing) (targetFiles target)
   setTargets targets
+  graph <- depanal [] False
+  let groups = topSortModuleGraph False graph Nothing
+      summaries = concatMap flattenSCC groups
+  if length groups == length summaries && all ((== HsSrcFile) . ms_hsc_src) summaries
+    then Just <$> mapM (compiled (\checked -> () <$ loadModule checked)) summaries
+    else compileGroups
+
+-- | The same where modules import one another: GHC finds the order.
+compileGroups :: Ghc (Maybe [Compiled])
+compileGroups = do
   loaded <- load LoadAllTargets
   case loaded of
     Failed -> return Nothing
     Succeeded -> do
       graph <- getModuleGraph
-      Just <$> mapM compiled (mgModSummaries graph)
+      Just <$> mapM (compiled (\_ -> return ())) (mgModSummaries graph)
 
 sessionFlags :: Target -> Ghc DynFlags
 sessionFlags target = do
@@ -346,9 +361,11 @@ sessionFlags target = do
   (flags, _, _) <- parseDynamicFlags flags1 (map noLoc ["-package-env", "-", "-w"])
   return flags
 
-compiled :: ModSummary -> Ghc Compiled
-compiled summary = do
+-- | A module, and what is done with it once it is checked.
+compiled :: (TypecheckedModule -> Ghc ()) -> ModSummary -> Ghc Compiled
+compiled use summary = do
   checked <- parseModule summary >>= typecheckModule
+  use checked
   desugared <- desugarModule checked :: Ghc DesugaredModule
   return
     Compiled

@@ -74,7 +74,7 @@ forkIO :: Env -> (Env -> IO ()) -> IO ThreadId
 forkIO env body = Concurrent.forkIO (body env)
 
 forkIOWithUnmask :: Env -> (Env -> (forall a. IO a -> IO a) -> IO ()) -> IO ThreadId
-forkIOWithUnmask env body = Concurrent.forkIOWithUnmask (\unmask -> body env unmask)
+forkIOWithUnmask env body = Concurrent.forkIOWithUnmask (body env)
 
 myThreadId :: Env -> IO ThreadId
 myThreadId _ = Concurrent.myThreadId
