@@ -50,7 +50,7 @@ class Call(NamedTuple):
                 f"main :: IO ()\nmain = do\n  x <- {self.maker}\n  t <- forkIO ({self.call})\n  killThread t\n  putStrLn \"end\"\n")
 
     def is_of_base(self) -> bool:
-        return self.module.rpartition(".")[2] in ("QSem", "QSemN", "Chan")
+        return self.module.rpartition(".")[2] in ("QSem", "Chan")
 
 
 def read_calls() -> list[Call]:
