@@ -35,7 +35,7 @@ MUTANTS = (
     Mutant("withMVar has no mask", PRELUDE, "withMVar m io = E.mask (\\restore -> C.takeMVar m >>= \\a -> (restore (io a)",
            "withMVar m io = (C.takeMVar m >>= \\a -> (io a", ("LockWith", "Philosophers")),
     Mutant("swapMVar has no mask", PRELUDE, "swapMVar m new = E.mask_ (C.takeMVar m >>= \\old -> C.putMVar m new >> return old)",
-           "swapMVar m new = C.takeMVar m >>= \\old -> C.putMVar m new >> return old", ("Interleaved", "Closures", "TornRead", "OnceTwice")),
+           "swapMVar m new = C.takeMVar m >>= \\old -> C.putMVar m new >> return old", ("SwapKilled",)),
     Mutant("an IORef is written as any cell is", PRELUDE, "atomicModifyIORef' r f = E.uninterruptibleMask_ (C.takeMVar",
            "atomicModifyIORef' r f = id (C.takeMVar", ("AtomicReference", "Reference")),
     Mutant("the body of a restore stays masked", of_module("Emit"), 'Script.Form (Word "restore" : Binder r : map Body bs))',

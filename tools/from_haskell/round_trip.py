@@ -16,7 +16,7 @@ SUPPORT = PACKAGE / "test" / "round-trip"
 FOLDERS = ("examples", "litmus")
 # Such a script's outcomes go by the clock.
 READS_THE_CLOCK = b"clockMicros"
-STATES = 300_000
+STATES = 100_000
 # The most states of the script that came, beside those of the script by hand.
 TIMES = 1.5
 
