@@ -92,6 +92,10 @@ module FromHaskell.Ghc
   , emptyVarSet
   , variablesInOrder
 
+    -- * Types as they are written
+  , TypeShape (..)
+  , typeShape
+
     -- * Text
   , showType
 
@@ -102,6 +106,8 @@ module FromHaskell.Ghc
   , guarded
   , quietly
   , compile
+  , Export (..)
+  , exports
   , Inspection (..)
   , Extent (..)
   , inspect
@@ -180,6 +186,7 @@ import GHC.Types.Name.Reader (rdrNameOcc)
 import GHC.Types.SrcLoc
 import GHC.Types.Unique (Unique, getKey, getUnique)
 import GHC.Types.Unique.Set (nonDetEltsUniqSet)
+import GHC.Tc.Utils.TcType (tcSplitSigmaTy)
 import GHC.Types.Var.Env
 import GHC.Types.Var.Set
 import GHC.Utils.Encoding (utf8DecodeByteString)
@@ -324,6 +331,56 @@ compile target = do
     Succeeded -> do
       graph <- getModuleGraph
       Just <$> mapM compiled (mgModSummaries graph)
+
+-- | What a module exports: the name, where it is defined, and the type, where it is a function or another value.
+data Export = Export
+  { exportName :: String
+  , exportPlace :: Maybe Place
+  , exportType :: Maybe TypeShape
+  }
+
+-- | A type, with its synonyms written out.
+data TypeShape
+  = ShapeVariable String
+  | ShapeConstructor String [TypeShape]     -- ^ with the arguments that it has
+  | ShapeApplied TypeShape TypeShape        -- ^ of a variable to an argument
+  | ShapeFunction TypeShape TypeShape
+  | ShapeClasses [TypeShape] TypeShape      -- ^ below classes of its variables
+  | ShapeOther String                       -- ^ what has no shape here, as GHC prints it
+
+-- | The exports of the first file of a target. Nothing where GHC refuses a module: it has told why.
+exports :: Target -> Ghc (Maybe [Export])
+exports target = do
+  targets <- mapM (`guessTarget` Nothing) (targetFiles target)
+  setTargets targets
+  loaded <- load LoadAllTargets
+  graph <- getModuleGraph
+  case (loaded, [m | m <- mgModSummaries graph, Just file <- [GHC.ml_hs_file (ms_location m)], [file] == take 1 (targetFiles target)]) of
+    (Succeeded, m : _) -> do
+      checked <- parseModule m >>= typecheckModule
+      Just <$> mapM (exported (moduleInfo checked)) (modInfoExports (moduleInfo checked))
+    _ -> return Nothing
+
+exported :: GHC.ModuleInfo -> GHC.Name -> Ghc Export
+exported info name = do
+  thing <- GHC.modInfoLookupName info name
+  return . Export (occurrence name) (definedAt name) $ case thing of
+    Just (GHC.AnId v) -> Just (typeShape (idType v))
+    _ -> Nothing
+
+-- | The type as it is written, without the variables that it is over.
+typeShape :: Type -> TypeShape
+typeShape t = case tcSplitSigmaTy (expandTypeSynonyms t) of
+  (_, [], inner) -> shapeOf inner
+  (_, classes, inner) -> ShapeClasses (map shapeOf classes) (shapeOf inner)
+
+shapeOf :: Type -> TypeShape
+shapeOf t
+  | Just (_, argument, result) <- splitFunTy_maybe t = ShapeFunction (typeShape argument) (typeShape result)
+  | Just v <- getTyVar_maybe t = ShapeVariable (occurrence v)
+  | Just (constructor, arguments) <- splitTyConApp_maybe t = ShapeConstructor (occurrence constructor) (map typeShape arguments)
+  | Just (function, argument) <- splitAppTy_maybe t = ShapeApplied (shapeOf function) (typeShape argument)
+  | otherwise = ShapeOther (showType t)
 
 sessionFlags :: Target -> Ghc DynFlags
 sessionFlags target = do
