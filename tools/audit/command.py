@@ -47,6 +47,13 @@ class Asked(NamedTuple):
     keep: str
     shows_all: bool
     confirms: int
+    skipped: tuple[str, ...] = ()
+    pairs: tuple[tuple[str, str], ...] = ()
+
+
+def held(program: str, megabytes: int) -> list[str]:
+    """The program's words, with the most addresses that it may have where these are held."""
+    return ["sh", "-c", f"ulimit -v {megabytes * 1024}; exec \"$0\" \"$@\"", program] if megabytes else [program]
 
 
 class Subject(NamedTuple):
@@ -110,7 +117,7 @@ class Audit:
         self.asked, self.subject, self.tools, self.room, self.progress = asked, subject, tools, room, progress
 
     def run(self) -> tuple[report.Report, Asker]:
-        offer = read_offer(self.subject.module, exports_of(self.tools.translator, self.subject.path))
+        offer = read_offer(self.subject.module, exports_of(self.tools.translator, self.subject.path), self.asked.pairs, self.asked.skipped)
         asker = self.asker(offer)
         offer = self.translated(offer, asker)
         asker = self.asker(offer)
@@ -171,7 +178,7 @@ class Audit:
     def told(self, verdicts: Sequence[Verdict], asker: Asker) -> list[telling.Told]:
         """The findings, one for each cause."""
         self.progress.say("looks for causes", always=True)
-        grouper = Grouper(asker.answers, asker.search, self.asked.limits.jobs)
+        grouper = Grouper(asker.answers, asker.search, self.asked.limits.jobs, [it.question for it in verdicts if not it.why_open])
         groups = grouper.groups([Finding(it.question, it.odd) for it in verdicts if it.odd])
         return [telling.tell(it, asker) for it in groups]
 

@@ -14,7 +14,7 @@ from typing import NamedTuple
 
 from tools.audit.asking import Answer
 from tools.audit.judging import Finding, odd_of
-from tools.audit.questions import INTERRUPT, KILL, Program
+from tools.audit.questions import INTERRUPT, KILL, Program, Question
 from tools.audit.offers import Place
 
 PLACED = re.compile(r"^-- (\S+\.l?hs):(\d+)\n([a-z_][\w']*)\b(.*?)(?=^-- |^[a-z_][\w']* |\Z)", re.MULTILINE | re.DOTALL)
@@ -70,8 +70,8 @@ def hardened(script: str, places: Sequence[Place]) -> str:
 
 
 def candidates(script: str) -> list[Definition]:
-    """The definitions, those that call the fewest others first."""
-    found = definitions(script)
+    """A definition of each place, those that call the fewest others first."""
+    found = list({it.place: it for it in reversed(definitions(script))}.values())
     calls = {it.name: set(WORD.findall(it.text(script))) & {other.name for other in found} - {it.name} for it in found}
 
     def below(name: str) -> set[str]:
@@ -95,29 +95,44 @@ def rank(finding: Finding, answers: Mapping[Program, Answer]) -> tuple[object, .
 
 
 class Grouper:
-    """Finds the causes of findings."""
+    """Finds the causes of findings. `alone` has the questions of one kill with nobody beside it."""
 
-    def __init__(self, answers: Mapping[Program, Answer], search: Callable[[str], Answer], jobs: int) -> None:
+    def __init__(self, answers: Mapping[Program, Answer], search: Callable[[str], Answer], jobs: int, alone: Sequence[Question]) -> None:
         self.answers, self.search, self.jobs = answers, search, jobs
+        self.alone = {(it.asked.maker, it.asked.first): it for it in alone if it.kind == KILL and it.asked.second is None}
         self.kept: dict[str, Answer] = {}
 
-    def is_gone(self, finding: Finding, places: Sequence[Place]) -> bool:
-        """Whether nothing of the finding is left with these functions hardened."""
-        plain = self.answers[finding.question.asked].script
+    def odd_with(self, question: Question, places: Sequence[Place]) -> bool | None:
+        """Whether the kill adds something with these functions hardened, or None where none of them is in the script."""
+        plain = self.answers[question.asked].script
         script = hardened(plain, places)
         if script == plain:
-            return False
+            return None
         if script not in self.kept:
             self.kept[script] = self.search(script)
         answer = self.kept[script]
-        return answer.listed is not None and not odd_of(finding.question, answer.listed, self.answers)
+        return answer.listed is None or bool(odd_of(question, answer.listed, self.answers))
+
+    def is_gone(self, finding: Finding, places: Sequence[Place]) -> bool:
+        """Whether nothing of the finding is left with these functions hardened."""
+        return self.odd_with(finding.question, places) is False
+
+    def is_harmless(self, finding: Finding, place: Place) -> bool:
+        """Whether a thread that waits in this function, hardened, can still be killed where it could be."""
+        asked = finding.question.asked
+        alone = [self.alone[asked.maker, it] for it in (asked.first, asked.second) if (asked.maker, it) in self.alone]
+        return not any(self.odd_with(it, [place]) for it in alone if self.answers[it.asked].script)
 
     def cause_of(self, finding: Finding, known: Sequence[Place]) -> Cause:
-        """The cause of a finding that isn't gone with the known ones hardened."""
+        """The cause of a finding that isn't gone with the known ones hardened. A function in which nobody could be killed any more
+        while he waits is one only where no other function is."""
+        second: list[Cause] = []
         for it in candidates(self.answers[finding.question.asked].script):
             if it.place not in known and self.is_gone(finding, [*known, it.place]):
-                return Cause(it.name, it.place)
-        return Cause("", Place("", 0))
+                if self.is_harmless(finding, it.place):
+                    return Cause(it.name, it.place)
+                second.append(Cause(it.name, it.place))
+        return second[0] if second else Cause("", Place("", 0))
 
     def groups(self, findings: Sequence[Finding]) -> list[Group]:
         """The findings by their causes, in the order in which they are told; last those that no function explains."""

@@ -150,9 +150,10 @@ def _said(comments: Sequence[str]) -> tuple[list[tuple[str, str]], set[str]]:
     return pairs, skipped
 
 
-def read_offer(module: str, told: Mapping[str, Any]) -> Offer:
-    """What the module offers, of what the translator tells of its exports."""
+def read_offer(module: str, told: Mapping[str, Any], further_pairs: Sequence[tuple[str, str]] = (), further_skipped: Sequence[str] = ()) -> Offer:
+    """What the module offers, of what the translator tells of its exports and what else was said."""
     pairs, skipped = _said(told["comments"])
+    pairs, skipped = [*pairs, *further_pairs], skipped.union(further_skipped)
     exports = [_read_export(it) for it in told["exports"] if "type" in it]
     names = list(dict.fromkeys(it["name"] for it in told["exports"] if "type" not in it and it["name"][:1].isupper()))
     name = _abstract_type(names, exports)
@@ -162,7 +163,7 @@ def read_offer(module: str, told: Mapping[str, Any]) -> Offer:
     for export in exports:
         try:
             if export.name in skipped:
-                raise NoValue("a comment says so")
+                raise NoValue("it is to be skipped")
             if _is_maker_of(export, name):
                 offer.makers += _make(export, name, type_text, ("1", "0"))
             else:
@@ -173,5 +174,5 @@ def read_offer(module: str, told: Mapping[str, Any]) -> Offer:
         raise NothingToAsk(f"of {name} nothing can be called: " + "; ".join(f"{it}, {why}" for it, why in offer.left_out))
     known = {it.name for it in offer.operations}
     for it in [it for pair in pairs for it in pair if it not in known]:
-        raise NothingToAsk(f"a comment `-- audit:` names {it}, which is none of its operations")
+        raise NothingToAsk(f"a pair names {it}, which is none of its operations")
     return offer

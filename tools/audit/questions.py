@@ -2,6 +2,7 @@
 
 from __future__ import annotations
 
+import re
 from collections.abc import Mapping, Sequence
 from typing import NamedTuple
 
@@ -78,6 +79,10 @@ class Writer:
             return _bracket(calls)
         return " >> ".join([*(f"{it}" for it in calls), "return ()"])
 
+    def short_part(self, part: Part) -> str:
+        """The same for a person, without what every call has."""
+        return re.sub(r"\bM\.", "", self.part(part).removesuffix(" >> return ()"))
+
     def names(self, calls: Sequence[int]) -> str:
         return "; ".join(self.offer.operations[it].name for it in calls)
 
@@ -130,13 +135,18 @@ class Writer:
         return head + ENDED + "".join(f"\n{action} :: IO ()\n{action} = {self.body(it)}" for action, it in programs.items())
 
 
-def covering(units: Sequence[tuple[int, ...]], pairs: Sequence[tuple[int, int]]) -> tuple[tuple[int, ...], ...]:
-    """Of units that leave no trace as many as each operation in them needs, the shorter ones and the pairs first."""
+def covering(offer: Offer, found: Behaviour) -> tuple[tuple[int, ...], ...]:
+    """Of units that leave no trace as many as each operation in them needs: the shorter ones and the pairs first, and what only
+    looks at the value last, since a call behind the kill may put right what the kill has left."""
+    def looks(unit: tuple[int, ...]) -> bool:
+        operation = offer.operations[unit[0]]
+        return len(unit) == 1 and operation.is_shown and not operation.throwing and unit[0] not in found.waits
+
     kept: list[tuple[int, ...]] = []
-    for unit in sorted(units, key=lambda it: (len(it), it not in pairs)):
+    for unit in sorted(found.traceless, key=lambda it: (len(it), it not in found.pairs)):
         if not set(unit) <= {it for other in kept for it in other}:
             kept.append(unit)
-    return tuple(kept)
+    return tuple(sorted(kept, key=looks))
 
 
 def _question(kind: str, how: str, probe: tuple[tuple[int, ...], ...], maker: int, first: Part, second: Part | None, declines: bool) -> Question:
@@ -155,7 +165,7 @@ def _question(kind: str, how: str, probe: tuple[tuple[int, ...], ...], maker: in
 
 def questions_of(offer: Offer, maker: int, found: Behaviour, kinds: Sequence[str]) -> list[Question]:
     """The questions about values of one maker."""
-    probe = covering(found.traceless, found.pairs) or tuple((it,) for it in found.ends[:1])
+    probe = covering(offer, found) or tuple((it,) for it in found.ends[:1])
     brackets = [Part(it, is_bracket=True) for it in found.pairs]
     singles = [Part((it,)) for it in (*found.ends, *found.waits)]
     beside = [None, *(Part((it,)) for it in found.ends), *brackets]

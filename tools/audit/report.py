@@ -2,6 +2,7 @@
 
 from __future__ import annotations
 
+import os
 from collections import Counter
 from collections.abc import Mapping, Sequence
 from typing import NamedTuple
@@ -32,12 +33,13 @@ def _many(count: int, one: str, more: str) -> str:
     return f"{count} {one if count == 1 else more}"
 
 
-def _cause(told: Told, writer: Writer) -> str:
-    """The name and place of a cause, or the calls that it is seen in."""
-    cause = told.group.cause
+def cause_name(told: Told, writer: Writer) -> str:
+    """The function that is the cause, by its name in the source, or the calls that are killed."""
+    cause, first = told.group.cause, told.finding.question.asked.first
     if cause.is_known():
-        return f"{cause.name} ({cause.place.text()})"
-    first = told.finding.question.asked.first
+        own = {it.place: it.name for it in writer.offer.operations}
+        by_file = {(os.path.basename(place.file), place.line): name for place, name in own.items()}
+        return by_file.get((os.path.basename(cause.place.file), cause.place.line)) or cause.name.rstrip("0123456789")
     return writer.names(first.calls) if first else "?"
 
 
@@ -45,7 +47,7 @@ def first_line(report: Report, writer: Writer) -> str:
     """How many questions were asked, and which functions are the causes of what was found."""
     name = report.offer.module.rpartition(".")[2]
     parts = [_many(len(report.verdicts), "question", "questions")]
-    causes = list(dict.fromkeys(it.group.cause.name or _cause(it, writer) for it in report.told))
+    causes = list(dict.fromkeys(cause_name(it, writer) for it in report.told))
     if not causes:
         parts.append("nothing found")
     else:
@@ -60,11 +62,13 @@ def first_line(report: Report, writer: Writer) -> str:
 def finding_lines(number: int, told: Told, report: Report, writer: Writer) -> list[str]:
     """A finding, for a person."""
     cause = told.group.cause
-    lines = [f"{number}. {_cause(told, writer)}", f"   {happening(told.finding.question, writer)}", f"   {result(told, writer)}"]
+    name = cause_name(told, writer)
+    at = f" ({cause.place.text()})" if cause.is_known() else ""
+    lines = [f"{number}. {name}{at}", f"   {happening(told.finding.question, writer)}", f"   {result(told, writer)}"]
     if told.hit():
         lines.append(f"   The kill reaches the thread while it {told.hit()}.")
     if cause.is_known():
-        lines.append(f"   With `uninterruptibleMask_` round the body of {cause.name} this is gone.")
+        lines.append(f"   With `uninterruptibleMask_` round the body of {name} this is gone.")
     others = Counter(writer.part_name(it.question.asked.first) for it in told.group.findings if it.question.asked.first)
     names = ", ".join(f"{name} ({count})" for name, count in others.most_common(6))
     lines.append(f"   {_many(len(told.group.findings), 'question comes', 'questions come')} to this; killed: {names}{', ..' if len(others) > 6 else ''}")
@@ -80,13 +84,14 @@ def expected(report: Report, writer: Writer, answers: Mapping[Program, Answer]) 
     found: Counter[str] = Counter()
     for it in report.verdicts:
         answer = answers.get(it.question.asked)
-        if it.odd or it.why_open or answer is None or answer.listed is None or it.question.asked.first is None:
+        if it.odd or it.why_open or answer is None or answer.listed is None or it.question.asked.second is not None:
             continue
-        if any(seen.is_stuck() for seen in all_seen(answer.listed)):
-            found[writer.part_name(it.question.asked.first)] += 1
+        first = it.question.asked.first
+        if first is not None and any(seen.is_stuck() for seen in all_seen(answer.listed)):
+            found[writer.part_name(first)] += 1
     if not found:
         return []
-    return ["Expected: main may wait behind these, whether they are killed or not: " + ", ".join(f"{name} ({count})" for name, count in found.most_common())]
+    return ["Expected: main may wait behind these, whether they are killed or not: " + ", ".join(found)]
 
 
 def _beside(report: Report, writer: Writer) -> list[str]:

@@ -96,8 +96,8 @@ def happening(question: Question, writer: Writer) -> str:
     """What the question does, in a sentence."""
     asked = question.asked
     assert asked.first is not None
-    first = f"`{writer.part(asked.first).removesuffix(' >> return ()')}`"
-    second = f"`{writer.part(asked.second).removesuffix(' >> return ()')}`" if asked.second else ""
+    first = f"`{writer.short_part(asked.first)}`"
+    second = f"`{writer.short_part(asked.second)}`" if asked.second else ""
     if question.kind == KILL_TWO:
         return f"A thread in {first} is killed, and then another one in {second}."
     beside = f" beside another one in {second}" if second else ""

@@ -140,6 +140,8 @@ def opened(name: str, words: list[str]) -> int:
 
 def check_words(call: Call) -> None:
     """Whether the command, the files and the words for the translator fit one another."""
+    if call.command == "audit":
+        return
     modules = [it for it in call.files if input.is_module(it)]
     if call.command == "script" and not (modules and len(modules) == len(call.files)):
         raise Refused(NOT_UNDERSTOOD, "script takes a Haskell module, a file whose name ends with .hs or .lhs")

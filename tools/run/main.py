@@ -62,6 +62,9 @@ def run(words: list[str]) -> int:
         building.prove()
         if not call.words:
             return 0
+    if call.action == "audit":
+        from tools.run import audit
+        return audit.run_audit(call, memory)
     if call.action == "litmus":
         from tools.run import by_ghc
         return by_ghc.run_litmus(call, memory)

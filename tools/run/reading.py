@@ -14,7 +14,7 @@ NOT_UNDERSTOOD = 2
 MEMORY = "2048"
 MOST_MEMORY_DIGITS = 7
 # Commands of the wrapper alone, which the program doesn't know.
-OWN_COMMANDS = ("litmus", "test")
+OWN_COMMANDS = ("audit", "litmus", "test")
 # Those whose answer for one file is more than what one call of the program says.
 MADE_UP = ("haskell", "picture")
 
