@@ -14,6 +14,8 @@ from tools.audit.questions import Program, Writer
 from tools.litmus.outcomes import Listed, Unreadable, read_list
 
 REFUSED, WITH_LIST = 3, (0, 11)
+# So many programs are translated in the time that a session of GHC takes to begin.
+FEW_PROGRAMS = 40
 SECTION = re.compile(r"=== question(\d+) (\d+)\n")
 # The places of the module of the questions, which differ between questions that are alike.
 OWN_PLACE = re.compile(r"^-- Questions\d*\.hs:\d+\n", re.MULTILINE)
@@ -104,7 +106,7 @@ class Asker:
         if not asked:
             return
         numbered = list(enumerate(asked))
-        jobs = min(self.limits.jobs, (len(asked) + 7) // 8)
+        jobs = min(self.limits.jobs, (len(asked) + FEW_PROGRAMS - 1) // FEW_PROGRAMS)
         waiting: dict[Program, Future[Answer]] = {}
         with ThreadPoolExecutor(self.limits.jobs) as pool, ThreadPoolExecutor(jobs) as translators:
             try:

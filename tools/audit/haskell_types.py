@@ -113,11 +113,21 @@ def _answer(kind: Type, given: Sequence[tuple[str, Type]]) -> str:
     return value(kind, given)
 
 
+def bare(expression: str) -> str:
+    """The expression without parentheses round the whole of it."""
+    depth = 0
+    for place, letter in enumerate(expression):
+        depth += (letter == "(") - (letter == ")")
+        if depth == 0 and place < len(expression) - 1 or depth == 1 and letter == ",":
+            return expression
+    return expression[1:-1] if expression.startswith("(") and expression != "()" else expression
+
+
 def value(kind: Type, given: Sequence[tuple[str, Type]] = (), throws: bool = False) -> str:
     """Some expression of the type. Actions in it give a value, or throw."""
     if kind.form == "function":
         name = "abcdefgh"[len(given)]
-        return f"(\\{name} -> {value(kind.parts[1], [*given, (name, kind.parts[0])], throws)})"
+        return f"(\\{name} -> {bare(value(kind.parts[1], [*given, (name, kind.parts[0])], throws))})"
     if kind.form != "constructor":
         raise NoValue(f"no value of {kind.name or 'its type'}")
     result = kind.result_of_io()
