@@ -15,7 +15,7 @@ from collections.abc import Mapping, Sequence
 from pathlib import Path
 from typing import NamedTuple
 
-from tools.audit import report, telling
+from tools.audit import confirming, report, telling
 from tools.audit.asking import Answer, Asker, Limits, NotTranslated, Tools
 from tools.audit.grouping import Grouper
 from tools.audit.judging import Finding, Verdict, judge, programs_of
@@ -25,6 +25,7 @@ from tools.audit.questions import ALWAYS, WHOLE, Part, Program, Question, Writer
 from tools.audit.trying import Behaviour, Trial, Untried, behaviour
 
 NOTHING, NOT_UNDERSTOOD, REFUSED, OPEN, FOUND, UNREADABLE, UNBUILT = 0, 2, 3, 11, 14, 66, 70
+REFUSAL = re.compile(r"(\S.*?):(\d+):\d+: error: \[[a-z-]+\] ?(.*)")
 HEADER = re.compile(r"^[ \t>]*module\s+([A-Z][\w.']*)", re.MULTILINE)
 
 
@@ -129,7 +130,16 @@ class Audit:
         folder = self.asked.keep or f"audit-{self.subject.module.rpartition('.')[2]}"
         for number, it in enumerate(told, 1):
             telling.write_files(Path(folder), number, it, asker.writer)
-        return report.Report(offer, behaviours, verdicts, told, [], folder), asker
+        confirmed = [self.confirmed(offer, behaviours, number, it, Path(folder)) for number, it in enumerate(told, 1)] if self.asked.confirms else []
+        return report.Report(offer, behaviours, verdicts, told, confirmed, folder), asker
+
+    def confirmed(self, offer: Offer, behaviours: Mapping[int, Behaviour], number: int, told: telling.Told, folder: Path) -> str:
+        """How often GHC showed a finding."""
+        self.progress.say(f"runs finding {number} by GHC", always=True)
+        room = self.room / f"confirm{number}"
+        room.mkdir()
+        folders = [os.path.abspath(it) for it in self.subject.folders]
+        return confirming.confirmed(offer, behaviours[told.finding.question.asked.maker], told, folders, folder, number, room, self.asked.confirms)
 
     def asker(self, offer: Offer) -> Asker:
         return Asker(self.tools, self.asked.limits, Writer(offer), self.room, lambda done, of: self.progress.say(f"{done} of {of} programs" if of else f"{done} programs translated"))
@@ -184,9 +194,12 @@ class Audit:
 
 
 def _short(why: str) -> str:
-    """The line of a refusal that says what, without GHC's further ones."""
+    """What a refusal says, and where."""
     lines = [it.strip() for it in why.splitlines() if it.strip()]
-    return " ".join(lines[:2]) if lines else "it isn't translated"
+    refusal = REFUSAL.match(lines[0]) if lines else None
+    if refusal is None:
+        return lines[0] if lines else "it isn't translated"
+    return f"{' '.join([refusal[3], *lines[1:2]]).strip()} ({os.path.basename(refusal[1])}:{refusal[2]})"
 
 
 def audit(asked: Asked, tools: Tools) -> int:

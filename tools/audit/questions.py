@@ -16,6 +16,8 @@ KILL, INTERRUPT, KILL_TWO = "kill", "interrupt", "kill two"
 TIME_LIMIT, THROW, BESIDE = "limit", "throw", "beside"
 ALWAYS, ON_DEMAND = (KILL, INTERRUPT, KILL_TWO), (TIME_LIMIT, THROW, BESIDE)
 
+# What main prints once the threads are over.
+GOES_ON = "main goes on"
 HEAD = """import Control.Concurrent
 import Control.Exception
 import qualified {module} as M
@@ -124,6 +126,8 @@ class Writer:
             lines.append("  putStrLn (\"first: \" ++ firstEnd)")
         if program.second and program.how != BOTH:
             lines.append("  putStrLn (\"second: \" ++ secondEnd)")
+        # So that it shows whether main waits for a thread or in a call of its own.
+        lines.append(f"  putStrLn \"{GOES_ON}\"")
         for number, unit in enumerate(program.probe, 1):
             lines += self.probe(unit, number)
         return "do\n" + "\n".join([*lines, "  return ()"]) + "\n"

@@ -12,7 +12,7 @@ from typing import NamedTuple
 from tools.audit.asking import Answer, Asker, Tools
 from tools.audit.grouping import Group
 from tools.audit.judging import Finding, Seen, judge, programs_of
-from tools.audit.questions import BOTH, KILL_TWO, LIMIT, MASKED, Program, Question, Writer
+from tools.audit.questions import BOTH, GOES_ON, KILL_TWO, LIMIT, MASKED, Program, Question, Writer
 
 TITLE = re.compile(r"<title>entry (\d+): (.*?)</title>")
 DULL = re.compile(r"makes local steps|asks for its number|what its bracket guards|asks for a delay")
@@ -47,7 +47,7 @@ def _stuck_unit(finding: Finding) -> tuple[tuple[int, ...], ...] | None:
     if not worst.is_stuck():
         return None
     done = len(worst.without("first").without("second").lines)
-    return asked.probe[done:done + 1]
+    return asked.probe[done - 1:done] if done else ()
 
 
 def _with_probe(question: Question, probe: tuple[tuple[int, ...], ...]) -> Question:
@@ -117,7 +117,8 @@ def result(told: Told, writer: Writer) -> str:
         if not unit:
             return "Then main waits for the second thread for ever." if asked.second else "Then main waits for ever."
         return f"Then `{writer.names(unit[0])}` of main may wait for ever."
-    printed = "; ".join([*seen.lines, seen.failure] if seen.failure else seen.lines)
+    lines = [it for it in seen.lines if it != GOES_ON]
+    printed = "; ".join([*lines, seen.failure] if seen.failure else lines)
     return f"Then main may print what no order of whole calls gives: {printed}"
 
 

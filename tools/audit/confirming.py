@@ -1,0 +1,148 @@
+"""Confirms findings by GHC, over the unchanged module: first by a loop that keeps it busy while the kill comes, round for round;
+and where that shows nothing, by the finding's own program with pauses before the operations of threads."""
+
+from __future__ import annotations
+
+import subprocess
+from collections.abc import Sequence
+from pathlib import Path
+
+from tools.audit.judging import seen
+from tools.audit.offers import Offer
+from tools.audit.questions import BOTH, KILL_TWO, MASKED, Part, Program, Writer
+from tools.audit.telling import Told
+from tools.audit.trying import Behaviour
+from tools.litmus.haskell import Broken, Missing, RunOptions, find_compiler
+from tools.litmus.programs import Question, compile_programs, run_question
+
+# The most seconds of all rounds of one finding, and of the runs with pauses.
+SECONDS = 60.0
+# On so many capabilities, each half of the rounds.
+CAPABILITIES = (1, 2)
+RUNTIME = ("-V0.001", "-C0", "-M1g")
+
+STRESS = """module Main (main) where
+
+import Control.Concurrent
+import Control.Exception
+import Control.Monad
+import GHC.Clock (getMonotonicTime)
+import System.Environment (getArgs)
+import System.Timeout (timeout)
+import qualified {module} as M
+
+-- In how many rounds a call of main waits for more than a second, and of how many; for at most so many seconds.
+main :: IO ()
+main = do
+  [rounds, seconds] <- map read <$> getArgs
+  begun <- getMonotonicTime
+  let go number waiting
+        | number == rounds = return (number, waiting)
+        | otherwise = do
+            now <- getMonotonicTime
+            if now - begun > fromIntegral seconds then return (number, waiting) else do
+              waits <- once number
+              go (number + 1) (if waits then waiting + 1 else waiting)
+  (number, waiting) <- go 0 (0 :: Int)
+  putStrLn (show waiting ++ " " ++ show number)
+
+once :: Int -> IO Bool
+once number = do
+  x <- {maker}
+  stopped <- newMVar False
+  over <- newEmptyMVar
+  _ <- forkIO (busy x stopped `finally` putMVar over ())
+{threads}
+  replicateM_ (number `mod` 97) yield
+{kills}
+  _ <- swapMVar stopped True
+  behind <- try (timeout 1000000 (do
+{probe}
+    takeMVar over))
+  return (case behind of
+    Right (Just ()) -> False
+    Right Nothing -> True
+    Left BlockedIndefinitelyOnMVar -> True)
+ where
+  busy x stopped = do
+    now <- readMVar stopped
+    unless now (({busy}) >> yield >> busy x stopped)
+"""
+
+
+def _repeats(part: Part, found: Behaviour) -> bool:
+    """Whether a thread may do it again and again."""
+    return part.is_bracket or part.calls in found.traceless or part.calls[0] in found.waits
+
+
+def _busy(asked: Program, found: Behaviour, writer: Writer) -> str:
+    """What the loop does: the second part where it may be repeated, or else the first call that leaves no trace."""
+    if asked.second is not None and asked.how != BOTH and _repeats(asked.second, found) and asked.second.calls[0] not in found.waits:
+        return writer.part(asked.second)
+    unit = next((it for it in found.traceless if len(it) == 1), None) or next(iter(found.traceless), None)
+    return writer.part(Part(unit)) if unit else "return ()"
+
+
+def stress_text(offer: Offer, told: Told, found: Behaviour) -> str:
+    """The program that keeps the module busy, kills, and looks whether a call waits."""
+    writer, asked = Writer(offer), told.finding.question.asked
+    threads, kills = [], []
+    for name, part in (("first", asked.first), ("second", asked.second)):
+        if part is None or name == "second" and asked.how != BOTH:
+            continue
+        action = f"forever ({writer.part(part)})" if _repeats(part, found) and asked.how != MASKED else writer.part(part)
+        inside = action if asked.how == MASKED and name == "first" else f"restore ({action})"
+        threads.append(f"  {name} <- mask (\\restore -> forkIO (void (try ({inside}) :: IO (Either SomeException ()))))")
+        kills.append(f"  killThread {name}")
+    probe = [f"    _ <- {offer.operations[it].call}" for unit in asked.probe for it in unit]
+    return STRESS.format(module=offer.module, maker=offer.makers[asked.maker].call, threads="\n".join(threads), kills="\n".join(kills),
+                         probe="\n".join(probe), busy=_busy(asked, found, writer)).replace("\n\n    takeMVar", "\n    takeMVar")
+
+
+def stressed(compiler: str, folders: Sequence[str], source: Path, room: Path, runs: int) -> tuple[int, int]:
+    """In how many of how many rounds a call waited."""
+    program = room / "stress"
+    words = [compiler, "-v0", "-w", "-O0", "-threaded", "-rtsopts", "-package-env", "-", f"-i{':'.join(folders)}", "-outputdir", str(room / "objects"),
+             "-o", str(program), str(source)]
+    done = subprocess.run(words, capture_output=True, text=True, check=False)
+    if done.returncode != 0:
+        raise Broken(f"GHC doesn't compile it: {done.stderr.strip()}")
+    waited = rounds = 0
+    for capabilities in CAPABILITIES:
+        count = max(1, runs // len(CAPABILITIES))
+        try:
+            ran = subprocess.run([str(program), str(count), f"{SECONDS / len(CAPABILITIES):.0f}", "+RTS", f"-N{capabilities}", *RUNTIME, "-RTS"], capture_output=True, text=True, check=False, timeout=2 * SECONDS)
+        except subprocess.TimeoutExpired:
+            continue
+        found = ran.stdout.split()
+        if ran.returncode == 0 and len(found) == 2:
+            waited, rounds = waited + int(found[0]), rounds + int(found[1])
+    return waited, rounds
+
+
+def paused(folders: Sequence[str], told: Told, source: Path, room: Path, runs: int) -> tuple[int, int]:
+    """In how many of how many runs, with pauses before operations, the finding's own program showed what the kill adds."""
+    program = compile_programs(find_compiler(), [Question(source)], list(folders), room)
+    shown = run_question(program, 1, RunOptions(runs, SECONDS, 1, "reported"))
+    met = sum(count for outcome, count in shown.counts.items() if seen(outcome) in told.finding.odd)
+    is_stuck = told.outcome().is_stuck()
+    return met + (shown.without_end if is_stuck else 0), shown.runs()
+
+
+def confirmed(offer: Offer, found: Behaviour, told: Told, folders: Sequence[str], folder: Path, number: int, room: Path, runs: int) -> str:
+    """How often GHC showed a finding, in a sentence."""
+    try:
+        compiler = find_compiler()
+        kind = told.finding.question.kind
+        if told.outcome().is_stuck() and told.finding.question.asked.how in ("killed", MASKED, BOTH):
+            source = folder / f"{number}-stress.hs"
+            source.write_text(stress_text(offer, told, found), encoding="utf-8")
+            waited, rounds = stressed(compiler.path, folders, source, room, runs)
+            if waited:
+                kills = "the kills" if kind == KILL_TWO else "the kill"
+                return f"GHC {compiler.version}: a call waited behind {kills} in {waited} of {rounds} rounds of {source}"
+        (room / "pauses").mkdir()
+        met, count = paused(folders, told, folder / f"{number}.hs", room / "pauses", runs)
+        return f"GHC {compiler.version}, with pauses before operations: seen in {met} of {count} runs" + ("" if met else "; that says nothing against it")
+    except (Broken, Missing) as fault:
+        return f"not tried by GHC: {fault}"
