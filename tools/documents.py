@@ -86,7 +86,7 @@ def names():
     """Links, and paths, crates, laws and other names between backquotes, that the repository doesn't have."""
     yield from links()
     # (a change log speaks of the names of its time, and a page on Haskell of Haskell's)
-    for path in (it for it in documents() if it not in ("CHANGELOG.md", "docs/HASKELL.md")):
+    for path in (it for it in documents() if it not in ("CHANGELOG.md", "docs/HASKELL.md", "docs/AUDIT.md")):
         heading = None
         for block in blocks(path):
             if block.kind == "code":

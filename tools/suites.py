@@ -11,7 +11,7 @@ from concurrent.futures import Future, ThreadPoolExecutor
 from tools.sources import TOP, here
 
 # The folders whose modules need neither the kit nor another program than Python.
-FOLDERS = ("tools/run/tests", "tools/tests")
+FOLDERS = ("tools/run/tests", "tools/tests", "tools/audit/tests")
 # The last bytes of what a module says.
 SHOWN = 3000
 

@@ -13,9 +13,10 @@ from concurrent.futures import ThreadPoolExecutor
 from typing import NamedTuple
 
 from tools.audit.asking import Answer
-from tools.audit.judging import Finding, odd_of
-from tools.audit.questions import INTERRUPT, KILL, Program, Question
+from tools.audit.judging import Finding, all_seen, odd_of
 from tools.audit.offers import Place
+from tools.audit.questions import INTERRUPT, KILL, Program, Question
+from tools.litmus.outcomes import Listed
 
 PLACED = re.compile(r"^-- (\S+\.l?hs):(\d+)\n([a-z_][\w']*)\b(.*?)(?=^-- |^[a-z_][\w']* |\Z)", re.MULTILINE | re.DOTALL)
 ACTION = re.compile(r"(.*?:: IO .*?= )\{(.*)\};\s*", re.DOTALL)
@@ -35,10 +36,12 @@ class Definition(NamedTuple):
 
 
 class Cause(NamedTuple):
-    """A function and its place, or no name where no single function is the cause."""
+    """A function and its place, or no name where no single function is the cause. `ends_waits`: where it can't be interrupted,
+    somebody who waits in it can't be killed any more."""
 
     name: str
     place: Place
+    ends_waits: bool = False
 
     def is_known(self) -> bool:
         return bool(self.name)
@@ -102,26 +105,29 @@ class Grouper:
         self.alone = {(it.asked.maker, it.asked.first): it for it in alone if it.kind == KILL and it.asked.second is None}
         self.kept: dict[str, Answer] = {}
 
-    def odd_with(self, question: Question, places: Sequence[Place]) -> bool | None:
-        """Whether the kill adds something with these functions hardened, or None where none of them is in the script."""
-        plain = self.answers[question.asked].script
+    def hardened_list(self, program: Program, places: Sequence[Place]) -> Listed | None:
+        """The list of a program with these functions hardened, or None where none of them is in it or there is no list."""
+        plain = self.answers[program].script
         script = hardened(plain, places)
         if script == plain:
             return None
         if script not in self.kept:
             self.kept[script] = self.search(script)
-        answer = self.kept[script]
-        return answer.listed is None or bool(odd_of(question, answer.listed, self.answers))
+        return self.kept[script].listed
 
     def is_gone(self, finding: Finding, places: Sequence[Place]) -> bool:
         """Whether nothing of the finding is left with these functions hardened."""
-        return self.odd_with(finding.question, places) is False
+        listed = self.hardened_list(finding.question.asked, places)
+        return listed is not None and not odd_of(finding.question, listed, self.answers)
 
-    def is_harmless(self, finding: Finding, place: Place) -> bool:
-        """Whether a thread that waits in this function, hardened, can still be killed where it could be."""
+    def ends_waits(self, finding: Finding, place: Place) -> bool:
+        """Whether a thread that is killed alone comes to something else with this function hardened."""
         asked = finding.question.asked
-        alone = [self.alone[asked.maker, it] for it in (asked.first, asked.second) if (asked.maker, it) in self.alone]
-        return not any(self.odd_with(it, [place]) for it in alone if self.answers[it.asked].script)
+        for question in [self.alone[asked.maker, it] for it in (asked.first, asked.second) if (asked.maker, it) in self.alone]:
+            plain, listed = self.answers[question.asked].listed, self.hardened_list(question.asked, [place])
+            if plain is not None and listed is not None and not set(all_seen(listed)) <= set(all_seen(plain)):
+                return True
+        return False
 
     def cause_of(self, finding: Finding, known: Sequence[Place]) -> Cause:
         """The cause of a finding that isn't gone with the known ones hardened. A function in which nobody could be killed any more
@@ -129,9 +135,9 @@ class Grouper:
         second: list[Cause] = []
         for it in candidates(self.answers[finding.question.asked].script):
             if it.place not in known and self.is_gone(finding, [*known, it.place]):
-                if self.is_harmless(finding, it.place):
+                if not self.ends_waits(finding, it.place):
                     return Cause(it.name, it.place)
-                second.append(Cause(it.name, it.place))
+                second.append(Cause(it.name, it.place, ends_waits=True))
         return second[0] if second else Cause("", Place("", 0))
 
     def groups(self, findings: Sequence[Finding]) -> list[Group]:

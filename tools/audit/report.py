@@ -68,7 +68,8 @@ def finding_lines(number: int, told: Told, report: Report, writer: Writer) -> li
     if told.hit():
         lines.append(f"   The kill reaches the thread while it {told.hit()}.")
     if cause.is_known():
-        lines.append(f"   With `uninterruptibleMask_` round the body of {name} this is gone.")
+        but = ", but then nothing ends a wait in it" if cause.ends_waits else ""
+        lines.append(f"   With `uninterruptibleMask_` round the body of {name} this is gone{but}.")
     others = Counter(writer.part_name(it.question.asked.first) for it in told.group.findings if it.question.asked.first)
     names = ", ".join(f"{name} ({count})" for name, count in others.most_common(6))
     lines.append(f"   {_many(len(told.group.findings), 'question comes', 'questions come')} to this; killed: {names}{', ..' if len(others) > 6 else ''}")
