@@ -90,7 +90,7 @@ modulesOf request = do
   checked <- looked request
   case checked of
     Nothing -> return Nothing
-    Just files -> fmap ((,) files) . join <$> guarded (compile (targetOf request))
+    Just files -> fmap (\modules -> (files, modules)) . join <$> guarded (compile (targetOf request))
 
 -- | Makes the session one for the modules, and looks at what they make GHC run, unless they are trusted.
 looked :: Request -> Ghc (Maybe [FilePath])

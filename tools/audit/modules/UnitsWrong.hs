@@ -3,6 +3,7 @@ module UnitsWrong (Units, new, obtain, release, using, available) where
 
 import Control.Concurrent.MVar
 import Control.Exception
+import Control.Monad (when)
 
 data Units = Units (MVar Int) (MVar ())
 
@@ -18,13 +19,13 @@ obtain (Units count gate) = mask_ $ do
   uninterruptibleMask_ $ do
     n <- takeMVar count
     putMVar count (n - 1)
-    if n > 1 then putMVar gate () else return ()
+    when (n > 1) (putMVar gate ())
 
 release :: Units -> IO ()
 release (Units count gate) = uninterruptibleMask_ $ do
   n <- takeMVar count
   putMVar count (n + 1)
-  if n == 0 then putMVar gate () else return ()
+  when (n == 0) (putMVar gate ())
 
 using :: Units -> IO a -> IO a
 using units action = mask $ \restore -> do
