@@ -6,7 +6,7 @@ from collections.abc import Iterable, Mapping
 from typing import NamedTuple
 
 from tools.audit.asking import Answer
-from tools.audit.questions import BESIDE, INTERRUPT, KILL_TWO, Program, Question
+from tools.audit.questions import BESIDE, GOES_ON, INTERRUPT, KILL_TWO, Program, Question
 from tools.litmus.outcomes import Listed, Outcome
 
 BLOCKED = b"thread blocked indefinitely in an MVar operation"
@@ -56,8 +56,8 @@ class Finding(NamedTuple):
     odd: dict[Seen, int]
 
     def worst(self) -> Seen:
-        """The one that is told: main waits for ever, before it gives another result."""
-        return min(self.odd, key=lambda it: (not it.is_stuck(), len(it.lines), it))
+        """The one that is told: a call of main waits for ever, before main waits for a thread, and that before another result."""
+        return min(self.odd, key=lambda it: (not it.is_stuck(), GOES_ON not in it.lines, len(it.lines), it))
 
 
 def _of(programs: Iterable[Program], answers: Mapping[Program, Answer]) -> set[Seen]:

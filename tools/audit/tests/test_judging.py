@@ -8,7 +8,7 @@ from tools.audit.asking import Answer, _sections
 from tools.audit.grouping import Grouper, candidates, definitions, hardened
 from tools.audit.judging import Finding, Seen, judge, odd_of, seen
 from tools.audit.offers import Place
-from tools.audit.questions import BOTH, INTERRUPT, KILL, KILL_TWO, KILLED, MASKED, WHOLE, Part, Program, Question
+from tools.audit.questions import BOTH, GOES_ON, INTERRUPT, KILL, KILL_TWO, KILLED, MASKED, WHOLE, Part, Program, Question
 from tools.litmus.outcomes import Listed, Outcome
 
 TOLD = b"uncaught exception in main: thread blocked indefinitely in an MVar operation\n"
@@ -70,6 +70,10 @@ class Judging(unittest.TestCase):
         outcomes = listed(("done", "second: ends\n0\n"))
         known = {"nothing": answer(("done", "second: ends\n1\n")), "whole": answer(("done", "second: ends\n2\n")), "declined": answer(("done", "0\n"))}
         self.assertEqual(self.odd(question(KILL, declined), outcomes, **known), [])
+
+    def test_a_call_that_waits_is_told_before_a_thread_that_does(self) -> None:
+        call, thread, other = Seen("waits", ("second: ends", GOES_ON), ""), Seen("waits", (), ""), Seen("ends", (), "")
+        self.assertEqual(Finding(question(KILL), {other: 1, thread: 2, call: 3}).worst(), call)
 
     def test_a_question_with_a_bound_is_open(self) -> None:
         asked = question(KILL)
