@@ -51,7 +51,7 @@ once number = do
   x <- {maker}
   stopped <- newMVar False
   over <- newEmptyMVar
-  _ <- forkIO (busy x stopped `finally` putMVar over ())
+  _ <- forkIO (busy x stopped >> putMVar over ())
 {threads}
   replicateM_ (number `mod` 97) yield
 {kills}
