@@ -116,7 +116,7 @@ COMMANDS = {it.name: it for it in (
     Command("haskell", "[FILE]", (), "prints it as a Haskell module", SCRIPT_BYTES),
     Command("litmus", "FILE..", tuple(LITMUS_OPTIONS), "runs it many times by GHC, and shows that beside its outcomes",
             options_usage="[--runs N] [--seconds S] [--seed N] [--forks F]"),
-    Command("audit", "MODULE", ("--states", "--seconds", *AUDIT_OPTIONS), "says what a kill in each function of a Haskell module, or FILE.hs, leaves behind",
+    Command("audit", "MODULE", ("--states", "--seconds", *AUDIT_OPTIONS), "what a kill in each function of a Haskell module leaves behind",
             options_usage="[--confirm] [--all] [--seconds S] [--states N] [--jobs N]"),
     Command("script", "FILE.hs", (), "prints the script that a Haskell module becomes", SCRIPT_BYTES),
     Command("test", "", ("--quick",), "proves and tries everything; --quick: the rows alone"),
