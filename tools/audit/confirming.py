@@ -19,6 +19,8 @@ from tools.litmus.programs import Question, compile_programs, run_question
 SECONDS = 60.0
 # On so many capabilities, each half of the rounds.
 CAPABILITIES = (1, 2)
+# One round in so many is made without a kill before the others.
+CONTROL = 5
 RUNTIME = ("-V0.001", "-C0", "-M1g")
 
 STRESS = """module Main (main) where
@@ -31,30 +33,32 @@ import System.Environment (getArgs)
 import System.Timeout (timeout)
 import qualified {module} as M
 
--- In how many rounds a call of main waits for more than a second, and of how many; for at most so many seconds.
+-- In how many rounds a call of main waits for more than a second, and of how many; for at most so many seconds. The third word
+-- is 1 where threads are killed.
 main :: IO ()
 main = do
-  [rounds, seconds] <- map read <$> getArgs
+  [rounds, seconds, kills] <- map read <$> getArgs
   begun <- getMonotonicTime
   let go number waiting
         | number == rounds = return (number, waiting)
         | otherwise = do
             now <- getMonotonicTime
             if now - begun > fromIntegral seconds then return (number, waiting) else do
-              waits <- once number
+              waits <- once (kills == (1 :: Int)) number
               go (number + 1) (if waits then waiting + 1 else waiting)
   (number, waiting) <- go 0 (0 :: Int)
   putStrLn (show waiting ++ " " ++ show number)
 
-once :: Int -> IO Bool
-once number = do
+once :: Bool -> Int -> IO Bool
+once kills number = do
   x <- {maker}
   stopped <- newMVar False
   over <- newEmptyMVar
-  _ <- forkIO (busy x stopped >> putMVar over ())
+  _ <- forkIO (repeated stopped (({busy}) >> yield) >> putMVar over ())
 {threads}
   replicateM_ (number `mod` 97) yield
-{kills}
+  when kills (do
+{kills})
   _ <- swapMVar stopped True
   behind <- try (timeout 1000000 (do
 {probe}
@@ -63,10 +67,11 @@ once number = do
     Right (Just ()) -> False
     Right Nothing -> True
     Left BlockedIndefinitelyOnMVar -> True)
- where
-  busy x stopped = do
-    now <- readMVar stopped
-    unless now (({busy}) >> yield >> busy x stopped)
+
+repeated :: MVar Bool -> IO () -> IO ()
+repeated stopped action = do
+  now <- readMVar stopped
+  unless now (action >> repeated stopped action)
 """
 
 
@@ -75,28 +80,52 @@ def _repeats(part: Part, found: Behaviour) -> bool:
     return part.is_bracket or part.calls in found.traceless or part.calls[0] in found.waits
 
 
+def _is_busy(asked: Program, found: Behaviour) -> bool:
+    """Whether the second part is what the loop does."""
+    second = asked.second
+    return second is not None and asked.how != BOTH and _repeats(second, found) and second.calls[0] not in found.waits
+
+
 def _busy(asked: Program, found: Behaviour, writer: Writer) -> str:
     """What the loop does: the second part where it may be repeated, or else the first call that leaves no trace."""
-    if asked.second is not None and asked.how != BOTH and _repeats(asked.second, found) and asked.second.calls[0] not in found.waits:
+    if asked.second is not None and _is_busy(asked, found):
         return writer.part(asked.second)
     unit = next((it for it in found.traceless if len(it) == 1), None) or next(iter(found.traceless), None)
     return writer.part(Part(unit)) if unit else "return ()"
 
 
+def _killed_thread(name: str, part: Part, is_masked: bool, found: Behaviour, writer: Writer) -> str:
+    """The line that forks a thread which is killed later."""
+    action = writer.part(part) if is_masked or not _repeats(part, found) else f"repeated stopped ({writer.part(part)})"
+    inside = action if is_masked else f"restore ({action})"
+    return f"  {name} <- mask (\\restore -> forkIO (void (try ({inside}) :: IO (Either SomeException ()))))"
+
+
 def stress_text(offer: Offer, told: Told, found: Behaviour) -> str:
     """The program that keeps the module busy, kills, and looks whether a call waits."""
     writer, asked = Writer(offer), told.finding.question.asked
-    threads, kills = [], []
-    for name, part in (("first", asked.first), ("second", asked.second)):
-        if part is None or name == "second" and asked.how != BOTH:
-            continue
-        action = f"forever ({writer.part(part)})" if _repeats(part, found) and asked.how != MASKED else writer.part(part)
-        inside = action if asked.how == MASKED and name == "first" else f"restore ({action})"
-        threads.append(f"  {name} <- mask (\\restore -> forkIO (void (try ({inside}) :: IO (Either SomeException ()))))")
-        kills.append(f"  killThread {name}")
-    probe = [f"    _ <- {offer.operations[it].call}" for unit in asked.probe for it in unit]
+    assert asked.first is not None
+    threads, kills, behind = [_killed_thread("first", asked.first, asked.how == MASKED, found, writer)], ["    killThread first"], []
+    if asked.second is not None and asked.how == BOTH:
+        threads.append(_killed_thread("second", asked.second, False, found, writer))
+        kills.append("    killThread second")
+    elif asked.second is not None and not _is_busy(asked, found):
+        threads += ["  secondOver <- newEmptyMVar", f"  _ <- forkIO ({writer.part(asked.second)} >> putMVar secondOver ())"]
+        behind.append("    takeMVar secondOver")
+    behind += [f"    _ <- {offer.operations[it].call}" for unit in asked.probe for it in unit]
     return STRESS.format(module=offer.module, maker=offer.makers[asked.maker].call, threads="\n".join(threads), kills="\n".join(kills),
-                         probe="\n".join(probe), busy=_busy(asked, found, writer)).replace("\n\n    takeMVar", "\n    takeMVar")
+                         probe="\n".join(behind), busy=_busy(asked, found, writer)).replace("\n\n    takeMVar", "\n    takeMVar")
+
+
+def _rounds(program: Path, count: int, capabilities: int, kills: bool) -> tuple[int, int]:
+    """In how many of how many rounds a call waited. A program that doesn't come to its end counts as none."""
+    words = [str(program), str(count), f"{SECONDS / len(CAPABILITIES):.0f}", str(int(kills)), "+RTS", f"-N{capabilities}", *RUNTIME, "-RTS"]
+    try:
+        ran = subprocess.run(words, capture_output=True, text=True, check=False, timeout=2 * SECONDS)
+    except subprocess.TimeoutExpired:
+        return 0, 0
+    found = ran.stdout.split()
+    return (int(found[0]), int(found[1])) if ran.returncode == 0 and len(found) == 2 else (0, 0)
 
 
 def stressed(compiler: str, folders: Sequence[str], source: Path, room: Path, runs: int) -> tuple[int, int]:
@@ -107,17 +136,11 @@ def stressed(compiler: str, folders: Sequence[str], source: Path, room: Path, ru
     done = subprocess.run(words, capture_output=True, text=True, check=False)
     if done.returncode != 0:
         raise Broken(f"GHC doesn't compile it: {done.stderr.strip()}")
-    waited = rounds = 0
-    for capabilities in CAPABILITIES:
-        count = max(1, runs // len(CAPABILITIES))
-        try:
-            ran = subprocess.run([str(program), str(count), f"{SECONDS / len(CAPABILITIES):.0f}", "+RTS", f"-N{capabilities}", *RUNTIME, "-RTS"], capture_output=True, text=True, check=False, timeout=2 * SECONDS)
-        except subprocess.TimeoutExpired:
-            continue
-        found = ran.stdout.split()
-        if ran.returncode == 0 and len(found) == 2:
-            waited, rounds = waited + int(found[0]), rounds + int(found[1])
-    return waited, rounds
+    # Where a call waits without the kill too, such a program shows nothing.
+    if _rounds(program, max(1, runs // CONTROL), CAPABILITIES[0], kills=False)[0]:
+        return 0, 0
+    came = [_rounds(program, max(1, runs // len(CAPABILITIES)), it, kills=True) for it in CAPABILITIES]
+    return sum(waited for waited, _ in came), sum(rounds for _, rounds in came)
 
 
 def paused(folders: Sequence[str], told: Told, source: Path, room: Path, runs: int) -> tuple[int, int]:

@@ -161,8 +161,17 @@ class Telling(unittest.TestCase):
 
     def test_a_stress_program_kills_and_looks(self) -> None:
         text = stress_text(OFFER, told(STUCK), FOUND)
-        self.assertIn("restore (forever (M.with x (return ()) >> return ()))", text)
+        self.assertIn("restore (repeated stopped (M.with x (return ()) >> return ()))", text)
+        self.assertIn("repeated stopped ((M.taken x >> return ()) >> yield)", text)
         self.assertIn("    _ <- M.acquire x\n    _ <- M.release x\n    takeMVar over))", text)
+
+    def test_what_cannot_be_repeated_is_done_once_beside_the_kill(self) -> None:
+        shown = told(STUCK)
+        asked = shown.finding.question.asked._replace(second=Part((RELEASE,)))
+        changed = shown._replace(finding=shown.finding._replace(question=shown.finding.question._replace(asked=asked)))
+        text = stress_text(OFFER, changed, FOUND)
+        self.assertIn("forkIO (M.release x >> return () >> putMVar secondOver ())", text)
+        self.assertIn("    takeMVar secondOver\n    _ <- M.with x (return ())\n", text)
 
 
 class Words(unittest.TestCase):
