@@ -61,8 +61,9 @@ once kills number = do
 {kills})
   _ <- swapMVar stopped True
   behind <- try (timeout 1000000 (do
+    takeMVar over
 {probe}
-    takeMVar over))
+    return ()))
   return (case behind of
     Right (Just ()) -> False
     Right Nothing -> True
@@ -114,7 +115,7 @@ def stress_text(offer: Offer, told: Told, found: Behaviour) -> str:
         behind.append("    takeMVar secondOver")
     behind += [f"    _ <- {offer.operations[it].call}" for unit in asked.probe for it in unit]
     return STRESS.format(module=offer.module, maker=offer.makers[asked.maker].call, threads="\n".join(threads), kills="\n".join(kills),
-                         probe="\n".join(behind), busy=_busy(asked, found, writer)).replace("\n\n    takeMVar", "\n    takeMVar")
+                         probe="\n".join(behind), busy=_busy(asked, found, writer)).replace("\n\n    return", "\n    return")
 
 
 def _rounds(program: Path, count: int, capabilities: int, kills: bool) -> tuple[int, int]:
@@ -137,7 +138,7 @@ def stressed(compiler: str, folders: Sequence[str], source: Path, room: Path, ru
     if done.returncode != 0:
         raise Broken(f"GHC doesn't compile it: {done.stderr.strip()}")
     # Where a call waits without the kill too, such a program shows nothing.
-    if _rounds(program, max(1, runs // CONTROL), CAPABILITIES[0], kills=False)[0]:
+    if any(_rounds(program, max(1, runs // CONTROL), it, kills=False)[0] for it in CAPABILITIES):
         return 0, 0
     came = [_rounds(program, max(1, runs // len(CAPABILITIES)), it, kills=True) for it in CAPABILITIES]
     return sum(waited for waited, _ in came), sum(rounds for _, rounds in came)

@@ -163,7 +163,7 @@ class Telling(unittest.TestCase):
         text = stress_text(OFFER, told(STUCK), FOUND)
         self.assertIn("restore (repeated stopped (M.with x (return ()) >> return ()))", text)
         self.assertIn("repeated stopped ((M.taken x >> return ()) >> yield)", text)
-        self.assertIn("    _ <- M.acquire x\n    _ <- M.release x\n    takeMVar over))", text)
+        self.assertIn("    takeMVar over\n    _ <- M.with x (return ())\n    _ <- M.acquire x\n    _ <- M.release x\n    return ()))", text)
 
     def test_what_cannot_be_repeated_is_done_once_beside_the_kill(self) -> None:
         shown = told(STUCK)
