@@ -56,6 +56,10 @@ SHARED = ("main :: IO () = { let l0 = [1, 2, 3];", " let l{i} = [l{p}, l{p}];", 
  m <- newMVar l{n}; _ <- forkIO { k <- takeMVar m; putMVar m k }; _ <- myThreadId; j <- takeMVar m;
  case j of { [] -> { return () }; y : rest -> { putStrLn "first" } } };""")
 
+# A counter that a kill may lose, and so many claims of it.
+CLAIMS = ("main :: IO () = { m <- newMVar 0; t <- forkIO { x <- takeMVar m; putMVar m (x + 1) }; killThread t; x <- takeMVar m; putStr (show x) };",
+          '--! sometimes done and output has "0" and errors ""', "--! never deadlock")
+
 EMPTY = "main :: IO () = { return () };"
 
 # The same programs in Haskell, by their size as an argument.
@@ -93,7 +97,7 @@ main :: IO () = { m <- newMVar 0; d <- newEmptyMVar @();
   _ <- forkIO { work 1 m d }; _ <- forkIO { work 10 m d }; _ <- forkIO { work 100 m d }; _ <- forkIO { work 1000 m d };
   _ <- forkIO { work 10000 m d };
   takeMVar d; takeMVar d; takeMVar d; takeMVar d; takeMVar d; r <- takeMVar m; putStr (show r) };"""
-# The threads of this example count, so that a search of it takes minutes.
+# The threads of this example count, so that a search of it takes longer than that of any other.
 LONG_SEARCHES = {"counts"}
 
 
@@ -135,6 +139,7 @@ SHAPES = [
     Shape("with-main", "n exchanges of main and a thread", 25_000, WITH_MAIN, *RUN, each=(1, 4)),
     Shape("counters", "four threads that count to n", 25_000, COUNTERS, *RUN, each=(1, 4, 16)),
     Shape("sleeper", "a thread that sleeps for n microseconds", 250_000, SLEEPERS, *RUN, each=(1, 16)),
+    Shape("claims", "n claims of a script", 1_000, CLAIMS, "claims"),
 ]
 
 

@@ -1,12 +1,16 @@
 """What documents say of the repository: links, paths, names, crates, what is trusted; and what none may say."""
 
+from __future__ import annotations
+
 import os
 import re
+from collections.abc import Iterator
 
 from tools import rows
-from tools.sources import TOP, SPAN, all_words, blocks, code, documents, files, here, kit_crates, lines, read, root_of, uses, words_of
+from tools.sources import TOP, SPAN, Block, all_words, blocks, code, documents, files, here, kit_crates, lines, read, root_of, uses, words_of
 
-LONGEST = 350
+# The most lines of a document.
+LONGEST = 300
 # A folder that a clone need not have: what is made, and edits that stand outside of the gate.
 MAY_BE_ABSENT = {"out", "more-edits"}
 OF_A_CRATE = ("src", "specs", "proofs", "data", "must-fail", "more-edits", "stdout")
@@ -14,7 +18,7 @@ ENDINGS = ("", ".rt", ".antt", ".edit", ".md", ".rows")
 PATH = re.compile(r"(\./)?[\w*.-]+(/[\w*.-]+)*/?")
 
 
-def is_there(path):
+def is_there(path: str) -> bool:
     """Whether the repository has this path, in which NAME and its like stand for any name."""
     path = re.sub(r"(?<![A-Za-z])(NAME|PATH|X)(?![a-z])", "*", path.rstrip("/"))
     if MAY_BE_ABSENT & set(path.split("/")):
@@ -25,17 +29,18 @@ def is_there(path):
 class Reader:
     """Goes along the names between backquotes of a block, and remembers which crate and folder were named last."""
 
-    def __init__(self, heading):
-        self.crate, self.folder, self.near = heading, None, False
+    def __init__(self, heading: str | None) -> None:
+        self.crate: str | None = heading
+        self.folder: str | None = None
 
-    def path(self, span):
+    def path(self, span: str) -> str | None:
         """What is wrong with a path, or None."""
         parts = span.removeprefix("./").rstrip("/").split("/")
         if parts[0] in OF_A_CRATE and len(parts) > 1 or parts[0] in OF_A_CRATE and span.endswith("/"):
             inside = f"crates/{self.crate or '*'}"
         elif parts[0] in uses():
             inside, self.crate = "crates", parts[0]
-        elif f"{parts[0]}" in ("crates",) and len(parts) > 1 and parts[1] in uses():
+        elif parts[0] == "crates" and len(parts) > 1 and parts[1] in uses():
             inside, self.crate = "", parts[1]
         else:
             inside = ""
@@ -43,25 +48,26 @@ class Reader:
         self.folder = os.path.dirname(whole)
         return None if is_there(whole) else f"there is no {span}"
 
-    def file(self, span):
+    def file(self, span: str) -> str | None:
         """What is wrong with a file's name, or None. It stands in the folder that was named last, or has a place of its own."""
+        known: bool
         if span.endswith(".md"):
-            known = here(span) + here(f"docs/{span}")
+            known = bool(here(span) or here(f"docs/{span}"))
         elif span.endswith(".conc"):
-            known = here(f"examples/{span}") or here(f"examples/mistakes/{span.replace('NAME', '*')}") or here(f"litmus/{span}") or span == "mine.conc"
+            known = span == "mine.conc" or any(here(it) for it in (f"examples/{span}", f"examples/mistakes/{span.replace('NAME', '*')}", f"litmus/{span}"))
         elif span.endswith(".rows"):
-            known = here(f"crates/*/data/{span}")
+            known = bool(here(f"crates/*/data/{span}"))
         elif span.endswith((".rt", ".antt")):
-            known = self.folder and is_there(f"{self.folder}/{span}") or here(f"crates/{self.crate or '*'}/*/{span}")
+            known = self.folder is not None and is_there(f"{self.folder}/{span}") or bool(here(f"crates/{self.crate or '*'}/*/{span}"))
         else:
-            known = [it for it in files() if os.path.basename(it) == span]
+            known = any(os.path.basename(it) == span for it in files())
         return None if known else f"there is no {span}"
 
-    def module(self, span):
+    def module(self, span: str) -> str | None:
         return None if is_there(f"{self.folder}/{span}") else f"there is no {self.folder}/{span}"
 
 
-def law(span):
+def law(span: str) -> str | None:
     """What is wrong with a name such as crate::module::function or Type::method, or None."""
     parts = re.sub(r"\(.*\)$", "", span).split("::")
     first = parts[0]
@@ -77,16 +83,16 @@ def law(span):
     return None
 
 
-def is_public(crate, name):
+def is_public(crate: str, name: str) -> bool:
     say = re.compile(rf"\b(pub (const )?fn|pub mod|fn) {name}\b")
     return any(say.search(code(it)) for it in files() if it.startswith(f"crates/{crate}/src/"))
 
 
-def names():
+def names() -> Iterator[str]:
     """Links, and paths, crates, laws and other names between backquotes, that the repository doesn't have."""
     yield from links()
     # (a change log speaks of the names of its time, and a page on Haskell of Haskell's)
-    for path in (it for it in documents() if it not in ("CHANGELOG.md", "docs/HASKELL.md")):
+    for path in (it for it in documents() if it not in ("CHANGELOG.md", "docs/HASKELL.md", "docs/AUDIT.md")):
         heading = None
         for block in blocks(path):
             if block.kind == "code":
@@ -99,17 +105,18 @@ def names():
             yield from names_of(block, heading)
 
 
-def names_of(block, heading):
-    reader, end, beside, listed = Reader(heading), 0, False, False
+def names_of(block: Block, heading: str | None) -> Iterator[str]:
+    reader, end, beside = Reader(heading), 0, False
     for it in SPAN.finditer(block.text):
         span = " ".join(it[1].split())
         between = block.text[end:it.start()].replace("\n", " ")
         follows = beside and between.strip() in (",", "and", "")
-        end, wrong, beside = it.end(), None, False
+        wrong: str | None = None
+        end, beside = it.end(), False
         if span in uses():
             reader.crate = span
             if re.match(r":\s", block.text[end:end + 2]):
-                reader.folder, listed, beside = f"crates/{span}/specs", True, True
+                reader.folder, beside = f"crates/{span}/specs", True
         elif re.fullmatch(r"[\w:]+::\w+(\(.*\))?", span):
             wrong = law(span)
             reader.crate = span.split("::")[0] if span.split("::")[0] in uses() else reader.crate
@@ -126,16 +133,16 @@ def names_of(block, heading):
             yield f"{block.at(it.start())}: {wrong}"
 
 
-def clauses():
+def clauses() -> Iterator[str]:
     """Names of calls and clauses on the page of promises that no crate has which is named beside them, or in the heading."""
-    path, headed = "docs/PROMISES.md", set()
-    for block in blocks(path):
+    headed: set[str] = set()
+    for block in blocks("docs/PROMISES.md"):
         spans = [" ".join(it.split()) for it in SPAN.findall(block.text)]
         near = {part for it in spans for part in re.split(r"::|/|\(", it) if part in uses()}
         if block.kind == "heading":
             headed = near
         elif block.kind != "code":
-            known = set().union(*(words_of(it) for it in near | headed)) if near | headed else all_words()
+            known = {word for it in near | headed for word in words_of(it)} if near | headed else all_words()
             for it in SPAN.finditer(block.text):
                 word = " ".join(it[1].split())
                 if re.fullmatch(r"[a-z][a-z_]*", word) and word not in known and word not in {*uses(), *kit_crates()} | words_of("conc_task"):
@@ -147,7 +154,7 @@ LINK = re.compile(r"\[[^\]]*\]\(([^)\s]+)\)")
 PART = re.compile(r'`(?:docs/)?([A-Z]+\.md)`, "([^"]+)"')
 
 
-def links():
+def links() -> Iterator[str]:
     """Links to what isn't there, and titles of parts that their page doesn't have."""
     for path in documents():
         for block in blocks(path):
@@ -160,41 +167,33 @@ def links():
                     yield f'{block.at(it.start())}: {it[1]} has no part "{it[2]}"'
 
 
-def titles(page):
+def titles(page: str) -> set[str]:
     """The titles of a page's parts: its headings, and the words in bold with which a paragraph or an item begins."""
-    found, whole = set(), page if here(page) else f"docs/{page}"
+    found: set[str] = set()
+    whole = page if here(page) else f"docs/{page}"
     for block in blocks(whole) if here(whole) else ():
         bold = re.match(r"(?:[-*] )?(?:\d{4}-\d\d-\d\d · )?\*\*([^*]+)\*\*", block.text.replace("\n", " "))
-        if block.kind == "heading" or bold:
-            found.add((block.text.lstrip("# ").strip() if block.kind == "heading" else bold[1]).rstrip(".").replace("`", ""))
+        title = block.text.lstrip("# ").strip() if block.kind == "heading" else bold[1] if bold else None
+        if title is not None:
+            found.add(title.rstrip(".").replace("`", ""))
     return found
 
 
-def counts(_known):
-    """Nothing: no count in words is looked at any more. ./check may leave out this call."""
-    return ()
-
-
-def measured():
-    """Nothing, as above."""
-    return ()
-
-
-def decisions():
+def decisions() -> Iterator[str]:
     """Each decision has its date and a title."""
     for block in blocks("docs/DECISIONS.md"):
         if block.text.startswith("- ") and not re.match(r"- \d{4}-\d\d-\d\d · \*\*[^*]+\*\*", block.text):
             yield f"{block.at(0)}: a decision begins with `DATE · **Title**`"
 
 
-def lengths():
+def lengths() -> Iterator[str]:
     for path in documents():
         count = len(lines(path)) - 1
         if count > LONGEST:
             yield f"{path}: {count} lines, and a document has {LONGEST} at most"
 
 
-def index():
+def index() -> Iterator[str]:
     """Documents that the README doesn't lead to; and mistakes that their page doesn't have."""
     for path in documents():
         if path != "README.md" and f"`{path}`" not in read("README.md"):
@@ -205,7 +204,14 @@ def index():
 CLAIM = re.compile(r"[ \t\r]*--[ \t]*!")
 
 
-def mistakes():
+def claims() -> Iterator[str]:
+    """Examples without a claim, which says what they teach so that the program can judge it."""
+    for path in here("examples/*.conc") + here("examples/mistakes/*.conc"):
+        if not any(CLAIM.match(it) for it in lines(path)):
+            yield f"{path}: it has no claim"
+
+
+def mistakes() -> Iterator[str]:
     """Each mistake has a wrong script and a right one with the same claims, a section with its picture, and a row of each script."""
     folder, page, data = "examples/mistakes", "docs/MISTAKES.md", "crates/conc_rows/data/tour.rows"
     names = {re.sub(r"-(wrong|right)\.conc$", "", os.path.basename(it)) for it in here(f"{folder}/*")}
@@ -226,7 +232,7 @@ def mistakes():
             yield f"{folder}/{name}-*.conc: the two don't have the same claims"
 
 
-def places():
+def places() -> Iterator[str]:
     """Crates that the map leaves out, and folders that crates.txt leaves out."""
     named = set(re.findall(r"\w+", read("docs/ARCHITECTURE.md")))
     for crate in uses():
@@ -240,7 +246,7 @@ def places():
             yield f"crates.txt: it has no line for {folder}"
 
 
-def trusted():
+def trusted() -> Iterator[str]:
     """Where a document lists the crates of the kit that are used, `std` first, these are those of crates.txt."""
     lists = 0
     for path in documents():
@@ -265,7 +271,7 @@ HINTS = ("ocument 0", "aper 0", "shared/", "/wor" + "k/", "issue ", "row ", "-sc
 NUMBERED = re.compile(r"[TDRW][0-9]")
 
 
-def citations():
+def citations() -> Iterator[str]:
     for path in files():
         if path.endswith((".rt", ".antt", ".md", ".edit", ".conc", ".rows", ".txt", ".py")) or "." not in os.path.basename(path):
             if not NUMBERED.search(read(path)) and not any(it in read(path) for it in HINTS):
@@ -275,7 +281,7 @@ def citations():
                 yield f"{path}:{line}: `{it[0]}` looks like a citation of what stands outside of the repository"
 
 
-def named_pages():
+def named_pages() -> Iterator[str]:
     """Documents that comments of the sources name."""
     for path in files():
         if path.endswith((".rt", ".antt", ".rows", ".conc")) or path in ("conc_run", ".ci/run"):

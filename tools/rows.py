@@ -73,6 +73,18 @@ def examples() -> Iterator[str]:
             yield f"docs/TOUR.md: it has no paragraph on {name}.conc"
 
 
+def claims() -> Iterator[str]:
+    """Each example, also of a mistake, is the script of a row that says what its claims come to."""
+    path = "crates/conc_rows/data/examples.rows"
+    rows = {it.name.removeprefix("claims-of-"): script_of(it.lines) for it in rows_of(path)}
+    for file in here("examples/*.conc") + here("examples/mistakes/*.conc"):
+        name = os.path.basename(file).removesuffix(".conc")
+        if name not in rows:
+            yield f"{file}: {path} has no row claims-of-{name}"
+        elif rows[name].rstrip("\n") != read(file).rstrip("\n"):
+            yield f"{file}: the row claims-of-{name} of {path} has another script"
+
+
 def words_in(script: str) -> str:
     """A script without comments, in one line."""
     return " ".join(re.sub(r"--.*", "", script).split())

@@ -11,7 +11,7 @@ from concurrent.futures import Future, ThreadPoolExecutor
 from tools.sources import TOP, here
 
 # The folders whose modules need neither the kit nor another program than Python.
-FOLDERS = ("tools/run/tests", "tools/tests")
+FOLDERS = ("tools/run/tests", "tools/tests", "tools/audit/tests")
 # The last bytes of what a module says.
 SHOWN = 3000
 
@@ -25,8 +25,10 @@ def modules() -> list[str]:
 def run_module(path: str) -> tuple[int, str]:
     """Runs the tests of a module, and answers its status and what it said."""
     name = path.removesuffix(".py").replace("/", ".")
-    ran = subprocess.run([sys.executable, "-m", "unittest", name], cwd=TOP, stdin=subprocess.DEVNULL, stdout=subprocess.PIPE, stderr=subprocess.STDOUT,
-                         text=True, errors="replace", check=False)
+    # Some of the tests copy this folder, and are to find in the copy only what they have made themselves.
+    environment = {**os.environ, "PYTHONDONTWRITEBYTECODE": "1"}
+    ran = subprocess.run([sys.executable, "-m", "unittest", name], cwd=TOP, env=environment, stdin=subprocess.DEVNULL, stdout=subprocess.PIPE,
+                         stderr=subprocess.STDOUT, text=True, errors="replace", check=False)
     return ran.returncode, ran.stdout
 
 

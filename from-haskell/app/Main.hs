@@ -34,20 +34,40 @@ run options = do
   checkReadable (optionFile options)
   library <- findGhc
   prelude <- maybe ((++ "/prelude") <$> getDataDir) return (optionPrelude options)
-  answer <-
-    translate
-      Request
-        { requestFile = optionFile options
-        , requestMain = optionMain options
-        , requestFolders = optionFolders options
-        , requestStrict = optionStrict options
-        , requestTrust = optionTrust options
-        , requestLibrary = library
-        , requestPrelude = prelude
-        }
-      `Exception.catch` failed (optionFile options)
-  maybe (return ()) (tellFiles answer) (optionFiles options)
-  tell (optionMain options) answer
+  let request =
+        Request
+          { requestFile = optionFile options
+          , requestMain = optionMain options
+          , requestFolders = optionFolders options
+          , requestStrict = optionStrict options
+          , requestTrust = optionTrust options
+          , requestLibrary = library
+          , requestPrelude = prelude
+          }
+      recovered = (`Exception.catch` failed (optionFile options))
+  case optionEach options of
+    Just beginning -> translateEach request beginning tellOne >>= mapM_ (tell beginning)
+    Nothing | optionExports options -> do
+      found <- exportsOf request
+      either (tell "") putWritten found
+    Nothing -> do
+      answer <- recovered (translate request)
+      maybe (return ()) (tellFiles answer) (optionFiles options)
+      tell (optionMain options) answer
+
+-- | Writes what came of one action among several, below a line with its name and the status that it would have alone.
+tellOne :: String -> Answer -> IO ()
+tellOne name answer = do
+  putWritten $ case answer of
+    Translated _ _ script -> heading 0 ++ script
+    Refused _ refusal -> heading 3 ++ renderRefusal refusal
+    NotCompiled -> heading 3
+    NoSuchMain _ -> heading 2
+ where
+  heading status = "=== " ++ name ++ " " ++ show (status :: Int) ++ "\n"
+
+putWritten :: String -> IO ()
+putWritten s = (putStr s >> hFlush stdout) `Exception.catch` unwritten
 
 -- | Writes the names of the files that a script was made of.
 tellFiles :: Answer -> FilePath -> IO ()
@@ -62,7 +82,7 @@ tell :: String -> Answer -> IO ()
 tell name answer = case answer of
   Translated notes _ script -> do
     mapM_ (hPutStr stderr . renderNote) notes
-    (putStr script >> hFlush stdout) `Exception.catch` unwritten
+    putWritten script
   Refused notes refusal -> do
     mapM_ (hPutStr stderr . renderNote) notes
     hPutStr stderr (renderRefusal refusal)

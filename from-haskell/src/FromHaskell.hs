@@ -8,22 +8,26 @@ module FromHaskell
   ( Request (..)
   , Answer (..)
   , translate
+  , translateEach
+  , exportsOf
   ) where
 
 import qualified Control.Exception as Exception
-import Control.Monad (forM_, when)
+import Control.Monad (forM_, join, when)
 import Control.Monad.IO.Class (liftIO)
-import Data.IORef (readIORef)
-import Data.List (find)
+import Data.IORef (IORef, newIORef, readIORef)
+import Data.List (find, isPrefixOf)
 import qualified Data.Map.Strict as Map
 import qualified Data.Set as Set
 import System.FilePath ((</>))
 
 import FromHaskell.Claims
 import FromHaskell.Encode (ioResult)
+import FromHaskell.Exports (writeExports)
 import FromHaskell.Finish (finish)
 import FromHaskell.Ghc
 import FromHaskell.Integers (integerNames)
+import FromHaskell.Keep (inRounds)
 import FromHaskell.Monad
 import FromHaskell.Report
 import FromHaskell.Safety (checkModules, inspectFile, readSource)
@@ -52,33 +56,25 @@ data Answer
 -- | Translates a module.
 translate :: Request -> IO Answer
 translate request = do
-  world <- newWorld (Settings (requestStrict request))
-  result <- Exception.try (withGhc (requestLibrary request) (translateIn world request))
-  notes <- reverse <$> readIORef (worldNotes world)
+  current <- newWorld (Settings (requestStrict request)) >>= newIORef
+  result <- Exception.try (withGhc (requestLibrary request) (translateIn current request))
+  notes <- reverse <$> (readIORef current >>= readIORef . worldNotes)
   return $ case result of
     Left refusal -> Refused notes refusal
     Right answer -> case answer of
       Translated _ files script -> Translated notes files script
       _ -> answer
 
-translateIn :: World -> Request -> Ghc Answer
-translateIn world request = do
-  prepare target
-  checked <-
-    if requestTrust request
-      then liftIO (Just Set.empty <$ runTranslate world trusted)
-      else guarded (checkModules (requestFile request) (requestFolders request))
-  case checked of
+translateIn :: IORef World -> Request -> Ghc Answer
+translateIn current request = do
+  when (requestTrust request) (liftIO (readIORef current >>= (`runTranslate` trusted)))
+  found <- modulesOf request
+  case found of
     Nothing -> return NotCompiled
-    Just files -> do
-      compiled <- guarded (compile target)
-      case compiled of
-        Just (Just modules) -> do
-          claims <- claimsIn modules
-          liftIO (runTranslate world (translateModules request (Set.toList files) claims modules))
-        _ -> return NotCompiled
+    Just (files, modules) -> do
+      claims <- claimsIn modules
+      liftIO (inRounds current (translateModules request files claims modules))
  where
-  target = Target [requestFile request, requestPrelude request </> "FromHaskellPrelude.hs"] (requestFolders request) (requestPrelude request)
   trusted = noteAt (Place (requestFile request) 1 1) NoteTrust "What the modules make GHC run isn't looked at."
   claimsIn modules = do
     source <- liftIO (readSource (requestFile request))
@@ -87,6 +83,59 @@ translateIn world request = do
       Just i -> claimsAbout (requestMain request) (actionsOf modules) (inspectedComments i) (inspectedExtents i) source
       Nothing -> []
   actionsOf modules = Set.fromList (concat [map (occurrence . fst) (filter (isAction . fst) (concatMap pairsOf (compiledBindings m))) | m <- modules, compiledFile m == requestFile request])
+
+-- | Looks at the modules and compiles them. Answers the files that decide what they are, and the modules; nothing where GHC has
+-- told a fault.
+modulesOf :: Request -> Ghc (Maybe ([FilePath], [Compiled]))
+modulesOf request = do
+  checked <- looked request
+  case checked of
+    Nothing -> return Nothing
+    Just files -> fmap (\modules -> (files, modules)) . join <$> guarded (compile (targetOf request))
+
+-- | Makes the session one for the modules, and looks at what they make GHC run, unless they are trusted.
+looked :: Request -> Ghc (Maybe [FilePath])
+looked request = do
+  prepare (targetOf request)
+  if requestTrust request
+    then return (Just [])
+    else fmap Set.toList <$> guarded (checkModules (requestFile request) (requestFolders request))
+
+targetOf :: Request -> Target
+targetOf request = Target [requestFile request, requestPrelude request </> "FromHaskellPrelude.hs"] (requestFolders request) (requestPrelude request)
+
+-- | Translates each action that the module exports under a name with this beginning, in one session of GHC, and hands each
+-- answer on as it comes. Answers why none could be asked, if none could.
+translateEach :: Request -> String -> (String -> Answer -> IO ()) -> IO (Maybe Answer)
+translateEach request beginning use = either (Just . Refused []) id <$> Exception.try (withGhc (requestLibrary request) each)
+ where
+  each = do
+    found <- modulesOf request
+    case found of
+      Nothing -> return (Just NotCompiled)
+      Just (files, modules) -> do
+        liftIO (forM_ (names modules) (\name -> answerTo files modules name >>= use name))
+        return Nothing
+  names modules = [name | m <- modules, compiledFile m == requestFile request, name <- compiledExports m, beginning `isPrefixOf` name]
+  answerTo files modules name = do
+    current <- newWorld (Settings (requestStrict request)) >>= newIORef
+    result <- Exception.try (inRounds current (translateModules request {requestMain = name} files [] modules))
+    notes <- reverse <$> (readIORef current >>= readIORef . worldNotes)
+    return $ case result of
+      Left refusal -> Refused notes refusal
+      Right (Translated _ _ script) -> Translated notes files script
+      Right other -> other
+
+-- | What the module exports, as JSON. Where it can't be told, the answer of a translation says why.
+exportsOf :: Request -> IO (Either Answer String)
+exportsOf request = either (Left . Refused []) id <$> Exception.try (withGhc (requestLibrary request) told)
+ where
+  told = do
+    checked <- looked request
+    found <- maybe (return Nothing) (const (join <$> guarded (exports (targetOf request)))) checked
+    source <- liftIO (readSource (requestFile request))
+    inspection <- quietly (inspectFile (requestFile request) source)
+    return (maybe (Left NotCompiled) (Right . writeExports (maybe [] inspectedComments inspection) source) found)
 
 translateModules :: Request -> [FilePath] -> [Claim] -> [Compiled] -> Translate Answer
 translateModules request files claims modules = do

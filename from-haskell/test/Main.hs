@@ -9,6 +9,8 @@ import Data.Maybe (isJust, isNothing)
 import qualified Data.Set as Set
 import System.Exit (exitFailure)
 
+import FromHaskell.Exports
+import FromHaskell.Ghc (Export (..), TypeShape (..))
 import FromHaskell.Integers
 import FromHaskell.Language
 import FromHaskell.Layout
@@ -29,7 +31,7 @@ main = do
   unless (null failed) exitFailure
 
 tests :: [(String, Bool)]
-tests = concat [optionTests, safetyTests, layoutTests, reportTests, totalTests, scriptTests, integerTests]
+tests = concat [optionTests, exportTests, safetyTests, layoutTests, reportTests, totalTests, scriptTests, integerTests]
 
 optionTests :: [(String, Bool)]
 optionTests =
@@ -40,12 +42,26 @@ optionTests =
   , ("two files", isLeft (readOptions ["a.hs", "b.hs"]))
   , ("an option that isn't known", isLeft (readOptions ["--exact", "a.hs"]))
   , ("another main", fmap optionMain (readOptions ["--main", "f", "a.hs"]) == Right "f")
+  , ("each action with a beginning", fmap optionEach (readOptions ["--each", "question", "a.hs"]) == Right (Just "question"))
+  , ("what is exported", fmap optionExports (readOptions ["--exports", "a.hs"]) == Right True)
   ]
  where
   read' ws = case readOptions ws of
     Right o -> Just (optionFile o, optionStrict o, optionFolders o)
     Left _ -> Nothing
   isLeft = either (const True) (const False)
+
+exportTests :: [(String, Bool)]
+exportTests =
+  [ ("comments for an audit", auditComments [Place "a.hs" 1 1, Place "a.hs" 2 7, Place "a.hs" 3 1] source == ["acquire; release", "skip f"])
+  , ("exports as JSON", writeExports [] "" [Export "f\"" (Just (Place "a.hs" 3 1)) (Just kind), Export "T" Nothing Nothing] == json)
+  ]
+ where
+  source = "-- audit: acquire; release\nf = 1 --  audit:  skip f\n-- an audit: no\n"
+  kind = ShapeClasses [ShapeConstructor "Show" [ShapeVariable "a"]] (ShapeFunction (ShapeVariable "a") (ShapeApplied (ShapeVariable "m") (ShapeOther "x")))
+  json =
+    "{\"exports\": [{\"name\": \"f\\\"\", \"file\": \"a.hs\", \"line\": 3, \"type\": [\"classes\", [[\"constructor\", \"Show\", [\"variable\", \"a\"]]], "
+      ++ "[\"function\", [\"variable\", \"a\"], [\"applied\", [\"variable\", \"m\"], [\"other\", \"x\"]]]]}, {\"name\": \"T\"}], \"comments\": []}\n"
 
 safetyTests :: [(String, Bool)]
 safetyTests =

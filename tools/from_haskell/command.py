@@ -5,7 +5,7 @@ from __future__ import annotations
 import argparse
 from collections.abc import Callable, Sequence
 
-from tools.from_haskell import edges, generated, libraries, programs, sources
+from tools.from_haskell import edges, generated, libraries, mutants, programs, round_trip, sources, speed
 from tools.from_haskell.rows import TOP
 from tools.from_haskell.translator import Translator, built
 
@@ -43,6 +43,18 @@ def try_generated(words: argparse.Namespace, translator: Translator) -> list[str
     return generated.try_generated(translator, words.number, words.seed, words.ghc, words.keep)
 
 
+def try_round_trip(words: argparse.Namespace, translator: Translator) -> list[str]:
+    return round_trip.try_round_trip(translator, words.names)
+
+
+def try_mutants(words: argparse.Namespace, translator: Translator) -> list[str]:
+    return mutants.try_mutants(words.searcher, words.numbers)
+
+
+def try_speed(words: argparse.Namespace, translator: Translator) -> list[str]:
+    return speed.try_speed(translator)
+
+
 def read_words(words: Sequence[str]) -> argparse.Namespace:
     parser = argparse.ArgumentParser(prog="tools/test-from-haskell", description="Tries the translator of Haskell modules. It stands outside of the gate.")
     parser.add_argument("--translator", help="the program that translates; else from-haskell/build makes it")
@@ -71,6 +83,11 @@ def read_words(words: Sequence[str]) -> argparse.Namespace:
     found.add_argument("--seed", type=int, default=1, metavar="N", help="the seed of the first one (else 1)")
     found.add_argument("--ghc", type=int, default=0, metavar="N", help="runs each program N times by GHC")
     found.add_argument("--keep", default="", metavar="FOLDER", help="keeps the programs in this folder")
+    found = part("round-trip", try_round_trip, "the modules that are printed of scripts, as scripts again")
+    found.add_argument("names", nargs="*", help="scripts; all, where none is named")
+    found = part("mutants", try_mutants, "translators with a mistake, of which each has to be caught by a row")
+    found.add_argument("numbers", nargs="*", type=int, help="their numbers; all, where none is named")
+    part("speed", try_speed, "the time of a module of 500 lines")
     return parser.parse_args(words)
 
 

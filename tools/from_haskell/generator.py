@@ -167,7 +167,7 @@ class Program:
             self_made: list[Callable[[], str]] = [
                 lambda: f"{of('Int')} + {of('Int')}", lambda: f"{of('Int')} * 2", lambda: f"{of('Int')} - 1", lambda: f"fst {of('(Int, Bool)')}",
                 lambda: f"length {of('[Int]')}", lambda: f"maybe 7 (+ 1) {of('Maybe Int')}", lambda: f"(if {of('Bool')} then {of('Int')} else {of('Int')})",
-                lambda: f"total {of('[Int]')}", lambda: f"area {of('Shape')}", lambda: f"either id fromEnum {of('Either Int Bool')}",
+                lambda: f"total {of('[Int]')}", lambda: f"area {of('Shape')}", lambda: f"either id (fromEnum :: Bool -> Int) {of('Either Int Bool')}",
                 lambda: f"compose [(+ 1), (* 3)] {of('Int')}", lambda: f"(let z = {of('Int')} in z + z)", lambda: f"{of('Int')} `mod` 5", lambda: f"max {of('Int')} {of('Int')}"]
             made = self.random.choice(self_made)()
             for name in ("total", "compose"):
@@ -274,7 +274,7 @@ class Program:
         if kind == "IO ()":
             return self.pick_lines((f"join (takeMVar {cell})", f"putMVar {cell} (putStr {self.letter()})", f"tryPutMVar {cell} (putStr {self.letter()}) >>= \\ok -> unless ok (putStr \"full\")"), indent)
         if kind == "Int -> Int":
-            return self.pick_lines((f"readMVar {cell} >>= \\f -> putStr (show (f {self.atom(self.value('Int', scope, 1))}))", f"modifyMVar_ {cell} (return . (. (+ {self.random.randrange(3)})))"), indent)
+            return self.pick_lines((f"readMVar {cell} >>= \\f -> putStr (show (f {self.atom(self.value('Int', scope, 1))}))", f"modifyMVar_ {cell} (\\_ -> return (* {self.random.randrange(2, 5)}))"), indent)
         if kind == "Job":
             return self.pick_lines((f"takeMVar {cell} >>= work", f"putMVar {cell} (Job {self.letter()} (putStr {self.letter()}))"), indent)
         if kind.startswith("ref "):
@@ -294,8 +294,9 @@ class Program:
             return [f"{indent}writeIORef {cell} {self.atom(self.value(kind, scope))}"]
         if what == 2:
             return [f"{indent}modifyIORef {cell} (\\old -> {self.value(kind, {**scope, 'old': kind}, 1)})"]
+        changed = self.value(kind, {**scope, "old": kind}, 1)
         scope[name] = kind
-        return [f"{indent}{name} <- atomicModifyIORef {cell} (\\old -> ({self.value(kind, {**scope, 'old': kind}, 1)}, old))"]
+        return [f"{indent}{name} <- atomicModifyIORef {cell} (\\old -> ({changed}, old))"]
 
     def plain_cell_step(self, scope: dict[str, str], cell: str, kind: str, indent: str) -> list[str]:
         name, new = self.fresh("x"), self.atom(self.value(kind, scope))

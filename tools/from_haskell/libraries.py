@@ -13,6 +13,7 @@ from tools.from_haskell.beside_ghc import beside, shown_by_ghc
 from tools.from_haskell.rows import PACKAGE, Row, read_rows, write_rows
 from tools.from_haskell.sources import Source, base_folder, library_folders
 from tools.from_haskell.translator import Translator
+from tools.litmus.outcomes import Outcome
 from tools.litmus.programs import Question
 
 CALLS = PACKAGE / "test" / "calls"
@@ -50,7 +51,7 @@ class Call(NamedTuple):
                 f"main :: IO ()\nmain = do\n  x <- {self.maker}\n  t <- forkIO ({self.call})\n  killThread t\n  putStrLn \"end\"\n")
 
     def is_of_base(self) -> bool:
-        return self.module.rpartition(".")[2] in ("QSem", "QSemN", "Chan")
+        return self.module.rpartition(".")[2] in ("QSem", "Chan")
 
 
 def read_calls() -> list[Call]:
@@ -79,7 +80,9 @@ def write_calls(calls: Sequence[Call]) -> None:
 
 def try_module(translator: Translator, calls: Sequence[Call], folders: Sequence[str], runs: int, room: Path) -> tuple[list[Call], list[str], int]:
     """The calls of a module as they came, what is wrong, and how often GHC ran them."""
-    came, wrong, asked = [], [], []
+    came: list[Call] = []
+    wrong: list[str] = []
+    asked: list[tuple[Call, Question, set[Outcome]]] = []
     for number, call in enumerate(calls, 1):
         name = f"Call{number}"
         path = room / f"{name}.hs"
@@ -113,7 +116,9 @@ def try_calls(translator: Translator, runs: int, writes: bool) -> list[str]:
     there = libraries()
     for source in there.sources:
         print(source.line())
-    calls, came, wrong, count = read_calls(), [], [], 0
+    calls, count = read_calls(), 0
+    came: list[Call] = []
+    wrong: list[str] = []
     for module in dict.fromkeys(it.module for it in calls):
         these = [it for it in calls if it.module == module]
         folders = there.folders_of_base if these[0].is_of_base() else there.folders

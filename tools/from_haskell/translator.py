@@ -18,6 +18,7 @@ REFUSED = 3
 WITH_LIST = (0, 11)
 REFUSAL = re.compile(r"^(\S.*?):(\d+:\d+): error: \[([a-z-]+)\]", re.MULTILINE)
 REFUSED_BY_GHC = re.compile(r"^(\S.*?):(\d+:\d+)(?:-\d+)?: error:", re.MULTILINE)
+STATES = re.compile(rb"^(\d+) states", re.MULTILINE)
 NOTE = re.compile(r"^\S.*?:\d+:\d+: note: \[([a-z-]+)\]", re.MULTILINE)
 
 
@@ -67,8 +68,8 @@ class Translator:
             return Translation(-1, "", f"the translation isn't over after {TRANSLATION_SECONDS} seconds")
         return Translation(done.returncode, done.stdout, done.stderr)
 
-    def search(self, script: str, options: Sequence[str] = ()) -> Listed | str:
-        """The list of a script, or why there is none."""
+    def list_of(self, script: str, options: Sequence[str] = ()) -> bytes | str:
+        """The text of a script's list, or why there is none."""
         environment = dict(os.environ, ASAN_OPTIONS="abort_on_error=1:allocator_may_return_null=1:symbolize=0")
         words = [*self.searcher, "outcomes", *options]
         try:
@@ -77,10 +78,23 @@ class Translator:
             return "search not over"
         if done.returncode not in WITH_LIST:
             return "script " + (done.stderr.decode(errors="replace").strip().splitlines() or [f"status {done.returncode}"])[-1]
+        return done.stdout
+
+    def search(self, script: str, options: Sequence[str] = ()) -> Listed | str:
+        """The list of a script, or why there is none."""
+        text = self.list_of(script, options)
+        if isinstance(text, str):
+            return text
         try:
-            return read_list(done.stdout)
+            return read_list(text)
         except Unreadable as fault:
             return f"script {fault}"
+
+    def states(self, script: str) -> int:
+        """How many states the search of a script keeps; 0 where there is no list."""
+        text = self.list_of(script)
+        match = None if isinstance(text, str) else STATES.search(text)
+        return int(match[1]) if match else 0
 
     def lines_of(self, translation: Translation) -> tuple[str, ...]:
         """What a translation comes to, as the lines of a row."""

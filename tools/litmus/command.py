@@ -13,10 +13,12 @@ from collections.abc import Callable, Sequence
 from dataclasses import dataclass
 from pathlib import Path
 
+from tools.litmus import modules
 from tools.litmus.differences import TOP, Difference, known_name, read_differences
 from tools.litmus.haskell import (
     SUPPORT,
     Broken,
+    Compiler,
     Missing,
     RunOptions,
     compile_scripts,
@@ -26,7 +28,7 @@ from tools.litmus.haskell import (
 )
 from tools.litmus.outcomes import Listed, Shown, Unreadable, read_list
 from tools.litmus.table import Table, table_of, table_text
-from tools.run.saying import CALL
+from tools.run.saying import CALL, Refused
 from tools.run.several import worst
 from tools.run.words import STATUS_ORDER
 
@@ -82,7 +84,7 @@ def read_words(arguments: Sequence[str]) -> argparse.Namespace:
         prog=f"{CALL} litmus",
         add_help=False,
         allow_abbrev=False,
-        description="Lists the outcomes of each script, runs it many times by GHC, and prints both side by side: first what"
+        description="Lists the outcomes of each script or Haskell module, runs it many times by GHC, and prints both side by side: first what"
         " GHC showed and the list doesn't have, then what both have, then what GHC never showed.",
         epilog="Status 0: GHC showed nothing that isn't listed, but for known differences; 15: it did; 11: a list isn't"
         " complete.",
@@ -122,9 +124,18 @@ def read_script(path: Path) -> bytes:
         raise Stop(UNREADABLE, f"{path}: {fault.strerror}") from fault
 
 
-def list_outcomes(path: Path, program: Sequence[str]) -> Script:
+def read_module(path: Path, words: Sequence[str]) -> bytes:
+    """The script of a Haskell module."""
+    read_script(path)
+    try:
+        return modules.script_text(path, words)
+    except Refused as fault:
+        raise Stop(fault.status, fault.sentence or f"{path}: no script is made of it") from fault
+
+
+def list_outcomes(path: Path, program: Sequence[str], words: Sequence[str]) -> Script:
     """The list of a script, by the program. A refusal ends the command, before anything is compiled."""
-    text = read_script(path)
+    text = read_module(path, words) if modules.is_haskell(path) else read_script(path)
     try:
         done = subprocess.run([*program, "outcomes"], input=text, capture_output=True, check=False)
     except OSError as fault:
@@ -138,13 +149,13 @@ def list_outcomes(path: Path, program: Sequence[str]) -> Script:
         raise Stop(1, f"{path}: {fault}") from fault
 
 
-def list_all(paths: Sequence[Path], program: Sequence[str]) -> list[Script]:
+def list_all(paths: Sequence[Path], program: Sequence[str], words: Sequence[str]) -> list[Script]:
     """The lists of all scripts. Where some can't be had, each fault is told, and the one that comes first in the order is the status."""
     scripts, faults = [], []
     for place, path in enumerate(paths, 1):
         say(f"{place} of {len(paths)}: lists {path}")
         try:
-            scripts.append(list_outcomes(path, program))
+            scripts.append(list_outcomes(path, program, words))
         except Stop as stop:
             faults.append(stop)
     if faults:
@@ -187,32 +198,49 @@ def status_of(tables: Sequence[Table]) -> int:
     return 0 if all(table.listed.is_complete() for table in tables) else INCOMPLETE
 
 
-def litmus(words: argparse.Namespace, program: Sequence[str], prepare: Callable[[], object]) -> int:
+def run_all_of(scripts: Sequence[Script], compiler: Compiler, program: Sequence[str], options: RunOptions, words: Sequence[str]) -> list[Table]:
+    """Prints a table of each. Scripts are one program; of a Haskell module it is the module itself that is run."""
+    differences, tables = read_differences(), []
+    plain = [script for script in scripts if not modules.is_haskell(script.path)]
+    with tempfile.TemporaryDirectory(prefix="litmus-") as folder:
+        say(f"GHC {compiler.version} compiles {len(scripts)} modules")
+        texts = [module_text(script.text, program) for script in plain]
+        compiled = compile_scripts(compiler, texts, Path(folder)) if texts else Path(folder)
+        for place, script in enumerate(scripts, 1):
+            say(f"{place} of {len(scripts)}: runs {script.path}, for {options.seconds:g} s at most")
+            if modules.is_haskell(script.path):
+                shown = modules.run_module(compiler, script.path, words, options)
+            else:
+                shown = run_script(compiled, 1 + plain.index(script), options)
+            tables.append(print_table(script, shown, differences))
+    return tables
+
+
+def litmus(words: argparse.Namespace, program: Sequence[str], prepare: Callable[[], object], module_words: Sequence[str]) -> int:
     begun = time.monotonic()
     compiler = find_compiler()
     prepare()
-    scripts = list_all(words.files, program)
-    differences = read_differences()
+    scripts = list_all(words.files, program, module_words)
     options = RunOptions(words.runs, words.seconds, words.seed, words.forks)
-    tables = []
-    with tempfile.TemporaryDirectory(prefix="litmus-") as folder:
-        say(f"GHC {compiler.version} compiles {len(scripts)} modules")
-        compiled = compile_scripts(compiler, [module_text(script.text, program) for script in scripts], Path(folder))
-        for place, script in enumerate(scripts, 1):
-            say(f"{place} of {len(scripts)}: runs {script.path}, for {words.seconds:g} s at most")
-            tables.append(print_table(script, run_script(compiled, place, options), differences))
+    tables = run_all_of(scripts, compiler, program, options, module_words)
     print_sum(tables, compiler.version, begun)
     return status_of(tables)
 
 
-def main(arguments: Sequence[str], program: Sequence[str] = (str(PROGRAM),), prepare: Callable[[], object] = lambda: None) -> int:
-    """Runs the command with these words. `program` lists outcomes, with its first words; `prepare` is called before it is needed."""
+def main(
+    arguments: Sequence[str],
+    program: Sequence[str] = (str(PROGRAM),),
+    prepare: Callable[[], object] = lambda: None,
+    module_words: Sequence[str] = (),
+) -> int:
+    """Runs the command with these words. `program` lists outcomes, with its first words; `prepare` is called before it is needed;
+    `module_words` are for the translator of Haskell modules."""
     words = read_words(arguments)
     try:
         if words.where:
             put(str(SUPPORT))
             return 0
-        return litmus(words, program, prepare)
+        return litmus(words, program, prepare, module_words)
     except Stop as stop:
         status, lines = stop.status, str(stop)
     except (Missing, Broken, Unreadable) as fault:

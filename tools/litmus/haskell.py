@@ -2,16 +2,13 @@
 
 from __future__ import annotations
 
-import importlib.util
 import os
 import shutil
 import signal
 import subprocess
-import sys
 from collections.abc import Sequence
 from dataclasses import dataclass
 from pathlib import Path
-from types import ModuleType
 
 from tools.litmus.outcomes import Shown, read_counts
 
@@ -78,37 +75,12 @@ def run_all(words: Sequence[str], room: Path | None = None, seconds: float | Non
     return subprocess.CompletedProcess(words, started.returncode, output, errors)
 
 
-def load_reference() -> ModuleType:
-    """The printer of modules, which is a program of its own beside the support module."""
-    spec = importlib.util.spec_from_file_location("litmus_reference", SUPPORT / "reference.py")
-    assert spec is not None and spec.loader is not None
-    module = importlib.util.module_from_spec(spec)
-    sys.modules[spec.name] = module
-    spec.loader.exec_module(module)
-    return module
-
-
-def module_by_reference(script: bytes, program: Sequence[str]) -> bytes:
-    """The module of an accepted script, by the tests' own printer of them."""
-    reference = load_reference()
-    sys.setrecursionlimit(max(sys.getrecursionlimit(), reference.DEPTH))
-    try:
-        text: bytes = reference.module_text(script)
-    except reference.Refused as fault:
-        raise Broken(f"no module is made of a script: {fault}") from fault
-    return text
-
-
-def module_by_program(script: bytes, program: Sequence[str]) -> bytes:
+def module_text(script: bytes, program: Sequence[str]) -> bytes:
     """The module of an accepted script, by the program's command `haskell`."""
     done = subprocess.run([*program, "haskell"], input=script, capture_output=True, check=False)
     if done.returncode != 0:
         raise Broken(f"no module is made of a script: {done.stderr.decode(errors='replace').strip()}")
     return done.stdout
-
-
-# By which of the two the modules are made: by the program, once it has the command.
-module_text = module_by_reference
 
 
 def main_text(count: int) -> str:

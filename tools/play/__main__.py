@@ -33,13 +33,8 @@ def module(words: argparse.Namespace) -> bytes:
     if words.wasm:
         with open(words.wasm, "rb") as file:
             return file.read()
-    if not words.bitcode and os.path.exists(words.out):
-        with open(words.out, encoding="utf-8", newline="") as file:
-            there = file.read()
-        told, code = page.said(there), page.module_of(there)
-        if told and code and told[1] == sums.sum_of_sources():
-            return code
-    return wasm.code_of(words.bitcode)
+    there = None if words.bitcode else page.module_of_these_sources(words.out)
+    return there or wasm.code_of(words.bitcode)
 
 
 def main() -> int:

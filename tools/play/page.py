@@ -16,7 +16,7 @@ from tools.sources import TOP
 
 SITE = os.path.join(os.path.dirname(os.path.abspath(__file__)), "site")
 # The parts of the page's script, in this order.
-SCRIPTS = ["basis", "unseen", "program", "options", "lines", "editor", "marks", "results", "outcomes", "histories", "claims", "coming", "examples", "links", "page"]
+SCRIPTS = ["basis", "unseen", "program", "options", "lines", "editor", "marks", "results", "outcomes", "histories", "claims", "coming", "examples", "writing", "links", "page"]
 MOST = 900 * 1024
 HEAD = re.compile(r'<meta name="conc-run" content="version ([^ ]+) sources ([0-9a-f]{64})">')
 MODULE = re.compile(r'<script type="text/plain" id="program">([A-Za-z0-9+/=]*)</script>')
@@ -76,13 +76,34 @@ def module_of(page: str) -> bytes | None:
     return gzip.decompress(base64.b64decode(found[1])) if found else None
 
 
+def read_page(path: str) -> str:
+    with open(path, encoding="utf-8", newline="") as file:
+        return file.read()
+
+
+def module_of_these_sources(path: str) -> bytes | None:
+    """The module of a page that is there, where it names the sources as they are now."""
+    if not os.path.exists(path):
+        return None
+    there = read_page(path)
+    told = said(there)
+    return module_of(there) if told and told[1] == sums.sum_of_sources() else None
+
+
+def is_current(path: str) -> bool:
+    """Whether a page is what is made now of the program that it holds: template, scripts and documents have not changed since."""
+    there = read_page(path)
+    code = module_of(there)
+    # How the program is packed is left out, since another version of zlib may pack it otherwise.
+    return code is not None and MODULE.sub("", made(code)) == MODULE.sub("", there)
+
+
 def problems(path: str = "docs/play.html") -> Iterator[str]:
     """What is wrong with the page of the repository: another version, or another sum of sources. Where there is none, nothing is."""
     whole = os.path.join(TOP, path)
     if not os.path.exists(whole):
         return
-    with open(whole, encoding="utf-8", newline="") as file:
-        told = said(file.read())
+    told = said(read_page(whole))
     wanted = (sums.version(), sums.sum_of_sources())
     if told is None:
         yield f"{path}: it names neither version nor sources; python3 tools/play makes it anew"

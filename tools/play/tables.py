@@ -133,9 +133,35 @@ def translating() -> str:
     return ""
 
 
+def forms() -> list[dict[str, object]]:
+    """All that an action and an expression may be, with what each needs."""
+    page = "docs/LANGUAGE.md"
+    heads = (("action", "needs", "result"), ("expression", "needs, from the left to the right", "type"))
+    return [{"head": list(head), "rows": list(table(page, *head))} for head in heads]
+
+
+def first_script() -> str:
+    """The script that the page explains."""
+    with open(os.path.join(TOP, "tools", "play", "site", "writing.conc"), encoding="utf-8", newline="") as file:
+        return file.read()
+
+
+def gallery(known: dict[str, dict[str, str]]) -> list[str]:
+    """The scripts of the gallery in its order, the wrong one of each before the right one."""
+    order = re.findall(r"^### ([\w-]+):", read("docs/MISTAKES.md"), flags=re.M)
+    named = [f"mistakes/{name}-{which}" for name in order for which in ("wrong", "right")]
+    return [it for it in named if it in known] + [it for it in known if it not in named]
+
+
+def cures(known: dict[str, dict[str, str]]) -> dict[str, str]:
+    """Of each script with a mistake the one that is right."""
+    pairs = {**{it: it.replace("-wrong", "-right") for it in known if it.endswith("-wrong")}, "update": "modify"}
+    return {wrong: right for wrong, right in pairs.items() if wrong in known and right in known}
+
+
 def data() -> dict[str, object]:
     """All that the page's script takes from the repository. The gallery of mistakes stands behind the tour, where there is one."""
     examples, mistakes = scripts("examples/*.conc"), scripts("examples/mistakes/*.conc")
-    groups = tour(examples) + ([{"title": "Mistakes and their cures", "names": list(mistakes)}] if mistakes else [])
-    return {"examples": {**examples, **mistakes}, "groups": groups, "faults": faults(), "causes": causes(), "words": reserved_words(),
-            "commands": commands(), "translating": translating()}
+    groups = tour(examples) + ([{"title": "Mistakes and their cures", "names": gallery(mistakes)}] if mistakes else [])
+    return {"examples": {**examples, **mistakes}, "groups": groups, "cures": cures({**examples, **mistakes}), "faults": faults(), "causes": causes(), "words": reserved_words(),
+            "commands": commands(), "translating": translating(), "forms": forms(), "writing": first_script()}

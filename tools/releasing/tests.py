@@ -2,6 +2,7 @@
 
 from __future__ import annotations
 
+import filecmp
 import hashlib
 import os
 import shutil
@@ -10,10 +11,12 @@ import time
 import unittest
 
 dist = package = archive = root = work = ""
+with_ghc = False
 
 HELLO = "/usr/share/doc/conc-run/examples/hello.conc"
 OF_THE_SYSTEM = ("/proc", "/sys", "/dev", "/var/cache", "/var/log", "/var/lib/apt", "/var/lib/dpkg", "/tmp", "/run")
 UPDATE = "/usr/share/doc/conc-run/examples/update.conc"
+LOCK = "/usr/share/doc/conc-run/examples/haskell/LostLock.hs"
 
 
 def within(*words: str, script: bytes = b"", folder: str = "/", **env: str) -> subprocess.CompletedProcess[bytes]:
@@ -50,6 +53,13 @@ class Release(unittest.TestCase):
                 checksum, name = line.split()
                 with open(os.path.join(dist, name), "rb") as file:
                     self.assertEqual(checksum, hashlib.sha256(file.read()).hexdigest(), name)
+
+    def test_a_the_same_bytes(self) -> None:
+        """A release that is made once more is the same, byte for byte."""
+        if not os.path.isdir(f"{dist}-again"):
+            self.skipTest("it was made once: tools/release --out FOLDER and cmp show that")
+        for name in os.listdir(dist):
+            self.assertTrue(filecmp.cmp(os.path.join(dist, name), os.path.join(f"{dist}-again", name), shallow=False), name)
 
     def test_b_lintian(self) -> None:
         if not shutil.which("lintian"):
@@ -145,6 +155,34 @@ class Release(unittest.TestCase):
     def test_k_what_needs_the_kit(self) -> None:
         for words in (("--prove",), ("test",), ("test", "--quick")):
             self.ends(as_nobody("conc_run", *words), 70, b"", b"needs the repository and the kit")
+
+    def test_k_what_needs_ghc(self) -> None:
+        """It says so in a line, and there is nothing to clean."""
+        for words in (("outcomes", LOCK), ("script", LOCK), ("litmus", UPDATE)):
+            self.ends(as_nobody("conc_run", *words, HOME="/tmp"), 70, b"", b"ghc")
+        self.ends(as_nobody("conc_run", "--clean", HOME="/tmp"), 0)
+
+    def test_l_by_ghc(self) -> None:
+        """With the packages that it suggests: a module is asked, a script is run by GHC, and what was built for that is removed."""
+        if not with_ghc:
+            self.skipTest("--with-ghc tries it")
+        # GHC's own package looks there for itself.
+        subprocess.run(["mount", "-t", "proc", "proc", os.path.join(root, "proc")], check=True)
+        self.addCleanup(subprocess.run, ["umount", os.path.join(root, "proc")], check=True)
+        was = files()
+        self.ends(within("apt-get", "install", "-y", "--no-install-recommends", "ghc", "libghc-async-dev"), 0)
+        within("mkdir", "-m", "777", "/tmp/kept")
+        listed = as_nobody("conc_run", "outcomes", LOCK, XDG_CACHE_HOME="/tmp/kept")
+        self.ends(listed, 0)
+        self.assertIn(b"blocked indefinitely", listed.stdout)
+        self.ends(as_nobody("conc_run", "litmus", "--runs", "50", UPDATE, XDG_CACHE_HOME="/tmp/kept"), 0)
+        built = os.listdir(os.path.join(root, "tmp/kept/conc-run"))
+        self.assertLessEqual({"from-haskell", "scripts"}, {it.split("-9")[0] for it in built})
+        self.ends(as_nobody("conc_run", "--clean", XDG_CACHE_HOME="/tmp/kept"), 0, b"removed /tmp/kept/conc-run\n")
+        self.assertEqual([], os.listdir(os.path.join(root, "tmp/kept")))
+        self.ends(within("apt-get", "purge", "-y", "--auto-remove", "ghc", "libghc-async-dev"), 0)
+        # What those packages leave isn't this one's.
+        type(self).before |= files() - was
 
     def test_l_read_only_home(self) -> None:
         """Nothing of the user's is written, and no temporary folder is needed."""

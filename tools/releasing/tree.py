@@ -10,7 +10,7 @@ from tools.releasing.facts import Facts, of_git
 from tools.sources import TOP
 
 # What runs: the stub, the script around the program, and the list of crates by which it finds that no source is newer.
-RUNS = ("conc_run", "VERSION", "crates.txt", "tools/__init__.py", "tools/crates.py", "tools/run/", "from-haskell/", "litmus/")
+RUNS = ("conc_run", "VERSION", "crates.txt", "tools/__init__.py", "tools/crates.py", "tools/run/", "tools/litmus/", "from-haskell/", "litmus/")
 PROGRAM = f"crates/{sums.PROGRAM}/out/{sums.PROGRAM}"
 TEXTS = ("README.md", "CHANGELOG.md", "LICENSE")
 DOCUMENTS = ("docs/",)

@@ -8,6 +8,8 @@ from tools.run.words import COMMANDS, OPTIONS, STATUSES, Command, Option
 
 # Those of the script, which every command takes.
 COMMON = ("--memory", "--explain", "--prove", "--help", "--version")
+# Those that stand without a command.
+ALONE = ("--help", "--version", "--clean")
 
 
 def options_of(command: Command) -> list[Option]:
@@ -75,7 +77,7 @@ _conc_run() {{
     esac
   done
   case $command in
-    '') COMPREPLY=($(compgen -W '{" ".join(COMMANDS)} --help --version' -- "$word")); return ;;
+    '') COMPREPLY=($(compgen -W '{" ".join(COMMANDS)} {" ".join(ALONE)}' -- "$word")); return ;;
 {cases}
   esac
   case $word in
@@ -108,7 +110,7 @@ _conc_run() {{
   )
   if (( CURRENT == 2 )); then
     _describe command commands
-    _arguments '--help[{in_zsh(OPTIONS["--help"].help)}]' '--version[{in_zsh(OPTIONS["--version"].help)}]'
+    _arguments {" ".join(zsh_option(OPTIONS[it]) for it in ALONE)}
     return
   fi
   local command=$words[2]
@@ -134,7 +136,7 @@ def fish() -> str:
     lines = ["# Completion of conc_run for fish.", "complete -c conc_run -f"]
     for command in COMMANDS.values():
         lines.append(f"complete -c conc_run -n __fish_use_subcommand -a {command.name} -d '{in_fish(command.help)}'")
-    for name in ("--help", "--version"):
+    for name in ALONE:
         lines.append(f"complete -c conc_run -n __fish_use_subcommand -l {name[2:]} -d '{in_fish(OPTIONS[name].help)}'")
     for command in COMMANDS.values():
         seen = f"-n '__fish_seen_subcommand_from {command.name}'"

@@ -2,10 +2,11 @@
 
 from __future__ import annotations
 
+import os
 import re
 
 from tools.run import refusals, search
-from tools.run.input import Kept
+from tools.run.input import Kept, is_module
 from tools.run.reading import Call
 from tools.run.refusals import LINE as REFUSAL
 from tools.run.running import Run
@@ -19,12 +20,20 @@ OUTCOME = re.compile(rb"outcome ([0-9]+)")
 # A comment that would be a claim if nothing stood before it but blanks: texts hold no comments, and comments no further ones.
 BEHIND_CODE = re.compile(rb'((?:[^"\n-]|"(?:[^"\\\n]|\\[^\n])*"|-(?!-))*)--[ \t]*!')
 BLANKS = b" \t\r"
+# What a script of a Haskell module says above a claim: where that stands.
+PLACE = re.compile(rb"-- (.+):([0-9]+)")
 
 
 def behind_code(script: bytes) -> list[int]:
     """The numbers of the lines on which a claim stands behind code, where it is a comment alone."""
     found = ((number, BEHIND_CODE.match(line)) for number, line in enumerate(script.split(b"\n"), 1))
     return [number for number, it in found if it and it[1].strip(BLANKS)]
+
+
+def place_above(lines: list[bytes], number: int, name: str) -> int:
+    """The line of the module that the script's line of this number comes of, or that number where the script doesn't say."""
+    place = PLACE.fullmatch(lines[number - 2]) if 1 < number <= len(lines) else None
+    return int(place[2]) if place and place[1] == encoded(os.path.basename(name)) else number
 
 
 def count_text(holds: int, fails: int, opens: int) -> str:
@@ -40,16 +49,19 @@ class Claims(Answers):
     def __init__(self, run: Run, call: Call, explains: bool) -> None:
         super().__init__(run, call, explains)
         self.counts = {b"holds": 0, b"fails": 0, b"open": 0}
+        # The lines of the script that a Haskell module became.
+        self.lines: list[bytes] = []
 
     def run_on(self, name: str, file: int) -> int:
+        self.lines = self.kept.bytes(self.call.document).split(b"\n") if self.kept and is_module(name) else []
         return search.run_shown(self.run, (file, self.output, self.errors), f"{name}: ")
 
     def named(self, name: str, line: bytes) -> bytes:
         verdict = VERDICT.fullmatch(line)
         if verdict:
-            return encoded(f"{name}:{int(verdict[1])}") + line[verdict.end(1):]
+            return encoded(f"{name}:{place_above(self.lines, int(verdict[1]), name)}") + line[verdict.end(1):]
         refusal = REFUSAL.fullmatch(line.decode("utf-8", "replace"))
-        place = f":{refusal[2]}:{refusal[3]}" if refusal and refusal[2] else ""
+        place = f":{place_above(self.lines, int(refusal[2]), name)}:{refusal[3]}" if refusal and refusal[2] else ""
         return encoded(f"{name}{place}: ") + line
 
     def explain(self, name: str, status: int, said: bytes, told: bytes, kept: Kept | None) -> None:

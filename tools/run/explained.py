@@ -82,7 +82,7 @@ def run_explained(run: Run, call: Call) -> int:
 
 def run_made_up(run: Run, call: Call, explains: bool) -> int:
     """A command of one file whose answer the wrapper makes."""
-    if call.command == "picture":
+    if call.command in ("picture", "story"):
         return run_picture(run, call, explains)
     from tools.run import module
     kept = None
@@ -103,8 +103,13 @@ def _become_on(run: Run, file: int) -> NoReturn:
     running.become(run)
 
 
+def _tell_story(drawing: Run, file: int) -> int:
+    from tools.run import story
+    return story.tell_story(drawing, file)
+
+
 def run_picture(run: Run, call: Call, explains: bool) -> int:
-    """Draws a history as it is, or that of a script, which is run first."""
+    """Draws or tells a history as it is, or that of a script, which is run first."""
     if not _reads(picture.trace_of(run), call):
         status = running.run_below(run)
         if explains:
@@ -121,7 +126,8 @@ def run_picture(run: Run, call: Call, explains: bool) -> int:
     traced = picture.trace_of(run)
     status, made = picture.trace_first(traced, kept)
     if status in picture.HAS_HISTORY:
-        _become_on(run.with_words(["picture"]), made.file)
+        drawing = run.with_words(["picture"])
+        return _tell_story(drawing, made.file) if call.command == "story" else _become_on(drawing, made.file)
     if explains:
         # What is refused is the script itself.
         _explain(traced, call, status, kept)
@@ -129,8 +135,12 @@ def run_picture(run: Run, call: Call, explains: bool) -> int:
 
 
 def _run_history(run: Run, call: Call, kept: Kept, explains: bool) -> int:
-    if not explains:
+    if call.command == "story":
+        status = _tell_story(run, kept.file)
+    elif explains:
+        status = running.run_below(run, (kept.file, 1, 2))
+    else:
         _become_on(run, kept.file)
-    status = running.run_below(run, (kept.file, 1, 2))
-    _explain(run, call, status, kept)
+    if explains:
+        _explain(run, call, status, kept)
     return status

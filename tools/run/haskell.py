@@ -10,7 +10,7 @@ import json
 import os
 import time
 
-from tools.run import input
+from tools.run import cache, input
 from tools.run.programs import find_command
 from tools.run.saying import WRITE_FAILED, Refused, as_word, encoded, is_closed, tell, write_all
 from tools.run.translator import PACKAGE, Script, as_text, no_room, read_all, translate
@@ -28,8 +28,7 @@ NOT_UNDERSTOOD = 2
 
 def _scripts() -> str:
     """The folder of the scripts that are kept."""
-    home = os.environ.get("XDG_CACHE_HOME") or os.path.join(os.path.expanduser("~"), ".cache")
-    return os.path.join(home, "conc-run", "scripts")
+    return os.path.join(cache.folder(), "scripts")
 
 
 def _sum(path: str) -> str | None:
@@ -140,7 +139,10 @@ def opened(name: str, words: list[str]) -> int:
 
 def check_words(call: Call) -> None:
     """Whether the command, the files and the words for the translator fit one another."""
-    modules = [it for it in call.files if input.is_module(it)]
+    if call.command == "audit":
+        return
+    # Those of litmus are no files of the program.
+    modules = [it for it in call.files or call.words[1:] if input.is_module(it)]
     if call.command == "script" and not (modules and len(modules) == len(call.files)):
         raise Refused(NOT_UNDERSTOOD, "script takes a Haskell module, a file whose name ends with .hs or .lhs")
     if call.module_words and not modules:

@@ -22,13 +22,16 @@ def _other_action(call: Call) -> int:
         release.refuse("test")
         from tools.run import gate
         return gate.run_tests(call.words)
+    if call.action == "clean":
+        from tools.run import cache
+        return cache.clean()
     from tools.run import page
     return put(page.help_page() if call.action == "help" else page.version_page())
 
 
 def _run_program(call: Call, memory: int) -> int:
     """Runs the program: in place of the wrapper, unless something is to be done behind it."""
-    run = Run(programs.pick(), call.words, memory)
+    run = Run(programs.pick(), call.program_words, memory)
     running.take_stack()
     if memory or running.is_held():
         from tools.run import memory as limits
@@ -47,7 +50,7 @@ def _run_program(call: Call, memory: int) -> int:
 
 def run(words: list[str]) -> int:
     call = reading.read(words)
-    if call.action in ("help", "version", "test"):
+    if call.action in ("help", "version", "clean", "test"):
         return _other_action(call)
     memory = call.megabytes()
     reading.check_order(call)
@@ -62,6 +65,9 @@ def run(words: list[str]) -> int:
         building.prove()
         if not call.words:
             return 0
+    if call.action == "audit":
+        from tools.run import audit
+        return audit.run_audit(call, memory)
     if call.action == "litmus":
         from tools.run import by_ghc
         return by_ghc.run_litmus(call, memory)

@@ -14,13 +14,13 @@ NOT_UNDERSTOOD = 2
 MEMORY = "2048"
 MOST_MEMORY_DIGITS = 7
 # Commands of the wrapper alone, which the program doesn't know.
-OWN_COMMANDS = ("litmus", "test")
+OWN_COMMANDS = ("audit", "litmus", "test")
 # Those whose answer for one file is more than what one call of the program says.
-MADE_UP = ("haskell", "picture")
+MADE_UP = ("haskell", "picture", "story")
 
 
 class Call:
-    """What the words come to. The program gets `words`."""
+    """What the words come to. The program gets `program_words`."""
 
     def __init__(self, memory: str) -> None:
         self.action = "program"
@@ -48,6 +48,11 @@ class Call:
     def is_made_up(self) -> bool:
         """Whether the wrapper makes its answer of what the program says, and doesn't hand that on as it is."""
         return self.command in COMMANDS and self.command in MADE_UP
+
+    @property
+    def program_words(self) -> list[str]:
+        """A story is told of what the program draws."""
+        return ["picture", *self.words[1:]] if self.command == "story" else self.words
 
     def megabytes(self) -> int:
         if not (self.memory.isascii() and self.memory.isdigit() and len(self.memory) <= MOST_MEMORY_DIGITS):
@@ -90,6 +95,8 @@ def _read_own(call: Call, word: str, rest: list[str]) -> bool:
         call.action = "help"
     elif word == "--version":
         call.action = "version"
+    elif word == "--clean":
+        call.action = "clean"
     elif word == "--prove":
         call.wants_proof = True
     elif word == "--explain":

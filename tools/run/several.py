@@ -46,6 +46,8 @@ class Answers:
     def __init__(self, run: Run, call: Call, explains: bool) -> None:
         self.run, self.call, self.explains = run, call, explains
         self.output, self.errors = input.unnamed_file(), input.unnamed_file()
+        # What the program reads, where that is wanted again.
+        self.kept: Kept | None = None
 
     def run_on(self, name: str, file: int) -> int:
         """Runs the program on a file, and answers its status."""
@@ -82,7 +84,7 @@ class Answers:
         """Runs the program on the file of this name, says what it said, and answers the status."""
         file = self._open(name)
         try:
-            kept = self._keep(file)
+            self.kept = kept = self._keep(file)
             status = self.run_on(name, kept.file if kept else file)
             said, told = _taken(self.output), _taken(self.errors)
             if status == NOT_UNDERSTOOD:

@@ -80,7 +80,7 @@ def _run(words: list[str], streams: Streams, what: str) -> int:
     return status
 
 
-def _program() -> str:
+def program() -> str:
     """The translator, which is built where it isn't there yet."""
     build = os.path.join(PACKAGE, "build")
     if not os.access(build, os.X_OK):
@@ -95,9 +95,9 @@ def _program() -> str:
 
 def translate(name: str, words: list[str]) -> Script:
     """The script of a module. What the translator refuses it tells itself, and ends this with its status."""
-    program = _program()
+    path = program()
     with Streams() as streams:
-        status = _run([program, *words, "--", name], streams, f"translates {as_word(name)}")
+        status = _run([path, *words, "--", name], streams, f"translates {as_word(name)}")
         notes = read_all(streams.errors)
         if status:
             tell(as_text(notes))

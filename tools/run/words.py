@@ -14,7 +14,7 @@ DOCUMENT_BYTES = 100_663_296 + 1
 STATUS_ORDER = (66, 70, 71, 2, 3, 6, 7, 8, 9, 14, 15, 11, 12, 0)
 
 # Commands of this table that the program is still to get: nobody is told of them. The name of one that it has is taken away here.
-COMING = ("claims", "haskell")
+COMING: tuple[str, ...] = ()
 
 
 class Option:
@@ -61,11 +61,21 @@ PROGRAM_OPTIONS = _by_name(
 )
 # Those of `litmus`.
 LITMUS_OPTIONS = _by_name(
-    Option("--runs", "N", "the most runs of a script by GHC (20000)", 1),
-    Option("--seconds", "S", "the most seconds that a script is run for (20)"),
+    Option("--runs", "N", "the most runs of a script by GHC (20000), or rounds of audit --confirm (1000)", 1),
+    Option("--seconds", "S", "the most seconds that a script is run for (20), or of a search of an audit (60)"),
     Option("--seed", "N", "where the rows of random numbers begin (1)"),
     Option("--forks", "F", "reported, or plain: as GHC forks, where no line tells what hits a thread before its first step (reported)", choices=("reported", "plain")),
     Option("--where", "", "prints the folder of the support module, which each Haskell module imports"),
+)
+# Those of `audit`, besides --states, --runs and --seconds.
+AUDIT_OPTIONS = _by_name(
+    Option("--all", "", "a line for every question of an audit"),
+    Option("--confirm", "", "runs a program for each finding of an audit by GHC, over the unchanged module"),
+    Option("--jobs", "N", "how many programs of an audit go on at the same time (one for each processor)", 1),
+    Option("--skip", "F", "asks nothing of this function"),
+    Option("--pair", "F/G", "G takes back what F does"),
+    Option("--also", "KIND", "further questions: limit, throw or beside", choices=("limit", "throw", "beside")),
+    Option("--keep", "DIR", "where the programs of the findings go (audit-NAME)"),
 )
 # Those of the script around it.
 OWN_OPTIONS = _by_name(
@@ -73,6 +83,7 @@ OWN_OPTIONS = _by_name(
     Option("--explain", "", "shows the line of a refusal and what to do, as on a terminal"),
     Option("--prove", "", "proves and builds the program first; until then the checked build without proof runs"),
     Option("--version", "", "the version, the kit, and which build there is"),
+    Option("--clean", "", "removes what is kept in $XDG_CACHE_HOME/conc-run (~/.cache/conc-run): translators, and scripts of modules"),
 )
 # Those for the translator of Haskell modules.
 MODULE_OPTIONS = _by_name(
@@ -86,9 +97,9 @@ OTHER_OPTIONS = _by_name(
     Option("--help", "", "the page of commands and options"),
     Option("--quick", "", "the rows alone"),
 )
-OPTIONS = {**PROGRAM_OPTIONS, **LITMUS_OPTIONS, **OWN_OPTIONS, **MODULE_OPTIONS, **OTHER_OPTIONS}
+OPTIONS = {**PROGRAM_OPTIONS, **LITMUS_OPTIONS, **AUDIT_OPTIONS, **OWN_OPTIONS, **MODULE_OPTIONS, **OTHER_OPTIONS}
 # What stands behind a command.
-COMMAND_OPTIONS = {**PROGRAM_OPTIONS, **LITMUS_OPTIONS}
+COMMAND_OPTIONS = {**PROGRAM_OPTIONS, **LITMUS_OPTIONS, **AUDIT_OPTIONS}
 
 RUN_OPTIONS = ("--caps", "--fuel", "--clock")
 SEARCH_OPTIONS = ("--clock", "--states", "--fuel")
@@ -103,18 +114,22 @@ COMMANDS = {it.name: it for it in (
     Command("report", "[FILE]", (), "says what each thread and each cell of such a history did", DOCUMENT_BYTES),
     Command("picture", "[FILE]", RUN_OPTIONS, "draws such a history as SVG, or that of a script that it runs first", DOCUMENT_BYTES,
             options_usage="[options of trace]"),
+    Command("story", "[FILE]", RUN_OPTIONS, "tells such a history, or that of a script, in a line for each entry", DOCUMENT_BYTES,
+            options_usage="[options of trace]"),
     Command("haskell", "[FILE]", (), "prints it as a Haskell module", SCRIPT_BYTES),
     Command("litmus", "FILE..", tuple(LITMUS_OPTIONS), "runs it many times by GHC, and shows that beside its outcomes",
             options_usage="[--runs N] [--seconds S] [--seed N] [--forks F]"),
+    Command("audit", "MODULE", ("--states", "--seconds", *AUDIT_OPTIONS), "what a kill in each function of a Haskell module leaves behind",
+            options_usage="[--confirm] [--all] [--seconds S] [--states N] [--jobs N]"),
     Command("script", "FILE.hs", (), "prints the script that a Haskell module becomes", SCRIPT_BYTES),
     Command("test", "", ("--quick",), "proves and tries everything; --quick: the rows alone"),
 ) if it.name not in COMING}
 # These read a history with its script in one document.
-HISTORY_COMMANDS = ("verify", "report", "picture")
+HISTORY_COMMANDS = ("verify", "report", "picture", "story")
 
 # How a call ended.
 STATUSES = {
-    0: "done, accepted, a run,\nor no other outcomes",
+    0: "done, accepted, a run,\nno other outcomes, or an\naudit found nothing",
     1: "main ended by an exception",
     2: "words not understood",
     3: "the script is refused",
@@ -125,9 +140,10 @@ STATUSES = {
     8: "a write failed",
     9: "a limit",
     10: "not a run",
-    11: "there may be other outcomes",
+    11: "there may be other outcomes,\nor a question is open",
     12: "no outcome of this number",
     13: "too long to be drawn",
+    14: "an audit found something",
     15: "GHC showed another outcome",
     66: "the file can't be read",
     70: "the program could not be built",
@@ -136,8 +152,8 @@ STATUSES = {
 if "claims" in COMMANDS:
     STATUSES = dict(sorted({
         **STATUSES,
-        0: "done, accepted, a run, no\nother outcomes, or each\nclaim holds",
-        11: "there may be other outcomes,\nor a claim is open",
+        0: "done, accepted, a run, no\nother outcomes, each claim\nholds, or an audit found\nnothing",
+        11: "there may be other outcomes,\nor a claim or question is\nopen",
         12: "no outcome of this number,\nor no claim",
-        14: "a claim fails",
+        14: "a claim fails, or an audit\nfound something",
     }.items()))

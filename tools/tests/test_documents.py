@@ -57,6 +57,12 @@ class Documents(RepositoryTest):
         self.write("docs/PAGE.md", "a\n" * documents.LONGEST)
         self.assertEqual(list(documents.lengths()), [f"docs/LONG.md: {documents.LONGEST + 1} lines, and a document has {documents.LONGEST} at most"])
 
+    def test_each_example_has_a_claim(self) -> None:
+        self.write("examples/one.conc", "main\n \t-- ! always done\n")
+        self.write("examples/two.conc", "main --! always done\n-- ? always\n--\n! always done\n")
+        self.write("examples/mistakes/three-wrong.conc", "-- --! never stuck\nmain\n")
+        self.assertEqual(list(documents.claims()), ["examples/two.conc: it has no claim", "examples/mistakes/three-wrong.conc: it has no claim"])
+
     def test_what_is_trusted(self) -> None:
         self.write("docs/PROMISES.md", "These are trusted (`std`, `base64`).\n")
         self.assertEqual(list(documents.trusted()), [])

@@ -34,7 +34,7 @@ class Map(RepositoryTest):
         self.assertEqual(list(crates_map.headed()), ["crates.txt: tests stand at its end"])
 
     def test_the_line_of_a_crate(self) -> None:
-        self.assertEqual(crates_map.line_of("low"), "- `low`: Things that are low. Nothing falls.")
+        self.assertEqual(crates_map.line_of("low"), "- `low`: Things that are low.")
         self.assertEqual(crates_map.line_of("high"), "- `high`: What promises nothing.")
 
     def test_lines_that_are_stale_are_drawn_anew(self) -> None:
@@ -44,7 +44,7 @@ class Map(RepositoryTest):
         self.assertEqual(list(crates_map.stale()), [])
         page = self.read(crates_map.PAGE)
         self.assertTrue(page.startswith("before\n") and page.endswith("\nbehind\n"), "the rest of the page stays")
-        self.assertIn("\n### base: what all stand on\n\n- `low`: Things that are low. Nothing falls.\n", page)
+        self.assertIn("\n### base: what all stand on\n\n- `low`: Things that are low.\n", page)
 
     def test_a_page_without_a_place_for_them(self) -> None:
         self.write(crates_map.PAGE, "nothing\n")

@@ -52,6 +52,14 @@ class Data(RepositoryTest):
         self.write("docs/TOUR.md", "nothing\n")
         self.assertEqual(list(rows.examples()), ["docs/TOUR.md: it has no paragraph on one.conc"])
 
+    def test_an_example_has_a_row_of_its_claims(self) -> None:
+        self.write(f"{DATA}/examples.rows", "# claims-of-one: its claim holds\n| main :: IO () = {\n|   return () };\nout: line 3: holds\n")
+        self.assertEqual(list(rows.claims()), [])
+        self.write("examples/one.conc", "main :: IO () = {\n  return () };\n--! always done\n")
+        self.write("examples/mistakes/two-wrong.conc", "main\n")
+        self.assertEqual(list(rows.claims()), [f"examples/one.conc: the row claims-of-one of {DATA}/examples.rows has another script",
+                                               f"examples/mistakes/two-wrong.conc: {DATA}/examples.rows has no row claims-of-two-wrong"])
+
     def test_scripts_of_the_readme(self) -> None:
         self.write("README.md", "A script:\n\n```haskell\nmain :: IO () = { -- a comment\n return () };\n```\n")
         self.assertEqual(list(rows.readme()), [])

@@ -10,6 +10,8 @@ module FromHaskell.Claims
   ) where
 
 import Data.Char (isSpace)
+import Data.List (sortOn)
+import qualified Data.Map.Strict as Map
 import qualified Data.Set as Set
 
 import FromHaskell.Ghc (Extent (..))
@@ -27,17 +29,24 @@ data Claim = Claim
 claimsAbout :: String -> Set.Set String -> [Place] -> [Extent] -> String -> [Claim]
 claimsAbout asked actions comments extents source =
   [ Claim there line
-  | there <- comments
-  , line : _ <- [drop (placeLine there - 1) (lines source)]
+  | (there, line) <- linesAt 1 (sortOn placeLine comments) (lines source)
   , isClaim line
   , isAbout (namesAt (placeLine there))
   ]
  where
   isAbout names = null names || asked `elem` names || not (any (`Set.member` actions) names)
-  namesAt n = concat [names | Extent names from to <- extents, n <= to, n >= commentedFrom from]
-  -- The comments directly above a declaration belong to it.
-  commentedFrom from = from - length (takeWhile isComment (reverse (take (from - 1) (lines source))))
+  namesAt n = concat [names | (names, from, to) <- commented, n <= to, n >= from]
+  commented = [(names, from - Map.findWithDefault 0 from above, to) | Extent names from to <- extents]
+  -- The comments directly above a declaration belong to it: so many are above each line.
+  above = Map.fromList (zip [1 :: Int ..] (scanl (\n line -> if isComment line then n + 1 else 0) 0 (lines source)))
   isComment = (== "--") . take 2 . dropWhile isSpace
+
+-- | Each place with its line, where the places are in order and the first line has this number.
+linesAt :: Int -> [Place] -> [String] -> [(Place, String)]
+linesAt n (there : rest) source@(line : later)
+  | placeLine there <= n = (there, line) : linesAt n rest source
+  | otherwise = linesAt (n + 1) (there : rest) later
+linesAt _ _ _ = []
 
 -- | Whether the line begins a comment with an exclamation mark.
 isClaim :: String -> Bool

@@ -102,7 +102,7 @@ parameterOf _ = ""
 -- | The type of the script for the content of a cell and the like.
 encoded :: String -> Value -> Translate ScriptType
 encoded what value = case value of
-  TypeValue t | Just s <- encode t -> return s
+  TypeValue t | Just s <- encodeContent t -> return s
               | otherwise -> refuse (if isFunctionLike t then CauseKept else CauseType) (what ++ " of the type " ++ showType t ++ ".")
   _ -> refuse CauseEvaluator (what ++ " of a type that isn't known.")
  where
@@ -265,7 +265,7 @@ formBlock :: FormCall -> Int -> Maybe Int -> [Name] -> Translate Value -> Transl
 formBlock call@(FormCall form _) index k names act
   | formAnswer form == maybe AnswerUnit AnswerOfBlock k, isJust k = return (Left (names, block))
   | otherwise = do
-      joined <- joinBlocks answer [block]
+      joined <- joinBlocksAt (answer >>= encodeContent) [block]
       return (Right (map Binder names ++ map Body (joinedBlocks joined)))
  where
   answer = k >>= typeOf . argumentAt call

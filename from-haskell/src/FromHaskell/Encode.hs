@@ -7,6 +7,7 @@
 -- several constructors are nested Eithers in their order.
 module FromHaskell.Encode
   ( encode
+  , encodeContent
   , isEnumeration
   , isCharacter
   , isIO
@@ -41,16 +42,23 @@ alternatives constructors = case (constructors, partition ((== 0) . dataConSourc
 
 -- | The type of the script for this type, if there is one.
 encode :: Type -> Maybe ScriptType
-encode = encodeWithin 12 []
+encode = encodeWithin False 12 []
 
-encodeWithin :: Int -> [TyCon] -> Type -> Maybe ScriptType
-encodeWithin 0 _ _ = Nothing
-encodeWithin depth seen whole = do
+-- | The type of the script for what a cell keeps, if there is one. Functions and actions are kept by tags.
+encodeContent :: Type -> Maybe ScriptType
+encodeContent = encodeWithin True 12 []
+
+encodeWithin :: Bool -> Int -> [TyCon] -> Type -> Maybe ScriptType
+encodeWithin _ 0 _ _ = Nothing
+encodeWithin isContent _ _ whole
+  | isContent, isJust (splitFunction whole) = keptType whole
+encodeWithin isContent depth seen whole = do
   (constructor, arguments0) <- splitTyConApp_maybe whole
   let name = occurrence constructor
       arguments = filter (not . isRuntimeRepresentation) arguments0
-      inside = encodeWithin (depth - 1) seen
-      below = encodeWithin (depth - 1) (constructor : seen)
+      inside = encodeWithin isContent (depth - 1) seen
+      below = encodeWithin isContent (depth - 1) (constructor : seen)
+      content = encodeWithin True (depth - 1) seen
       basic
         | name `elem` ["Int", "Integer", "Int#", "Int64"] = Just IntType
         | name == "Bool" = Just BoolType
@@ -61,19 +69,25 @@ encodeWithin depth seen whole = do
         | otherwise = Nothing
   case (name, arguments) of
     _ | isJust basic -> basic
-    ("MVar", [a]) -> CellType <$> inside a
-    ("IORef", [a]) -> CellType <$> inside a
+    ("MVar", [a]) -> CellType <$> content a
+    ("IORef", [a]) -> CellType <$> content a
     ("Maybe", [a]) -> MaybeType <$> inside a
     ("Either", [a, b]) -> EitherType <$> inside a <*> inside b
     ("[]", [a])
       | isCharacter a -> Just TextType
       | otherwise -> ListType <$> inside a
-    _ | isIO constructor -> Nothing
+    _ | isIO constructor -> if isContent then keptType whole else Nothing
     _ | Just inner <- unwrapNewtypeOnce constructor arguments0 ->
           if constructor `elem` seen then Nothing else below inner
     _ | isData constructor name && (isTupleTyCon constructor || constructor `notElem` seen) ->
           encodeData below constructor arguments
     _ -> Nothing
+
+-- | Functions or actions of a type without variables.
+keptType :: Type -> Maybe ScriptType
+keptType whole
+  | isClosed whole = Just (KeptType (showType (expandTypeSynonyms whole)))
+  | otherwise = Nothing
 
 isData :: TyCon -> String -> Bool
 isData constructor name =

@@ -16,6 +16,7 @@ import System.FilePath (takeFileName)
 import FromHaskell.Claims
 import FromHaskell.Exceptions (settleHandlers)
 import FromHaskell.Integers
+import FromHaskell.Keep (settledTypes)
 import FromHaskell.Language (reservedWords)
 import FromHaskell.Limits
 import FromHaskell.Monad
@@ -34,7 +35,8 @@ finish entry claims = do
   settleHandlers
   settleCallStacks
   settlePrints
-  made <- get worldDefinitions
+  keeps <- get worldKept
+  made <- map (settledTypes keeps) <$> get worldDefinitions
   functions <- get worldFunctions
   let needed = reachable entry made
       (others, mains) = (filter ((/= entry) . definitionName) needed, filter ((== entry) . definitionName) needed)

@@ -23,6 +23,7 @@ import Data.IORef
 import qualified Data.Map.Strict as Map
 
 import FromHaskell.Ghc
+import {-# SOURCE #-} FromHaskell.Keep (keptValue)
 import FromHaskell.Known (refusedNames)
 import FromHaskell.Monad
 import FromHaskell.Report
@@ -79,6 +80,7 @@ nothingValue = (`Constructed` []) <$> constructor "Nothing"
 -- | What only a run knows, but for (), which has one value.
 residual :: Expression -> ScriptType -> Translate Value
 residual _ UnitType = unitValue
+residual e (KeptType name) = keptValue e name
 residual e t = return (Residual e t)
 
 -- | Gives up at a name of which nothing is known.

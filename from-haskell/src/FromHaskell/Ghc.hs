@@ -56,6 +56,8 @@ module FromHaskell.Ghc
   , splitForAllTys
   , splitFunction
   , isTyVarTy
+  , isClosed
+  , expandTypeSynonyms
   , mkTyVarTy
   , mkTyConTy
   , eqType
@@ -92,6 +94,10 @@ module FromHaskell.Ghc
   , emptyVarSet
   , variablesInOrder
 
+    -- * Types as they are written
+  , TypeShape (..)
+  , typeShape
+
     -- * Text
   , showType
 
@@ -102,6 +108,8 @@ module FromHaskell.Ghc
   , guarded
   , quietly
   , compile
+  , Export (..)
+  , exports
   , Inspection (..)
   , Extent (..)
   , inspect
@@ -115,6 +123,7 @@ module FromHaskell.Ghc
 
 import qualified Control.Exception as Exception
 import Control.Monad.IO.Class (liftIO)
+import Data.Graph (flattenSCC)
 import Data.List (sortOn)
 import Data.Maybe (mapMaybe)
 import System.FilePath (takeDirectory)
@@ -133,7 +142,9 @@ import GHC
   , NamedThing (..)
   , SuccessFlag (..)
   , TyCon
+  , TypecheckedModule
   , coreModule
+  , depanal
   , desugarModule
   , getModuleGraph
   , getSessionDynFlags
@@ -141,6 +152,7 @@ import GHC
   , isClassTyCon
   , isNewTyCon
   , load
+  , loadModule
   , mgModSummaries
   , modInfoExports
   , moduleInfo
@@ -152,6 +164,7 @@ import GHC
   , runGhc
   , setSessionDynFlags
   , setTargets
+  , topSortModuleGraph
   , tyConDataCons
   , typecheckModule
   )
@@ -168,7 +181,7 @@ import GHC.Data.FastString (mkFastString, unpackFS)
 import GHC.Data.StringBuffer (stringToStringBuffer)
 import GHC.Driver.Pipeline (doCpp)
 import GHC.Driver.Session (GeneralFlag (..), gopt_unset, parseDynamicFilePragma, xopt)
-import GHC.Driver.Types (handleSourceError, mg_binds, throwErrors)
+import GHC.Driver.Types (HscSource (..), handleSourceError, mg_binds, throwErrors)
 import GHC.Hs
 import GHC.LanguageExtensions (Extension (Cpp))
 import GHC.Parser.Header (getOptions)
@@ -180,6 +193,7 @@ import GHC.Types.Name.Reader (rdrNameOcc)
 import GHC.Types.SrcLoc
 import GHC.Types.Unique (Unique, getKey, getUnique)
 import GHC.Types.Unique.Set (nonDetEltsUniqSet)
+import GHC.Tc.Utils.TcType (tcSplitSigmaTy)
 import GHC.Types.Var.Env
 import GHC.Types.Var.Set
 import GHC.Utils.Encoding (utf8DecodeByteString)
@@ -243,6 +257,10 @@ splitFunction :: Type -> Maybe (Type, Type)
 splitFunction t = case splitFunTy_maybe t of
   Just (_, a, r) -> Just (a, r)
   Nothing -> Nothing
+
+-- | Whether no variable is free in the type.
+isClosed :: Type -> Bool
+isClosed = noFreeVarsOfType
 
 -- | The type that a newtype stands for at these arguments, and nothing where it has too few.
 unwrapNewtypeOnce :: TyCon -> [Type] -> Maybe Type
@@ -318,12 +336,72 @@ compile :: Target -> Ghc (Maybe [Compiled])
 compile target = do
   targets <- mapM (`guessTarget` Nothing) (targetFiles target)
   setTargets targets
+  graph <- depanal [] False
+  let groups = topSortModuleGraph False graph Nothing
+      summaries = concatMap flattenSCC groups
+  if length groups == length summaries && all ((== HsSrcFile) . ms_hsc_src) summaries
+    then Just <$> mapM (compiled (\checked -> () <$ loadModule checked)) summaries
+    else compileGroups
+
+-- | The same where modules import one another: GHC finds the order.
+compileGroups :: Ghc (Maybe [Compiled])
+compileGroups = do
   loaded <- load LoadAllTargets
   case loaded of
     Failed -> return Nothing
     Succeeded -> do
       graph <- getModuleGraph
-      Just <$> mapM compiled (mgModSummaries graph)
+      Just <$> mapM (compiled (\_ -> return ())) (mgModSummaries graph)
+
+-- | What a module exports: the name, where it is defined, and the type, where it is a function or another value.
+data Export = Export
+  { exportName :: String
+  , exportPlace :: Maybe Place
+  , exportType :: Maybe TypeShape
+  }
+
+-- | A type, with its synonyms written out.
+data TypeShape
+  = ShapeVariable String
+  | ShapeConstructor String [TypeShape]     -- ^ with the arguments that it has
+  | ShapeApplied TypeShape TypeShape        -- ^ of a variable to an argument
+  | ShapeFunction TypeShape TypeShape
+  | ShapeClasses [TypeShape] TypeShape      -- ^ below classes of its variables
+  | ShapeOther String                       -- ^ what has no shape here, as GHC prints it
+
+-- | The exports of the first file of a target. Nothing where GHC refuses a module: it has told why.
+exports :: Target -> Ghc (Maybe [Export])
+exports target = do
+  targets <- mapM (`guessTarget` Nothing) (targetFiles target)
+  setTargets targets
+  loaded <- load LoadAllTargets
+  graph <- getModuleGraph
+  case (loaded, [m | m <- mgModSummaries graph, Just file <- [GHC.ml_hs_file (ms_location m)], [file] == take 1 (targetFiles target)]) of
+    (Succeeded, m : _) -> do
+      checked <- parseModule m >>= typecheckModule
+      Just <$> mapM (exported (moduleInfo checked)) (modInfoExports (moduleInfo checked))
+    _ -> return Nothing
+
+exported :: GHC.ModuleInfo -> GHC.Name -> Ghc Export
+exported info name = do
+  thing <- GHC.modInfoLookupName info name
+  return . Export (occurrence name) (definedAt name) $ case thing of
+    Just (GHC.AnId v) -> Just (typeShape (idType v))
+    _ -> Nothing
+
+-- | The type as it is written, without the variables that it is over.
+typeShape :: Type -> TypeShape
+typeShape t = case tcSplitSigmaTy (expandTypeSynonyms t) of
+  (_, [], inner) -> shapeOf inner
+  (_, classes, inner) -> ShapeClasses (map shapeOf classes) (shapeOf inner)
+
+shapeOf :: Type -> TypeShape
+shapeOf t
+  | Just (_, argument, result) <- splitFunTy_maybe t = ShapeFunction (typeShape argument) (typeShape result)
+  | Just v <- getTyVar_maybe t = ShapeVariable (occurrence v)
+  | Just (constructor, arguments) <- splitTyConApp_maybe t = ShapeConstructor (occurrence constructor) (map typeShape arguments)
+  | Just (function, argument) <- splitAppTy_maybe t = ShapeApplied (shapeOf function) (typeShape argument)
+  | otherwise = ShapeOther (showType t)
 
 sessionFlags :: Target -> Ghc DynFlags
 sessionFlags target = do
@@ -340,9 +418,11 @@ sessionFlags target = do
   (flags, _, _) <- parseDynamicFlags flags1 (map noLoc ["-package-env", "-", "-w"])
   return flags
 
-compiled :: ModSummary -> Ghc Compiled
-compiled summary = do
+-- | A module, and what is done with it once it is checked.
+compiled :: (TypecheckedModule -> Ghc ()) -> ModSummary -> Ghc Compiled
+compiled use summary = do
   checked <- parseModule summary >>= typecheckModule
+  use checked
   desugared <- desugarModule checked :: Ghc DesugaredModule
   return
     Compiled

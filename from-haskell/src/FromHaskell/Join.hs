@@ -8,8 +8,15 @@
 module FromHaskell.Join
   ( Joined (..)
   , joinBlocks
+  , joinBlocksAt
   , rebuild
   , emitJoined
+  , Tree
+  , treeOf
+  , leavesOf
+  , answerOf
+  , fromTemplates
+  , typeOfTemplates
   ) where
 
 import Control.Monad (when)
@@ -41,7 +48,11 @@ data Tree
 
 -- | Makes the blocks, whose results are of this type.
 joinBlocks :: Maybe Type -> [Translate Value] -> Translate Joined
-joinBlocks known acts = case known >>= encode of
+joinBlocks known = joinBlocksAt (known >>= encode)
+
+-- | The same for results that have this type of the script, where they have one.
+joinBlocksAt :: Maybe ScriptType -> [Translate Value] -> Translate Joined
+joinBlocksAt known acts = case known of
   Just t -> do
     made <- mapM (\act -> inBlock (act >>= expressionWhereUsed "The answer of a block" t)) acts
     let blocks = [maybe (retyped t b) (\e -> endBlock t e b) answer | (answer, b) <- made]
@@ -49,17 +60,24 @@ joinBlocks known acts = case known >>= encode of
   Nothing -> do
     made <- mapM (\act -> inBlock (act >>= treeOf)) acts
     let leaves = [l | (Just tree, _) <- made, l <- leavesOf tree]
-        templates = nubBy (\a b -> templateKey a == templateKey b) [Template key [(holeName h, holeType h) | h <- holes] value | (key, holes, value) <- leaves]
-        t = if null templates then UnitType else foldr1 EitherType (map (pairType . map snd . templateHoles) templates)
+        templates = nubBy (\a b -> templateKey a == templateKey b) leaves
+        t = typeOfTemplates templates
     blocks <- mapM (ended templates t) made
     return (Joined blocks t (AnswersTemplates t templates) (all (isNothing . fst) made))
  where
   ended templates t (answer, b) = case answer of
     Nothing -> return (retyped t b)
     Just tree -> do
-      (e, more) <- inBlock (hoist (answerOf templates t tree))
+      (e, more) <- inBlock (hoist (answerOf templates t t tree))
       return (maybe (retyped t (b ++ more)) (\x -> endBlock t x (b ++ more)) e)
 
+-- | The type of what goes on of a value that has one of these templates.
+typeOfTemplates :: [Template] -> ScriptType
+typeOfTemplates templates
+  | null templates = UnitType
+  | otherwise = foldr1 EitherType (map (pairType . map snd . templateHoles) templates)
+
+-- | What is known of a value, and of each that it can be.
 treeOf :: Value -> Translate Tree
 treeOf value0 = do
   value <- force value0
@@ -75,14 +93,17 @@ treeOf value0 = do
       when (any (mayThrow . holeExpression) holes) $ strictHere CauseStrict "What a block answers has a part that may throw or not end."
       return (Leaf key holes value')
 
-leavesOf :: Tree -> [(String, [Hole], Value)]
+-- | A template for each value that it can be.
+leavesOf :: Tree -> [Template]
 leavesOf tree = case tree of
-  Leaf key holes value -> [(key, holes, value)]
+  Leaf key holes value -> [Template key [(holeName h, holeType h) | h <- holes] value]
   Node choice -> concatMap leavesOf (foldr (:) [] choice)
 
-answerOf :: [Template] -> ScriptType -> Tree -> Expression
-answerOf templates t tree = case tree of
-  Node choice -> decide t (fmap (answerOf templates t) choice)
+-- | The expression that carries what isn't known of a value, with a tag that says which template it has: the templates,
+-- their type, and the type by which it goes.
+answerOf :: [Template] -> ScriptType -> ScriptType -> Tree -> Expression
+answerOf templates t name tree = case tree of
+  Node choice -> decide name (fmap (answerOf templates t name) choice)
   Leaf key holes _ -> tagged (position key) (length templates) t (carried (map holeExpression holes))
  where
   position key = fromMaybe 0 (findIndex ((== key) . templateKey) templates)
@@ -100,17 +121,19 @@ rebuild :: Expression -> Outcome -> Translate Value
 rebuild e outcome = case outcome of
   AnswersType t -> residual e t
   AnswersNever -> refuse CauseEvaluator "The answer of what never answers."
-  AnswersTemplates t templates -> fromTemplates e t templates
+  AnswersTemplates t templates -> fromTemplates e t t templates
 
-fromTemplates :: Expression -> ScriptType -> [Template] -> Translate Value
-fromTemplates e t templates = case (templates, t) of
+-- | The value whose holes and tag an expression carries: the expression, the templates' type, the type by which it goes,
+-- and the templates.
+fromTemplates :: Expression -> ScriptType -> ScriptType -> [Template] -> Translate Value
+fromTemplates e t name templates = case (templates, t) of
   ([one], _) -> filled e one
   (one : rest, EitherType _ r) -> do
     p <- freshArm "p"
     q <- freshArm "q"
     yes <- filled (Variable p) one
-    no <- fromTemplates (Variable q) r rest
-    return (Chosen (ChooseCase t e (EitherArms p yes q no)))
+    no <- fromTemplates (Variable q) r r rest
+    return (Chosen (ChooseCase name e (EitherArms p yes q no)))
   _ -> refuse CauseEvaluator "What came out of a block."
 
 filled :: Expression -> Template -> Translate Value

@@ -100,6 +100,8 @@ data World = World
   , worldUndo :: IORef [IO ()]                               -- ^ what takes back the evaluations of a trial, the last first
   , worldPending :: IORef [(Place, Name, Int)]               -- ^ arguments that may throw: of which function, which one
   , worldPrints :: IORef [(Int, Bool, Place)]                -- ^ prints: in which thread, masked or not
+  , worldKept :: IORef (Map.Map String [Template])           -- ^ functions and actions that cells keep, by their type, as rounds before have found them
+  , worldKeptNow :: IORef (Map.Map String [Template])        -- ^ others that this round has found
   }
 
 -- | A translation that is going on.
@@ -142,6 +144,8 @@ newWorld settings =
     <*> newIORef []
     <*> newIORef []
     <*> newIORef []
+    <*> newIORef Map.empty
+    <*> newIORef Map.empty
 
 -- | Runs a translation in this world.
 runTranslate :: World -> Translate a -> IO a
@@ -254,6 +258,7 @@ restoring = do
       , kept worldPending
       , kept worldOpen
       , kept worldThrowers
+      , kept worldKeptNow
       ]
   return (sequence_ resets)
  where

@@ -18,12 +18,14 @@ data Options = Options
   , optionTrust :: Bool
   , optionPrelude :: Maybe FilePath
   , optionFiles :: Maybe FilePath   -- ^ where the files are told that decide what the modules are
+  , optionEach :: Maybe String      -- ^ each action whose name begins so is asked, in place of one
+  , optionExports :: Bool           -- ^ what the module exports is told, in place of a script
   }
   deriving (Eq, Show)
 
 -- | The options, or what is wrong with the words. Options stand before or behind the file, and @--@ ends them.
 readOptions :: [String] -> Either String Options
-readOptions = go (Options "" "main" [] False False Nothing Nothing)
+readOptions = go (Options "" "main" [] False False Nothing Nothing Nothing False)
  where
   go options arguments = case arguments of
     [] | null (optionFile options) -> Left "no file"
@@ -33,6 +35,8 @@ readOptions = go (Options "" "main" [] False False Nothing Nothing)
     "--trust" : rest -> go options {optionTrust = True} rest
     "--main" : name : rest -> go options {optionMain = name} rest
     "--prelude" : folder : rest -> go options {optionPrelude = Just folder} rest
+    "--each" : beginning : rest -> go options {optionEach = Just beginning} rest
+    "--exports" : rest -> go options {optionExports = True} rest
     "--files" : file : rest -> go options {optionFiles = Just file} rest
     word : rest
       | "--main=" `isPrefixOf` word -> go options {optionMain = drop 7 word} rest
@@ -60,6 +64,8 @@ usage =
     , "  --strict      takes evaluations that Haskell may leave out, with a note"
     , "  --trust       loads the modules without a look at what they make GHC run"
     , "  --files FILE  writes to FILE the names of all files that decide what the modules are, each before a NUL"
+    , "  --each BEGIN  translates each action whose name begins so; a line === NAME STATUS stands above each script or refusal"
+    , "  --exports     writes what the module exports, with places and types, as JSON"
     , ""
     , "Status: 0 the script is written; 2 the words, or no such action; 3 refused; 8 it can't be written; 66 the file can't be read; 70 no GHC 9.0.2."
     ]

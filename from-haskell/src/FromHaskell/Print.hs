@@ -38,6 +38,7 @@ atomType t = case t of
   UnitType -> "()"
   PairType a b -> "(" ++ printType a ++ ", " ++ printType b ++ ")"
   ListType a -> "[" ++ printType a ++ "]"
+  KeptType name -> "(" ++ name ++ ")"
   _ -> "(" ++ printType t ++ ")"
 
 -- | The expression on one line, for messages and keys.

@@ -21,6 +21,7 @@ import FromHaskell.Encode
 import {-# SOURCE #-} FromHaskell.Exceptions (reifyException)
 import FromHaskell.Force
 import FromHaskell.Ghc hiding (Let)
+import {-# SOURCE #-} FromHaskell.Keep (kept)
 import FromHaskell.Monad
 import FromHaskell.Print (printType)
 import FromHaskell.Report
@@ -34,6 +35,7 @@ reify t value0 = do
   case value of
     Residual e _ -> return e
     Shown _ _ e _ -> return e
+    _ | KeptType name <- t -> kept name value
     Throwing e -> return (Raise t e)
     Chosen choice -> decide t <$> traverse (reify t) choice
     KnownNumber n
@@ -46,14 +48,14 @@ reify t value0 = do
     Exceptional {} | t == ExceptionType -> reifyException value
     Constructed dc arguments -> reifyData t value0 dc arguments
     UnknownName name -> notKnown name
-    Closure {} -> kept "A function"
-    Named f _ -> kept ("The function " ++ occurrence (functionId f))
-    Doing name _ _ -> kept ("An action (" ++ name ++ ")")
-    Primitive name _ _ -> kept ("The function `" ++ name ++ "`")
-    Method selector _ -> kept ("The method " ++ occurrence selector)
+    Closure {} -> keeps "A function"
+    Named f _ -> keeps ("The function " ++ occurrence (functionId f))
+    Doing name _ _ -> keeps ("An action (" ++ name ++ ")")
+    Primitive name _ _ -> keeps ("The function `" ++ name ++ "`")
+    Method selector _ -> keeps ("The method " ++ occurrence selector)
     _ -> refuse CauseEvaluator ("A value that has no form in a script, where a value of the type " ++ printType t ++ " is wanted.")
  where
-  kept what = refuse CauseKept (what ++ " is kept as a value of the type " ++ printType t ++ ".")
+  keeps what = refuse CauseKept (what ++ " is kept as a value of the type " ++ printType t ++ ".")
 
 reifyData :: ScriptType -> Value -> DataCon -> [Value] -> Translate Expression
 reifyData t whole dc arguments = case t of

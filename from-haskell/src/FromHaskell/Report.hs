@@ -89,8 +89,8 @@ causeRow cause = case cause of
   CauseStm ->
     ("stm", "the language of scripts has no transactions", "ask the same question of MVars")
   CauseKept ->
-    ( "kept", "a script keeps numbers, texts, cells and data of these, and no functions or actions"
-    , "keep a value that says which action is meant, and choose the action where it is run" )
+    ( "kept", "a cell keeps a function or an action as a tag with what it is made of, and one that holds another of its own type has no end"
+    , "keep a value that says which function or action is meant, and choose it where it is used" )
   CauseType ->
     ( "type", "values of this type can't be kept in a script"
     , "use Int, Bool, String, (), lists, Maybe, Either, tuples, MVars, or data of these that isn't recursive" )

@@ -32,6 +32,7 @@ module FromHaskell.Script
   , partsOf
   , expressionsOf
   , overExpressions
+  , overTypes
   ) where
 
 import FromHaskell.Report (Place)
@@ -52,6 +53,7 @@ data ScriptType
   | EitherType ScriptType ScriptType
   | ListType ScriptType
   | CellType ScriptType
+  | KeptType String                            -- ^ functions or actions of this type, of which a cell keeps tags; no type of the language
   deriving (Eq, Ord, Show)
 
 -- | The alternatives of a @case@, with the names that they bind.
@@ -144,6 +146,8 @@ decide t choice = case choice of
   ChooseIf c a b | a == b, not (mayThrow c) -> a
   ChooseCase s e (EitherArms x a y b)
     | s == t, LeftOf l _ a' <- a, RightOf _ r b' <- b, same l x a', same r y b' -> e
+  ChooseCase s e (EitherArms x (RightOf l r a) y (RightOf l' r' b))
+    | l == l', r == r', not (mayThrow e) -> RightOf l r (decide r (ChooseCase s e (EitherArms x a y b)))
   ChooseCase s e (MaybeArms (NothingOf _) x (JustOf b))
     | s == t, MaybeType inner <- t, same inner x b -> e
   ChooseCase s e (ListArms (EmptyOf _) x y (Binary ":" (Variable x') (Variable y')))
@@ -284,4 +288,40 @@ overExpressions f d = d {definitionBody = block (definitionBody d)}
     Decide t c -> Decide t (decided within c)
     Call g p as t -> Call g p (map within as) t
     Raise t a -> Raise t (within a)
+    _ -> e
+
+-- | The definition with this done to each type in it.
+overTypes :: (ScriptType -> ScriptType) -> Definition -> Definition
+overTypes f d =
+  d
+    { definitionParameters = [(x, f t) | (x, t) <- definitionParameters d]
+    , definitionResult = f (definitionResult d)
+    , definitionBody = block (definitionBody (overExpressions typed d))
+    }
+ where
+  block = map statement
+  statement s = case s of
+    Let _ _ -> s
+    Do x a t -> Do x (action a) (f t)
+  action a = case a of
+    CallAction _ _ -> a
+    Form ps -> Form (map piece ps)
+    Branch c -> Branch (scrutinee (fmap block c))
+  piece p = case p of
+    At t -> At (f t)
+    Body b -> Body (block b)
+    _ -> p
+  scrutinee :: Choice a -> Choice a
+  scrutinee c = case c of
+    ChooseCase t x arms -> ChooseCase (f t) x arms
+    Evaluated x t e a -> Evaluated x (f t) e a
+    ChooseIf {} -> c
+  typed e = case e of
+    NothingOf t -> NothingOf (f t)
+    LeftOf s t a -> LeftOf (f s) (f t) a
+    RightOf s t a -> RightOf (f s) (f t) a
+    EmptyOf t -> EmptyOf (f t)
+    Decide t c -> Decide (f t) (scrutinee c)
+    Call g p as t -> Call g p as (f t)
+    Raise t a -> Raise (f t) a
     _ -> e

@@ -82,7 +82,7 @@ async function claimsBeside(result, input, isWanted, historyOf) {
   if (!claims) return;
   $('shown').prepend(place);
   if (!await judgesClaims()) {
-    place.append(make('p', { className: 'label' }, `${count(claims, 'claim')} (--!) of this script ${claims === 1 ? 'is' : 'are'} not judged: this version takes them as comments.`));
+    place.append(make('p', { className: 'label' }, `${count(claims, 'claim')} (--!) of this script ${claims === 1 ? 'is' : 'are'} not judged: for this version ${claims === 1 ? 'it is a comment' : 'they are comments'}.`));
     return;
   }
   place.append(make('p', { className: 'label' }, 'The claims of this script are judged\u2026'));

@@ -24,19 +24,11 @@ function looksLikeHaskell(script) {
   return HASKELL.slice(0, 5).some(it => it.test(code)) || HASKELL.filter(it => it.test(code)).length > 1;
 }
 
-const HOW_TO_WRITE = [
-  'no `import` and no `module`: all forms are there',
-  'in place of `do` a block with braces, whose statements end with `;`: `main :: IO () = { m <- newMVar 0; takeMVar m };`',
-  'the type stands before the `=`, and parameters with theirs: `add (n :: Int) :: Int = n + 1;`',
-  'an argument that is a call needs parentheses, and `$` is none of the operators: `putStrLn (show 3)`',
-  'a block in place of a function that is given: `forkIO { .. }`, `catch { .. } e { .. }`, `modifyMVar_ m x { return (x + 1) }`',
-];
 function haskellCard() {
   return make('article', { className: 'card stuck haskell' }, make('h3', {}, 'This looks like Haskell, and this page takes scripts'),
-    make('p', {}, 'A script is written as Concurrent Haskell without layout, modules and functions as values. To get one, keep the few lines ' +
-      'that the question is about, and write them so:'),
-    make('ul', {}, ...HOW_TO_WRITE.map(it => make('li', {}, ...sentence(it)))),
-    make('p', {}, 'Examples has scripts to begin with. ', ...sentence(data.translating)));
+    make('p', {}, 'A script is written as Concurrent Haskell with braces in place of layout, and without modules and functions as values. To get one, ' +
+      'keep the few lines that the question is about, and write them so. ', ...sentence(data.translating)),
+    make('div', { className: 'bar' }, button('How a script is written', showWriting, 'small')));
 }
 
 let asked = 0, timer = 0, foreign = false;
@@ -107,6 +99,7 @@ function load(script, name, { fromLink = false } = {}) {
   text.setSelectionRange(0, 0);
   editor.scrollTop = text.scrollTop = 0;
   $('name').textContent = name + (script.includes('\r') ? ' (its carriage returns became line feeds)' : '');
+  $('cure').hidden = !Object.hasOwn(data.cures, name);
   here = -1;
   lines = [];
   paper.replaceChildren();

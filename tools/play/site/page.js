@@ -62,7 +62,7 @@ async function act(kind) {
     if (!isWanted()) return;
     keepLast({ result });
     if (decoded(input) !== text.value) changed({ loaded: true });
-    else if (result.status !== 2 && !result.failure) judged(result);
+    else if ((result.status !== 2 && !result.failure) || !$('verdict').textContent) judged(result);
     showResult(kind, result, words, input, isWanted);
     if ($('results').getBoundingClientRect().top > innerHeight * 0.6) $('results').scrollIntoView({ behavior: moves() });
   } catch (problem) {
@@ -78,7 +78,13 @@ function listenToButtons() {
   $('verdict').onclick = () => wrong?.line && goTo(wrong);
   $('link').onclick = () => makeLink().catch(problem => say({ head: 'No link', kind: 'bad', rest: String(problem) }));
   $('back').onclick = takeBack;
+  $('cure').onclick = () => {
+    const name = data.cures[$('name').textContent.replace(', changed', '')];
+    loadFresh(data.examples[name].script, name);
+    text.focus({ preventScroll: true });
+  };
   $('examples').onclick = () => $('choose').showModal();
+  $('write').onclick = showWriting;
   document.querySelector('.skip').onclick = event => { event.preventDefault(); text.focus(); };
   for (const dialog of document.querySelectorAll('dialog')) {
     dialog.querySelector('.close').onclick = () => dialog.close();
@@ -145,6 +151,7 @@ async function begin() {
 // For the tests.
 globalThis.playground = { last, load, act, stop, call, compiled, running };
 listExamples();
+explainWriting();
 listenToEditor();
 listenToPrinter();
 listenToFiles();

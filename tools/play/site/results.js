@@ -69,7 +69,9 @@ function refusal(result) {
   const card = make('article', { className: 'card bad' }, make('h3', {}, line), ...near, told ? make('p', {}, ...sentence(told.where)) : null,
     told?.cure ? make('p', {}, make('b', {}, 'What to do: '), ...sentence(told.cure)) : null,
     place?.line ? make('div', { className: 'bar' }, button('Show the place', () => goTo(place), 'small')) : null);
-  return looksLikeHaskell(text.value) ? [haskellCard(), card] : [card];
+  if (looksLikeHaskell(text.value)) return [haskellCard(), card];
+  if (place?.fault === 'Unexpected') card.querySelector('.bar')?.append(button('How a script is written', showWriting, 'small'));
+  return [card];
 }
 
 // Output that appears while a script runs.

@@ -18,6 +18,7 @@ class Made(unittest.TestCase):
         code = page.module_of(self.page)
         assert code is not None
         self.assertEqual(page.made(code), page.made(code))
+        self.assertTrue(page.is_current(settings.page), "the page that is tested is of the template and the documents as they are now")
 
     def test_size(self) -> None:
         self.assertLessEqual(len(self.page.encode()), page.MOST)

@@ -205,7 +205,7 @@ class Looks(PageTest):
         self.page.load(examples()["update"])
         self.page.run("document.getElementById('options').open = true")
         self.assertEqual(0, self.page.run("return document.documentElement.scrollWidth - document.documentElement.clientWidth"))
-        for dialog in ("choose", "large"):
+        for dialog in ("choose", "writing", "large"):
             self.page.run("document.getElementById(arguments[0]).showModal()", dialog)
             self.assertLessEqual(self.page.run("return document.getElementById(arguments[0]).getBoundingClientRect().right", dialog), 400)
             self.page.run("document.getElementById(arguments[0]).close()", dialog)

@@ -5,11 +5,14 @@ from __future__ import annotations
 from typing import Iterator
 
 from tools.play.tests import native, settings
-from tools.play.tests.browser import PageTest
+from tools.play.tests.browser import PageTest, Result
 from tools.play.tests.scripts import of_rows
 
 BUNCH = 25
 SHORT = 60000
+OUT_OF_MEMORY = 6
+# Who needs more of the 2,048 MB that the page gives than this may be told there that memory is out, since it keeps freed blocks apart.
+ENOUGH = 1536
 # A part of a script is asked by fewer commands.
 PART = "part-of-"
 OF_SCRIPTS = ("run", "check", "trace", "outcomes")
@@ -42,6 +45,13 @@ def calls() -> Iterator[tuple[str, list[str], bytes]]:
                 yield name, ["outcomes", "--states", "2000", "--fuel", "20000"], script
 
 
+def is_same(result: Result, words: list[str], script: bytes) -> bool:
+    """Whether the page answers what the program does. Memory may be out where the program itself needs nearly as much as the page has."""
+    if result.failure is None and result.answer.status == OUT_OF_MEMORY:
+        return native.call_within(ENOUGH, words, script) == result.answer
+    return result.failure is None and native.call(words, script) == result.answer
+
+
 class Rows(PageTest):
     def test_calls(self) -> None:
         every, tried, wrong = list(calls()), 0, []
@@ -49,7 +59,7 @@ class Rows(PageTest):
             bunch = every[at:at + BUNCH]
             for (name, words, script), result in zip(bunch, self.page.calls([(words, script) for _, words, script in bunch])):
                 tried += 1
-                if result.failure or native.call(words, script) != result.answer:
+                if not is_same(result, words, script):
                     wrong.append((name, words, result.failure, result.answer.status))
         print(f"{tried} calls of rows, {len(wrong)} differ")
         self.assertEqual([], wrong)

@@ -28,13 +28,13 @@ WAYS = {
     "own worker": "try { new Worker(URL.createObjectURL(new Blob([`fetch('${at}').catch(() => {}); try { importScripts('${at}'); } catch {}`]))); } catch {}",
 }
 REFUSED = {
-    "eval": "eval('globalThis.hit = 1')",
-    "function": "Function('globalThis.hit = 1')()",
-    "timer": "setTimeout('globalThis.hit = 1')",
-    "inline script": "const it = document.createElement('script'); it.append('globalThis.hit = 1'); document.body.append(it)",
-    "markup": "document.body.insertAdjacentHTML('beforeend', '<img src=x onerror=\"globalThis.hit = 1\">')",
-    "handler": "const it = document.createElement('b'); it.setAttribute('onclick', 'globalThis.hit = 1'); document.body.append(it); it.click()",
-    "link": "const it = document.createElement('a'); it.href = 'javascript:globalThis.hit = 1'; document.body.append(it); it.click()",
+    "eval": "window.eval('window.hit = 1')",
+    "function": "window.Function('window.hit = 1')()",
+    "timer": "window.setTimeout('window.hit = 1')",
+    "inline script": "const it = document.createElement('script'); it.append('window.hit = 1'); document.body.append(it)",
+    "markup": "document.body.insertAdjacentHTML('beforeend', '<img src=x onerror=\"window.hit = 1\">')",
+    "handler": "const it = document.createElement('b'); it.setAttribute('onclick', 'window.hit = 1'); document.body.append(it); it.click()",
+    "link": "const it = document.createElement('a'); it.href = 'javascript:window.hit = 1'; document.body.append(it); it.click()",
 }
 
 
@@ -61,6 +61,6 @@ class Safety(PageTest):
         self.page.open()
         for name, code in REFUSED.items():
             with self.subTest(name):
-                self.page.run(f"globalThis.hit = 0; setTimeout(() => {{ try {{ {code} }} catch {{}} }})")
+                self.page.run(f"window.hit = 0; setTimeout(() => {{ try {{ {code} }} catch {{}} }})")
                 time.sleep(0.1)
-                self.assertEqual(0, self.page.run("return globalThis.hit"))
+                self.assertEqual(0, self.page.run("return window.hit"))

@@ -84,6 +84,64 @@ class Writing(PageTest):
         self.page.open()
 
 
+class Mistakes(PageTest):
+    def test_each_has_its_cure(self) -> None:
+        """Of a script with a mistake the right one is one key away, and what was written meanwhile comes back."""
+        self.page.open()
+        self.assertFalse(self.page.run("return document.getElementById('cure').hidden"))
+        self.page.run("const it = document.getElementById('text'); it.focus(); document.execCommand('insertText', false, '-- mine\\n')")
+        own = self.page.run(TEXT)
+        self.page.run("document.getElementById('cure').click()")
+        self.assertEqual(examples()["modify"], self.page.run(TEXT))
+        self.assertTrue(self.page.run("return document.getElementById('cure').hidden"))
+        self.page.run("document.getElementById('back').click()")
+        self.assertEqual(own, self.page.run(TEXT))
+        wrong = [it for it in examples() if it.endswith("-wrong")]
+        cures = self.page.run("return JSON.parse(document.getElementById('data').textContent).cures")
+        self.assertEqual([], [it for it in wrong if cures.get(it) not in examples()])
+        self.page.open()
+
+
+class Explained(PageTest):
+    """How a script is written, for whoever begins or pastes a module."""
+
+    def test_all_that_stands_there_is_accepted(self) -> None:
+        self.page.open()
+        pairs = self.page.run("return [...document.querySelectorAll('#how table')][0].querySelectorAll('tbody tr td:last-child').length")
+        self.assertGreater(pairs, 10)
+        for number in range(pairs):
+            code = str(self.page.run("return document.querySelector('#how table').querySelectorAll('tbody tr td:last-child')[arguments[0]].textContent", number))
+            script = code if code.endswith(";") else f"f (m :: MVar Int) (n :: Int) (r :: Maybe Int) :: IO () = {{ {code}; return () }};"
+            with self.subTest(code):
+                result = self.page.calls([(["check"], (script if script.startswith("main") else f"{script}\nmain :: IO () = {{ return () }};").encode())])[0]
+                self.assertEqual((0, b""), (result.answer.status, result.answer.err))
+
+    def test_its_script_is_taken(self) -> None:
+        self.page.open()
+        self.page.run("document.getElementById('write').click()")
+        self.assertTrue(self.page.run("return document.getElementById('writing').open"))
+        self.page.run("document.querySelector('#how button').click()")
+        self.page.until(f"{VERDICT} === 'accepted'")
+        result = self.page.act("outcomes")
+        self.same(result, self.page.run(TEXT))
+        self.assertTrue(result.answer.out.startswith(b"3 outcomes, and there are no others"))
+
+    def test_ways_to_it(self) -> None:
+        """From a pasted module, and from a refusal of the grammar."""
+        self.page.open()
+        for script in (HASKELL[0], "main :: IO () = { };"):
+            with self.subTest(script):
+                self.page.act("check", script)
+                self.page.run("[...document.querySelectorAll('#shown button')].find(it => /How a script/.test(it.textContent)).click()")
+                self.assertTrue(self.page.run("return document.getElementById('writing').open"))
+                self.page.run("document.querySelector('#writing .close').click()")
+
+    def test_all_forms_stand_there(self) -> None:
+        told = self.page.run("return document.getElementById('how').textContent")
+        words = self.page.run("return JSON.parse(document.getElementById('data').textContent).words")
+        self.assertEqual([], [it for it in words if it not in told])
+
+
 class Links(PageTest):
     """Links are tried where the page has an address: on a server of this test."""
 
@@ -131,7 +189,7 @@ class Links(PageTest):
             with self.subTest(behind[:20]):
                 self.page.open(behind, address=self.address)
                 self.assertIn("The link is broken", self.page.said())
-                self.assertTrue(self.page.run(TEXT).endswith("putStrLn (show x) };\n"))
+                self.assertEqual(examples()["update"], self.page.run(TEXT))
 
     def test_a_long_script_has_no_link(self) -> None:
         self.page.open(address=self.address)

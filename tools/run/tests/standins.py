@@ -89,9 +89,13 @@ if said("limits"):
     say(" ".join([kilobytes, os.environ.get("MALLOC_ARENA_MAX", "none"), os.environ.get("ASAN_OPTIONS", "none")]))
 for it in said("prints"):
     say(it)
+status = int((said("ends") or ["0"])[0])
+if status == 11 and words[0] not in ("outcomes", "claims"):
+    # Only a search may lack something.
+    status = 0
 for it in said("error"):
-    end(int((said("ends") or ["0"])[0]), it)
-end(int((said("ends") or ["0"])[0]))
+    end(status, it)
+end(status)
 """
 
 # `try` and `run` make the program, after STAND_IN_SECONDS; `ci` says what STAND_IN_CI has.
@@ -218,7 +222,7 @@ class WrapperTest(unittest.TestCase):
         self.copy = os.path.join(self.room, f"copy{self.copies}")
         os.makedirs(os.path.join(self.copy, "tools"))
         shutil.copy2(os.path.join(TOP, "conc_run"), self.copy)
-        shutil.copytree(os.path.join(TOP, "tools", "run"), os.path.join(self.copy, "tools", "run"), ignore=shutil.ignore_patterns("tests"))
+        shutil.copytree(os.path.join(TOP, "tools", "run"), os.path.join(self.copy, "tools", "run"), ignore=shutil.ignore_patterns("tests", "__pycache__"))
         for name in ("__init__.py", "crates.py", "sources.py"):
             shutil.copy2(os.path.join(TOP, "tools", name), os.path.join(self.copy, "tools"))
         for folder in ("conc_run/src", "low/src", "low/must-fail"):
@@ -241,7 +245,7 @@ class WrapperTest(unittest.TestCase):
     def set_coming(self, *names: str) -> None:
         """In the copy these are the commands that the program is still to get."""
         with open(self.path("tools/run/words.py"), encoding="utf-8") as file:
-            text, count = re.subn(r"^COMING = .*$", f"COMING = {names}", file.read(), flags=re.M)
+            text, count = re.subn(r"^(COMING\b.*) = .*$", rf"\1 = {names}", file.read(), flags=re.M)
         self.assertEqual(count, 1)
         self.write("tools/run/words.py", text)
 

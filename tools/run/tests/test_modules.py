@@ -102,6 +102,16 @@ class Modules(ModuleTest):
         with open("/dev/full", "wb") as full:
             self.assertEqual(self.call("script", "Main.hs", stdout=full).status, 8)
 
+    def test_claims_have_the_lines_of_the_module(self) -> None:
+        self.set_coming()
+        os.makedirs(self.path("more"))
+        claims = ["-- Main.hs:12", "-- ! never stuck", "-- Main.hs:3", "-- ! always done", "-- Other.hs:4", "-- ! terminates"]
+        says = [f"-- prints: line {number}: holds" for number in (6, 8, 10)]
+        self.write("more/Main.hs", "\n".join([*says, "--", *claims]) + "\n")
+        self.assertEqual(self.call("claims", "more/Main.hs").out.splitlines()[:3], ["more/Main.hs:12: holds", "more/Main.hs:3: holds", "more/Main.hs:10: holds"])
+        self.write("Main.hs", "-- refused: Claim at 3:5\n-- Main.hs:7\n-- ! sometime\n")
+        self.assertEqual(self.call("claims", "Main.hs").all, ("", "Main.hs:7:5: refused: Claim at 3:5\n", 3))
+
     def test_a_picture_of_a_module(self) -> None:
         self.call("picture", "Main.hs", more=self.counting)
         self.assertEqual(self.calls()[0], "trace")
@@ -228,6 +238,23 @@ class Kept(ModuleTest):
         self.assertEqual(len(self.kept), 256)
         self.assertNotIn("0", self.kept)
         self.assert_made(0)
+
+    def test_cleaned(self) -> None:
+        folder = os.path.join(self.room, "cache", "conc-run")
+        self.assert_made(1)
+        self.assertEqual(self.call("--clean").all, (f"removed {folder}\n", "", 0))
+        self.assertEqual(os.listdir(os.path.dirname(folder)), [])
+        self.assertEqual(self.call("--clean").all, (f"nothing is kept in {folder}\n", "", 0))
+        self.assert_made(1)
+
+    def test_a_link_is_removed_and_not_what_it_leads_to(self) -> None:
+        folder, other = os.path.join(self.room, "cache", "conc-run"), os.path.join(self.room, "other")
+        os.makedirs(os.path.dirname(folder))
+        os.mkdir(other)
+        os.symlink(other, folder)
+        self.assertEqual(self.call("--clean").status, 0)
+        self.assertFalse(os.path.lexists(folder))
+        self.assertTrue(os.path.isdir(other))
 
 
 if __name__ == "__main__":

@@ -11,7 +11,8 @@ from tools.run.tests.terminals import Terminal
 
 # Where the wrapper becomes the program, where the program runs below it, and where that runs twice or on several files.
 CALLS = (["run", "sleeps.conc"], ["run", "sleeps.conc", "--explain"], ["outcomes", "sleeps.conc", "--explain"], ["picture", "sleeps.conc"],
-         ["picture", "sleeps.conc", "--explain"], ["picture", "written.trace", "--explain"], ["check", "sleeps.conc", "hello.conc"])
+         ["picture", "sleeps.conc", "--explain"], ["picture", "written.trace", "--explain"], ["story", "written.trace"],
+         ["check", "sleeps.conc", "hello.conc"])
 
 
 class Signals(WrapperTest):

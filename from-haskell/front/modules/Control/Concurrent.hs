@@ -22,8 +22,8 @@ import "base" Control.Concurrent as Base hiding
   , withMVarMasked, yield )
 import qualified "base" Control.Concurrent as Original
 import Control.Concurrent.MVar
-import "base" Control.Exception (AsyncException (..), Exception, SomeException)
-import Control.Exception (mask, try)
+import "base" Control.Exception (AsyncException (..), SomeException)
+import Control.Exception (mask, throwTo, try)
 import "base" GHC.IO (unsafeUnmask)
 import Litmus.Programs (delayOf, fork, point)
 import "base" Prelude (Either, IO, Int, return, (>>), (>>=))
@@ -42,9 +42,6 @@ forkFinally action behind = mask (\restore -> forkIO (try (restore action) >>= b
 
 killThread :: ThreadId -> IO ()
 killThread thread = throwTo thread ThreadKilled
-
-throwTo :: Exception e => ThreadId -> e -> IO ()
-throwTo thread e = point >> Original.throwTo thread e
 
 threadDelay :: Int -> IO ()
 threadDelay time = point >> delayOf time >>= Original.threadDelay
